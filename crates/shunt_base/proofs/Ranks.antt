@@ -1,11 +1,11 @@
 -- The order of the fields is the order of one number.
-use Rattle.std.proofs.Common.{◌≡◌, ℕ, ◌+◌, ◌*◌, ◌^◌, ◌<◌, ◌≤◌, Bool, true, false, cond, refl, sym, ap, ◌∙◌, arith, Ordering, inl, inr, ⊎_elim}
+use Rattle.std.proofs.Common.{◌↔◌, ◌≡◌, ℕ, ◌+◌, ◌*◌, ◌^◌, ◌<◌, ◌≤◌, Bool, true, false, cond, refl, sym, ap, ◌∙◌, arith, Ordering, inl, inr, ⊎_elim}
 use Rattle.std.specs.Ordering.{nat_cmp, bool_cmp, ordering_then}
 use Rattle.std.specs.declared.cmp.Ordering.TheVariants.{Less, Equal, Greater}
 use Rattle.std.proofs.Math.Nat.{mul-le-mul_left, mul_comm}
 use Rattle.std.proofs.lemmas.Bool.{cases_order}
 use Rattle.std.proofs.lemmas.Bool.Decides.{nat_tests}
-use Rattle.shunt_base.specs.defs.Keys.{rank, key_cmp, IsKey}
+use Rattle.shunt_base.specs.defs.Keys.{rank, key_cmp, IsBefore, IsKey}
 use Rattle.shunt_base.specs.declared.keys.EventKey.{EventKey}
 
 less : (a b : ℕ) → a < b → nat_cmp a b ≡ Less
@@ -40,7 +40,7 @@ regroup Less b c = refl
 regroup Equal b c = refl
 regroup Greater b c = refl
 
-flag : Bool → ℕ
+abbrev flag : Bool → ℕ
 flag b = cond b 1 0
 
 flags : (a b : Bool) → bool_cmp a b ≡ nat_cmp (cond a 1 0) (cond b 1 0)
@@ -70,11 +70,17 @@ key_cmp_is k l p q =
     ∙ ap (λ o. ordering_then o i) (then_rank 256 _ _ k.place l.place p.place q.place)
     ∙ then_rank (2 ^ 32) _ _ k.id l.id p.id q.id
 
-flag_tells : (a b : Bool) → cond a 1 0 ≡ cond b 1 0 → a ≡ b
+flag_tells : (a b : Bool) → flag a ≡ flag b → a ≡ b
 flag_tells true true e = refl
 flag_tells true false e = absurd (omega arith)
 flag_tells false true e = absurd (omega arith)
 flag_tells false false e = refl
+
+abbrev made : ℕ → Bool → ℕ → ℕ → ℕ → EventKey
+made minute enters train place id = record { minute = minute; enters = enters; train = train; place = place; id = id }
+
+made_alike : (m n : ℕ) (d e : Bool) (t u p q i j : ℕ) → m ≡ n → d ≡ e → t ≡ u → p ≡ q → i ≡ j → made m d t p i ≡ made n e u q j
+made_alike m n d e t u p q i j a b c f g = cc
 
 -- keys with one rank are one
 pub rank_tells : (k l : EventKey) → IsKey k → IsKey l → rank k ≡ rank l → k ≡ l
@@ -87,4 +93,10 @@ rank_tells k l p q e =
     let train : k.train ≡ l.train = omega arith in
     let place : k.place ≡ l.place = omega arith in
     let id : k.id ≡ l.id = omega arith in
-    cc
+    made_alike _ _ _ _ _ _ _ _ _ _ minute enters train place id
+
+less_only : (a b : ℕ) → nat_cmp a b ≡ Less → a < b
+less_only a b e = grind (arith, nat_tests)
+
+pub is_before : (k l : EventKey) → IsKey k → IsKey l → IsBefore k l ↔ (rank k < rank l)
+is_before k l p q = (λ e. less_only _ _ (sym (key_cmp_is k l p q) ∙ e), λ lt. key_cmp_is k l p q ∙ less _ _ lt)

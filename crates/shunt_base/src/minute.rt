@@ -1,10 +1,10 @@
 ghost use Rattle.std.specs.Prelude.{◌≡◌, ◌<◌, ◌≤◌, ◌-◌, ℕ, IfSome};
 ghost use Rattle.std.specs.Option.{SomeIff};
-ghost use Rattle.shunt_base.specs.defs.Spelling.{minute_text};
+ghost use Rattle.shunt_base.specs.defs.Spelling.{minute_text, minute_of};
 
 use std::marker::Model;
 
-/// A minute of two days.
+/// A minute of two days, from 0 to 2879.
 #[derive(Clone, Copy, Debug, PartialEq, Eq, PartialOrd, Ord)]
 pub struct Minute {
     number: u16,
@@ -23,7 +23,7 @@ impl Model for Minute {
 }
 
 impl Minute {
-    /// None exactly from 2880 on.
+    /// The minute of this number; None exactly from 2880 on.
     pub fn new(number: u16) -> Option<Minute>
         ensures { SomeIff result (number < 2880) number }
     {
@@ -34,7 +34,7 @@ impl Minute {
         }
     }
 
-    /// Its number.
+    /// Its number, from 0 to 2879.
     pub fn number(self) -> u16
         ensures value { result ≡ self }
         ensures small { self < 2880 }
@@ -43,6 +43,7 @@ impl Minute {
     }
 }
 
+// The number that a digit stands for.
 fn digit(b: u8) -> Option<u16>
     ensures { SomeIff result ((48 ≤ b) × (b < 58)) (b - 48) }
 {
@@ -53,9 +54,19 @@ fn digit(b: u8) -> Option<u16>
     }
 }
 
-/// The minute that is spelled `HH:MM`, with hours below 48.
+/// The minute that is spelled `HH:MM`, with hours below 48 and minutes below 60.
+///
+/// None exactly where the bytes spell no minute.
 pub fn parse_minute(bytes: &[u8]) -> Option<Minute>
-    ensures some { IfSome result (λ m. bytes.now ≡ minute_text m) }
+    ensures some { IfSome result (λ m. (m < 2880) × (bytes.now ≡ minute_text m)) }
+    ensures only { (m : ℕ) → m < 2880 → bytes.now ≡ minute_text m → result ≡ Some m }
+    ensures value { result ≡ minute_of bytes.now }
+{
+    minute_in(bytes)
+}
+
+fn minute_in(bytes: &[u8]) -> Option<Minute>
+    ensures some { IfSome result (λ m. (m < 2880) × (bytes.now ≡ minute_text m)) }
     ensures only { (m : ℕ) → m < 2880 → bytes.now ≡ minute_text m → result ≡ Some m }
 {
     let [a, b, b':', c, d] = bytes else {
@@ -69,7 +80,7 @@ pub fn parse_minute(bytes: &[u8]) -> Option<Minute>
     Minute::new(60 * hours + minutes)
 }
 
-/// Its spelling.
+/// The spelling that `parse_minute` reads as this minute.
 pub fn minute_bytes(minute: Minute) -> [u8; 5]
     ensures { result ≡ minute_text minute }
 {

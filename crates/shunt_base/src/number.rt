@@ -4,7 +4,7 @@ ghost use Rattle.std.specs.Char.{is_ascii_digit};
 ghost use Rattle.std.specs.Option.{SomeIff};
 ghost use Rattle.std.specs.Fmt.{decimal, signed_decimal};
 ghost use Rattle.std.specs.Str.Parse.{digits_value};
-ghost use Rattle.shunt_base.specs.defs.Spelling.{IsDecimal, IsSigned, is_decimal_text, decimal_of};
+ghost use Rattle.shunt_base.specs.defs.Spelling.{IsDecimal, IsSigned, is_decimal_text, decimal_of, negative_of, signed_of};
 
 fn are_digits(bytes: &[u8]) -> bool
     ensures fact { IsTrue result ↔ All (λ b. IsTrue (is_ascii_digit b)) bytes.now }
@@ -38,10 +38,12 @@ fn value_of(bytes: &[u8]) -> u64
 }
 
 /// The number that these bytes spell: `0`, or up to 18 digits with no 0 in front.
+///
+/// None exactly where they spell no number.
 #[tactic(auto, unfolding(crate::specs::defs::Spelling::decimal_of))]
 pub fn parse_decimal(bytes: &[u8]) -> Option<u64>
     ensures exact { SomeIff result (IsDecimal bytes.now) (digits_value 10 bytes.now) }
-    ensures is { result ≡ decimal_of bytes.now }
+    ensures value { result ≡ decimal_of bytes.now }
     ensures some { IfSome result (λ n. (n < 10 ^ 18) × (bytes.now ≡ decimal n)) }
     ensures only { (n : ℕ) → n < 10 ^ 18 → bytes.now ≡ decimal n → result ≡ Some n }
 {
@@ -56,6 +58,7 @@ pub fn parse_decimal(bytes: &[u8]) -> Option<u64>
 fn parse_negative(bytes: &[u8]) -> Option<i64>
     ensures some { IfSome result (λ z. (n : ℕ) × (n + 1 < 10 ^ 18) × (z ≡ negsuc n) × (bytes.now ≡ decimal (n + 1))) }
     ensures only { (n : ℕ) → n + 1 < 10 ^ 18 → bytes.now ≡ decimal (n + 1) → result ≡ Some (negsuc n) }
+    ensures value { result ≡ negative_of (decimal_of bytes.now) }
 {
     match parse_decimal(bytes) {
         None => None,
@@ -65,9 +68,13 @@ fn parse_negative(bytes: &[u8]) -> Option<i64>
 }
 
 /// The signed number that these bytes spell: a decimal, or `-` and a decimal that isn't `0`.
+///
+/// None exactly where they spell no signed number.
+#[tactic(auto, unfolding(crate::specs::defs::Spelling::signed_of))]
 pub fn parse_signed(bytes: &[u8]) -> Option<i64>
     ensures some { IfSome result (λ z. IsSigned z × (bytes.now ≡ signed_decimal z)) }
     ensures only { (z : ℤ) → IsSigned z → bytes.now ≡ signed_decimal z → result ≡ Some z }
+    ensures value { result ≡ signed_of bytes.now }
 {
     if !bytes.is_empty() && bytes[0] == b'-' {
         return parse_negative(&bytes[1..]);

@@ -1,0 +1,13 @@
+-- The definitions of this crate.
+pub mod Files
+pub mod Causes
+pub mod Errors
+pub mod Table
+pub mod Pieces
+pub mod Memory
+pub mod Held
+pub mod Disk
+pub mod Shown
+pub mod Sinks
+pub mod Sure
+pub mod Kept

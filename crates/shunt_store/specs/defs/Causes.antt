@@ -1,0 +1,15 @@
+-- What a call may answer where it fails.
+use Rattle.std.specs.Prelude.{ℕ, ◌+◌, ◌-◌, ◌^◌, ◌≤◌, min, Result, IsErrOf}
+
+-- one more, but never past the last value that a count can have
+abbrev pub one_more : ℕ → ℕ
+one_more count = min (count + 1) (2 ^ 64 - 1)
+
+-- a count is greater than it was, or stands at the last value that it can have
+abbrev pub Rose : ℕ → ℕ → Type 0
+Rose before now = one_more before ≤ now
+
+-- the count doesn't fall, and this error is told only where it rose
+pub record HasCause {T E : Type 0} (fault : E) (before now : ℕ) (result : Result T E) : Type 0 where
+  pub later : before ≤ now
+  pub failed : IsErrOf result fault → Rose before now

@@ -1,0 +1,117 @@
+// A store over the files of the current folder.
+ghost use Rattle.std.specs.Prelude.{◌≡◌, None};
+ghost use Rattle.shunt_store.specs.defs.Files.{Closed};
+ghost use Rattle.shunt_store.specs.defs.Disk.{stage_of_file};
+
+use crate::errors::StoreError;
+use crate::traits::Store;
+use std::alloc::Allocator;
+use std::fs;
+use std::io::{Read, Write};
+use std::rt::Files;
+
+#[derive(Drop)]
+pub enum Doing<F, A: Allocator> {
+    Closed,
+    Reading(F, Vec<u8, A>),
+    Writing(F, Vec<u8, A>),
+}
+
+/// The files of the current folder. It tells nothing of what they hold.
+#[derive(Drop)]
+pub struct DiskStore<'r, R: Files + Alloc> {
+    rt: &'r R,
+    doing: Doing<R::File, R::A>,
+    taken: u64,
+    faults: u64,
+}
+
+impl<'r, R: Files + Alloc> DiskStore<'r, R> {
+    /// Nothing is open, and there are no faults so far.
+    pub fn new(rt: &'r R) -> DiskStore<'r, R>
+        ensures stage { stage_of_file result.doing ≡ Closed }
+        ensures taken { result.taken ≡ 0 }
+        ensures faults { result.faults ≡ 0 }
+    {
+        DiskStore {
+            rt,
+            doing: Doing::Closed,
+            taken: 0,
+            faults: 0,
+        }
+    }
+}
+
+impl<R: Files + Alloc> Store for DiskStore<'_, R> {
+    ghost told = { λ s. None };
+
+    ghost stage = { λ s. stage_of_file s.doing };
+
+    ghost taken = { λ s. s.taken };
+
+    ghost faults = { λ s. s.faults };
+
+    fn open_file(&mut self, name: &str) -> Result<(), StoreError> {
+        let owned = Vec::from_slice(self.rt.alloc(), name.as_bytes())?;
+        match fs::open(self.rt, name) {
+            Ok(file) => {
+                self.doing = Doing::Reading(file, owned);
+                self.taken = 0;
+                Ok(())
+            }
+            Err(_) => {
+                self.faults = self.faults.saturating_add(1);
+                Err(StoreError::Fault)
+            }
+        }
+    }
+
+    /// A Fault also where the count of the bytes taken could pass 2^64 - 1.
+    fn read(&mut self, buf: &mut [u8]) -> Result<usize, StoreError> {
+        let Doing::Reading(file, _) = &mut self.doing else {
+            unreachable!();
+        };
+        let room = u64::MAX - self.taken;
+        if buf.len() as u64 <= room {
+            if let Ok(n) = file.read(buf) {
+                self.taken += n as u64;
+                return Ok(n);
+            }
+        }
+        self.faults = self.faults.saturating_add(1);
+        Err(StoreError::Fault)
+    }
+
+    fn create_file(&mut self, name: &str) -> Result<(), StoreError> {
+        let owned = Vec::from_slice(self.rt.alloc(), name.as_bytes())?;
+        match fs::create(self.rt, name) {
+            Ok(file) => {
+                self.doing = Doing::Writing(file, owned);
+                Ok(())
+            }
+            Err(_) => {
+                self.faults = self.faults.saturating_add(1);
+                Err(StoreError::Fault)
+            }
+        }
+    }
+
+    /// A Fault also where the file takes nothing of the piece.
+    fn write(&mut self, piece: &[u8]) -> Result<usize, StoreError> {
+        let Doing::Writing(file, _) = &mut self.doing else {
+            unreachable!();
+        };
+        if let Ok(n) = file.write(piece) {
+            if n > 0 || piece.is_empty() {
+                return Ok(n);
+            }
+        }
+        self.faults = self.faults.saturating_add(1);
+        Err(StoreError::Fault)
+    }
+
+    fn close_file(&mut self) -> Result<(), StoreError> {
+        self.doing = Doing::Closed;
+        Ok(())
+    }
+}

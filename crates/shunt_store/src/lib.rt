@@ -1,0 +1,27 @@
+//! Files and output, as traits whose every refusal has a cause, and what implements them.
+#![tactic(auto)]
+
+mod console;
+mod disk;
+mod errors;
+mod memory;
+mod memory_sink;
+mod moving;
+mod reading;
+mod sure;
+mod table;
+mod traits;
+mod writing;
+
+pub use console::ConsoleSink;
+pub use disk::DiskStore;
+pub use errors::{ReadAllError, SinkError, StoreError};
+pub use memory::MemStore;
+pub use memory_sink::MemSink;
+pub use reading::read_all;
+pub use sure::{SureSink, SureStore};
+pub use traits::{Sink, Store};
+pub use writing::{print, write_all_to};
+
+#[cfg(test)]
+mod tests;

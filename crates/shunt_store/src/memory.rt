@@ -1,0 +1,235 @@
+// A store in memory, in which chosen calls fail.
+ghost use Rattle.std.specs.Prelude.{◌≡◌, ◌≢◌, ◌⊎◌, ◌+◌, ◌-◌, ◌<◌, ◌≤◌, ◌↔◌, [], ◌∷◌, ◌++◌, min, length, take, IsTrue, IfOk, IfErr, OnOk, OnErr, IsErrOf, Some, None, option_map, Contains, if◌then◌else◌};
+ghost use Rattle.std.specs.Bool.{OnTrue};
+ghost use Rattle.std.specs.FinMap as map;
+ghost use Rattle.shunt_store.specs.defs.Causes.{one_more, Rose, HasCause};
+ghost use Rattle.shunt_store.specs.defs.Files.{Closed, Reading, Writing, IsReading, IsWriting, name_of, content, HandsOut};
+ghost use Rattle.shunt_store.specs.defs.Held.{Held, IsToFail, called, refused};
+ghost use Rattle.shunt_store.specs.defs.Pieces.{bounded};
+
+use crate::errors::StoreError;
+use crate::moving::{hand_out, in_one_call};
+use crate::table::{File, append, bytes_at, bytes_of, place_of, put};
+use crate::traits::Store;
+use std::alloc::{AllocError, Global};
+use std::marker::Model;
+
+// The file that is open, by its place in the list.
+#[derive(Debug, Drop)]
+pub enum Doing {
+    Closed,
+    Reading(usize),
+    Writing(usize),
+}
+
+/// Files in memory, with the numbers of the calls that are to fail. The calls of the trait's
+/// methods are counted from 1, the refused ones too, and never past 2^64 - 1.
+#[derive(Debug, Drop)]
+pub struct MemStore {
+    alloc: Global,
+    files: Vec<File>,
+    failing: Vec<u64>,
+    calls: u64,
+    faults: u64,
+    doing: Doing,
+    taken: usize,
+    piece: Option<usize>,
+}
+
+impl Model for MemStore {
+    ghost use Rattle.shunt_store.specs.defs.Held.{Held, coded_held};
+
+    ghost Value = { Held };
+
+    ghost coded = { coded_held };
+
+    ghost use Rattle.shunt_store.specs.defs.Memory.{held, IsSound};
+
+    ghost view = { held };
+
+    ghost invariant = { IsSound };
+}
+
+impl MemStore {
+    /// No files, no calls that are to fail, and no bound on what a call moves.
+    pub fn new(alloc: Global) -> MemStore
+        ensures { result ≡ record { files = map.empty; failing = []; calls = 0; faults = 0; stage = Closed; taken = 0; piece = None } }
+    {
+        MemStore {
+            alloc,
+            files: Vec::new(alloc),
+            failing: Vec::new(alloc),
+            calls: 0,
+            faults: 0,
+            doing: Doing::Closed,
+            taken: 0,
+            piece: None,
+        }
+    }
+
+    /// The file then holds exactly these bytes, whether it was there or not. Nothing may be open.
+    pub fn put(&mut self, name: &str, bytes: &[u8]) -> Result<(), AllocError>
+        requires { self.old.stage ≡ Closed }
+        ensures ok { OnOk result (self.new ≡ record self.old { files = map.insert self.old.files name.now bytes.now }) }
+        ensures err { OnErr result (self.new ≡ self.old) }
+    {
+        let Doing::Closed = self.doing else {
+            unreachable!();
+        };
+        put(self.alloc, &mut self.files, name.as_bytes(), bytes)?;
+        Ok(())
+    }
+
+    /// The call of this number is to fail, counted from 1 over the trait's methods.
+    pub fn fail_at(&mut self, call: u64) -> Result<(), AllocError>
+        ensures ok { OnOk result (self.new ≡ record self.old { failing = self.old.failing ++ call ∷ [] }) }
+        ensures err { OnErr result (self.new ≡ self.old) }
+    {
+        self.failing.push(call)?;
+        Ok(())
+    }
+
+    /// From then on a read gives, and a write takes, at most so many bytes.
+    pub fn set_piece(&mut self, most: usize)
+        requires { 1 ≤ most }
+        ensures { self.new ≡ record self.old { piece = Some most } }
+    {
+        self.piece = Some(most);
+    }
+
+    /// What the file holds. None exactly where there is none of the name.
+    pub fn file(&self, name: &str) -> Option<&[u8]>
+        ensures { option_map (λ b. b.now) result ≡ map.get self.now.files name.now }
+    {
+        bytes_at(&self.files, name.as_bytes())
+    }
+
+    // Counts a call, and tells whether it is to fail.
+    fn call_fails(&mut self) -> bool
+        ensures later { self.old.faults ≤ self.new.faults }
+        ensures rose { OnTrue result (Rose self.old.faults self.new.faults) }
+        ensures fails { IsTrue result ↔ IsToFail self.old }
+        ensures new { self.new ≡ record self.old { calls = one_more self.old.calls; faults = if result then one_more self.old.faults else self.old.faults } }
+    {
+        self.calls = self.calls.saturating_add(1);
+        let fails = self.failing.contains(&self.calls);
+        if fails {
+            self.faults = self.faults.saturating_add(1);
+        }
+        fails
+    }
+}
+
+impl Store for MemStore {
+    ghost told = { λ s. Some s.files };
+
+    ghost stage = { λ s. s.stage };
+
+    ghost taken = { λ s. s.taken };
+
+    ghost faults = { λ s. s.faults };
+
+    /// A Fault also where there is no file of the name.
+    fn open_file(&mut self, name: &str) -> Result<(), StoreError>
+        requires { self.old.stage ≡ Closed }
+        ensures ok { OnOk result (self.new ≡ record (called self.old) { stage = Reading name.now; taken = 0 }) }
+        ensures err { IfErr result (λ e. self.new ≡ refused e self.old) }
+        ensures exact { IsErrOf result StoreError.Fault ↔ (IsToFail self.old ⊎ (map.get self.old.files name.now ≡ None)) }
+        ensures no_memory { IsErrOf result StoreError.Memory → ⊥ }
+        ensures files { self.new.files ≡ self.old.files }
+        ensures cause { HasCause StoreError.Fault self.old.faults self.new.faults result }
+    {
+        if self.call_fails() {
+            return Err(StoreError::Fault);
+        }
+        let Some(place) = place_of(&self.files, name.as_bytes()) else {
+            self.faults = self.faults.saturating_add(1);
+            return Err(StoreError::Fault);
+        };
+        self.doing = Doing::Reading(place);
+        self.taken = 0;
+        Ok(())
+    }
+
+    fn read(&mut self, buf: &mut [u8]) -> Result<usize, StoreError>
+        requires { IsReading self.old.stage }
+        ensures bytes { IfOk result (λ n. HandsOut (content self.old.files (name_of self.old.stage)) self.old.taken n buf.new) }
+        ensures amount { IfOk result (λ n. n ≡ bounded self.old.piece (min (length (content self.old.files (name_of self.old.stage)) - self.old.taken) (length buf.new))) }
+        ensures bound { IfOk result (λ n. n ≤ length buf.new) }
+        ensures ok { IfOk result (λ n. self.new ≡ record (called self.old) { taken = self.old.taken + n }) }
+        ensures err { IfErr result (λ e. self.new ≡ refused e self.old) }
+        ensures exact { IsErrOf result StoreError.Fault ↔ IsToFail self.old }
+        ensures no_memory { IsErrOf result StoreError.Memory → ⊥ }
+        ensures stage { self.new.stage ≡ self.old.stage }
+        ensures files { self.new.files ≡ self.old.files }
+        ensures cause { HasCause StoreError.Fault self.old.faults self.new.faults result }
+    {
+        if self.call_fails() {
+            return Err(StoreError::Fault);
+        }
+        let Doing::Reading(place) = self.doing else {
+            unreachable!();
+        };
+        let n = hand_out(bytes_of(&self.files, place), self.taken, self.piece, buf);
+        self.taken += n;
+        Ok(n)
+    }
+
+    fn create_file(&mut self, name: &str) -> Result<(), StoreError>
+        requires { self.old.stage ≡ Closed }
+        ensures ok { OnOk result (self.new ≡ record (called self.old) { files = map.insert self.old.files name.now []; stage = Writing name.now }) }
+        ensures err { IfErr result (λ e. self.new ≡ refused e self.old) }
+        ensures exact { IsErrOf result StoreError.Fault ↔ IsToFail self.old }
+        ensures taken { self.new.taken ≡ self.old.taken }
+        ensures cause { HasCause StoreError.Fault self.old.faults self.new.faults result }
+    {
+        if self.call_fails() {
+            return Err(StoreError::Fault);
+        }
+        let place = put(self.alloc, &mut self.files, name.as_bytes(), &[])?;
+        self.doing = Doing::Writing(place);
+        Ok(())
+    }
+
+    fn write(&mut self, piece: &[u8]) -> Result<usize, StoreError>
+        requires { IsWriting self.old.stage }
+        ensures amount { IfOk result (λ n. n ≡ bounded self.old.piece (length piece.now)) }
+        ensures bound { IfOk result (λ n. n ≤ length piece.now) }
+        ensures some { IfOk result (λ n. 0 < length piece.now → 0 < n) }
+        ensures ok { IfOk result (λ n. self.new ≡ record (called self.old) {
+          files = map.insert self.old.files (name_of self.old.stage) (content self.old.files (name_of self.old.stage) ++ take n piece.now);
+        }) }
+        ensures err { IfErr result (λ e. self.new ≡ refused e self.old) }
+        ensures exact { IsErrOf result StoreError.Fault ↔ IsToFail self.old }
+        ensures stage { self.new.stage ≡ self.old.stage }
+        ensures taken { self.new.taken ≡ self.old.taken }
+        ensures cause { HasCause StoreError.Fault self.old.faults self.new.faults result }
+    {
+        if self.call_fails() {
+            return Err(StoreError::Fault);
+        }
+        let Doing::Writing(place) = self.doing else {
+            unreachable!();
+        };
+        let n = in_one_call(self.piece, piece.len());
+        append(&mut self.files, place, &piece[..n])?;
+        Ok(n)
+    }
+
+    fn close_file(&mut self) -> Result<(), StoreError>
+        requires { self.old.stage ≢ Closed }
+        ensures ok { OnOk result (self.new ≡ record (called self.old) { stage = Closed }) }
+        ensures err { IfErr result (λ e. self.new ≡ refused e self.old) }
+        ensures exact { IsErrOf result StoreError.Fault ↔ IsToFail self.old }
+        ensures no_memory { IsErrOf result StoreError.Memory → ⊥ }
+        ensures files { self.new.files ≡ self.old.files }
+        ensures taken { self.new.taken ≡ self.old.taken }
+        ensures cause { HasCause StoreError.Fault self.old.faults self.new.faults result }
+    {
+        if self.call_fails() {
+            return Err(StoreError::Fault);
+        }
+        self.doing = Doing::Closed;
+        Ok(())
+    }
+}

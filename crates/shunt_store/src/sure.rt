@@ -1,0 +1,206 @@
+// A store and a sink in memory that never fault.
+ghost use Rattle.std.specs.Prelude.{◌≡◌, ◌≢◌, ◌+◌, ◌<◌, ◌≤◌, [], ◌++◌, length, take, IfOk, IsOk, OnOk, OnErr, IsErrOf, Some, option_map};
+ghost use Rattle.std.specs.FinMap as map;
+ghost use Rattle.shunt_store.specs.defs.Files.{Closed, Reading, Writing, IsReading, IsWriting, name_of, content, HandsOut};
+
+use crate::errors::{SinkError, StoreError};
+use crate::moving::hand_out;
+use crate::table::{File, append, bytes_at, put};
+use crate::traits::{Sink, Store};
+use std::alloc::{AllocError, Global};
+use std::marker::Model;
+
+// What is read, by its name, or the file that is written, by its place in the list.
+#[derive(Debug, Drop)]
+pub enum Doing {
+    Closed,
+    Reading(Vec<u8>),
+    Writing(usize),
+}
+
+/// Files in memory. It never faults: only memory can run out. A name that is absent reads as no bytes.
+#[derive(Debug, Drop)]
+pub struct SureStore {
+    alloc: Global,
+    files: Vec<File>,
+    doing: Doing,
+    taken: usize,
+}
+
+impl Model for SureStore {
+    ghost use Rattle.shunt_store.specs.defs.Sure.{Sure, coded_sure};
+
+    ghost Value = { Sure };
+
+    ghost coded = { coded_sure };
+
+    ghost use Rattle.shunt_store.specs.defs.Kept.{kept, IsSound};
+
+    ghost view = { kept };
+
+    ghost invariant = { IsSound };
+}
+
+impl SureStore {
+    /// No files.
+    pub fn new(alloc: Global) -> SureStore
+        ensures { result ≡ record { files = map.empty; stage = Closed; taken = 0 } }
+    {
+        SureStore {
+            alloc,
+            files: Vec::new(alloc),
+            doing: Doing::Closed,
+            taken: 0,
+        }
+    }
+
+    /// The file then holds exactly these bytes, whether it was there or not. Nothing may be open.
+    pub fn put(&mut self, name: &str, bytes: &[u8]) -> Result<(), AllocError>
+        requires { self.old.stage ≡ Closed }
+        ensures ok { OnOk result (self.new ≡ record self.old { files = map.insert self.old.files name.now bytes.now }) }
+        ensures err { OnErr result (self.new ≡ self.old) }
+    {
+        let Doing::Closed = self.doing else {
+            unreachable!();
+        };
+        put(self.alloc, &mut self.files, name.as_bytes(), bytes)?;
+        Ok(())
+    }
+
+    /// What the file holds. None exactly where there is none of the name.
+    pub fn file(&self, name: &str) -> Option<&[u8]>
+        ensures { option_map (λ b. b.now) result ≡ map.get self.now.files name.now }
+    {
+        bytes_at(&self.files, name.as_bytes())
+    }
+}
+
+impl Store for SureStore {
+    ghost told = { λ s. Some s.files };
+
+    ghost stage = { λ s. s.stage };
+
+    ghost taken = { λ s. s.taken };
+
+    ghost faults = { λ s. 0 };
+
+    fn open_file(&mut self, name: &str) -> Result<(), StoreError>
+        requires { self.old.stage ≡ Closed }
+        ensures ok { OnOk result (self.new ≡ record self.old { stage = Reading name.now; taken = 0 }) }
+        ensures err { OnErr result (self.new ≡ self.old) }
+        ensures never { IsErrOf result StoreError.Fault → ⊥ }
+        ensures files { self.new.files ≡ self.old.files }
+    {
+        self.doing = Doing::Reading(Vec::from_slice(self.alloc, name.as_bytes())?);
+        self.taken = 0;
+        Ok(())
+    }
+
+    fn read(&mut self, buf: &mut [u8]) -> Result<usize, StoreError>
+        requires { IsReading self.old.stage }
+        ensures bytes { IfOk result (λ n. HandsOut (content self.old.files (name_of self.old.stage)) self.old.taken n buf.new) }
+        ensures bound { IfOk result (λ n. n ≤ length buf.new) }
+        ensures ok { IfOk result (λ n. self.new ≡ record self.old { taken = self.old.taken + n }) }
+        ensures always { IsOk result }
+        ensures stage { self.new.stage ≡ self.old.stage }
+        ensures files { self.new.files ≡ self.old.files }
+    {
+        let Doing::Reading(name) = &self.doing else {
+            unreachable!();
+        };
+        let bytes = bytes_at(&self.files, name).unwrap_or(&[]);
+        let n = hand_out(bytes, self.taken, None, buf);
+        self.taken += n;
+        Ok(n)
+    }
+
+    fn create_file(&mut self, name: &str) -> Result<(), StoreError>
+        requires { self.old.stage ≡ Closed }
+        ensures ok { OnOk result (self.new ≡ record self.old { files = map.insert self.old.files name.now []; stage = Writing name.now }) }
+        ensures err { OnErr result (self.new ≡ self.old) }
+        ensures never { IsErrOf result StoreError.Fault → ⊥ }
+        ensures taken { self.new.taken ≡ self.old.taken }
+    {
+        let place = put(self.alloc, &mut self.files, name.as_bytes(), &[])?;
+        self.doing = Doing::Writing(place);
+        Ok(())
+    }
+
+    fn write(&mut self, piece: &[u8]) -> Result<usize, StoreError>
+        requires { IsWriting self.old.stage }
+        ensures whole { IfOk result (λ n. n ≡ length piece.now) }
+        ensures ok { OnOk result (self.new ≡ record self.old {
+          files = map.insert self.old.files (name_of self.old.stage) (content self.old.files (name_of self.old.stage) ++ piece.now);
+        }) }
+        ensures err { OnErr result (self.new ≡ self.old) }
+        ensures never { IsErrOf result StoreError.Fault → ⊥ }
+        ensures stage { self.new.stage ≡ self.old.stage }
+        ensures taken { self.new.taken ≡ self.old.taken }
+    {
+        let Doing::Writing(place) = self.doing else {
+            unreachable!();
+        };
+        append(&mut self.files, place, piece)?;
+        Ok(piece.len())
+    }
+
+    fn close_file(&mut self) -> Result<(), StoreError>
+        requires { self.old.stage ≢ Closed }
+        ensures ok { self.new ≡ record self.old { stage = Closed } }
+        ensures always { IsOk result }
+    {
+        self.doing = Doing::Closed;
+        Ok(())
+    }
+}
+
+/// Output in memory. It never faults: only memory can run out.
+#[derive(Debug, Drop)]
+pub struct SureSink {
+    bytes: Vec<u8>,
+}
+
+impl Model for SureSink {
+    ghost use Rattle.std.specs.Prelude.{ℕ, List};
+
+    ghost Value = { List ℕ };
+
+    ghost view = { λ s. s.bytes.items };
+}
+
+impl SureSink {
+    /// Nothing written.
+    pub fn new(alloc: Global) -> SureSink
+        ensures { result ≡ [] }
+    {
+        SureSink {
+            bytes: Vec::new(alloc),
+        }
+    }
+
+    /// What was written.
+    pub fn bytes(&self) -> &[u8]
+        ensures { result.now ≡ self.now }
+    {
+        &self.bytes
+    }
+}
+
+impl Sink for SureSink {
+    ghost told = { λ s. Some s };
+
+    ghost faults = { λ s. 0 };
+
+    /// Takes the whole piece.
+    fn write(&mut self, piece: &[u8]) -> Result<usize, SinkError>
+        ensures whole { IfOk result (λ n. n ≡ length piece.now) }
+        ensures ok { OnOk result (self.new ≡ self.old ++ piece.now) }
+        ensures err { OnErr result (self.new ≡ self.old) }
+        ensures never { IsErrOf result SinkError.Fault → ⊥ }
+    {
+        match self.bytes.extend_from_slice(piece) {
+            Ok(()) => Ok(piece.len()),
+            Err(_) => Err(SinkError::Memory),
+        }
+    }
+}

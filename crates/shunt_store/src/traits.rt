@@ -1,0 +1,95 @@
+// The outside as the program sees it: files by name, and output.
+ghost use Rattle.std.specs.Prelude.{◌≡◌, ◌≢◌, ◌⊎◌, ℕ, ◌+◌, ◌<◌, ◌≤◌, ◌++◌, [], List, Option, length, take, IfOk, OnOk, OnErr, IfSome, IsErrOf};
+ghost use Rattle.std.specs.FinMap as map;
+ghost use Rattle.shunt_store.specs.defs.Files.{Files, Stage, Closed, Reading, Writing, IsReading, IsWriting, name_of, content, HandsOut, BothTold, MayCreate, AppendsSome, AddsFront};
+ghost use Rattle.shunt_store.specs.defs.Causes.{HasCause};
+
+use crate::errors::{SinkError, StoreError};
+
+/// Files by name, of which at most one is open, to be read from its first byte to its end or
+/// to be written anew. A Fault comes only where the count of faults rose in that call.
+pub trait Store {
+    /// The files, where the store tells them. What doesn't tell them never does, and what does always will.
+    ghost told: { Self → Option Files };
+
+    /// What the store is doing: nothing, reading a name, or writing a name.
+    ghost stage: { Self → Stage };
+
+    /// How many bytes were handed out since a file was last opened.
+    ghost taken: { Self → ℕ };
+
+    /// How often the store failed.
+    ghost faults: { Self → ℕ };
+
+    /// Opens a file to be read from its first byte. No file is changed.
+    fn open_file(&mut self, name: &str) -> Result<(), StoreError>
+        requires { stage self.old ≡ Closed }
+        ensures ok { OnOk result ((stage self.new ≡ Reading name.now) × (taken self.new ≡ 0)) }
+        ensures err { OnErr result (stage self.new ≡ Closed) }
+        ensures none_taken { OnErr result ((taken self.new ≡ taken self.old) ⊎ (taken self.new ≡ 0)) }
+        ensures files { told self.new ≡ told self.old }
+        ensures cause { HasCause StoreError.Fault (faults self.old) (faults self.new) result };
+
+    /// Hands out the next bytes of the file, as many as it answers, at the front of the buffer:
+    /// 0 for a buffer with room only at the file's end. No file is changed.
+    fn read(&mut self, buf: &mut [u8]) -> Result<usize, StoreError>
+        requires { IsReading (stage self.old) }
+        ensures bound { IfOk result (λ n. n ≤ length buf.new) }
+        ensures bytes { IfOk result (λ n. IfSome (told self.old) (λ files. HandsOut (content files (name_of (stage self.old))) (taken self.old) n buf.new)) }
+        ensures taken { IfOk result (λ n. taken self.new ≡ taken self.old + n) }
+        ensures err { OnErr result (taken self.new ≡ taken self.old) }
+        ensures stage { stage self.new ≡ stage self.old }
+        ensures files { told self.new ≡ told self.old }
+        ensures cause { HasCause StoreError.Fault (faults self.old) (faults self.new) result };
+
+    /// Makes the named file empty, to be written from then on. No other file is changed.
+    fn create_file(&mut self, name: &str) -> Result<(), StoreError>
+        requires { stage self.old ≡ Closed }
+        ensures ok { OnOk result (stage self.new ≡ Writing name.now) }
+        ensures made { OnOk result (BothTold (told self.old) (told self.new) (λ old new. new ≡ map.insert old name.now [])) }
+        ensures err { OnErr result (stage self.new ≡ Closed) }
+        ensures not_made { OnErr result (BothTold (told self.old) (told self.new) (MayCreate name.now)) }
+        ensures taken { taken self.new ≡ taken self.old }
+        ensures cause { HasCause StoreError.Fault (faults self.old) (faults self.new) result };
+
+    /// Appends the front of the piece to the file, as many bytes as it answers: at least one, if
+    /// there are any. No other file is changed.
+    fn write(&mut self, piece: &[u8]) -> Result<usize, StoreError>
+        requires { IsWriting (stage self.old) }
+        ensures bound { IfOk result (λ n. n ≤ length piece.now) }
+        ensures some { IfOk result (λ n. 0 < length piece.now → 0 < n) }
+        ensures bytes { IfOk result (λ n. BothTold (told self.old) (told self.new) (λ old new.
+            new ≡ map.insert old (name_of (stage self.old)) (content old (name_of (stage self.old)) ++ take n piece.now))) }
+        ensures err { OnErr result (BothTold (told self.old) (told self.new) (AppendsSome (name_of (stage self.old)) piece.now)) }
+        ensures stage { stage self.new ≡ stage self.old }
+        ensures taken { taken self.new ≡ taken self.old }
+        ensures cause { HasCause StoreError.Fault (faults self.old) (faults self.new) result };
+
+    /// Closes the file. No file is changed.
+    fn close_file(&mut self) -> Result<(), StoreError>
+        requires { stage self.old ≢ Closed }
+        ensures ok { OnOk result (stage self.new ≡ Closed) }
+        ensures err { OnErr result ((stage self.new ≡ Closed) ⊎ (stage self.new ≡ stage self.old)) }
+        ensures no_memory { IsErrOf result StoreError.Memory → ⊥ }
+        ensures files { told self.new ≡ told self.old }
+        ensures taken { taken self.new ≡ taken self.old }
+        ensures cause { HasCause StoreError.Fault (faults self.old) (faults self.new) result };
+}
+
+/// Where output goes. A Fault comes only where the count of faults rose in that call.
+pub trait Sink {
+    /// The bytes written so far, where the sink tells them. What doesn't tell them never does,
+    /// and what does always will.
+    ghost told: { Self → Option (List ℕ) };
+
+    /// How often the sink failed.
+    ghost faults: { Self → ℕ };
+
+    /// Appends the front of the piece, as many bytes as it answers: at least one, if there are any.
+    fn write(&mut self, piece: &[u8]) -> Result<usize, SinkError>
+        ensures bound { IfOk result (λ n. n ≤ length piece.now) }
+        ensures some { IfOk result (λ n. 0 < length piece.now → 0 < n) }
+        ensures bytes { IfOk result (λ n. BothTold (told self.old) (told self.new) (λ old new. new ≡ old ++ take n piece.now)) }
+        ensures err { OnErr result (BothTold (told self.old) (told self.new) (AddsFront piece.now)) }
+        ensures cause { HasCause SinkError.Fault (faults self.old) (faults self.new) result };
+}

@@ -1,0 +1,7 @@
+use Rattle.std.proofs.Common.{ap, arith}
+use Rattle.shunt_instance.specs.defs.Instance.{Night}
+use Rattle.shunt_instance.proofs.Looked.{first_read, position_room}
+use Rattle.shunt_instance.proofs.joined.Instance.first_position.Goals as goal
+
+pub returns-clause-within : goal.returns-clause-within
+returns-clause-within c = omega (arith, first_read _ _ _ _ _ (ap (λ (n : Night). n.depart) c.self.view_is) c.self.invariant.positions_before c.requires c.index.ensures, position_room c.args.self.now c.args.train.0 c.requires)

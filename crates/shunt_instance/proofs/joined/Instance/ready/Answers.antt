@@ -1,0 +1,5 @@
+use Rattle.shunt_instance.proofs.Looked.{ready_read}
+use Rattle.shunt_instance.proofs.joined.Instance.ready.Goals as goal
+
+pub returns-clause-small : goal.returns-clause-small
+returns-clause-small c = ready_read _ _ _ _ _ _ _ _ c.self.view_is c.self.invariant.formed c.self.invariant.entries c.requires c.index.ensures

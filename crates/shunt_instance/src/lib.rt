@@ -1,0 +1,16 @@
+//! A station joined with a timetable: one night, with its units and positions numbered.
+#![tactic(auto)]
+
+mod joined;
+pub mod laws;
+mod lookups;
+mod numbering;
+mod records;
+
+pub use joined::Instance;
+pub use records::{
+    Origin, Permit, Position, Route, Station, Timetable, Track, Train, Unit, UnitType,
+};
+
+#[cfg(test)]
+mod tests;

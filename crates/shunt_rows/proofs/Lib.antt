@@ -1,0 +1,9 @@
+pub mod Again
+pub mod InOrder
+pub mod Joins
+pub mod Least
+pub mod Nonempty
+pub mod Places
+pub mod Readings
+pub mod SampleTables
+pub mod Whole

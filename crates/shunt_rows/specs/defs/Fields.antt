@@ -1,0 +1,57 @@
+-- What a field may be.
+use Rattle.std.specs.Prelude.{ℕ, suc, Bool, false, ◌&&◌, nat_le, List, [], ◌∷◌, length, Option, Some, None, option_map, if◌then◌else◌, codes}
+use Rattle.std.specs.Str.{bytes_eq}
+use Rattle.shunt_base.specs.declared.ids.Side.{Side}
+use Rattle.shunt_base.specs.declared.ids.Side.TheVariants as sides
+use Rattle.shunt_base.specs.defs.Spelling.{decimal_of, minute_of}
+use Rattle.shunt_rows.specs.declared.fault.RowKind.TheVariants as kinds
+use Rattle.shunt_rows.specs.defs.Records.{at}
+use Rattle.shunt_rows.specs.defs.Checks.{Judged, must, says, found, ◌>>=◌}
+
+-- whether this is the word of a record
+abbrev pub is_word : List (List ℕ) → List ℕ → Bool
+is_word row word = bytes_eq (at row 1) word
+
+-- a record whose word is none that may stand there
+abbrev pub no_word : {S : Type 0} → S → Judged S
+no_word s = record { checks = record { field = 1; kind = kinds.Kind; holds = false } ∷ []; value = s }
+
+-- whether a number lies from the one to the other
+unfoldable pub is_within : ℕ → ℕ → ℕ → Bool
+is_within least most x = nat_le least x && nat_le x most
+
+-- the record has from so many to so many fields
+abbrev pub fields_in : List (List ℕ) → ℕ → ℕ → Judged (Unit {0})
+fields_in row least most = must (is_within least most (length row)) 1 kinds.Fields
+
+-- the field is a number, from the one to the other
+abbrev pub number_in : List (List ℕ) → ℕ → ℕ → ℕ → Judged ℕ
+number_in row k least most = do
+  x ← found 0 (decimal_of (at row k)) k kinds.Number
+  _ ← must (is_within least most x) k kinds.Limit
+  says x
+
+-- the field is a minute
+abbrev pub minute_in : List (List ℕ) → ℕ → Judged ℕ
+minute_in row k = found 0 (minute_of (at row k)) k kinds.Time
+
+-- the side that a text names
+unfoldable pub side_of : List ℕ → Option Side
+side_of bytes = if bytes_eq bytes (codes "A") then Some sides.A else if bytes_eq bytes (codes "B") then Some sides.B else None
+
+-- the field is a side
+abbrev pub side_in : List (List ℕ) → ℕ → Judged Side
+side_in row k = found sides.A (side_of (at row k)) k kinds.Kind
+
+-- the place of the first of these words that is this one, from 0
+unfoldable pub place_of : List (List ℕ) → List ℕ → Option ℕ
+place_of [] word = None
+place_of (other ∷ words) word = if bytes_eq other word then Some 0 else option_map suc (place_of words word)
+
+-- the field is one of these words, and says its place among them
+abbrev pub word_in : List (List ℕ) → ℕ → List (List ℕ) → Judged ℕ
+word_in row k words = found 0 (place_of words (at row k)) k kinds.Kind
+
+-- the field is one of these names, and says its place among them
+abbrev pub known_in : List (List ℕ) → ℕ → List (List ℕ) → Judged ℕ
+known_in row k names = found 0 (place_of names (at row k)) k kinds.Unknown

@@ -1,0 +1,121 @@
+// Fields that are numbers, minutes, sides, words and names.
+ghost use Rattle.std.specs.Prelude.{◌≡◌, ◌↔◌, ◌≤◌, IsTrue, IfOk, OnOk, length, map};
+ghost use Rattle.shunt_rows.specs.defs.Checks.{answer};
+ghost use Rattle.shunt_rows.specs.defs.Fields.{is_within, fields_in, number_in, minute_in, side_in, side_of, place_of, word_in, known_in};
+
+use crate::check::{found, must};
+use crate::fault::{RowFault, RowKind};
+use crate::row::Row;
+use shunt_base::{Minute, Name, Side, parse_decimal, parse_minute};
+
+/// Whether a number lies from `least` to `most`.
+#[tactic(auto, unfolding(crate::specs::defs::Fields::is_within))]
+pub fn is_within(least: u64, most: u64, number: u64) -> bool
+    ensures test { result ≡ is_within least most number }
+    ensures fact { IsTrue result ↔ ((least ≤ number) × (number ≤ most)) }
+{
+    least <= number && number <= most
+}
+
+/// Whether record `n` has from `least` to `most` fields, else Fields at field 1.
+#[tactic(auto, unfolding(crate::specs::defs::Fields::is_within))]
+pub fn fields_in(row: &Row, n: u32, least: usize, most: usize) -> Result<(), RowFault>
+    ensures answer { result ≡ answer n (fields_in row.now least most) }
+    ensures within { OnOk result ((least ≤ length row.now) × (length row.now ≤ most)) }
+{
+    let len = row.len();
+    must(least <= len && len <= most, n, 1, RowKind::Fields)
+}
+
+/// The number at field `k` of record `n`, from `least` to `most`: else Number, or Limit.
+pub fn number_in(row: &Row, n: u32, k: u32, least: u64, most: u64) -> Result<u64, RowFault>
+    requires first { 1 ≤ k }
+    requires last { k ≤ length row.now }
+    ensures answer { result ≡ answer n (number_in row.now k least most) }
+    ensures within { IfOk result (λ x. (least ≤ x) × (x ≤ most)) }
+{
+    let number = found(parse_decimal(row.field(k as usize)), n, k, RowKind::Number)?;
+    must(is_within(least, most, number), n, k, RowKind::Limit)?;
+    Ok(number)
+}
+
+/// The minute at field `k` of record `n`: else Time.
+pub fn minute_in(row: &Row, n: u32, k: u32) -> Result<Minute, RowFault>
+    requires first { 1 ≤ k }
+    requires last { k ≤ length row.now }
+    ensures { result ≡ answer n (minute_in row.now k) }
+{
+    found(parse_minute(row.field(k as usize)), n, k, RowKind::Time)
+}
+
+// The side that these bytes name.
+#[tactic(auto, unfolding(crate::specs::defs::Fields::side_of))]
+fn side_named(bytes: &[u8]) -> Option<Side>
+    ensures { result ≡ side_of bytes.now }
+{
+    if bytes == b"A".as_slice() {
+        return Some(Side::A);
+    }
+    if bytes == b"B".as_slice() {
+        return Some(Side::B);
+    }
+    None
+}
+
+/// The side at field `k` of record `n`, `A` or `B`: else Kind.
+pub fn side_in(row: &Row, n: u32, k: u32) -> Result<Side, RowFault>
+    requires first { 1 ≤ k }
+    requires last { k ≤ length row.now }
+    ensures { result ≡ answer n (side_in row.now k) }
+{
+    found(side_named(row.field(k as usize)), n, k, RowKind::Kind)
+}
+
+/// The place of a word in a list of words, from 0; of the first, where it stands there twice.
+#[tactic(auto, unfolding(crate::specs::defs::Fields::place_of))]
+pub fn place_of(words: &[&[u8]], word: &[u8]) -> Option<usize>
+    ensures { result ≡ place_of (map (λ w. w.now) words.now) word.now }
+{
+    for (place, other) in words.iter().enumerate() {
+        if *other == word {
+            return Some(place);
+        }
+    }
+    None
+}
+
+/// The place of a name in a list of names, from 0; of the first, where it stands there twice.
+#[tactic(auto, unfolding(crate::specs::defs::Fields::place_of))]
+pub fn place_of_name(names: &[Name], name: &[u8]) -> Option<usize>
+    ensures { result ≡ place_of names.now name.now }
+{
+    for (place, other) in names.iter().enumerate() {
+        if other.bytes() == name {
+            return Some(place);
+        }
+    }
+    None
+}
+
+/// The place of field `k` of record `n` among these words, from 0: else Kind.
+pub fn word_in(row: &Row, n: u32, k: u32, words: &[&[u8]]) -> Result<usize, RowFault>
+    requires first { 1 ≤ k }
+    requires last { k ≤ length row.now }
+    ensures { result ≡ answer n (word_in row.now k (map (λ w. w.now) words.now)) }
+{
+    found(place_of(words, row.field(k as usize)), n, k, RowKind::Kind)
+}
+
+/// The place of field `k` of record `n` among the names that are known, from 0: else Unknown.
+pub fn known_in(row: &Row, n: u32, k: u32, names: &[Name]) -> Result<usize, RowFault>
+    requires first { 1 ≤ k }
+    requires last { k ≤ length row.now }
+    ensures { result ≡ answer n (known_in row.now k names.now) }
+{
+    found(
+        place_of_name(names, row.field(k as usize)),
+        n,
+        k,
+        RowKind::Unknown,
+    )
+}

@@ -1,0 +1,91 @@
+// The text of records.
+ghost use Rattle.std.specs.Prelude.{◌≡◌, ◌≢◌, [], ◌∷◌, ◌++◌, IfOk, OnOk};
+ghost use Rattle.csv.specs.Records.{fields_of};
+ghost use Rattle.shunt_rows.specs.defs.Records.{text_of_row, ReadsBack};
+ghost use Rattle.shunt_rows.specs.defs.Written.{Written};
+
+use csv::{ByteRecord, WriterBuilder};
+use std::alloc::{AllocError, Global};
+use std::marker::Model;
+
+// The text of one record.
+fn row_bytes(alloc: Global, row: &ByteRecord) -> Result<Vec<u8>, AllocError>
+    ensures { IfOk result (λ v. v.items ≡ text_of_row (fields_of row.now)) }
+{
+    let mut writer = WriterBuilder::new().from_writer(Vec::new(alloc));
+    if writer.write_byte_record(row).is_err() {
+        return Err(AllocError);
+    }
+    match writer.into_inner() {
+        Ok(text) => Ok(text),
+        Err(_) => Err(AllocError),
+    }
+}
+
+/// Writes records one after the other, as `csv` does; seen as the text of the rows that were ended, and the open row.
+///
+/// After an error it may hold part of a row, and is to be dropped.
+#[derive(Debug, Drop)]
+pub struct RowWriter {
+    alloc: Global,
+    text: Vec<u8>,
+    row: ByteRecord,
+}
+
+impl Model for RowWriter {
+    ghost use Rattle.std.specs.Prelude.{◌≡◌, []};
+    ghost use Rattle.csv.specs.Records.{fields_of, partial_of};
+    ghost use Rattle.shunt_rows.specs.defs.Records.{text_of_row, ReadsBack};
+    ghost use Rattle.shunt_rows.specs.defs.Written.{Written};
+
+    ghost Value = { Written };
+
+    ghost view = { λ w. record { text = w.text.items; row = fields_of w.row } };
+
+    ghost invariant = { λ w. partial_of w.row ≡ [] };
+}
+
+impl RowWriter {
+    /// No rows, and an open row without fields.
+    pub fn new(alloc: Global) -> Result<RowWriter, AllocError>
+        ensures { IfOk result (λ w. w ≡ record { text = []; row = [] }) }
+    {
+        Ok(RowWriter {
+            alloc,
+            text: Vec::new(alloc),
+            row: ByteRecord::new(alloc),
+        })
+    }
+
+    /// Adds a field to the open row.
+    pub fn field(&mut self, bytes: &[u8]) -> Result<(), AllocError>
+        ensures { OnOk result (self.new ≡ record self.old { row = self.old.row ++ bytes.now ∷ [] }) }
+    {
+        if self.row.push_field(bytes).is_err() {
+            self.row = ByteRecord::new(self.alloc);
+            return Err(AllocError);
+        }
+        Ok(())
+    }
+
+    /// Ends the open row, which has a field.
+    pub fn end_row(&mut self) -> Result<(), AllocError>
+        requires { self.old.row ≢ [] }
+        ensures { OnOk result (self.new ≡ record { text = self.old.text ++ text_of_row self.old.row; row = [] }) }
+    {
+        let one = row_bytes(self.alloc, &self.row)?;
+        self.text.extend_from_slice(&one)?;
+        self.row.clear();
+        Ok(())
+    }
+
+    /// The text of the rows. Where they are plain, `records` reads them back.
+    #[tactic(auto, using(crate::proofs::Again::again))]
+    pub fn finish(self) -> Result<Vec<u8>, AllocError>
+        requires { self.row ≡ [] }
+        ensures text { IfOk result (λ v. v.items ≡ self.text) }
+        ensures again { IfOk result (λ v. ReadsBack self.text v.items) }
+    {
+        Ok(self.text)
+    }
+}

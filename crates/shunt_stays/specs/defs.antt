@@ -1,0 +1,5 @@
+-- The definitions of this crate.
+pub mod Members
+pub mod Events
+pub mod Run
+pub mod Crossing

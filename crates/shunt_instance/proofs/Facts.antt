@@ -10,7 +10,7 @@ use Rattle.shunt_instance.specs.declared.records.Unit.{Unit as TrainUnit}
 use Rattle.shunt_instance.specs.declared.records.Position.{Position}
 use Rattle.shunt_instance.specs.defs.Words.{train_at, kind_at, minute_at, turn_of, unit_count}
 use Rattle.shunt_instance.specs.defs.Wellformed.{AreTrains}
-use Rattle.shunt_instance.specs.defs.Instance.{Night, IsInstance, make_unit, make_position, units_of, positions_of, unit_at, position_at, ready_of, ready, leaves_of, leaves, first_unit, first_position, IsUnitAt, IsPositionAt}
+use Rattle.shunt_instance.specs.defs.Instance.{Night, IsOrderedNight, make_unit, make_position, units_of, positions_of, unit_at, position_at, ready_of, ready, leaves_of, leaves, first_unit, first_position, IsUnitAt, IsPositionAt}
 use Rattle.shunt_instance.specs.defs.Matching.{Entry, entry_at, unit_entries, position_entries, RisesByKind}
 use Rattle.shunt_instance.proofs.Numbers.{Stands, located, train_rises, numbered_at}
 
@@ -38,7 +38,7 @@ unit_is a b p k e = cc
 position_is : (a b p : ℕ) (k : TypeId) → a ≡ b → make_position a p k ≡ make_position b p k
 position_is a b p k e = cc
 
-unit_facts : (night : Night) (u : ℕ) (x : TrainUnit) → IsInstance night → Stands make_unit 0 night.arrive u x → IsUnitAt night u x
+unit_facts : (night : Night) (u : ℕ) (x : TrainUnit) → IsOrderedNight night → Stands make_unit 0 night.arrive u x → IsUnitAt night u x
 unit_facts night u x h s = subst (IsUnitAt night u) (sym (s.is ∙ unit_is (0 + s.i) s.i (s.p + 1) (type_at night.arrive s.i s.p) (omega arith))) record {
   train = s.i_in;
   placed = omega arith;
@@ -48,7 +48,7 @@ unit_facts night u x h s = subst (IsUnitAt night u) (sym (s.is ∙ unit_is (0 + 
   number = number_is (unit_count (take s.i night.arrive)) s.p u s.number;
 }
 
-position_facts : (night : Night) (v : ℕ) (x : Position) → IsInstance night → Stands make_position 0 night.depart v x → IsPositionAt night v x
+position_facts : (night : Night) (v : ℕ) (x : Position) → IsOrderedNight night → Stands make_position 0 night.depart v x → IsPositionAt night v x
 position_facts night v x h s = subst (IsPositionAt night v) (sym (s.is ∙ position_is (0 + s.i) s.i (s.p + 1) (type_at night.depart s.i s.p) (omega arith))) record {
   train = s.i_in;
   placed = omega arith;
@@ -59,10 +59,10 @@ position_facts night v x h s = subst (IsPositionAt night v) (sym (s.is ∙ posit
 }
 
 -- the unit and the position with a number are what their definitions say
-pub unit_at_is : (night : Night) (u : ℕ) → IsInstance night → u < length (units_of night.arrive) → IsUnitAt night u (unit_at night u)
+pub unit_at_is : (night : Night) (u : ℕ) → IsOrderedNight night → u < length (units_of night.arrive) → IsUnitAt night u (unit_at night u)
 unit_at_is night u h lt = unit_facts night u (unit_at night u) h (located make_unit 0 night.arrive u (make_unit 0 0 no_type) lt)
 
-pub position_at_is : (night : Night) (v : ℕ) → IsInstance night → v < length (positions_of night.depart) → IsPositionAt night v (position_at night v)
+pub position_at_is : (night : Night) (v : ℕ) → IsOrderedNight night → v < length (positions_of night.depart) → IsPositionAt night v (position_at night v)
 position_at_is night v h lt = position_facts night v (position_at night v) h (located make_position 0 night.depart v (make_position 0 0 no_type) lt)
 
 -- the trains and types of these units are there
@@ -108,7 +108,7 @@ position_trains ts i j le lt =
     (omega (arith, first, second, train_rises make_position 0 ts i j x y s t le), omega (arith, second, t.i_in))
 
 -- of two units of one type the later one is ready no earlier
-pub ready_rises : (night : Night) (i j : ℕ) → IsInstance night → i ≤ j → j < length (units_of night.arrive) → (unit_at night i).kind.0 ≡ (unit_at night j).kind.0 → ready night i ≤ ready night j
+pub ready_rises : (night : Night) (i j : ℕ) → IsOrderedNight night → i ≤ j → j < length (units_of night.arrive) → (unit_at night i).kind.0 ≡ (unit_at night j).kind.0 → ready night i ≤ ready night j
 ready_rises night i j h le lt same =
     let t = unit_trains night.arrive i j le lt in
     let minutes = minute_rises night.arrive (unit_at night i).train.0 (unit_at night j).train.0 h.arrive_rises t.0 t.1 in
@@ -116,7 +116,7 @@ ready_rises night i j h le lt same =
     omega (arith, minutes, turns)
 
 -- a later position leaves no earlier
-pub leaves_rise : (night : Night) (i j : ℕ) → IsInstance night → i ≤ j → j < length (positions_of night.depart) → leaves night i ≤ leaves night j
+pub leaves_rise : (night : Night) (i j : ℕ) → IsOrderedNight night → i ≤ j → j < length (positions_of night.depart) → leaves night i ≤ leaves night j
 leaves_rise night i j h le lt =
     let t = position_trains night.depart i j le lt in
     minute_rises night.depart (position_at night i).train.0 (position_at night j).train.0 h.depart_rises t.0 t.1
@@ -134,7 +134,7 @@ unit_entry_is night u lt = get_or-map (unit_entry night) (units_of night.arrive)
 pub position_entry_is : (night : Night) (v : ℕ) → v < length (positions_of night.depart) → entry_at (position_entries night) v ≡ record { kind = (position_at night v).kind.0; minute = leaves night v }
 position_entry_is night v lt = get_or-map (position_entry night) (positions_of night.depart) v (make_position 0 0 no_type) (record { kind = 0; minute = 0 }) lt
 
-pub units_rise : (night : Night) → IsInstance night → RisesByKind (unit_entries night)
+pub units_rise : (night : Night) → IsOrderedNight night → RisesByKind (unit_entries night)
 units_rise night h i j le lt same =
     let within : j < length (units_of night.arrive) = rw length-map at lt in
     let before : i < length (units_of night.arrive) = omega arith in
@@ -142,7 +142,7 @@ units_rise night h i j le lt same =
     let two = unit_entry_is night j within in
     le_along _ _ _ _ (ap (λ (e : Entry). e.minute) one) (ap (λ (e : Entry). e.minute) two) (ready_rises night i j h (omega arith) within (sym (ap (λ (e : Entry). e.kind) one) ∙ same ∙ ap (λ (e : Entry). e.kind) two))
 
-pub positions_rise : (night : Night) → IsInstance night → RisesByKind (position_entries night)
+pub positions_rise : (night : Night) → IsOrderedNight night → RisesByKind (position_entries night)
 positions_rise night h i j le lt same =
     let within : j < length (positions_of night.depart) = rw length-map at lt in
     let before : i < length (positions_of night.depart) = omega arith in

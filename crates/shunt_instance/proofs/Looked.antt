@@ -19,7 +19,7 @@ use Rattle.shunt_instance.specs.declared.records.Position.{Position}
 use Rattle.shunt_instance.specs.declared.records.UnitType.{UnitType}
 use Rattle.shunt_instance.specs.defs.Words.{AreDistinct, names_of, train_of_name, train_at, minute_at, turn_of, unit_count, is_open_at, route_cost}
 use Rattle.shunt_instance.specs.defs.Wellformed.{IsStation, IsTimetable, AreTrains}
-use Rattle.shunt_instance.specs.defs.Instance.{Night, IsInstance, sort_by_minute, make_unit, make_position, units_of, positions_of, unit_total, position_total, unit_at, position_at, ready, leaves, first_unit, first_position, ready_of, leaves_of, IsUnitAt, IsPositionAt}
+use Rattle.shunt_instance.specs.defs.Instance.{Night, IsOrderedNight, sort_by_minute, make_unit, make_position, units_of, positions_of, unit_total, position_total, unit_at, position_at, ready, leaves, first_unit, first_position, ready_of, leaves_of, IsUnitAt, IsPositionAt}
 use Rattle.shunt_instance.specs.defs.Tables.{AreEntries, AreFirsts, AreCosts, route_cell}
 use Rattle.shunt_instance.proofs.Numbers.{length_through}
 use Rattle.shunt_instance.proofs.Orders.{trains_stay, sort_moves, night_is}
@@ -27,10 +27,10 @@ use Rattle.shunt_instance.proofs.Facts.{unit_at_is, position_at_is}
 use Rattle.shunt_instance.proofs.Found.{found_has, found_there, cost_small, side_open}
 
 -- at most 160 units and positions
-pub units_few : (night : Night) → IsInstance night → unit_total night ≤ 160
+pub units_few : (night : Night) → IsOrderedNight night → unit_total night ≤ 160
 units_few night h = omega (arith, length_through make_unit 0 night.arrive, h.timetable.arrive.units)
 
-pub positions_few : (night : Night) → IsInstance night → position_total night ≤ 160
+pub positions_few : (night : Night) → IsOrderedNight night → position_total night ≤ 160
 positions_few night h = omega (arith, length_through make_position 0 night.depart, h.timetable.depart.units)
 
 abbrev no_train : Train
@@ -53,14 +53,14 @@ no_kind = record { name = []; length = 0; turn = 0 }
 turn_small : (s : Station) (k : ℕ) → IsStation s → k < length s.types → turn_of s (record { 0 = k }) ≤ 1440
 turn_small s k h lt = rw (get_or-map (λ (t : UnitType). t.turn) s.types k no_kind 0 lt) (h.types k no_kind lt).turn
 
-pub ready_small : (night : Night) (u : ℕ) → IsInstance night → u < unit_total night → ready night u < 4320
+pub ready_small : (night : Night) (u : ℕ) → IsOrderedNight night → u < unit_total night → ready night u < 4320
 ready_small night u h lt =
     let at = unit_at_is night u h lt in
     let minute = minute_small night.station night.arrive (unit_at night u).train.0 h.timetable.arrive at.train in
     let turn = turn_small night.station (unit_at night u).kind.0 h.station at.kind_in in
     omega (arith, minute, turn)
 
-pub leaves_small : (night : Night) (v : ℕ) → IsInstance night → v < position_total night → leaves night v < 2880
+pub leaves_small : (night : Night) (v : ℕ) → IsOrderedNight night → v < position_total night → leaves night v < 2880
 leaves_small night v h lt = minute_small night.station night.depart (position_at night v).train.0 h.timetable.depart (position_at_is night v h lt).train
 
 -- sorted trains are within the limits
@@ -71,51 +71,51 @@ whichever : {X : Type 0} (xs : List X) (i : ℕ) (x d : X) → i < length xs →
 whichever xs i x d lt is = sym (get_or_from_slice_get xs i x d (slice_get_read xs (length xs) i x refl lt is))
 
 -- what is read is what the definitions say, of the night that a caller sees
-pub unit_read : (n m : Night) (units : List TrainUnit) (positions : List Position) (ready leaves : List ℕ) (u : ℕ) (x : TrainUnit) → n ≡ m → IsInstance n → AreEntries n units positions ready leaves → u < unit_total m → x ≡ get_or units u x → IsUnitAt m u x
+pub unit_read : (n m : Night) (units : List TrainUnit) (positions : List Position) (ready leaves : List ℕ) (u : ℕ) (x : TrainUnit) → n ≡ m → IsOrderedNight n → AreEntries n units positions ready leaves → u < unit_total m → x ≡ get_or units u x → IsUnitAt m u x
 unit_read n m units positions ready leaves u x e h t lt is =
     let within : u < length (units_of n.arrive) = subst (λ (k : Night). u < unit_total k) (sym e) lt in
     let here : x ≡ get_or (units_of n.arrive) u x = is ∙ ap (λ (us : List TrainUnit). get_or us u x) t.unit_list in
     let same : x ≡ unit_at m u = whichever (units_of n.arrive) u x (make_unit 0 0 (record { 0 = 0 })) within here ∙ ap (λ (k : Night). unit_at k u) e in
-    subst (IsUnitAt m u) (sym same) (unit_at_is m u (subst IsInstance e h) lt)
+    subst (IsUnitAt m u) (sym same) (unit_at_is m u (subst IsOrderedNight e h) lt)
 
-pub position_read : (n m : Night) (units : List TrainUnit) (positions : List Position) (ready leaves : List ℕ) (v : ℕ) (x : Position) → n ≡ m → IsInstance n → AreEntries n units positions ready leaves → v < position_total m → x ≡ get_or positions v x → IsPositionAt m v x
+pub position_read : (n m : Night) (units : List TrainUnit) (positions : List Position) (ready leaves : List ℕ) (v : ℕ) (x : Position) → n ≡ m → IsOrderedNight n → AreEntries n units positions ready leaves → v < position_total m → x ≡ get_or positions v x → IsPositionAt m v x
 position_read n m units positions ready leaves v x e h t lt is =
     let within : v < length (positions_of n.depart) = subst (λ (k : Night). v < position_total k) (sym e) lt in
     let here : x ≡ get_or (positions_of n.depart) v x = is ∙ ap (λ (us : List Position). get_or us v x) t.position_list in
     let same : x ≡ position_at m v = whichever (positions_of n.depart) v x (make_position 0 0 (record { 0 = 0 })) within here ∙ ap (λ (k : Night). position_at k v) e in
-    subst (IsPositionAt m v) (sym same) (position_at_is m v (subst IsInstance e h) lt)
+    subst (IsPositionAt m v) (sym same) (position_at_is m v (subst IsOrderedNight e h) lt)
 
-pub units_counted : (n : Night) (units : List TrainUnit) (positions : List Position) (ready leaves : List ℕ) (count : ℕ) → IsInstance n → AreEntries n units positions ready leaves → count ≡ length units → count ≤ 160
+pub units_counted : (n : Night) (units : List TrainUnit) (positions : List Position) (ready leaves : List ℕ) (count : ℕ) → IsOrderedNight n → AreEntries n units positions ready leaves → count ≡ length units → count ≤ 160
 units_counted n units positions ready leaves count h t is = omega (arith, is, ap (λ (us : List TrainUnit). length us) t.unit_list, units_few n h)
 
-pub positions_counted : (n : Night) (units : List TrainUnit) (positions : List Position) (ready leaves : List ℕ) (count : ℕ) → IsInstance n → AreEntries n units positions ready leaves → count ≡ length positions → count ≤ 160
+pub positions_counted : (n : Night) (units : List TrainUnit) (positions : List Position) (ready leaves : List ℕ) (count : ℕ) → IsOrderedNight n → AreEntries n units positions ready leaves → count ≡ length positions → count ≤ 160
 positions_counted n units positions ready leaves count h t is = omega (arith, is, ap (λ (us : List Position). length us) t.position_list, positions_few n h)
 
 below_along : (a b n : ℕ) → a ≡ b → b < n → a < n
 below_along a b n e lt = omega arith
 
-pub ready_read : (n m : Night) (units : List TrainUnit) (positions : List Position) (ready leaves : List ℕ) (u r : ℕ) → n ≡ m → IsInstance n → AreEntries n units positions ready leaves → u < unit_total m → r ≡ get_or ready u r → r < 4320
+pub ready_read : (n m : Night) (units : List TrainUnit) (positions : List Position) (ready leaves : List ℕ) (u r : ℕ) → n ≡ m → IsOrderedNight n → AreEntries n units positions ready leaves → u < unit_total m → r ≡ get_or ready u r → r < 4320
 ready_read n m units positions ready leaves u r e h t lt is =
     let within : u < length (units_of n.arrive) = subst (λ (k : Night). u < unit_total k) (sym e) lt in
     below_along _ _ 4320 (is ∙ ap (λ (rs : List ℕ). get_or rs u r) (t.ready_list ∙ ap (map (ready_of n.station n.arrive)) t.unit_list) ∙ get_or-map (ready_of n.station n.arrive) (units_of n.arrive) u (make_unit 0 0 (record { 0 = 0 })) r within) (ready_small n u h within)
 
-pub leave_read : (n m : Night) (units : List TrainUnit) (positions : List Position) (ready leaves : List ℕ) (v r : ℕ) → n ≡ m → IsInstance n → AreEntries n units positions ready leaves → v < position_total m → r ≡ get_or leaves v r → r < 2880
+pub leave_read : (n m : Night) (units : List TrainUnit) (positions : List Position) (ready leaves : List ℕ) (v r : ℕ) → n ≡ m → IsOrderedNight n → AreEntries n units positions ready leaves → v < position_total m → r ≡ get_or leaves v r → r < 2880
 leave_read n m units positions ready leaves v r e h t lt is =
     let within : v < length (positions_of n.depart) = subst (λ (k : Night). v < position_total k) (sym e) lt in
     below_along _ _ 2880 (is ∙ ap (λ (rs : List ℕ). get_or rs v r) (t.leave_list ∙ ap (map (leaves_of n.depart)) t.position_list) ∙ get_or-map (leaves_of n.depart) (positions_of n.depart) v (make_position 0 0 (record { 0 = 0 })) r within) (leaves_small n v h within)
 
-pub cost_read : (n m : Night) (costs : List (Option ℕ)) (p : PlatformId) (t : TrackId) (s : Side) (cell : ℕ) (r : Option ℕ) → n ≡ m → IsInstance n → AreCosts n.station.routes costs → p.0 < length m.station.platforms → t.0 < length m.station.tracks → cell ≡ route_cell p t s → r ≡ get_or costs cell r → r ≡ route_cost m.station p t s
+pub cost_read : (n m : Night) (costs : List (Option ℕ)) (p : PlatformId) (t : TrackId) (s : Side) (cell : ℕ) (r : Option ℕ) → n ≡ m → IsOrderedNight n → AreCosts n.station.routes costs → p.0 < length m.station.platforms → t.0 < length m.station.tracks → cell ≡ route_cell p t s → r ≡ get_or costs cell r → r ≡ route_cost m.station p t s
 cost_read n m costs p t s cell r e h c a b at is =
-    let w = subst IsInstance e h in
+    let w = subst IsOrderedNight e h in
     let platform : p.0 < 30 = omega (arith, w.station.few_platforms) in
     let track : t.0 < 60 = omega (arith, w.station.few_tracks) in
     is ∙ ap (λ (k : ℕ). get_or costs k r) at ∙ get_or_from_slice_get costs (route_cell p t s) (route_cost n.station p t s) r (c.each p t s platform track) ∙ ap (λ (k : Night). route_cost k.station p t s) e
 
 -- the cost that is read is small, and the side is open
-pub cost_bound : (m : Night) (p : PlatformId) (t : TrackId) (s : Side) (r : Option ℕ) → IsInstance m → r ≡ route_cost m.station p t s → IfSome r (λ c. c ≤ 1000000)
+pub cost_bound : (m : Night) (p : PlatformId) (t : TrackId) (s : Side) (r : Option ℕ) → IsOrderedNight m → r ≡ route_cost m.station p t s → IfSome r (λ c. c ≤ 1000000)
 cost_bound m p t s r h e = subst (λ (o : Option ℕ). IfSome o (λ c. c ≤ 1000000)) (sym e) (cost_small m.station p t s h.station)
 
-pub cost_open : (m : Night) (p : PlatformId) (t : TrackId) (s : Side) (r : Option ℕ) → IsInstance m → r ≡ route_cost m.station p t s → IfSome r (λ c. IsTrue (is_open_at m.station t s))
+pub cost_open : (m : Night) (p : PlatformId) (t : TrackId) (s : Side) (r : Option ℕ) → IsOrderedNight m → r ≡ route_cost m.station p t s → IfSome r (λ c. IsTrue (is_open_at m.station t s))
 cost_open m p t s r h e = subst (λ (o : Option ℕ). IfSome o (λ c. IsTrue (is_open_at m.station t s))) (sym e) (side_open m.station p t s h.station)
 
 -- numbers of first units, read
@@ -128,8 +128,8 @@ first_read n m firsts k r e h lt is =
     default xs k r lt = get_or_default_zero xs k r lt
 
 -- the invariant of what `join` makes
-pub formed_of : (s : Station) (arrive depart ts us : List Train) → IsStation s → IsTimetable s (record { arrive = arrive; depart = depart }) → ts ≡ sort_by_minute arrive → us ≡ sort_by_minute depart → IsInstance (record { station = s; arrive = ts; depart = us })
-formed_of s arrive depart ts us p q e f = subst (λ (xs : List Train). IsInstance (record { station = s; arrive = xs; depart = us })) (sym e) (subst (λ (xs : List Train). IsInstance (record { station = s; arrive = sort_by_minute arrive; depart = xs })) (sym f) (night_is s (record { arrive = arrive; depart = depart }) p q))
+pub formed_of : (s : Station) (arrive depart ts us : List Train) → IsStation s → IsTimetable s (record { arrive = arrive; depart = depart }) → ts ≡ sort_by_minute arrive → us ≡ sort_by_minute depart → IsOrderedNight (record { station = s; arrive = ts; depart = us })
+formed_of s arrive depart ts us p q e f = subst (λ (xs : List Train). IsOrderedNight (record { station = s; arrive = xs; depart = us })) (sym e) (subst (λ (xs : List Train). IsOrderedNight (record { station = s; arrive = sort_by_minute arrive; depart = xs })) (sym f) (night_is s (record { arrive = arrive; depart = depart }) p q))
 
 -- names, read
 pub train_has : (ts us : List Train) (name : List ℕ) (k : ℕ) → ts ≡ us → Some k ≡ train_of_name ts name → slice_get (names_of us) k ≡ Some name

@@ -20,7 +20,7 @@ use Rattle.shunt_instance.specs.declared.records.Train.{Train}
 use Rattle.shunt_instance.specs.declared.records.Timetable.{Timetable}
 use Rattle.shunt_instance.specs.defs.Words.{AreDistinct, is_standing, names_of}
 use Rattle.shunt_instance.specs.defs.Wellformed.{IsStation, IsTrain, AreTrains, StandingFirst, IsTimetable}
-use Rattle.shunt_instance.specs.defs.Instance.{insert_by_minute, sort_by_minute, Night, night_of, IsInstance}
+use Rattle.shunt_instance.specs.defs.Instance.{insert_by_minute, sort_by_minute, Night, night_of, IsOrderedNight, IsInstance}
 
 abbrev at_minute : ℕ → Train → Bool
 at_minute m t = t.minute == m
@@ -229,7 +229,7 @@ standing_stay ts first start =
     subst StandingFirst (sym (ap sort_by_minute first ∙ front_stays ss ms (recursion_from_All _ ss zero'))) (parts ss (sort_by_minute ms) (filter_passes is_standing ts) (All-permutation (λ t. is_moving t ≡ true) ms (sort_by_minute ms) (sort_moves ms) (filter_passes is_moving ts)))
 
 -- what a well-formed station and timetable make is an instance
-pub night_is : (s : Station) (t : Timetable) → IsStation s → IsTimetable s t → IsInstance (night_of s t)
+pub night_is : (s : Station) (t : Timetable) → IsStation s → IsTimetable s t → IsOrderedNight (night_of s t)
 night_is s t p q = record {
   station = p;
   timetable = record {
@@ -253,5 +253,14 @@ night_from s a b = record { station = s; arrive = a; depart = b }
 night_alike : (s : Station) (a b c d : List Train) → a ≡ c → b ≡ d → night_from s a b ≡ night_from s c d
 night_alike s a b c d e f = cc
 
-pub night_again : (night : Night) → IsInstance night → night ≡ night_of night.station (record { arrive = night.arrive; depart = night.depart })
+pub night_again : (night : Night) → IsOrderedNight night → night ≡ night_of night.station (record { arrive = night.arrive; depart = night.depart })
 night_again night h = night_alike night.station night.arrive night.depart (sort_by_minute night.arrive) (sort_by_minute night.depart) (sorted_again night.arrive h.arrive_rises) (sorted_again night.depart h.depart_rises)
+
+-- an instance is such a night
+pub opened : (night : Night) → IsInstance night → IsOrderedNight night
+unfolding IsInstance
+opened night h = h
+
+pub closed : (night : Night) → IsOrderedNight night → IsInstance night
+unfolding IsInstance
+closed night h = h

@@ -88,6 +88,7 @@ impl Instance {
     }
 
     /// How many units there are, at most 160.
+    #[tactic(auto, unfolding(crate::specs::defs::Instance::IsInstance))]
     pub fn units(&self) -> usize
         ensures exact { result ≡ unit_total self.now }
         ensures few { result ≤ 160 }
@@ -97,6 +98,7 @@ impl Instance {
     }
 
     /// How many positions there are, at most 160.
+    #[tactic(auto, unfolding(crate::specs::defs::Instance::IsInstance))]
     pub fn positions(&self) -> usize
         ensures exact { result ≡ position_total self.now }
         ensures few { result ≤ 160 }
@@ -161,6 +163,7 @@ impl Instance {
     }
 
     /// How many arriving trains there are, at most 100.
+    #[tactic(auto, unfolding(crate::specs::defs::Instance::IsInstance))]
     pub fn arrivals(&self) -> usize
         ensures exact { result ≡ length self.now.arrive }
         ensures few { result ≤ 100 }
@@ -170,6 +173,7 @@ impl Instance {
     }
 
     /// How many departing trains there are, at most 100.
+    #[tactic(auto, unfolding(crate::specs::defs::Instance::IsInstance))]
     pub fn departures(&self) -> usize
         ensures exact { result ≡ length self.now.depart }
         ensures few { result ≤ 100 }
@@ -179,8 +183,10 @@ impl Instance {
     }
 
     /// The station.
+    #[tactic(auto, unfolding(crate::specs::defs::Instance::IsInstance))]
     pub fn station(&self) -> &Station
         ensures exact { result.now ≡ self.now.station }
+        ensures station { IsStation result.now }
         ensures formed { IsInstance self.now }
     {
         &self.station

@@ -11,11 +11,14 @@ ghost use Rattle.shunt_instance.specs.declared.records.Train.{Train};
 ghost use Rattle.shunt_instance.specs.declared.records.Route.{Route};
 ghost use Rattle.shunt_instance.specs.defs.Words.{train_at, kind_at, route_cost, is_open_at};
 ghost use Rattle.shunt_instance.specs.defs.Wellformed.{IsStation, IsTimetable};
-ghost use Rattle.shunt_instance.specs.defs.Instance.{sort_by_minute, Night, night_of, IsInstance, make_unit, make_position, unit_total, position_total, unit_at, position_at, ready, leaves, first_unit, first_position, IsUnitAt, IsPositionAt};
+ghost use Rattle.shunt_instance.specs.defs.Instance.{sort_by_minute, Night, night_of, IsOrderedNight, IsInstance, make_unit, make_position, unit_total, position_total, unit_at, position_at, ready, leaves, first_unit, first_position, IsUnitAt, IsPositionAt};
 ghost use Rattle.shunt_instance.specs.defs.Matching.{entry_at, unit_entries, position_entries, RisesByKind};
 
-/// A well-formed station and timetable make an instance, and every instance is made so.
+/// A well-formed station and timetable make an instance, and every instance is made so. An instance is a night whose
+/// station and trains are well formed and whose trains are in their order.
 pub fn instances()
+    ensures opened { (night : Night) → IsInstance night → IsOrderedNight night }
+    ensures closed { (night : Night) → IsOrderedNight night → IsInstance night }
     ensures made { (s : Station) (t : Timetable) → IsStation s → IsTimetable s t → IsInstance (night_of s t) }
     ensures again { (night : Night) → IsInstance night → night ≡ night_of night.station (record { arrive = night.arrive; depart = night.depart }) }
 {}

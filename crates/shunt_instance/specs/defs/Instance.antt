@@ -33,11 +33,15 @@ abbrev pub night_of : Station → Timetable → Night
 night_of s t = record { station = s; arrive = sort_by_minute t.arrive; depart = sort_by_minute t.depart }
 
 -- station and trains are well formed, and the trains are in their order
-pub record IsInstance (night : Night) : Type 0 where
+pub record IsOrderedNight (night : Night) : Type 0 where
   pub station : IsStation night.station
   pub timetable : IsTimetable night.station (record { arrive = night.arrive; depart = night.depart })
   pub arrive_rises : IsNonDecreasingBy (λ t. t.minute) night.arrive
   pub depart_rises : IsNonDecreasingBy (λ t. t.minute) night.depart
+
+-- the same as one word, which no tactic opens, so that what states it stays quick to prove
+unfoldable pub IsInstance : Night → Type 0
+IsInstance night = IsOrderedNight night
 
 -- what `make` makes of a train's number, each place from `p` on and its type, for these types in turn
 abbrev pub numbered_from : {X : Type 0} → (ℕ → ℕ → TypeId → X) → ℕ → ℕ → List TypeId → List X

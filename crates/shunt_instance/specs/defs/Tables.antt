@@ -12,7 +12,7 @@ use Rattle.shunt_instance.specs.declared.records.Train.{Train}
 use Rattle.shunt_instance.specs.declared.records.Unit.{Unit as TrainUnit}
 use Rattle.shunt_instance.specs.declared.records.Position.{Position}
 use Rattle.shunt_instance.specs.defs.Words.{joins, unit_count}
-use Rattle.shunt_instance.specs.defs.Instance.{Night, IsInstance, units_of, positions_of, ready_of, leaves_of}
+use Rattle.shunt_instance.specs.defs.Instance.{Night, IsOrderedNight, units_of, positions_of, ready_of, leaves_of}
 
 -- where the table of costs holds a route: there are at most 30 platforms and 60 tracks
 abbrev pub side_number : Side → ℕ
@@ -53,9 +53,9 @@ pub record AreEntries (night : Night) (units : List TrainUnit) (positions : List
   pub ready_list : ready ≡ map (ready_of night.station night.arrive) units
   pub leave_list : leaves ≡ map (leaves_of night.depart) positions
 
--- all tables of a night, which is an instance
+-- all tables of a night, whose trains are well formed and in their order
 pub record AreTables (night : Night) (units : List TrainUnit) (positions : List Position) (ready leaves first_units first_positions : List ℕ) (costs : List (Option ℕ)) (named pairs : List Bool) : Type 0 where
-  pub formed : IsInstance night
+  pub formed : IsOrderedNight night
   pub entries : AreEntries night units positions ready leaves
   pub units_before : AreFirsts night.arrive first_units
   pub positions_before : AreFirsts night.depart first_positions

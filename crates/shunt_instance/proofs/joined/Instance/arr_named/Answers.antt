@@ -1,5 +1,5 @@
 use Rattle.std.proofs.Common.{ap, subst, ◌∙◌}
-use Rattle.shunt_instance.specs.defs.Instance.{Night, IsInstance}
+use Rattle.shunt_instance.specs.defs.Instance.{Night, IsOrderedNight}
 use Rattle.shunt_instance.proofs.Looked.{train_has, train_there, as_arr}
 use Rattle.shunt_instance.proofs.joined.Instance.arr_named.Goals as goal
 
@@ -7,7 +7,7 @@ pub returns-in-Some-clause-some : goal.returns-in-Some-clause-some
 returns-in-Some-clause-some c = train_has _ _ _ _ (c.deref.ensures.value ∙ ap (λ (n : Night). n.arrive) c.self.view_is) c.in-Some.ensures
 
 pub returns-in-Some-clause-only : goal.returns-in-Some-clause-only
-returns-in-Some-clause-only c = λ k there. ap as_arr (train_there _ _ _ _ k (c.deref.ensures.value ∙ ap (λ (n : Night). n.arrive) c.self.view_is) c.in-Some.ensures (subst IsInstance c.self.view_is c.self.invariant.formed).timetable.arrive.names there)
+returns-in-Some-clause-only c = λ k there. ap as_arr (train_there _ _ _ _ k (c.deref.ensures.value ∙ ap (λ (n : Night). n.arrive) c.self.view_is) c.in-Some.ensures (subst IsOrderedNight c.self.view_is c.self.invariant.formed).timetable.arrive.names there)
 
 pub returns-in-None-clause-only : goal.returns-in-None-clause-only
-returns-in-None-clause-only c = λ k there. ap as_arr (train_there _ _ _ _ k (c.deref.ensures.value ∙ ap (λ (n : Night). n.arrive) c.self.view_is) c.in-None.ensures (subst IsInstance c.self.view_is c.self.invariant.formed).timetable.arrive.names there)
+returns-in-None-clause-only c = λ k there. ap as_arr (train_there _ _ _ _ k (c.deref.ensures.value ∙ ap (λ (n : Night). n.arrive) c.self.view_is) c.in-None.ensures (subst IsOrderedNight c.self.view_is c.self.invariant.formed).timetable.arrive.names there)

@@ -1,0 +1,4 @@
+mod Writes
+mod Ending
+mod Formed
+mod Exactly

@@ -1,0 +1,93 @@
+-- How a run ends.
+use Rattle.std.specs.Prelude.{◌≡◌, ◌⊎◌, ℕ, ◌≤◌, List, [], ◌∷◌, ◌++◌, length, take, Option, None, Some, IfSome}
+use Rattle.std.specs.FinMap as map
+use Rattle.shunt_store.specs.defs.Files.{Files, BothTold, AddsFront}
+use Rattle.shunt_store.specs.defs.Causes.{Rose}
+use Rattle.shunt.specs.declared.delivering.Outcome.{Outcome}
+use Rattle.shunt.specs.declared.delivering.Outcome.TheVariants as outcome
+use Rattle.shunt.specs.declared.running.Status.{Status}
+use Rattle.shunt.specs.declared.running.Status.TheVariants as status
+use Rattle.shunt.specs.defs.Words.{Call, Match}
+use Rattle.shunt.specs.defs.Replies.{Reply, IsReply}
+
+-- what can be known of the store and the sink at a moment
+pub record Seen : Type 0 where
+  pub files : Option Files
+  pub store_faults : ℕ
+  pub output : Option (List ℕ)
+  pub sink_faults : ℕ
+
+abbrev pub seen : {S O : Type 0} → (S → Option Files) → (S → ℕ) → (O → Option (List ℕ)) → (O → ℕ) → S → O → Seen
+seen files store_faults output sink_faults store out = record { files = files store; store_faults = store_faults store; output = output out; sink_faults = sink_faults out }
+
+-- the files after these were written one after the other
+abbrev pub written : List (List ℕ × List ℕ) → Files → Files
+written [] files = files
+written (w ∷ ws) files = written ws (map.insert files w.0 w.1)
+
+-- x is one of the list
+abbrev pub In : {X : Type 0} → X → List X → Type 0
+In x [] = ⊥
+In x (y ∷ ys) = (x ≡ y) ⊎ In x ys
+
+-- a name holds what it held, nothing, or a front of a text that was to be written there
+abbrev pub MayHold : List (List ℕ × List ℕ) → Files → Files → List ℕ → Type 0
+MayHold ws old new name = (map.get new name ≡ map.get old name) ⊎ ((t : List ℕ) × In (name, t) ws × ((map.get new name ≡ None) ⊎ ((n : ℕ) × (n ≤ length t) × (map.get new name ≡ Some (take n t)))))
+
+-- so does every name
+abbrev pub MayWrite : List (List ℕ × List ℕ) → Files → Files → Type 0
+MayWrite ws old new = (name : List ℕ) → MayHold ws old new name
+
+-- the writing was cut short, and no byte was printed
+pub record CutInFiles (r : Reply) (old new : Seen) : Type 0 where
+  pub files : BothTold old.files new.files (MayWrite r.writes)
+  pub output : new.output ≡ old.output
+
+-- all files were written, and the printing was cut short
+pub record CutInText (r : Reply) (old new : Seen) : Type 0 where
+  pub files : BothTold old.files new.files (λ a b. b ≡ written r.writes a)
+  pub output : BothTold old.output new.output (AddsFront r.text)
+
+-- all files were written, all was printed, and the reply has this outcome
+pub record IsWhole (r : Reply) (o : Outcome) (old new : Seen) : Type 0 where
+  pub outcome : o ≡ r.outcome
+  pub files : BothTold old.files new.files (λ a b. b ≡ written r.writes a)
+  pub output : BothTold old.output new.output (λ a b. b ≡ a ++ r.text)
+
+-- what a status says of the delivery of a reply
+abbrev pub Delivers : Reply → Seen → Seen → Status → Type 0
+Delivers r old new status.Done = IsWhole r outcome.Done old new
+Delivers r old new status.Findings = IsWhole r outcome.Findings old new
+Delivers r old new status.Words = ⊥
+Delivers r old new status.Input = IsWhole r outcome.Input old new
+Delivers r old new status.Store = Rose old.store_faults new.store_faults × CutInFiles r old new
+Delivers r old new status.Memory = CutInFiles r old new ⊎ CutInText r old new
+Delivers r old new status.NoMatching = IsWhole r outcome.NoMatching old new
+Delivers r old new status.Unfinished = IsWhole r outcome.Unfinished old new
+Delivers r old new status.Sink = Rose old.sink_faults new.sink_faults × CutInText r old new
+
+-- what a command may have done to the files before its reply is known
+abbrev pub MayBegin : Call → Files → Files → Type 0
+MayBegin (Match s t) old new = new ≡ old
+
+-- the run stopped before there was a reply, and nothing was printed
+abbrev pub StopsEarly : Call → Seen → Seen → Status → Type 0
+StopsEarly c old new status.Store = Rose old.store_faults new.store_faults × (new.output ≡ old.output) × BothTold old.files new.files (MayBegin c)
+StopsEarly c old new status.Memory = (new.output ≡ old.output) × BothTold old.files new.files (MayBegin c)
+StopsEarly c old new s = ⊥
+
+-- a defined reply was delivered as the status says, or the run stopped before there was one
+abbrev pub Ends : Call → Seen → Seen → Status → Type 0
+Ends c old new s = StopsEarly c old new s ⊎ ((r : Reply) × IfSome old.files (λ files. IsReply c files r) × Delivers r old new s)
+
+-- the status of a reply that was delivered whole
+abbrev pub the_status : Outcome → Status
+the_status outcome.Done = status.Done
+the_status outcome.Findings = status.Findings
+the_status outcome.Input = status.Input
+the_status outcome.NoMatching = status.NoMatching
+the_status outcome.Unfinished = status.Unfinished
+
+-- the store, memory or the sink came first
+abbrev pub Yields : Status → Type 0
+Yields s = (s ≡ status.Store) ⊎ ((s ≡ status.Memory) ⊎ (s ≡ status.Sink))

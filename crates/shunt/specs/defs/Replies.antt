@@ -1,0 +1,100 @@
+-- The defined answer of a command, over the contents of its files.
+use Rattle.std.specs.Prelude.{◌≡◌, ◌⊎◌, ℕ, nat_le, List, [], map, length, Option, Some, None, Result, Ok, Err, string_bytes, if◌then◌else◌}
+use Rattle.std.specs.Result.{result_err}
+use Rattle.shunt_store.specs.defs.Files.{Files, content}
+use Rattle.shunt.specs.declared.delivering.Outcome.{Outcome}
+use Rattle.shunt.specs.declared.delivering.Outcome.TheVariants as outcome
+use Rattle.shunt.specs.declared.delivering.Answer.{Answer}
+use Rattle.shunt.specs.declared.delivering.FileText.{FileText}
+use Rattle.shunt_rows.specs.defs.Records.{records_of}
+use Rattle.shunt_instance.specs.declared.records.Station.{Station}
+use Rattle.shunt_instance.specs.declared.records.Timetable.{Timetable}
+use Rattle.shunt_instance.specs.defs.Instance.{Night, night_of}
+use Rattle.shunt_instance.specs.defs.Matching.{unit_entries, position_entries}
+use Rattle.shunt_matching.specs.declared.types.Shortage.{Shortage}
+use Rattle.shunt_matching.specs.defs.Counts.{first_fit_of}
+use Rattle.shunt_matching.specs.defs.Nights.{Matches, IsShortageOf}
+use Rattle.shunt_report.specs.declared.words.FileWord.{FileWord}
+use Rattle.shunt_report.specs.declared.words.FileWord.TheVariants as word
+use Rattle.shunt_report.specs.defs.Texts.{pairs_of, shortage_of, refused_of}
+use Rattle.shunt.specs.defs.FirstForm.{station_of, timetable_of}
+use Rattle.shunt.specs.defs.Words.{Call, Match}
+
+-- how a command ends, which files it writes in their order and what they then hold, and what it prints
+pub record Reply : Type 0 where
+  pub outcome : Outcome
+  pub writes : List (List ℕ × List ℕ)
+  pub text : List ℕ
+
+abbrev pub pair_of : FileText → List ℕ × List ℕ
+pair_of w = (string_bytes w.name, w.bytes.items)
+
+abbrev pub reply_of : Answer → Reply
+reply_of a = record { outcome = a.outcome; writes = map pair_of a.writes.items; text = a.text.items }
+
+-- a reply that writes no file
+abbrev pub says : Outcome → List ℕ → Reply
+says outcome text = record { outcome = outcome; writes = []; text = text }
+
+-- the reply where an input file isn't accepted
+abbrev pub refusal : List ℕ → Reply
+refusal text = says outcome.Input text
+
+-- the first input that isn't accepted decides, else what follows of its value
+abbrev pub Judged : {X : Type 0} → Result X (List ℕ) → (X → Reply → Type 0) → Reply → Type 0
+Judged (Ok x) P r = P x r
+Judged (Err text) P r = r ≡ refusal text
+
+-- at most 4,194,304 bytes may stand in an input file
+abbrev pub most_bytes : ℕ
+most_bytes = 4194304
+
+-- a value, or the line for the file where the records state none
+abbrev pub value_or : {X : Type 0} → FileWord → Option X → Result X (List ℕ)
+value_or file (Some x) = Ok x
+value_or file None = Err (refused_of file)
+
+-- what an input file states by this reading of its records, or the line for it where it is too long or states nothing
+abbrev pub stated : {X : Type 0} → FileWord → (List (List (List ℕ)) → Option X) → List ℕ → Result X (List ℕ)
+stated file read bytes = if nat_le (length bytes) most_bytes then value_or file (read (records_of bytes)) else Err (refused_of file)
+
+abbrev pub stated_station : List ℕ → Result Station (List ℕ)
+stated_station bytes = stated word.Station station_of bytes
+
+abbrev pub stated_timetable : Station → List ℕ → Result Timetable (List ℕ)
+stated_timetable station bytes = stated word.Timetable (timetable_of station) bytes
+
+-- a value of the first, and then what is stated over it
+abbrev pub then_stated : {X Y : Type 0} → Result X (List ℕ) → (X → Result Y (List ℕ)) → Result Y (List ℕ)
+then_stated (Ok x) rest = rest x
+then_stated (Err text) rest = Err text
+
+-- the night that a station file and a timetable file state, or the line for the first of them that isn't accepted
+abbrev pub stated_night : List ℕ → List ℕ → Result Night (List ℕ)
+stated_night s t = then_stated (stated_station s) (λ station. then_stated (stated_timetable station t) (λ timetable. Ok (night_of station timetable)))
+
+-- the list that pairs the k-th unit of each type with the k-th position of that type
+abbrev pub paired : Night → List ℕ
+paired night = first_fit_of (unit_entries night) (position_entries night) [] []
+
+-- a matching exists: the pairs of the k-th units and positions are printed
+pub record IsPaired (night : Night) (r : Reply) : Type 0 where
+  pub matches : Matches night (paired night)
+  pub reply : r ≡ says outcome.Done (pairs_of night (paired night))
+
+-- no list is a matching: the first shortage is printed
+pub record IsShort (night : Night) (r : Reply) : Type 0 where
+  pub none : (place : List ℕ) → Matches night place → ⊥
+  pub reply : (s : Shortage) × IsShortageOf night [] [] s × (r ≡ says outcome.NoMatching (shortage_of night s))
+
+-- the answer of `match` on a night
+abbrev pub IsMatched : Night → Reply → Type 0
+IsMatched night r = IsPaired night r ⊎ IsShort night r
+
+-- the defined answer of a command: its input files are judged in the order of the words
+abbrev pub IsReply : Call → Files → Reply → Type 0
+IsReply (Match s t) files r = Judged (stated_night (content files s) (content files t)) IsMatched r
+
+-- the line for the first input file that isn't accepted
+abbrev pub refused : Call → Files → Option (List ℕ)
+refused (Match s t) files = result_err (stated_night (content files s) (content files t))

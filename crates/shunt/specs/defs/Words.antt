@@ -1,0 +1,33 @@
+-- What the words of the command line ask for.
+use Rattle.std.specs.Prelude.{◌≡◌, ◌≢◌, ℕ, List, [], ◌∷◌, map, codes, String, string_bytes}
+use Rattle.std.specs.List.{AllByRecursion}
+use Rattle.shunt.specs.declared.words.Command.{Command}
+use Rattle.shunt.specs.declared.words.Command.TheVariants as command
+
+-- the bytes of each word
+abbrev pub texts : {A : Type 0} → List (String A) → List (List ℕ)
+texts = map string_bytes
+
+-- a command, by the names of its files
+pub data Call : Type 0 where
+  Match : List ℕ → List ℕ → Call
+
+abbrev pub call_of : Command → Call
+call_of (command.Match s t) = Match s.now t.now
+
+-- the words that ask for it
+abbrev pub words_of : Call → List (List ℕ)
+words_of (Match s t) = codes "match" ∷ s ∷ t ∷ []
+
+-- no name is empty, and no two are the same
+abbrev pub AreNames : List (List ℕ) → Type 0
+AreNames [] = Unit {0}
+AreNames (n ∷ ns) = (n ≢ []) × AllByRecursion (λ m. n ≢ m) ns × AreNames ns
+
+-- its files have names that can be used
+abbrev pub IsUsable : Call → Type 0
+IsUsable (Match s t) = AreNames (s ∷ t ∷ [])
+
+-- the words are those of this command, and its files have names that can be used
+abbrev pub Spells : List (List ℕ) → Call → Type 0
+Spells words c = (words ≡ words_of c) × IsUsable c

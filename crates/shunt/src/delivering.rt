@@ -1,0 +1,80 @@
+// Writing the files of an answer, and printing its text.
+ghost use Rattle.std.specs.Prelude.{◌≡◌, OnOk, OnErr, IsErrOf, map};
+ghost use Rattle.shunt_store.specs.defs.Files.{Closed, BothTold};
+ghost use Rattle.shunt_store.specs.defs.Causes.{HasCause};
+ghost use Rattle.shunt.specs.defs.Replies.{pair_of, reply_of};
+ghost use Rattle.shunt.specs.defs.Ends.{written, MayWrite, Delivers, the_status, seen};
+
+use crate::running::Status;
+use shunt_store::{Sink, SinkError, Store, StoreError, print, write_all_to};
+
+/// How a command ended that was carried out.
+#[derive(Clone, Copy, Debug, PartialEq, Eq)]
+pub enum Outcome {
+    Done,
+    Findings,
+    Input,
+    NoMatching,
+    Unfinished,
+}
+
+/// A file by its name, and what it is to hold.
+#[derive(Debug, Drop)]
+pub struct FileText {
+    pub name: String,
+    pub bytes: Vec<u8>,
+}
+
+/// What a command answers: the files that it writes, in their order, and the text that it prints.
+#[derive(Debug, Drop)]
+pub struct Answer {
+    pub outcome: Outcome,
+    pub writes: Vec<FileText>,
+    pub text: Vec<u8>,
+}
+
+// Writes the files one after the other.
+fn write_files<S: Store>(store: &mut S, writes: &[FileText]) -> Result<(), StoreError>
+    requires { S.stage store.old ≡ Closed }
+    ensures ok { OnOk result (BothTold (S.told store.old) (S.told store.new) (λ a b. b ≡ written (map pair_of writes.now) a)) }
+    ensures err { OnErr result (BothTold (S.told store.old) (S.told store.new) (MayWrite (map pair_of writes.now))) }
+    ensures closed { (IsErrOf result StoreError.Fault → ⊥) → S.stage store.new ≡ Closed }
+    ensures cause { HasCause StoreError.Fault (S.faults store.old) (S.faults store.new) result }
+{
+    'files: for write in writes {
+        write_all_to(store, write.name.as_str(), &write.bytes)?;
+    }
+    Ok(())
+}
+
+/// Writes the files of the answer, and then prints its text.
+pub fn deliver<S: Store, O: Sink>(store: &mut S, out: &mut O, answer: &Answer) -> Status
+    requires { S.stage store.old ≡ Closed }
+    ensures ends { Delivers (reply_of answer.now)
+        (seen S.told S.faults O.told O.faults store.old out.old)
+        (seen S.told S.faults O.told O.faults store.new out.new) result }
+    ensures closed { (result ≡ Status.Store → ⊥) → S.stage store.new ≡ Closed }
+{
+    match write_files(store, &answer.writes) {
+        Ok(()) => {}
+        Err(StoreError::Fault) => return Status::Store,
+        Err(StoreError::Memory) => return Status::Memory,
+    }
+    match print(out, &answer.text) {
+        Ok(()) => status_of(answer.outcome),
+        Err(SinkError::Fault) => Status::Sink,
+        Err(SinkError::Memory) => Status::Memory,
+    }
+}
+
+fn status_of(outcome: Outcome) -> Status
+    ensures { result ≡ the_status outcome }
+{
+    match outcome {
+        Outcome::Done => Status::Done,
+        Outcome::Findings => Status::Findings,
+        Outcome::Input => Status::Input,
+        Outcome::NoMatching => Status::NoMatching,
+        Outcome::Unfinished => Status::Unfinished,
+    }
+}

@@ -1,0 +1,39 @@
+//! What follows from the contract of `run` on when each status comes.
+ghost use Rattle.std.specs.Prelude.{◌≡◌, ◌⊎◌, List, ℕ, IfSome, Some, Ok, IsErr};
+ghost use Rattle.shunt_store.specs.defs.Files.{Files, content};
+ghost use Rattle.shunt_store.specs.defs.Causes.{Rose};
+ghost use Rattle.shunt_instance.specs.defs.Instance.{Night};
+ghost use Rattle.shunt_matching.specs.defs.Nights.{Matches};
+ghost use Rattle.shunt.specs.declared.running.Status.{Status};
+ghost use Rattle.shunt.specs.defs.Words.{Call, Match};
+ghost use Rattle.shunt.specs.defs.Replies.{stated_night};
+ghost use Rattle.shunt.specs.defs.Ends.{Ends, Seen, Yields};
+
+/// `Store` comes only where the store failed in the call, and `Sink` only where the sink did.
+pub fn failures_have_causes()
+    ensures store { (c : Call) (old new : Seen) → Ends c old new Status.Store → Rose old.store_faults new.store_faults }
+    ensures sink { (c : Call) (old new : Seen) → Ends c old new Status.Sink → Rose old.sink_faults new.sink_faults }
+    ensures words { (c : Call) (old new : Seen) → Ends c old new Status.Words → ⊥ }
+{}
+
+/// `match` ends with `Input` exactly where a file isn't accepted, unless the store, memory or the sink came first.
+pub fn match_input_exactly()
+    ensures there { (s t : List ℕ) (old new : Seen) (status : Status) (files : Files) → old.files ≡ Some files → IsErr (stated_night (content files s) (content files t)) → Ends (Match s t) old new status → (status ≡ Status.Input) ⊎ Yields status }
+    ensures only { (s t : List ℕ) (old new : Seen) → Ends (Match s t) old new Status.Input → IfSome old.files (λ files. IsErr (stated_night (content files s) (content files t))) }
+{}
+
+/// `match` ends with `NoMatching` exactly where both files are accepted and no list is a matching, unless the store,
+/// memory or the sink came first.
+pub fn match_no_matching_exactly()
+    ensures there { (s t : List ℕ) (old new : Seen) (status : Status) (files : Files) (night : Night) → old.files ≡ Some files → stated_night (content files s) (content files t) ≡ Ok night → ((place : List ℕ) → Matches night place → ⊥) → Ends (Match s t) old new status → (status ≡ Status.NoMatching) ⊎ Yields status }
+    ensures only { (s t : List ℕ) (old new : Seen) → Ends (Match s t) old new Status.NoMatching → IfSome old.files (λ files. (night : Night) × (stated_night (content files s) (content files t) ≡ Ok night) × ((place : List ℕ) → Matches night place → ⊥)) }
+{}
+
+/// `match` ends with `Done` exactly where both files are accepted and a matching exists, unless the store, memory or the
+/// sink came first; it never ends with `Findings` or `Unfinished`.
+pub fn match_done_exactly()
+    ensures there { (s t : List ℕ) (old new : Seen) (status : Status) (files : Files) (night : Night) → old.files ≡ Some files → stated_night (content files s) (content files t) ≡ Ok night → ((place : List ℕ) × Matches night place) → Ends (Match s t) old new status → (status ≡ Status.Done) ⊎ Yields status }
+    ensures only { (s t : List ℕ) (old new : Seen) → Ends (Match s t) old new Status.Done → IfSome old.files (λ files. (night : Night) × (stated_night (content files s) (content files t) ≡ Ok night) × ((place : List ℕ) × Matches night place)) }
+    ensures no_findings { (s t : List ℕ) (old new : Seen) (files : Files) → old.files ≡ Some files → Ends (Match s t) old new Status.Findings → ⊥ }
+    ensures no_unfinished { (s t : List ℕ) (old new : Seen) (files : Files) → old.files ≡ Some files → Ends (Match s t) old new Status.Unfinished → ⊥ }
+{}

@@ -1,0 +1,15 @@
+//! The program's one call: from the words of the command line to files and output.
+#![tactic(auto)]
+
+mod delivering;
+mod first_form;
+pub mod laws;
+mod loading;
+mod replying;
+mod running;
+mod words;
+
+pub use running::{Status, run};
+
+#[cfg(test)]
+mod tests;

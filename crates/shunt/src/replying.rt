@@ -1,0 +1,55 @@
+// From the files to the answer.
+ghost use Rattle.std.specs.Prelude.{◌≡◌, IfOk, IfSome, IsErrOf};
+ghost use Rattle.shunt_store.specs.defs.Files.{Closed};
+ghost use Rattle.shunt_store.specs.defs.Causes.{HasCause};
+ghost use Rattle.shunt.specs.defs.Words.{call_of};
+ghost use Rattle.shunt.specs.defs.Replies.{IsMatched, IsReply, reply_of};
+ghost use Rattle.shunt.specs.defs.Halts.{Replies};
+
+use crate::delivering::{Answer, Outcome};
+use crate::loading::{Halt, load_instance};
+use crate::words::Command;
+use shunt_instance::Instance;
+use shunt_matching::{MatchError, first_fit};
+use shunt_report::{pairs_text, shortage_text};
+use shunt_store::Store;
+use std::alloc::{AllocError, Global};
+
+/// The answer of a command, after its input files were read and judged.
+pub fn answer_to<S: Store>(
+    alloc: Global,
+    store: &mut S,
+    command: Command<'_>,
+) -> Result<Answer, Halt>
+    requires { S.stage store.old ≡ Closed }
+    ensures told { IfSome (S.told store.old) (λ files. Replies reply_of result (IsReply (call_of command.entry) files)) }
+    ensures files { S.told store.new ≡ S.told store.old }
+    ensures closed { (IsErrOf result Halt.Fault → ⊥) → S.stage store.new ≡ Closed }
+    ensures cause { HasCause Halt.Fault (S.faults store.old) (S.faults store.new) result }
+{
+    match command {
+        Command::Match(first, second) => {
+            let instance = load_instance(alloc, store, first, second)?;
+            Ok(match_answer(alloc, &instance)?)
+        }
+    }
+}
+
+// Which unit becomes which position, or why none can.
+fn match_answer(alloc: Global, instance: &Instance) -> Result<Answer, AllocError>
+    ensures { IfOk result (λ a. IsMatched instance.now (reply_of a)) }
+{
+    match first_fit(alloc, instance) {
+        Ok(matching) => Ok(Answer {
+            outcome: Outcome::Done,
+            writes: Vec::new(alloc),
+            text: pairs_text(alloc, instance, &matching)?,
+        }),
+        Err(MatchError::Short(shortage)) => Ok(Answer {
+            outcome: Outcome::NoMatching,
+            writes: Vec::new(alloc),
+            text: shortage_text(alloc, instance, &shortage)?,
+        }),
+        Err(MatchError::Memory) => Err(AllocError),
+    }
+}

@@ -1,0 +1,94 @@
+// The whole run.
+ghost use Rattle.std.specs.Prelude.{◌≡◌, ◌↔◌};
+ghost use Rattle.shunt_store.specs.defs.Files.{Closed};
+ghost use Rattle.shunt.specs.defs.Words.{Call, Spells, texts, call_of};
+ghost use Rattle.shunt.specs.defs.Ends.{Ends, seen};
+ghost use Rattle.shunt.specs.defs.Replies.{reply_of, refusal};
+
+use crate::delivering::{Answer, Outcome, deliver};
+use crate::loading::Halt;
+use crate::replying::answer_to;
+use crate::words::{Command, command_of};
+use shunt_store::{Sink, Store};
+use std::alloc::Global;
+
+/// How a run ended, numbered from 0 in this order.
+#[derive(Clone, Copy, Debug, PartialEq, Eq)]
+pub enum Status {
+    /// The command came to its good end.
+    Done,
+    /// It came to an end that asks for a look.
+    Findings,
+    /// The words spell no command.
+    Words,
+    /// An input file breaks its format or is too long.
+    Input,
+    /// The store failed.
+    Store,
+    /// Memory ran out.
+    Memory,
+    /// No matching of units and positions exists.
+    NoMatching,
+    /// The search spent its nodes before it was complete.
+    Unfinished,
+    /// The output failed.
+    Sink,
+}
+
+/// Does what the words ask for: reads and judges the input files in the order of the words, writes the files of the
+/// answer, and then prints its text.
+///
+/// The words are those behind the program's name. They spell `match STATION TIMETABLE`, where the two files have
+/// names that differ and aren't empty, or the answer is `Words` and nothing is read, written or printed.
+/// `Store` comes only where the store failed in this call, `Sink` only where the sink did, and `Memory` where memory
+/// ran out; each other status is that of the defined answer, all of which then was written and printed.
+pub fn run<S: Store, O: Sink>(
+    alloc: Global,
+    words: &Vec<String>,
+    store: &mut S,
+    out: &mut O,
+) -> Status
+    requires { S.stage store.old ≡ Closed }
+    ensures words { (result ≡ Status.Words) ↔ ((c : Call) → Spells (texts words.now.items) c → ⊥) }
+    ensures nothing { result ≡ Status.Words → (store.new ≡ store.old) × (out.new ≡ out.old) }
+    ensures ends { (c : Call) → Spells (texts words.now.items) c → Ends c
+        (seen S.told S.faults O.told O.faults store.old out.old)
+        (seen S.told S.faults O.told O.faults store.new out.new) result }
+    ensures closed { (result ≡ Status.Store → ⊥) → S.stage store.new ≡ Closed }
+{
+    match command_of(words) {
+        Some(command) => carry_out(alloc, command, store, out),
+        None => Status::Words,
+    }
+}
+
+fn carry_out<S: Store, O: Sink>(
+    alloc: Global,
+    command: Command<'_>,
+    store: &mut S,
+    out: &mut O,
+) -> Status
+    requires { S.stage store.old ≡ Closed }
+    ensures not_words { result ≡ Status.Words → ⊥ }
+    ensures ends { Ends (call_of command.entry)
+        (seen S.told S.faults O.told O.faults store.old out.old)
+        (seen S.told S.faults O.told O.faults store.new out.new) result }
+    ensures closed { (result ≡ Status.Store → ⊥) → S.stage store.new ≡ Closed }
+{
+    match answer_to(alloc, store, command) {
+        Ok(answer) => deliver(store, out, &answer),
+        Err(Halt::Input(text)) => deliver(store, out, &refused(alloc, text)),
+        Err(Halt::Fault) => Status::Store,
+        Err(Halt::Memory) => Status::Memory,
+    }
+}
+
+fn refused(alloc: Global, text: Vec<u8>) -> Answer
+    ensures { reply_of result ≡ refusal text.items }
+{
+    Answer {
+        outcome: Outcome::Input,
+        writes: Vec::new(alloc),
+        text,
+    }
+}

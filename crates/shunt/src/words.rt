@@ -1,0 +1,39 @@
+// The words of the command line.
+ghost use Rattle.std.specs.Prelude.{◌≡◌, ◌∷◌, [], IfSome, IsSome};
+ghost use Rattle.shunt.specs.defs.Words.{Call, Spells, texts, call_of};
+
+/// What is asked for, by the names of the files.
+#[derive(Clone, Copy, Drop)]
+pub enum Command<'w> {
+    /// `match STATION TIMETABLE`
+    Match(&'w str, &'w str),
+}
+
+/// The command that the words spell. None exactly where they spell none.
+pub fn command_of(words: &[String]) -> Option<Command<'_>>
+    ensures some { IfSome result (λ c. Spells (texts words.now) (call_of c)) }
+    ensures only { (c : Call) → Spells (texts words.now) c → IsSome result }
+{
+    match words {
+        [word, first, second] => of_two_files(word, first, second),
+        _ => None,
+    }
+}
+
+// The command that a word and the names of two files spell.
+fn of_two_files<'w>(word: &'w String, first: &'w String, second: &'w String) -> Option<Command<'w>>
+    ensures some { IfSome result (λ c. Spells (texts (word.now ∷ first.now ∷ second.now ∷ [])) (call_of c)) }
+    ensures only { (c : Call) → Spells (texts (word.now ∷ first.now ∷ second.now ∷ [])) c → IsSome result }
+{
+    let (first, second) = (first.as_str(), second.as_str());
+    if word.as_str() != "match" {
+        return None;
+    }
+    if first.is_empty() || second.is_empty() {
+        return None;
+    }
+    if first == second {
+        return None;
+    }
+    Some(Command::Match(first, second))
+}

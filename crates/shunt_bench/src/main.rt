@@ -1,0 +1,43 @@
+//! Measures, by the first word: `records FILE`. Without words it prints nothing.
+#![tactic(auto)]
+
+use shunt_rows::records;
+use shunt_store::{DiskStore, read_all};
+use std::process::ExitCode;
+use std::rt::{Clock, Env, Files};
+use std::time::CpuClock;
+use std::{env, io};
+
+/// The longest file that is measured, in bytes.
+const MOST_BYTES: u64 = 100_000_000;
+
+// How long `records` takes on the bytes of a file, and how many records it gives.
+fn measure_records(
+    rt: &(impl Files + AllocGlobal + CpuClock + Print),
+    name: &str,
+) -> io::Result<()> {
+    let mut store = DiskStore::new(rt);
+    let Ok(bytes) = read_all(rt.alloc(), &mut store, name, MOST_BYTES) else {
+        return rt.println("the file was not read");
+    };
+    let start = rt.process_cpu_time()?;
+    let Ok(rows) = records(rt.alloc(), &bytes) else {
+        return rt.println("out of memory");
+    };
+    let end = rt.process_cpu_time()?;
+    let micros = end.as_micros().saturating_sub(start.as_micros());
+    let count = rows.len();
+    println!(rt; "records {count} microseconds {micros}")
+}
+
+fn main(rt: HostRuntime) -> io::Result<()> {
+    let mut words = env::args(&rt)?;
+    let _program = words.next();
+    let (Some(bench), Some(name)) = (words.next(), words.next()) else {
+        return Ok(());
+    };
+    if bench.as_str() == "records" {
+        measure_records(&rt, name.as_str())?;
+    }
+    Ok(())
+}

@@ -1,0 +1,15 @@
+-- The numbers of the statuses.
+use Rattle.std.specs.Prelude.{ℕ}
+use Rattle.shunt.specs.declared.running.Status.{Status}
+use Rattle.shunt.specs.declared.running.Status.TheVariants as status
+
+abbrev pub number_of : Status → ℕ
+number_of status.Done = 0
+number_of status.Findings = 1
+number_of status.Words = 2
+number_of status.Input = 3
+number_of status.Store = 4
+number_of status.Memory = 5
+number_of status.NoMatching = 6
+number_of status.Unfinished = 7
+number_of status.Sink = 8

@@ -1,0 +1,69 @@
+//! The program: the words of the command line, the files of the current folder, and the standard output.
+#![tactic(auto)]
+
+ghost use Rattle.std.specs.Prelude.{◌≡◌};
+ghost use Rattle.shunt_main.specs.defs.Numbers.{number_of};
+
+use shunt::{Status, run};
+use shunt_store::{ConsoleSink, DiskStore};
+use std::alloc::{AllocError, Global};
+use std::env::FillError;
+use std::process::ExitCode;
+use std::rt::Env;
+
+// The words behind the program's name. One that isn't text becomes an empty word, which no command has.
+fn words_of<R: Env>(rt: &R, alloc: Global) -> Result<Vec<String>, AllocError> {
+    let mut words = Vec::new(alloc);
+    for place in 1..usize::MAX {
+        match word_at(rt, alloc, place)? {
+            Some(word) => words.push(word)?,
+            None => break,
+        }
+    }
+    Ok(words)
+}
+
+// The word at a place, read into a buffer that grows until the word fits.
+fn word_at<R: Env>(rt: &R, alloc: Global, place: usize) -> Result<Option<String>, AllocError> {
+    let mut room = 256usize;
+    for _ in 0..usize::BITS {
+        let mut buffer = vec![in alloc; 0u8; room]?;
+        match rt.arg(place, &mut buffer) {
+            Ok(length) => {
+                buffer.truncate(length);
+                return Ok(Some(String::from_utf8(buffer).unwrap_or(String::new(alloc))));
+            }
+            Err(FillError::NotPresent) => return Ok(None),
+            Err(FillError::TooLong) => room = room.saturating_add(room),
+        }
+    }
+    Err(AllocError)
+}
+
+fn to_number(status: Status) -> u8
+    ensures { result ≡ number_of status }
+{
+    match status {
+        Status::Done => 0,
+        Status::Findings => 1,
+        Status::Words => 2,
+        Status::Input => 3,
+        Status::Store => 4,
+        Status::Memory => 5,
+        Status::NoMatching => 6,
+        Status::Unfinished => 7,
+        Status::Sink => 8,
+    }
+}
+
+fn main(rt: HostRuntime) -> ExitCode {
+    let status = match words_of(&rt, rt.alloc()) {
+        Ok(words) => {
+            let mut store = DiskStore::new(&rt);
+            let mut out = ConsoleSink::new(&rt);
+            run(rt.alloc(), &words, &mut store, &mut out)
+        }
+        Err(_) => Status::Memory,
+    };
+    ExitCode::from(to_number(status))
+}

@@ -1,0 +1,9 @@
+pub mod Below
+pub mod Places
+pub mod Numbers
+pub mod ByCounts
+pub mod Lateness
+pub mod Firsts
+pub mod Alike
+pub mod Nights
+pub mod Decided

@@ -1,0 +1,9 @@
+//! Every text that the program prints.
+#![tactic(auto)]
+
+mod matched;
+mod text;
+mod words;
+
+pub use matched::{pairs_text, shortage_text};
+pub use words::{FileWord, refused_text};

@@ -1,0 +1,387 @@
+-- A station's records state that station.
+use Rattle.std.proofs.Common.{◌≡◌, ◌≢◌, ℕ, zero, suc, ◌+◌, ◌-◌, ◌*◌, ◌^◌, ◌<◌, ◌≤◌, Bool, true, false, not, ◌||◌, ◌&&◌, List, [], ◌∷◌, ◌++◌, length, length-append, map, get_or, refl, sym, ap, subst, ◌∙◌, arith, inl, inr, ⊎_elim, IsTrue}
+use Rattle.std.specs.Prelude.{Result, Ok, Err, bytes_eq, All, ◌==◌, Option, Some, None, option_map, position, nat_le, nat_lt, if◌then◌else◌, codes, slice_get, slice_index_or}
+use Rattle.std.specs.List.{list_any, list_all}
+use Rattle.std.specs.Option.{is_some, unwrap_or}
+use Rattle.std.specs.Fmt.{decimal}
+use Rattle.std.specs.Char.{is_ascii_digit}
+use Rattle.std.specs.Str.Parse.{digits_value}
+use Rattle.std.proofs.lemmas.List.{append-nil, append_assoc, length-map}
+use Rattle.std.proofs.lemmas.Slice.Eq.{bytes_eq-Decides}
+use Rattle.std.proofs.lemmas.Bool.{true≢false, lt-ltb, le-leb, cases_Bool}
+use Rattle.std.proofs.lemmas.Bool.Decides.{nat_tests}
+use Rattle.std.proofs.lemmas.Option.{slice_get-get_or}
+use Rattle.shunt_base.specs.declared.ids.PlatformId.{PlatformId}
+use Rattle.shunt_base.specs.declared.ids.TrackId.{TrackId}
+use Rattle.shunt_base.specs.declared.ids.TypeId.{TypeId}
+use Rattle.shunt_base.specs.declared.ids.Side.{Side}
+use Rattle.shunt_base.specs.declared.ids.Side.TheVariants.{A, B}
+use Rattle.shunt_base.specs.defs.Spelling.{IsName, IsDecimal, is_name_byte, is_name_text, is_decimal_text, decimal_of}
+use Rattle.shunt_base.proofs.Decimal.{spelled, value_again}
+use Rattle.shunt_rows.specs.declared.fault.RowFault.{RowFault}
+use Rattle.shunt_rows.specs.defs.Checks.{Check, Judged, passes, answer}
+use Rattle.shunt_rows.specs.defs.Fields.{is_within, side_of}
+use Rattle.shunt_rows.specs.defs.Formats as formats
+use Rattle.shunt_rows.specs.defs.Formats.{Format, in_state, ends, reads, reading}
+use Rattle.shunt_rows.proofs.Joins.{reads_more, reading_is}
+use Rattle.shunt_instance.specs.declared.records.UnitType.{UnitType}
+use Rattle.shunt_instance.specs.declared.records.Track.{Track}
+use Rattle.shunt_instance.specs.declared.records.Route.{Route}
+use Rattle.shunt_instance.specs.declared.records.Permit.{Permit}
+use Rattle.shunt_instance.specs.declared.records.Station.{Station}
+use Rattle.shunt_instance.specs.defs.Words.{AreDistinct, is_open_at, joins, same_side, way_of}
+use Rattle.shunt_instance.specs.defs.Wellformed.{IsUnitType, IsTrack, IsRoute, IsPermit, IsStation}
+use Rattle.shunt_instance.proofs.Found.{found_there}
+use Rattle.shunt_station.specs.defs.Stating.{Draft, Ends, empty_station, first_of, has_type, has_platform, has_track, type_of_name, platform_of_name, track_number, ends_of, type_of, platform_of, track_of, opens, stands, route_of, is_permitted, permit_of, cost_of, later_of, station_format}
+use Rattle.shunt_station.specs.defs.Writing.{type_name, platform_name, track_name, side_text, ends_text, head_row, type_row, platform_row, track_row, route_row, permit_row, cost_row, rows_of, ReadsAsStation}
+use Rattle.shunt_rows.specs.defs.Records.{records_of, text_of_rows, ReadsBack}
+use Rattle.shunt_rows.proofs.Again.{again}
+use Rattle.shunt_station.proofs.Plain.{station_plain}
+
+-- all of these checks hold
+AllHold : List Check → Type 0
+AllHold [] = Unit {0}
+AllHold (c ∷ checks) = (c.holds ≡ true) × AllHold checks
+
+yes_is : {X : Type 0} (b : Bool) (r s : X) → b ≡ true → (if b then r else s) ≡ r
+yes_is true r s e = refl
+yes_is false r s e = absurd cc
+
+holding : {X : Type 0} (n : ℕ) (checks : List Check) (x : X) → AllHold checks → passes n checks x ≡ Ok x
+unfolding AllHold
+holding n [] x all = refl
+holding n (c ∷ checks) x all = yes_is c.holds (passes n checks x) (Err record { row = n; field = c.field; kind = c.kind }) all.0 ∙ holding n checks x all.1
+
+and_two : (a b : Bool) → a ≡ true → b ≡ true → (a && b) ≡ true
+and_two a b e f = cc
+
+all_pass : {X : Type 0} (p : X → Bool) (xs : List X) → All (λ x. IsTrue (p x)) xs → list_all p xs ≡ true
+all_pass p [] all = refl
+all_pass p (x ∷ xs) all = and_two (p x) (list_all p xs) (all 0 x (omega arith)) (all_pass p xs (λ k d lt. all (suc k) d (omega arith)))
+
+-- a name is spelled as one
+name_read : (name : List ℕ) → IsName name → is_name_text name ≡ true
+name_read name is = and_two _ _ (and_two _ _ (lt-ltb 0 (length name) is.0) (le-leb (length name) 16 is.1)) (all_pass is_name_byte name is.2)
+
+lead : (a n : ℕ) → (a ≡ 48 → n ≡ 1) → (not (a == 48) || n == 1) ≡ true
+lead a n h = ⊎_elim (λ t. let m = h (eq_of a t) in grind (arith, nat_tests)) (λ f. or_left _ _ (ap not f)) (cases_Bool (a == 48))
+  where
+    eq_of : (a : ℕ) → (a == 48) ≡ true → a ≡ 48
+    eq_of a t = grind (arith, nat_tests)
+
+    or_left : (b c : Bool) → b ≡ true → (b || c) ≡ true
+    or_left b c e = cc
+
+decimal_test : (bytes : List ℕ) → IsDecimal bytes → is_decimal_text bytes ≡ true
+decimal_test bytes is = and_two _ _ (and_two _ _ (and_two _ _ (lt-ltb 0 (length bytes) is.nonempty) (le-leb (length bytes) 18 is.short)) (lead _ _ is.leading)) (all_pass is_ascii_digit bytes is.digits)
+
+number_again : (x : ℕ) → x < 10 ^ 18 → decimal_of (decimal x) ≡ Some x
+unfolding decimal_of
+number_again x lt = yes_is (is_decimal_text (decimal x)) (Some (digits_value 10 (decimal x))) None (decimal_test (decimal x) (spelled x lt)) ∙ ap (λ y. Some y) (value_again x lt)
+
+-- a number from the one to the other is read from what is printed of it
+record IsRead (least most x : ℕ) : Type 0 where
+  there : is_some (decimal_of (decimal x)) ≡ true
+  value : unwrap_or (decimal_of (decimal x)) 0 ≡ x
+  range : is_within least most (unwrap_or (decimal_of (decimal x)) 0) ≡ true
+
+in_range : (least most x : ℕ) → least ≤ x → x ≤ most → is_within least most x ≡ true
+unfolding is_within
+in_range least most x le ge = and_two _ _ (le-leb least x le) (le-leb x most ge)
+
+number_read : (least most x : ℕ) → least ≤ x → x ≤ most → most < 10 ^ 18 → IsRead least most x
+number_read least most x le ge small =
+    let again = number_again x (omega (arith, ge, small)) in
+    let same = ap (λ o. unwrap_or o 0) again in
+    record { there = ap is_some again; value = same; range = ap (is_within least most) same ∙ in_range least most x le ge }
+
+-- the one in the middle
+in_middle : {X Y : Type 0} (f : X → Y) (xs zs : List X) (y : X) (d : Y) → get_or (map f (xs ++ y ∷ zs)) (length xs) d ≡ f y
+in_middle f [] zs y d = refl
+in_middle f (x ∷ xs) zs y d = in_middle f xs zs y d
+
+one_is_no : (b : Bool) → (b ≡ true → ⊥) → b ≡ false
+one_is_no true h = absurd (h refl)
+one_is_no false h = refl
+
+none_or : (a b : Bool) → a ≡ false → b ≡ false → (a || b) ≡ false
+none_or a b e f = cc
+
+-- of distinct things none before one of them passes a test that tells it
+not_before : {X Y : Type 0} (f : X → Y) (test : X → Bool) (xs zs : List X) (y : X) → ((x : X) → test x ≡ true → f x ≡ f y) → AreDistinct (map f (xs ++ y ∷ zs)) → list_any test xs ≡ false
+not_before f test [] zs y tells all = refl
+not_before f test (x ∷ xs) zs y tells all =
+    none_or (test x) (list_any test xs)
+    (one_is_no (test x) (λ e. all 0 (suc (length xs)) (f y) (omega arith) (omega (arith, length-map (xs ++ y ∷ zs) f, length-append xs (y ∷ zs))) (tells x e ∙ sym (in_middle f xs zs y (f y)))))
+    (not_before f test xs zs y tells (λ i j d lt small. all (suc i) (suc j) d (omega arith) (omega arith)))
+
+same_list : {X : Type 0} (xs : List X) → map (λ x. x) xs ≡ xs
+same_list [] = refl
+same_list (x ∷ xs) = ap (λ l. x ∷ l) (same_list xs)
+
+by_name : (name other : List ℕ) → bytes_eq other name ≡ true → other ≡ name
+by_name name other e = (bytes_eq-Decides other name).0 e
+
+-- what is true of each is true of the one in the middle
+of_middle : {X : Type 0} (P : X → Type 0) (all xs zs : List X) (y : X) → All P all → all ≡ xs ++ y ∷ zs → P y
+of_middle {X = X} P all xs zs y h e = at_place xs (subst (All P) e h)
+  where
+    at_place : (xs : List X) → All P (xs ++ y ∷ zs) → P y
+    at_place [] h = h 0 y (omega arith)
+    at_place (x ∷ xs) h = at_place xs (λ k d lt. h (suc k) d (omega arith))
+
+-- fewer stand before the one in the middle
+fewer : {X : Type 0} (all xs zs : List X) (y : X) (most : ℕ) → length all ≤ most → all ≡ xs ++ y ∷ zs → nat_lt (length xs) most ≡ true
+fewer all xs zs y most few e = lt-ltb (length xs) most (omega (arith, few, ap length e, length-append xs (y ∷ zs)))
+
+-- the parts of a station that were read
+abbrev partial : Station → List UnitType → List (List ℕ) → List Track → List Route → List Permit → Draft
+partial s ts ps ks rs qs = record { version = 2; station = record { name = s.name; types = ts; platforms = ps; tracks = ks; routes = rs; permits = qs; split = 0; couple = 0; unparked = 0 }; is_costed = false }
+
+abbrev type_from : List ℕ → ℕ → ℕ → UnitType
+type_from name size turn = record { name = name; length = size; turn = turn }
+
+type_read : (s : Station) → IsStation s → (n : ℕ) (xs : List UnitType) (y : UnitType) (zs : List UnitType) → s.types ≡ xs ++ y ∷ zs
+    → answer n (later_of (partial s xs [] [] [] []) (type_row y)) ≡ Ok (partial s (xs ++ y ∷ []) [] [] [] [])
+unfolding later_of type_of is_within AllHold
+type_read s f n xs y zs e =
+    let is = of_middle IsUnitType s.types xs zs y f.types e in
+    let size = number_read 1 5000 y.length is.some is.long (omega arith) in
+    let turn = number_read 1 1440 y.turn is.turns is.turn (omega arith) in
+    let new = not_before (λ t. t.name) (λ t. bytes_eq t.name y.name) xs zs y (λ t. by_name y.name t.name) (subst (λ (l : List UnitType). AreDistinct (map (λ t. t.name) l)) e f.type_names) in
+    let m = type_of (partial s xs [] [] [] []) (type_row y) in
+    let same = ap (λ a. type_from y.name a (unwrap_or (decimal_of (decimal y.turn)) 0)) size.value ∙ ap (λ b. type_from y.name y.length b) turn.value in
+    holding n m.checks m.value (refl, (fewer s.types xs zs y 40 f.few_types e, (name_read y.name is.name, (ap not new, (size.there, (size.range, (turn.there, (turn.range, tt))))))))
+    ∙ ap (λ (t : UnitType). Ok (partial s (xs ++ t ∷ []) [] [] [] [])) same
+
+platform_read : (s : Station) → IsStation s → (n : ℕ) (xs : List (List ℕ)) (y : List ℕ) (zs : List (List ℕ)) → s.platforms ≡ xs ++ y ∷ zs
+    → answer n (later_of (partial s s.types xs [] [] []) (platform_row y)) ≡ Ok (partial s s.types (xs ++ y ∷ []) [] [] [])
+unfolding later_of platform_of is_within AllHold
+platform_read s f n xs y zs e =
+    let is = of_middle IsName s.platforms xs zs y f.platforms e in
+    let apart : AreDistinct (map (λ p. p) (xs ++ y ∷ zs)) = subst AreDistinct (e ∙ sym (same_list (xs ++ y ∷ zs))) f.platform_names in
+    let new = not_before (λ p. p) (λ p. bytes_eq p y) xs zs y (λ p. by_name y p) apart in
+    let m = platform_of (partial s s.types xs [] [] []) (platform_row y) in
+    holding n m.checks m.value (refl, (fewer s.platforms xs zs y 30 f.few_platforms e, (name_read y is, (ap not new, tt))))
+
+-- what is open at a side is read from its letters
+ends_read : (a b : Bool) → (a || b) ≡ true → ends_of (ends_text a b) ≡ Some (record { side_a = a; side_b = b })
+unfolding ends_of
+ends_read true true e = refl
+ends_read true false e = refl
+ends_read false true e = refl
+ends_read false false e = absurd (true≢false (sym e))
+
+abbrev track_from : List ℕ → ℕ → Ends → Track
+track_from name size sides = record { name = name; length = size; side_a = sides.side_a; side_b = sides.side_b }
+
+abbrev both_ends : Ends
+both_ends = record { side_a = true; side_b = true }
+
+track_read : (s : Station) → IsStation s → (n : ℕ) (xs : List Track) (y : Track) (zs : List Track) → s.tracks ≡ xs ++ y ∷ zs
+    → answer n (later_of (partial s s.types s.platforms xs [] []) (track_row y)) ≡ Ok (partial s s.types s.platforms (xs ++ y ∷ []) [] [])
+unfolding later_of track_of is_within AllHold
+track_read s f n xs y zs e =
+    let is = of_middle IsTrack s.tracks xs zs y f.tracks e in
+    let size = number_read 1 50000 y.length is.some is.long (omega arith) in
+    let sides = ends_read y.side_a y.side_b is.open_at in
+    let new = not_before (λ t. t.name) (λ t. bytes_eq t.name y.name) xs zs y (λ t. by_name y.name t.name) (subst (λ (l : List Track). AreDistinct (map (λ t. t.name) l)) e f.track_names) in
+    let m = track_of (partial s s.types s.platforms xs [] []) (track_row y) in
+    let same = ap (λ a. track_from y.name a (unwrap_or (ends_of (ends_text y.side_a y.side_b)) both_ends)) size.value ∙ ap (λ o. track_from y.name y.length (unwrap_or o both_ends)) sides in
+    holding n m.checks m.value (refl, (fewer s.tracks xs zs y 60 f.few_tracks e, (name_read y.name is.name, (ap not new, (size.there, (size.range, (ap is_some sides, tt)))))))
+    ∙ ap (λ (t : Track). Ok (partial s s.types s.platforms (xs ++ t ∷ []) [] [])) same
+
+side_read : (q : Side) → side_of (side_text q) ≡ Some q
+unfolding side_of
+side_read A = refl
+side_read B = refl
+
+same_way : (s q : Side) → same_side s q ≡ true → s ≡ q
+same_way A A e = refl
+same_way A B e = absurd (true≢false (sym e))
+same_way B A e = absurd (true≢false (sym e))
+same_way B B e = refl
+
+same_number : (a b : ℕ) → (a == b) ≡ true → a ≡ b
+same_number a b e = grind (arith, nat_tests)
+
+both : (a b : Bool) → (a && b) ≡ true → (a ≡ true) × (b ≡ true)
+both true b e = (refl, e)
+both false b e = absurd (true≢false (sym e))
+
+abbrev platform_id : ℕ → PlatformId
+platform_id k = record { 0 = k }
+
+abbrev track_id : ℕ → TrackId
+track_id k = record { 0 = k }
+
+abbrev type_id : ℕ → TypeId
+type_id k = record { 0 = k }
+
+abbrev way_from : PlatformId → TrackId → Side → PlatformId × (TrackId × Side)
+way_from p t q = (p, (t, q))
+
+joins_tells : (y r : Route) → joins y.platform y.track y.side r ≡ true → way_of r ≡ way_of y
+joins_tells y r e =
+    let c = both _ (same_side r.side y.side) e in
+    let d = both (r.platform.0 == y.platform.0) _ c.0 in
+    ap (λ k. way_from (platform_id k) r.track r.side) (same_number r.platform.0 y.platform.0 d.0)
+    ∙ ap (λ k. way_from y.platform (track_id k) r.side) (same_number r.track.0 y.track.0 d.1)
+    ∙ ap (λ q. way_from y.platform y.track q) (same_way r.side y.side c.1)
+
+abbrev permit_from : TrackId → TypeId → Permit
+permit_from t k = record { track = t; kind = k }
+
+names_tell : (y p : Permit) → (p.track.0 == y.track.0 && p.kind.0 == y.kind.0) ≡ true → p ≡ y
+names_tell y p e =
+    let c = both _ _ e in
+    ap (λ k. permit_from (track_id k) p.kind) (same_number p.track.0 y.track.0 c.0) ∙ ap (λ k. permit_from y.track (type_id k)) (same_number p.kind.0 y.kind.0 c.1)
+
+name_of_type : UnitType → List ℕ
+name_of_type t = t.name
+
+platform_there : (s : Station) (ts : List UnitType) (ks : List Track) (rs : List Route) (qs : List Permit) (i : PlatformId) → IsStation s → i.0 < length s.platforms
+    → platform_of_name (partial s ts s.platforms ks rs qs).station (platform_name s.platforms i) ≡ Some i
+unfolding platform_of_name
+platform_there s ts ks rs qs i f lt =
+    ap (option_map platform_id) (found_there (λ (p : List ℕ). p) s.platforms (platform_name s.platforms i) i.0 [] (subst AreDistinct (sym (same_list s.platforms)) f.platform_names)
+    (subst (λ (l : List (List ℕ)). slice_get l i.0 ≡ Some (platform_name s.platforms i)) (sym (same_list s.platforms)) (slice_get-get_or s.platforms i.0 [] lt)))
+
+abbrev some_track : Track
+some_track = record { name = []; length = 0; side_a = false; side_b = false }
+
+track_there : (s : Station) (ts : List UnitType) (ps : List (List ℕ)) (rs : List Route) (qs : List Permit) (i : TrackId) → IsStation s → i.0 < length s.tracks
+    → track_number (partial s ts ps s.tracks rs qs).station (track_name s.tracks i) ≡ Some i
+unfolding track_number
+track_there s ts ps rs qs i f lt =
+    ap (option_map track_id) (found_there (λ (t : Track). t.name) s.tracks (track_name s.tracks i) i.0 some_track f.track_names
+    (slice_get-get_or (map (λ (t : Track). t.name) s.tracks) i.0 [] (omega (arith, lt, length-map s.tracks (λ (t : Track). t.name)))))
+
+abbrev some_type : UnitType
+some_type = record { name = []; length = 0; turn = 0 }
+
+type_there : (s : Station) (ps : List (List ℕ)) (ks : List Track) (rs : List Route) (qs : List Permit) (i : TypeId) → IsStation s → i.0 < length s.types
+    → type_of_name (partial s s.types ps ks rs qs).station (type_name s.types i) ≡ Some i
+unfolding type_of_name
+type_there s ps ks rs qs i f lt =
+    ap (option_map type_id) (found_there (λ (t : UnitType). t.name) s.types (type_name s.types i) i.0 some_type f.type_names
+    (slice_get-get_or (map (λ (t : UnitType). t.name) s.types) i.0 [] (omega (arith, lt, length-map s.types (λ (t : UnitType). t.name)))))
+
+abbrev route_from : PlatformId → TrackId → Side → ℕ → Route
+route_from p t q c = record { platform = p; track = t; side = q; cost = c }
+
+-- a test of three things that are read
+three : {X : Type 0} (test : PlatformId → TrackId → Side → X) (p q : PlatformId) (t u : TrackId) (a b : Side) → p ≡ q → t ≡ u → a ≡ b → test p t a ≡ test q u b
+three test p q t u a b e f g = ap (λ k. test k t a) e ∙ ap (λ k. test q k a) f ∙ ap (λ k. test q u k) g
+
+route_read : (s : Station) → IsStation s → (n : ℕ) (xs : List Route) (y : Route) (zs : List Route) → s.routes ≡ xs ++ y ∷ zs
+    → answer n (later_of (partial s s.types s.platforms s.tracks xs []) (route_row s y)) ≡ Ok (partial s s.types s.platforms s.tracks (xs ++ y ∷ []) [])
+unfolding later_of route_of opens stands is_within AllHold
+route_read s f n xs y zs e =
+    let is = of_middle (IsRoute s) s.routes xs zs y f.routes e in
+    let d = partial s s.types s.platforms s.tracks xs [] in
+    let p = platform_there s s.types s.tracks xs [] y.platform f is.platform in
+    let t = track_there s s.types s.platforms xs [] y.track f is.track in
+    let q = side_read y.side in
+    let pv = ap (λ o. unwrap_or o (platform_id 0)) p in
+    let tv = ap (λ o. unwrap_or o (track_id 0)) t in
+    let qv = ap (λ o. unwrap_or o A) q in
+    let price = number_read 0 1000000 y.cost (omega arith) is.cost (omega arith) in
+    let new = not_before way_of (joins y.platform y.track y.side) xs zs y (joins_tells y) (subst (λ (l : List Route). AreDistinct (map way_of l)) e f.ways) in
+    let m = route_of d (route_row s y) in
+    let repeats = three (λ a b c. not (list_any (joins a b c) xs)) _ y.platform _ y.track _ y.side pv tv qv ∙ ap not new in
+    let shut = ap (λ k. is_open_at d.station k (unwrap_or (side_of (side_text y.side)) A)) tv ∙ ap (λ k. is_open_at d.station y.track k) qv ∙ is.open_at in
+    let same = three (λ a b c. route_from a b c (unwrap_or (decimal_of (decimal y.cost)) 0)) _ y.platform _ y.track _ y.side pv tv qv ∙ ap (λ c. route_from y.platform y.track y.side c) price.value in
+    holding n m.checks m.value (refl, (ap is_some p, (ap is_some t, (ap is_some q, (repeats, (shut, (price.there, (price.range, tt))))))))
+    ∙ ap (λ (r : Route). Ok (partial s s.types s.platforms s.tracks (xs ++ r ∷ []) [])) same
+
+permit_read : (s : Station) → IsStation s → (n : ℕ) (xs : List Permit) (y : Permit) (zs : List Permit) → s.permits ≡ xs ++ y ∷ zs
+    → answer n (later_of (partial s s.types s.platforms s.tracks s.routes xs) (permit_row s y)) ≡ Ok (partial s s.types s.platforms s.tracks s.routes (xs ++ y ∷ []))
+unfolding later_of permit_of is_permitted is_within AllHold
+permit_read s f n xs y zs e =
+    let is = of_middle (IsPermit s) s.permits xs zs y f.permits e in
+    let d = partial s s.types s.platforms s.tracks s.routes xs in
+    let t = track_there s s.types s.platforms s.routes xs y.track f is.track in
+    let k = type_there s s.platforms s.tracks s.routes xs y.kind f is.kind in
+    let tv = ap (λ o. unwrap_or o (track_id 0)) t in
+    let kv = ap (λ o. unwrap_or o (type_id 0)) k in
+    let apart : AreDistinct (map (λ p. p) (xs ++ y ∷ zs)) = subst AreDistinct (e ∙ sym (same_list (xs ++ y ∷ zs))) f.permits_differ in
+    let new = not_before (λ p. p) (λ p. p.track.0 == y.track.0 && p.kind.0 == y.kind.0) xs zs y (names_tell y) apart in
+    let m = permit_of d (permit_row s y) in
+    let read_kind = unwrap_or (type_of_name d.station (type_name s.types y.kind)) (type_id 0) in
+    let repeats = ap (λ (a : TrackId). not (list_any (λ p. p.track.0 == a.0 && p.kind.0 == read_kind.0) xs)) tv ∙ ap (λ (a : TypeId). not (list_any (λ p. p.track.0 == y.track.0 && p.kind.0 == a.0) xs)) kv ∙ ap not new in
+    let same = ap (λ a. permit_from a read_kind) tv ∙ ap (λ b. permit_from y.track b) kv in
+    holding n m.checks m.value (refl, (ap is_some t, (ap is_some k, (repeats, tt))))
+    ∙ ap (λ (p : Permit). Ok (partial s s.types s.platforms s.tracks s.routes (xs ++ p ∷ []))) same
+
+abbrev whole : Station → ℕ → ℕ → ℕ → Draft
+whole s a b c = record { version = 2; station = record { name = s.name; types = s.types; platforms = s.platforms; tracks = s.tracks; routes = s.routes; permits = s.permits; split = a; couple = b; unparked = c }; is_costed = true }
+
+cost_read : (s : Station) → IsStation s → (n : ℕ) → answer n (later_of (partial s s.types s.platforms s.tracks s.routes s.permits) (cost_row s)) ≡ Ok (whole s s.split s.couple s.unparked)
+unfolding later_of cost_of is_within AllHold
+cost_read s f n =
+    let a = number_read 0 1000000 s.split (omega arith) f.split (omega arith) in
+    let b = number_read 0 1000000 s.couple (omega arith) f.couple (omega arith) in
+    let c = number_read 0 1000000 s.unparked (omega arith) f.unparked (omega arith) in
+    let m = cost_of (partial s s.types s.platforms s.tracks s.routes s.permits) (cost_row s) in
+    holding n m.checks m.value (refl, (refl, (a.there, (a.range, (b.there, (b.range, (c.there, (c.range, tt))))))))
+    ∙ ap (λ x. Ok (whole s x (unwrap_or (decimal_of (decimal s.couple)) 0) (unwrap_or (decimal_of (decimal s.unparked)) 0))) a.value
+    ∙ ap (λ x. Ok (whole s s.split x (unwrap_or (decimal_of (decimal s.unparked)) 0))) b.value
+    ∙ ap (λ x. Ok (whole s s.split s.couple x)) c.value
+
+head_read : (s : Station) → IsStation s → answer 1 (first_of (head_row s)) ≡ Ok (partial s [] [] [] [] [])
+unfolding first_of is_within AllHold
+head_read s f =
+    let v = number_read 1 2 2 (omega arith) (omega arith) (omega arith) in
+    let m = first_of (head_row s) in
+    holding 1 m.checks m.value (refl, (refl, (v.there, (v.range, (name_read s.name f.name, tt)))))
+    ∙ ap (λ (x : ℕ). Ok (record { version = x; station = empty_station s.name; is_costed = false })) v.value
+
+-- a list is read one after the other
+section : {X S V : Type 0} (f : Format S V) (row : X → List (List ℕ)) (state : List X → S) (all : List X)
+    → ((k : ℕ) (xs : List X) (y : X) (zs : List X) → all ≡ xs ++ y ∷ zs → answer k (in_state f (state xs) (row y)) ≡ Ok (state (xs ++ y ∷ [])))
+    → (n : ℕ) (xs ys : List X) → all ≡ xs ++ ys → reads f (state xs) n (map row ys) ≡ Ok (state all)
+section f row state all step n xs [] e = ap (λ l. Ok (state l)) (sym (e ∙ append-nil xs))
+section f row state all step n xs (y ∷ ys) e =
+    ap (λ r. formats.◌>>=◌ r (λ t. reads f t (n + 1) (map row ys))) (step n xs y ys e)
+    ∙ section f row state all step (n + 1) (xs ++ y ∷ []) ys (e ∙ sym (append_assoc xs (y ∷ []) ys))
+
+-- and then what follows
+then_reads : {S V : Type 0} (f : Format S V) (s t u : S) (n : ℕ) (rows more : List (List (List ℕ))) → reads f s n rows ≡ Ok t → ((k : ℕ) → reads f t k more ≡ Ok u) → reads f s n (rows ++ more) ≡ Ok u
+then_reads f s t u n rows more e h =
+    reads_more f s n rows more ∙ ap (λ r. formats.◌>>=◌ r (λ v. reads f v (n + length rows) more)) e ∙ h (n + length rows)
+
+rest_read : (s : Station) → IsStation s → (n : ℕ) → reads station_format (partial s [] [] [] [] []) n
+    (map type_row s.types ++ (map platform_row s.platforms ++ (map track_row s.tracks ++ (map (route_row s) s.routes ++ (map (permit_row s) s.permits ++ cost_row s ∷ []))))) ≡ Ok (whole s s.split s.couple s.unparked)
+rest_read s f n =
+    let end = whole s s.split s.couple s.unparked in
+    let types : List UnitType → Draft = λ l. partial s l [] [] [] [] in
+    let platforms : List (List ℕ) → Draft = λ l. partial s s.types l [] [] [] in
+    let tracks : List Track → Draft = λ l. partial s s.types s.platforms l [] [] in
+    let routes : List Route → Draft = λ l. partial s s.types s.platforms s.tracks l [] in
+    let permits : List Permit → Draft = λ l. partial s s.types s.platforms s.tracks s.routes l in
+    then_reads station_format (types []) (types s.types) end n (map type_row s.types) _ (section station_format type_row types s.types (type_read s f) n [] s.types refl)
+    (λ n. then_reads station_format (platforms []) (platforms s.platforms) end n (map platform_row s.platforms) _ (section station_format platform_row platforms s.platforms (platform_read s f) n [] s.platforms refl)
+    (λ n. then_reads station_format (tracks []) (tracks s.tracks) end n (map track_row s.tracks) _ (section station_format track_row tracks s.tracks (track_read s f) n [] s.tracks refl)
+    (λ n. then_reads station_format (routes []) (routes s.routes) end n (map (route_row s) s.routes) _ (section station_format (route_row s) routes s.routes (route_read s f) n [] s.routes refl)
+    (λ n. then_reads station_format (permits []) (permits s.permits) end n (map (permit_row s) s.permits) _ (section station_format (permit_row s) permits s.permits (permit_read s f) n [] s.permits refl)
+    (λ n. ap (λ r. formats.◌>>=◌ r (λ v. reads station_format v (n + 1) [])) (cost_read s f n))))))
+
+abbrev rest_of : Station → List (List (List ℕ))
+rest_of s = map type_row s.types ++ (map platform_row s.platforms ++ (map track_row s.tracks ++ (map (route_row s) s.routes ++ (map (permit_row s) s.permits ++ cost_row s ∷ []))))
+
+-- the records of a station state it
+pub station_back : (s : Station) → IsStation s → reading station_format (rows_of s) ≡ Ok s
+station_back s f =
+    reading_is station_format (head_row s) (rest_of s)
+    ∙ ap (λ r. formats.◌>>=◌ r (λ d. formats.◌>>=◌ (reads station_format d 2 (rest_of s)) (λ t. ends station_format t (length (rest_of s) + 2)))) (head_read s f)
+    ∙ ap (λ r. formats.◌>>=◌ r (λ t. ends station_format t (length (rest_of s) + 2))) (rest_read s f 2)
+
+-- the station's text is read back
+pub back_from : (s : Station) → IsStation s → (text bytes : List ℕ) → text ≡ text_of_rows (rows_of s) → ReadsBack text bytes → ReadsAsStation s bytes
+back_from s f text bytes e back =
+    let rows = back (rows_of s) (station_plain s f) e in
+    record { rows = rows; value = ap (reading station_format) rows ∙ station_back s f }
+
+pub text_back : (s : Station) → IsStation s → ReadsAsStation s (text_of_rows (rows_of s))
+text_back s f = back_from s f (text_of_rows (rows_of s)) (text_of_rows (rows_of s)) refl (λ rows plain e. ap records_of e ∙ again rows plain)

@@ -1,0 +1,5 @@
+pub mod Back
+pub mod Formed
+pub mod Plain
+pub mod Short
+pub mod Told

@@ -1,0 +1,56 @@
+-- The tables of a timetable stand in order.
+use Rattle.std.proofs.Common.{ℕ, zero, suc, ◌+◌, ◌*◌, ◌-◌, ◌≤◌, ◌&&◌, List, [], ◌++◌, length, refl, sym, subst, arith}
+use Rattle.std.specs.Prelude.{codes}
+use Rattle.std.proofs.lemmas.List.{append-nil}
+use Rattle.shunt_rows.specs.defs.Checks.{Check}
+use Rattle.shunt_rows.specs.defs.Fields.{is_word}
+use Rattle.shunt_instance.specs.defs.Words.{unit_count}
+use Rattle.shunt_rows.specs.defs.FirstFault.{AreInOrder, Tells}
+use Rattle.shunt_instance.specs.declared.records.Station.{Station}
+use Rattle.shunt_instance.specs.declared.records.Train.{Train}
+use Rattle.shunt_rows.proofs.InOrder.{in_if, no_word_up, Ascends, none_left, one_before}
+use Rattle.shunt_rows.proofs.Readings.{tells}
+use Rattle.shunt_timetable.specs.defs.TimetableFormat.{Listed, first_of, unit_of, units_from, standing_of, moving_of, stand_of, arrive_of, depart_of, may_stand, later_of, timetable_format}
+
+units_up : (station : Station) (before : ℕ) (t : Train) (row : List (List ℕ)) (k more least : ℕ) → least ≤ 12 * k + 6 → Ascends least (units_from station before t row k more).checks
+unfolding units_from unit_of
+units_up station before t row k zero least le = none_left
+units_up station before t row k (suc more) least le =
+    one_before le (one_before (omega arith) (units_up station before (unit_of station before t row k).value row (k + 1) more (12 * k + 8) (omega arith)))
+
+first_up : (row : List (List ℕ)) → AreInOrder (first_of row)
+unfolding first_of
+first_up row = record { up = refl }
+
+standing_up : (station : Station) (trains : List Train) (row : List (List ℕ)) → Ascends 13 (standing_of station trains row).checks
+unfolding standing_of
+standing_up station trains row = record { up = (units_up station (unit_count trains) _ row 4 (length row - 3) 42 (omega arith)).up }
+
+moving_up : (station : Station) (trains : List Train) (row : List (List ℕ)) → Ascends 13 (moving_of station trains row).checks
+unfolding moving_of
+moving_up station trains row = record { up = (units_up station (unit_count trains) _ row 5 (length row - 4) 54 (omega arith)).up }
+
+-- behind a train's checks there are no more
+whole_up : (least : ℕ) (checks : List Check) → Ascends least checks → Ascends least (checks ++ [])
+whole_up least checks up = subst (Ascends least) (sym (append-nil checks)) up
+
+stand_up : (station : Station) (s : Listed) (row : List (List ℕ)) → AreInOrder (stand_of station s row)
+unfolding stand_of
+stand_up station s row = record { up = (whole_up 13 (standing_of station s.arrive row).checks (standing_up station s.arrive row)).up }
+
+arrive_up : (station : Station) (s : Listed) (row : List (List ℕ)) → AreInOrder (arrive_of station s row)
+unfolding arrive_of
+arrive_up station s row = record { up = (whole_up 13 (moving_of station s.arrive row).checks (moving_up station s.arrive row)).up }
+
+depart_up : (station : Station) (s : Listed) (row : List (List ℕ)) → AreInOrder (depart_of station s row)
+unfolding depart_of
+depart_up station s row = record { up = (whole_up 13 (moving_of station s.depart row).checks (moving_up station s.depart row)).up }
+
+later_up : (station : Station) (s : Listed) (row : List (List ℕ)) → AreInOrder (later_of station s row)
+unfolding later_of
+later_up station s row = in_if (is_word row (codes "arrive")) (arrive_up station s row)
+    (in_if (is_word row (codes "depart")) (depart_up station s row)
+    (in_if (may_stand s && is_word row (codes "stand")) (stand_up station s row) (no_word_up s)))
+
+pub timetables_tell : (station : Station) (rows : List (List (List ℕ))) → Tells (timetable_format station) rows
+timetables_tell station rows = tells (timetable_format station) (record { first = first_up; later = later_up station }) rows

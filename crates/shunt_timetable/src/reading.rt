@@ -1,0 +1,344 @@
+// Reading a timetable.
+ghost use Rattle.std.specs.Prelude.{◌≡◌, ◌+◌, ◌-◌, ◌≤◌, ◌<◌, ◌^◌, [], length, position, bytes_eq, IfOk};
+ghost use Rattle.shunt_rows.specs.declared.fault.RowKind.TheVariants as kinds;
+ghost use Rattle.shunt_rows.specs.defs.Checks.{answer};
+ghost use Rattle.shunt_rows.specs.defs.Formats.{in_state, reading};
+ghost use Rattle.shunt_rows.specs.defs.Given.{Gives};
+ghost use Rattle.shunt_instance.specs.defs.Words.{unit_count};
+ghost use Rattle.shunt_instance.specs.defs.Wellformed.{IsStation, IsTimetable};
+ghost use Rattle.shunt_timetable.specs.defs.TimetableFormat.{Listed, first_of, has_train, kind_of, track_in, platform_in, name_of, unit_of, units_from, empty_train, standing_of, moving_of, stand_of, arrive_of, depart_of, later_of, timetable_of, timetable_format};
+
+use shunt_base::{Minute, Name, PlatformId, TrackId, TypeId, is_name};
+use shunt_instance::{Origin, Station, Timetable, Track, Train, UnitType};
+use shunt_lists::Items;
+use shunt_rows::{
+    ReadError, Row, RowFault, RowKind, fields_in, minute_in, must, number_in, record_number,
+};
+use std::alloc::Global;
+use std::marker::Model;
+
+// The trains that the records so far state.
+#[derive(Debug, Drop)]
+struct Listed {
+    version: u64,
+    arrive: Vec<Train>,
+    depart: Vec<Train>,
+    // An `arrive` or `depart` record was read.
+    moving: bool,
+}
+
+impl Model for Listed {
+    ghost use Rattle.shunt_timetable.specs.defs.TimetableFormat.{Listed};
+
+    ghost Value = { Listed };
+
+    ghost view = { λ s. record { version = s.version; arrive = s.arrive.items; depart = s.depart.items; moving = s.moving } };
+}
+
+fn has_train(trains: &[Train], name: &[u8]) -> bool
+    ensures { result ≡ has_train trains.now name.now }
+{
+    trains.iter().any(|train| train.name.bytes() == name)
+}
+
+fn find_type(types: &[UnitType], name: &[u8]) -> Option<usize>
+    ensures { result ≡ position (λ t. bytes_eq t.name name.now) types.now }
+{
+    types.iter().position(|kind| kind.name.bytes() == name)
+}
+
+fn find_track(tracks: &[Track], name: &[u8]) -> Option<usize>
+    ensures { result ≡ position (λ t. bytes_eq t.name name.now) tracks.now }
+{
+    tracks.iter().position(|track| track.name.bytes() == name)
+}
+
+fn find_platform(platforms: &[Name], name: &[u8]) -> Option<usize>
+    ensures { result ≡ position (λ p. bytes_eq p name.now) platforms.now }
+{
+    platforms
+        .iter()
+        .position(|platform| platform.bytes() == name)
+}
+
+fn count_units(trains: &[Train]) -> usize
+    requires { unit_count trains.now < 2 ^ 32 }
+    ensures { result ≡ unit_count trains.now }
+{
+    trains.iter().map(|train| train.units.len()).sum()
+}
+
+impl Listed {
+    #[tactic(auto, unfolding(crate::specs::defs::TimetableFormat::first_of))]
+    fn read_first(alloc: Global, row: &Row) -> Result<Listed, ReadError>
+        ensures { Gives (λ x. x) result (answer 1 (first_of row.now)) }
+    {
+        let _len = row.len();
+        must(row.field(1) == b"timetable".as_slice(), 1, 1, RowKind::Kind)?;
+        fields_in(row, 1, 2, 2)?;
+        let version = number_in(row, 1, 2, 1, 2)?;
+        Ok(Listed {
+            version,
+            arrive: Vec::new(alloc),
+            depart: Vec::new(alloc),
+            moving: false,
+        })
+    }
+}
+
+fn unknown(n: u32, k: u32) -> RowFault
+    ensures { result ≡ record { row = n; field = k; kind = kinds.Unknown } }
+{
+    RowFault {
+        row: n,
+        field: k,
+        kind: RowKind::Unknown,
+    }
+}
+
+// 00:00.
+fn midnight() -> Minute
+    ensures { result ≡ 0 }
+{
+    match Minute::new(0) {
+        Some(minute) => minute,
+        None => unreachable!(),
+    }
+}
+
+// The type at field `k`, of one more unit behind so many.
+fn read_unit(
+    types: &[UnitType],
+    before: usize,
+    row: &Row,
+    n: u32,
+    k: u32,
+) -> Result<TypeId, RowFault>
+    requires types { length types.now ≤ 40 }
+    requires first { 1 ≤ k }
+    requires last { k ≤ length row.now }
+    ensures { result ≡ answer n (kind_of types.now before row.now k) }
+{
+    match find_type(types, row.field(k as usize)) {
+        Some(kind) => {
+            must(before < 160, n, k, RowKind::Limit)?;
+            Ok(TypeId(kind as u8))
+        }
+        None => Err(unknown(n, k)),
+    }
+}
+
+fn read_track(tracks: &[Track], row: &Row, n: u32) -> Result<Origin, RowFault>
+    requires tracks { length tracks.now ≤ 60 }
+    requires last { 3 ≤ length row.now }
+    ensures { result ≡ answer n (track_in tracks.now row.now 3) }
+{
+    match find_track(tracks, row.field(3)) {
+        Some(track) => Ok(Origin::Track(TrackId(track as u8))),
+        None => Err(unknown(n, 3)),
+    }
+}
+
+fn read_platform(platforms: &[Name], row: &Row, n: u32) -> Result<Origin, RowFault>
+    requires platforms { length platforms.now ≤ 30 }
+    requires last { 4 ≤ length row.now }
+    ensures { result ≡ answer n (platform_in platforms.now row.now 4) }
+{
+    match find_platform(platforms, row.field(4)) {
+        Some(platform) => Ok(Origin::Platform(PlatformId(platform as u8))),
+        None => Err(unknown(n, 4)),
+    }
+}
+
+// The train with the types from field `first` on.
+#[tactic(auto, unfolding(crate::specs::defs::TimetableFormat::units_from))]
+fn read_units(
+    alloc: Global,
+    station: &Station,
+    before: usize,
+    name: Name,
+    minute: Minute,
+    origin: Origin,
+    row: &Row,
+    n: u32,
+    first: u32,
+) -> Result<Train, ReadError>
+    requires station { IsStation station.now }
+    requires before { before ≤ 160 }
+    requires first { 1 ≤ first }
+    requires some { first ≤ length row.now }
+    requires few { length row.now ≤ 12 }
+    ensures { Gives (λ t. t) result (answer n (units_from station.now before (empty_train name minute origin) row.now first (length row.now - (first - 1)))) }
+{
+    let types = station.types.as_slice();
+    let last = row.len() as u32;
+    let mut units = Vec::new(alloc);
+    for k in first..last + 1 {
+        let kind = read_unit(types, before + units.len(), row, n, k)?;
+        units.push(kind)?;
+    }
+    Ok(Train {
+        name,
+        minute,
+        origin,
+        units: Items::from_vec(units),
+    })
+}
+
+// The name at field 2 of a train behind these ones.
+fn read_name(alloc: Global, trains: &[Train], row: &Row, n: u32) -> Result<Name, ReadError>
+    requires { 2 ≤ length row.now }
+    ensures { Gives (λ x. x) result (answer n (name_of trains.now row.now)) }
+{
+    must(trains.len() < 100, n, 1, RowKind::Limit)?;
+    let name = row.field(2);
+    must(is_name(name), n, 2, RowKind::Name)?;
+    must(!has_train(trains, name), n, 2, RowKind::Repeat)?;
+    Ok(Name::new(alloc, name)?)
+}
+
+#[tactic(auto, unfolding(crate::specs::defs::TimetableFormat::standing_of))]
+fn read_standing(
+    alloc: Global,
+    station: &Station,
+    trains: &[Train],
+    row: &Row,
+    n: u32,
+) -> Result<Train, ReadError>
+    requires station { IsStation station.now }
+    requires units { unit_count trains.now ≤ 160 }
+    ensures { Gives (λ t. t) result (answer n (standing_of station.now trains.now row.now)) }
+{
+    fields_in(row, n, 4, 11)?;
+    let name = read_name(alloc, trains, row, n)?;
+    let track = read_track(station.tracks.as_slice(), row, n)?;
+    let before = count_units(trains);
+    read_units(alloc, station, before, name, midnight(), track, row, n, 4)
+}
+
+#[tactic(auto, unfolding(crate::specs::defs::TimetableFormat::moving_of))]
+fn read_moving(
+    alloc: Global,
+    station: &Station,
+    trains: &[Train],
+    row: &Row,
+    n: u32,
+) -> Result<Train, ReadError>
+    requires station { IsStation station.now }
+    requires units { unit_count trains.now ≤ 160 }
+    ensures { Gives (λ t. t) result (answer n (moving_of station.now trains.now row.now)) }
+{
+    fields_in(row, n, 5, 12)?;
+    let name = read_name(alloc, trains, row, n)?;
+    let minute = minute_in(row, n, 3)?;
+    let platform = read_platform(station.platforms.as_slice(), row, n)?;
+    let before = count_units(trains);
+    read_units(alloc, station, before, name, minute, platform, row, n, 5)
+}
+
+impl Listed {
+    #[tactic(auto, unfolding(crate::specs::defs::TimetableFormat::stand_of))]
+    fn read_stand(
+        &mut self,
+        alloc: Global,
+        station: &Station,
+        n: u32,
+        row: &Row,
+    ) -> Result<(), ReadError>
+        requires station { IsStation station.now }
+        requires units { unit_count self.old.arrive ≤ 160 }
+        ensures { Gives (λ _. self.new) result (answer n (stand_of station.now self.old row.now)) }
+    {
+        let train = read_standing(alloc, station, &self.arrive, row, n)?;
+        self.arrive.push(train)?;
+        Ok(())
+    }
+
+    #[tactic(auto, unfolding(crate::specs::defs::TimetableFormat::arrive_of))]
+    fn read_arrive(
+        &mut self,
+        alloc: Global,
+        station: &Station,
+        n: u32,
+        row: &Row,
+    ) -> Result<(), ReadError>
+        requires station { IsStation station.now }
+        requires units { unit_count self.old.arrive ≤ 160 }
+        ensures { Gives (λ _. self.new) result (answer n (arrive_of station.now self.old row.now)) }
+    {
+        let train = read_moving(alloc, station, &self.arrive, row, n)?;
+        self.arrive.push(train)?;
+        self.moving = true;
+        Ok(())
+    }
+
+    #[tactic(auto, unfolding(crate::specs::defs::TimetableFormat::depart_of))]
+    fn read_depart(
+        &mut self,
+        alloc: Global,
+        station: &Station,
+        n: u32,
+        row: &Row,
+    ) -> Result<(), ReadError>
+        requires station { IsStation station.now }
+        requires units { unit_count self.old.depart ≤ 160 }
+        ensures { Gives (λ _. self.new) result (answer n (depart_of station.now self.old row.now)) }
+    {
+        let train = read_moving(alloc, station, &self.depart, row, n)?;
+        self.depart.push(train)?;
+        self.moving = true;
+        Ok(())
+    }
+
+    #[tactic(auto, unfolding(crate::specs::defs::TimetableFormat::later_of))]
+    fn read_later(
+        &mut self,
+        alloc: Global,
+        station: &Station,
+        n: u32,
+        row: &Row,
+    ) -> Result<(), ReadError>
+        requires station { IsStation station.now }
+        requires arrive { unit_count self.old.arrive ≤ 160 }
+        requires depart { unit_count self.old.depart ≤ 160 }
+        ensures { Gives (λ _. self.new) result (answer n (in_state (timetable_format station.now) self.old row.now)) }
+    {
+        let _len = row.len();
+        let word = row.field(1);
+        if word == b"arrive".as_slice() {
+            return self.read_arrive(alloc, station, n, row);
+        }
+        if word == b"depart".as_slice() {
+            return self.read_depart(alloc, station, n, row);
+        }
+        let may_stand = self.version == 2 && !self.moving;
+        if may_stand && word == b"stand".as_slice() {
+            return self.read_stand(alloc, station, n, row);
+        }
+        must(false, n, 1, RowKind::Kind)?;
+        Ok(())
+    }
+}
+
+/// The timetable that the records state over this station, or their first fault.
+///
+/// The error Memory is want of memory.
+pub fn read_timetable(
+    alloc: Global,
+    station: &Station,
+    rows: &[Row],
+) -> Result<Timetable, ReadError>
+    requires { IsStation station.now }
+    ensures stated { Gives (λ t. t) result (reading (timetable_format station.now) rows.now) }
+    ensures formed { IfOk result (IsTimetable station.now) }
+{
+    must(!rows.is_empty(), 1, 0, RowKind::Missing)?;
+    let mut listed = Listed::read_first(alloc, &rows[0])?;
+    for i in 1..rows.len() {
+        listed.read_later(alloc, station, record_number(i)?, &rows[i])?;
+    }
+    Ok(Timetable {
+        arrive: Items::from_vec(listed.arrive),
+        depart: Items::from_vec(listed.depart),
+    })
+}

@@ -21,7 +21,9 @@ fn length_at(stay: &Stay, track: TrackId, moment: EventKey) -> u64
     0
 }
 
-/// The lengths of the stays on this one's track just after its entry, added up, in dm. It takes no memory.
+/// The lengths of the stays on this one's track just after its entry, added up, in dm.
+///
+/// There are at most 65,536 stays, which are well formed, and no two have one id. It takes no memory.
 pub fn load_after(stays: &[Stay], stay: &Stay) -> u64
     requires stays { AreStays stays.now }
     requires few { length stays.now ≤ 65536 }

@@ -1,6 +1,6 @@
 -- A station's records state that station.
-use Rattle.std.proofs.Common.{◌≡◌, ◌≢◌, ℕ, zero, suc, ◌+◌, ◌-◌, ◌*◌, ◌^◌, ◌<◌, ◌≤◌, Bool, true, false, not, ◌||◌, ◌&&◌, List, [], ◌∷◌, ◌++◌, length, length-append, map, get_or, refl, sym, ap, subst, ◌∙◌, arith, inl, inr, ⊎_elim, IsTrue}
-use Rattle.std.specs.Prelude.{Result, Ok, Err, bytes_eq, All, ◌==◌, Option, Some, None, option_map, position, nat_le, nat_lt, if◌then◌else◌, codes, slice_get, slice_index_or}
+use Rattle.std.proofs.Common.{◌≡◌, ℕ, suc, ◌+◌, ◌^◌, ◌<◌, ◌≤◌, Bool, true, false, not, ◌||◌, ◌&&◌, List, [], ◌∷◌, ◌++◌, length, length-append, map, get_or, refl, sym, ap, subst, ◌∙◌, arith, ⊎_elim, IsTrue}
+use Rattle.std.specs.Prelude.{Ok, Err, bytes_eq, All, ◌==◌, Some, None, option_map, nat_lt, if◌then◌else◌, slice_get}
 use Rattle.std.specs.List.{list_any, list_all}
 use Rattle.std.specs.Option.{is_some, unwrap_or}
 use Rattle.std.specs.Fmt.{decimal}
@@ -18,8 +18,7 @@ use Rattle.shunt_base.specs.declared.ids.Side.{Side}
 use Rattle.shunt_base.specs.declared.ids.Side.TheVariants.{A, B}
 use Rattle.shunt_base.specs.defs.Spelling.{IsName, IsDecimal, is_name_byte, is_name_text, is_decimal_text, decimal_of}
 use Rattle.shunt_base.proofs.Decimal.{spelled, value_again}
-use Rattle.shunt_rows.specs.declared.fault.RowFault.{RowFault}
-use Rattle.shunt_rows.specs.defs.Checks.{Check, Judged, passes, answer}
+use Rattle.shunt_rows.specs.defs.Checks.{Check, passes, answer}
 use Rattle.shunt_rows.specs.defs.Fields.{is_within, side_of}
 use Rattle.shunt_rows.specs.defs.Formats as formats
 use Rattle.shunt_rows.specs.defs.Formats.{Format, in_state, ends, reads, reading}
@@ -32,7 +31,7 @@ use Rattle.shunt_instance.specs.declared.records.Station.{Station}
 use Rattle.shunt_instance.specs.defs.Words.{AreDistinct, is_open_at, joins, same_side, way_of}
 use Rattle.shunt_instance.specs.defs.Wellformed.{IsUnitType, IsTrack, IsRoute, IsPermit, IsStation}
 use Rattle.shunt_instance.proofs.Found.{found_there}
-use Rattle.shunt_station.specs.defs.Stating.{Draft, Ends, empty_station, first_of, has_type, has_platform, has_track, type_of_name, platform_of_name, track_number, ends_of, type_of, platform_of, track_of, opens, stands, route_of, is_permitted, permit_of, cost_of, later_of, station_format}
+use Rattle.shunt_station.specs.defs.Stating.{Draft, Ends, empty_station, first_of, type_of_name, platform_of_name, track_number, ends_of, type_of, platform_of, track_of, opens, stands, route_of, is_permitted, permit_of, cost_of, later_of, station_format}
 use Rattle.shunt_station.specs.defs.Writing.{type_name, platform_name, track_name, side_text, ends_text, head_row, type_row, platform_row, track_row, route_row, permit_row, cost_row, rows_of, ReadsAsStation}
 use Rattle.shunt_rows.specs.defs.Records.{records_of, text_of_rows, ReadsBack}
 use Rattle.shunt_rows.proofs.Again.{again}

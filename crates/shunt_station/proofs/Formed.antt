@@ -1,10 +1,10 @@
 -- What the records of a station file state is well formed.
-use Rattle.std.proofs.Common.{◌≡◌, ◌≢◌, ℕ, zero, suc, ◌+◌, ◌-◌, ◌<◌, ◌≤◌, Bool, true, false, not, ◌||◌, ◌&&◌, List, [], ◌∷◌, ◌++◌, length, length-append, map, get_or, refl, sym, ap, subst, ◌∙◌, arith, inl, inr, ⊎_elim, IsTrue, cond}
-use Rattle.std.specs.Prelude.{Result, Ok, Err, IfOk, bytes_eq, All, AllPairs, ◌==◌, Option, Some, None, option_map, position, nat_le, nat_lt, if◌then◌else◌, codes, slice_get}
+use Rattle.std.proofs.Common.{◌≡◌, ◌≢◌, ℕ, zero, suc, ◌+◌, ◌<◌, ◌≤◌, Bool, true, false, not, ◌||◌, ◌&&◌, List, [], ◌∷◌, ◌++◌, length, length-append, map, get_or, refl, sym, ap, subst, ◌∙◌, arith, ⊎_elim}
+use Rattle.std.specs.Prelude.{Result, Ok, Err, IfOk, bytes_eq, All, AllPairs, ◌==◌, Option, Some, None, option_map, position, if◌then◌else◌, codes, slice_get}
 use Rattle.std.specs.List.{list_any}
 use Rattle.std.specs.Option.{is_some, unwrap_or}
 use Rattle.std.proofs.lemmas.List.{map-append}
-use Rattle.std.proofs.lemmas.List.Elements.{All-append, All-cons, All-tail}
+use Rattle.std.proofs.lemmas.List.Elements.{All-append, All-cons}
 use Rattle.std.proofs.lemmas.List.Quantifiers.{all_pairs_push, position-Some}
 use Rattle.std.proofs.lemmas.Slice.Eq.{bytes_eq-Decides}
 use Rattle.std.proofs.lemmas.Bool.{true≢false, ltb-true, leb-true}
@@ -17,13 +17,11 @@ use Rattle.shunt_base.specs.declared.ids.Side.{Side}
 use Rattle.shunt_base.specs.declared.ids.Side.TheVariants.{A, B}
 use Rattle.shunt_base.specs.defs.Spelling.{IsName, is_name_byte, is_name_text, decimal_of}
 use Rattle.shunt_rows.specs.declared.fault.RowFault.{RowFault}
-use Rattle.shunt_rows.specs.declared.fault.RowKind.{RowKind}
 use Rattle.shunt_rows.specs.declared.fault.RowKind.TheVariants as kinds
 use Rattle.shunt_rows.specs.declared.fault.ReadError.{ReadError}
 use Rattle.shunt_rows.specs.defs.Records.{at}
-use Rattle.shunt_rows.specs.defs.Checks.{Check, Judged, must, found, says, passes, answer}
-use Rattle.shunt_rows.specs.defs.Checks as judging
-use Rattle.shunt_rows.specs.defs.Fields.{is_word, no_word, is_within, fields_in, number_in, side_in, side_of}
+use Rattle.shunt_rows.specs.defs.Checks.{Judged, found, answer}
+use Rattle.shunt_rows.specs.defs.Fields.{is_word, is_within, number_in, side_in}
 use Rattle.shunt_rows.specs.defs.Formats as formats
 use Rattle.shunt_rows.specs.defs.Formats.{Format, in_state, ends, reading, reading_from}
 use Rattle.shunt_rows.specs.defs.Given.{Gives}
@@ -33,9 +31,9 @@ use Rattle.shunt_instance.specs.declared.records.Track.{Track}
 use Rattle.shunt_instance.specs.declared.records.Route.{Route}
 use Rattle.shunt_instance.specs.declared.records.Permit.{Permit}
 use Rattle.shunt_instance.specs.declared.records.Station.{Station}
-use Rattle.shunt_instance.specs.defs.Words.{AreDistinct, is_open, is_open_at, joins, same_side, way_of, track_of_name}
+use Rattle.shunt_instance.specs.defs.Words.{AreDistinct, is_open, is_open_at, joins, same_side, way_of}
 use Rattle.shunt_instance.specs.defs.Wellformed.{IsUnitType, IsTrack, IsRoute, IsPermit, IsStation}
-use Rattle.shunt_station.specs.defs.Stating.{Draft, Ends, empty_station, first_of, has_type, has_platform, has_track, type_of_name, platform_of_name, track_number, ends_of, type_of, platform_of, track_of, opens, stands, route_of, is_permitted, permit_of, cost_of, later_of, station_format}
+use Rattle.shunt_station.specs.defs.Stating.{Draft, Ends, empty_station, first_of, type_of_name, platform_of_name, track_number, ends_of, type_of, platform_of, track_of, opens, stands, route_of, is_permitted, permit_of, cost_of, later_of, station_format}
 
 value : {A : Type 0} (x y : A) → ◌≡◌ {A = Result A RowFault} (Ok x) (Ok y) → x ≡ y
 value x y e = cc

@@ -1,5 +1,5 @@
 -- The tables of the station file stand in order.
-use Rattle.std.proofs.Common.{ℕ, Bool, List, refl}
+use Rattle.std.proofs.Common.{ℕ, List, refl}
 use Rattle.std.specs.Prelude.{codes, ◌&&◌, ◌==◌}
 use Rattle.shunt_rows.specs.defs.Fields.{is_word}
 use Rattle.shunt_rows.specs.defs.FirstFault.{AreInOrder, Tells}

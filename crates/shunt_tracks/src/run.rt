@@ -89,7 +89,8 @@ fn empty(alloc: Global, lengths: &[u32]) -> Result<Vec<Vec<Block>>, AllocError>
 /// Moves the blocks of these stays on tracks of these lengths, in dm, event by event in the order of their keys, from empty tracks on.
 ///
 /// A track's number is its place among the lengths. An entry puts its block at a side, where the track is long enough for
-/// all that then stand there. A leave needs its block at its side.
+/// all that then stand there. A leave needs its block at its side. The stays are well formed, no two have one id, and each
+/// has a track among these. Err is want of memory.
 pub fn run_lists(alloc: Global, lengths: &[u32], stays: &[Stay]) -> Result<Ran, AllocError>
     requires stays { AreStays stays.now }
     requires tracks { AreOnTracks lengths.now stays.now }

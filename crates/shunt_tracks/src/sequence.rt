@@ -49,7 +49,7 @@ impl Sequence {
         self.room
     }
 
-    /// Puts an id at an end. It takes no memory.
+    /// Puts an id at an end, where there are fewer than there may be. It takes no memory.
     pub fn enter(&mut self, side: Side, id: u32)
         requires { length self.old.ids < self.old.room }
         ensures { self.new ≡ record self.old { ids = put side id self.old.ids } }

@@ -10,6 +10,7 @@ use Rattle.shunt_cross.specs.declared.clash.Clash.{Clash}
 abbrev pub clash_of : List ℕ → List Stay → Clash
 clash_of lengths stays = record { pairs = pairs_in stays; over = overs_in lengths stays }
 
+-- no pair, and no entry
 abbrev pub no_clash : Clash
 no_clash = record { pairs = 0; over = 0 }
 

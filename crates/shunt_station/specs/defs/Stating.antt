@@ -13,7 +13,6 @@ use Rattle.shunt_rows.specs.defs.Fields.{is_word, no_word, fields_in, number_in,
 use Rattle.shunt_rows.specs.defs.Formats.{Format}
 use Rattle.shunt_instance.specs.declared.records.Track.{Track}
 use Rattle.shunt_instance.specs.declared.records.UnitType.{UnitType}
-use Rattle.shunt_instance.specs.declared.records.Permit.{Permit}
 use Rattle.shunt_instance.specs.declared.records.Station.{Station}
 use Rattle.shunt_instance.specs.defs.Words.{is_open_at, joins, track_of_name}
 

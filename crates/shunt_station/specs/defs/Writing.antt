@@ -1,12 +1,12 @@
 -- The records of a station as they are written.
-use Rattle.std.specs.Prelude.{◌≡◌, ◌≤◌, ℕ, Bool, true, false, List, [], ◌∷◌, ◌++◌, length, map, slice_get, slice_index_or, option_map, Ok, codes, unwrap_or}
+use Rattle.std.specs.Prelude.{◌≡◌, ℕ, Bool, true, false, List, [], ◌∷◌, ◌++◌, map, slice_index_or, Ok, codes}
 use Rattle.std.specs.Fmt.{decimal}
 use Rattle.shunt_base.specs.declared.ids.PlatformId.{PlatformId}
 use Rattle.shunt_base.specs.declared.ids.TrackId.{TrackId}
 use Rattle.shunt_base.specs.declared.ids.TypeId.{TypeId}
 use Rattle.shunt_base.specs.declared.ids.Side.{Side}
 use Rattle.shunt_base.specs.declared.ids.Side.TheVariants.{A, B}
-use Rattle.shunt_rows.specs.defs.Records.{records_of, text_of_rows}
+use Rattle.shunt_rows.specs.defs.Records.{records_of}
 use Rattle.shunt_rows.specs.defs.Formats.{reading}
 use Rattle.shunt_instance.specs.declared.records.UnitType.{UnitType}
 use Rattle.shunt_instance.specs.declared.records.Track.{Track}

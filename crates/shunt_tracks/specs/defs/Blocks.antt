@@ -7,9 +7,11 @@ use Rattle.shunt_tracks.specs.declared.blocks.Block.{Block}
 use Rattle.shunt_tracks.specs.declared.blocks.Did.{Did}
 use Rattle.shunt_tracks.specs.declared.blocks.Did.TheVariants as did
 
+-- a block of the code, as one that stands on a track
 abbrev pub standing : Block → Standing
 standing b = record { id = b.id; length = b.length }
 
+-- the blocks of a track from A to B
 abbrev pub blocks_of : List Block → List Standing
 blocks_of blocks = map standing blocks
 

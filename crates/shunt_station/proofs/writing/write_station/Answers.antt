@@ -1,8 +1,4 @@
-use Rattle.std.proofs.Common.{◌≡◌, List, ℕ, ◌≤◌, length, sym, ap, subst, ◌∙◌}
-use Rattle.shunt_rows.specs.defs.Records.{text_of_rows, ReadsBack}
-use Rattle.shunt_instance.specs.declared.records.Station.{Station}
-use Rattle.shunt_instance.specs.defs.Wellformed.{IsStation}
-use Rattle.shunt_station.specs.defs.Writing.{rows_of, ReadsAsStation}
+use Rattle.std.proofs.Common.{List, ℕ, ◌≤◌, length, sym, subst, ◌∙◌}
 use Rattle.shunt_station.proofs.Back.{back_from}
 use Rattle.shunt_station.proofs.Short.{station_short, station_written, if_ok}
 use Rattle.shunt_station.proofs.writing.write_station.Goals as goal

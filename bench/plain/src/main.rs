@@ -1,6 +1,7 @@
 //! Plain programs to compare with, and the files that they are compared on.
 //!
 //! `plain make timetable SIZE` and `plain make certificate SIZE` print a file of about that many bytes;
+//! `plain largest station` and `plain largest timetable` print files that reach every limit and are accepted;
 //! `plain split FILE` splits it at commas and line ends and keeps the fields.
 
 use std::io::Write;
@@ -10,6 +11,8 @@ fn main() {
     let words: Vec<String> = std::env::args().skip(1).collect();
     match words.iter().map(String::as_str).collect::<Vec<_>>()[..] {
         ["make", kind, size] => make(kind, size.parse().expect("a size")),
+        ["largest", "station"] => print!("{}", largest_station()),
+        ["largest", "timetable"] => print!("{}", largest_timetable()),
         ["split", name] => split(name),
         _ => std::process::exit(2),
     }
@@ -34,6 +37,42 @@ fn make(kind: &str, size: usize) {
     }
     text.truncate(size);
     std::io::stdout().write_all(text.as_bytes()).expect("output");
+}
+
+fn largest_station() -> String {
+    let mut text = String::from("station,2,largest\n");
+    for kind in 0..40 {
+        text.push_str(&format!("type,type{kind},5000,1440\n"));
+    }
+    for platform in 0..30 {
+        text.push_str(&format!("platform,platform{platform}\n"));
+    }
+    for track in 0..60 {
+        text.push_str(&format!("track,track{track},50000,AB\n"));
+    }
+    for place in 0..30 * 60 {
+        let (platform, track) = (place / 60, place % 60);
+        text.push_str(&format!("route,platform{platform},track{track},A,1000000\n"));
+        text.push_str(&format!("route,platform{platform},track{track},B,1000000\n"));
+    }
+    for place in 0..60 * 40 {
+        text.push_str(&format!("permit,track{},type{}\n", place / 40, place % 40));
+    }
+    text.push_str("cost,1000000,1000000,1000000\n");
+    text
+}
+
+// 100 trains of a word with 160 units: 60 trains have two, 40 have one.
+fn largest_timetable() -> String {
+    let mut text = String::from("timetable,2\n");
+    for (word, hour) in [("arrive", 0), ("depart", 46)] {
+        for train in 0..100 {
+            let kind = train % 40;
+            let units = if train < 60 { format!("type{kind},type{kind}") } else { format!("type{kind}") };
+            text.push_str(&format!("{word},train{train},{:02}:{:02},platform{},{units}\n", hour + train / 60, train % 60, train % 30));
+        }
+    }
+    text
 }
 
 fn split(name: &str) {

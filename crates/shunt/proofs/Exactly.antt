@@ -1,5 +1,5 @@
 -- When each status comes.
-use Rattle.std.proofs.Common.{◌≡◌, Some, None, sym, subst, ap, inl, inr, refl, Result, Ok, Err, List, ◌∙◌, Option, ℕ}
+use Rattle.std.proofs.Common.{◌≡◌, Some, None, sym, subst, ap, inl, inr, refl, Result, Ok, Err, List, ◌∙◌, Option, ℕ, arith}
 use Rattle.std.specs.Prelude.{IfSome, ◌⊎◌, IsErr}
 use Rattle.shunt_store.specs.defs.Files.{Files, content}
 use Rattle.shunt_store.specs.defs.Causes.{Rose}
@@ -165,3 +165,54 @@ no_findings s t old new files told e = never s t outcome.Findings old files (λ 
 
 pub no_unfinished : (s t : List ℕ) (old new : Seen) (files : Files) → old.files ≡ Some files → Ends (Match s t) old new status.Unfinished → ⊥
 no_unfinished s t old new files told e = never s t outcome.Unfinished old files (λ e. cc) (λ e. cc) (λ e. cc) told (unfinished_reply (Match s t) old new e)
+
+-- ---- completeness, over stores and sinks that don't fail
+
+reply_at : (s t : List ℕ) (old : Seen) (files : Files) (night : Night) (r : Reply) → old.files ≡ Some files → stated_night (content files s) (content files t) ≡ Ok night → IfSome old.files (λ files. IsReply (Match s t) files r) → IsMatched night r
+reply_at s t old files night r told ok is = judged_at (stated_night (content files s) (content files t)) night r ok (subst (λ f. IfSome f (λ files. IsReply (Match s t) files r)) told is)
+
+matched_outcome : (night : Night) (r : Reply) → IsMatched night r → (r.outcome ≡ outcome.Done) ⊎ (r.outcome ≡ outcome.NoMatching)
+matched_outcome night r (inl p) = inl (paired_outcome night r p)
+matched_outcome night r (inr p) = inr (short_outcome night r p)
+
+not_other : (o : Outcome) (r : Reply) → o ≡ r.outcome → (o ≡ outcome.Done → ⊥) → (o ≡ outcome.NoMatching → ⊥) → (r.outcome ≡ outcome.Done) ⊎ (r.outcome ≡ outcome.NoMatching) → ⊥
+not_other o r e a b (inl d) = a (e ∙ d)
+not_other o r e a b (inr d) = b (e ∙ d)
+
+abbrev EndsWell : Status → Type 0
+EndsWell x = (x ≡ status.Done) ⊎ ((x ≡ status.NoMatching) ⊎ (x ≡ status.Memory))
+
+early_well : (c : Call) (old new : Seen) (x : Status) → (Rose old.store_faults new.store_faults → ⊥) → StopsEarly c old new x → EndsWell x
+early_well c old new status.Done ns e = absurd e
+early_well c old new status.Findings ns e = absurd e
+early_well c old new status.Words ns e = absurd e
+early_well c old new status.Input ns e = absurd e
+early_well c old new status.Store ns e = absurd (ns e.0)
+early_well c old new status.Memory ns e = inr (inr refl)
+early_well c old new status.NoMatching ns e = absurd e
+early_well c old new status.Unfinished ns e = absurd e
+early_well c old new status.Sink ns e = absurd e
+
+delivered_well : (night : Night) (r : Reply) (old new : Seen) (x : Status) → IsMatched night r → (Rose old.store_faults new.store_faults → ⊥) → (Rose old.sink_faults new.sink_faults → ⊥) → Delivers r old new x → EndsWell x
+delivered_well night r old new status.Done m ns nk h = inl refl
+delivered_well night r old new status.Findings m ns nk h = absurd (not_other outcome.Findings r h.outcome (λ e. cc) (λ e. cc) (matched_outcome night r m))
+delivered_well night r old new status.Words m ns nk h = absurd h
+delivered_well night r old new status.Input m ns nk h = absurd (not_other outcome.Input r h.outcome (λ e. cc) (λ e. cc) (matched_outcome night r m))
+delivered_well night r old new status.Store m ns nk h = absurd (ns h.0)
+delivered_well night r old new status.Memory m ns nk h = inr (inr refl)
+delivered_well night r old new status.NoMatching m ns nk h = inr (inl refl)
+delivered_well night r old new status.Unfinished m ns nk h = absurd (not_other outcome.Unfinished r h.outcome (λ e. cc) (λ e. cc) (matched_outcome night r m))
+delivered_well night r old new status.Sink m ns nk h = absurd (nk h.0)
+
+pub ends_well : (s t : List ℕ) (old new : Seen) (x : Status) (files : Files) (night : Night) → old.files ≡ Some files → stated_night (content files s) (content files t) ≡ Ok night → (Rose old.store_faults new.store_faults → ⊥) → (Rose old.sink_faults new.sink_faults → ⊥) → Ends (Match s t) old new x → EndsWell x
+ends_well s t old new x files night told ok ns nk (inl e) = early_well (Match s t) old new x ns e
+ends_well s t old new x files night told ok ns nk (inr h) = delivered_well night h.0 old new x (reply_at s t old files night h.0 told ok h.1) ns nk h.2
+
+never_rose : (before now : ℕ) → now ≡ 0 → Rose before now → ⊥
+never_rose before now e rose = omega (arith, rose)
+
+pub store_never : (c : Call) (old new : Seen) → new.store_faults ≡ 0 → Ends c old new status.Store → ⊥
+store_never c old new e h = never_rose _ _ e (store_rose c old new h)
+
+pub sink_never : (c : Call) (old new : Seen) → new.sink_faults ≡ 0 → Ends c old new status.Sink → ⊥
+sink_never c old new e h = never_rose _ _ e (sink_rose c old new h)

@@ -1,4 +1,3 @@
 mod Writes
 mod Ending
-mod Formed
 mod Exactly

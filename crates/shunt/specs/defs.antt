@@ -3,4 +3,3 @@ pub mod Words
 pub mod Replies
 pub mod Halts
 pub mod Ends
-pub mod FirstForm

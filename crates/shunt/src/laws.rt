@@ -37,3 +37,11 @@ pub fn match_done_exactly()
     ensures no_findings { (s t : List ℕ) (old new : Seen) (files : Files) → old.files ≡ Some files → Ends (Match s t) old new Status.Findings → ⊥ }
     ensures no_unfinished { (s t : List ℕ) (old new : Seen) (files : Files) → old.files ≡ Some files → Ends (Match s t) old new Status.Unfinished → ⊥ }
 {}
+
+/// Where both files are accepted and neither the store nor the sink fails, `match` ends with `Done`, `NoMatching` or
+/// `Memory`. Over a store whose count of faults is 0 it never ends with `Store`, and so with the sink.
+pub fn match_completes()
+    ensures ends { (s t : List ℕ) (old new : Seen) (status : Status) (files : Files) (night : Night) → old.files ≡ Some files → stated_night (content files s) (content files t) ≡ Ok night → (Rose old.store_faults new.store_faults → ⊥) → (Rose old.sink_faults new.sink_faults → ⊥) → Ends (Match s t) old new status → (status ≡ Status.Done) ⊎ ((status ≡ Status.NoMatching) ⊎ (status ≡ Status.Memory)) }
+    ensures sure_store { (c : Call) (old new : Seen) → new.store_faults ≡ 0 → Ends c old new Status.Store → ⊥ }
+    ensures sure_sink { (c : Call) (old new : Seen) → new.sink_faults ≡ 0 → Ends c old new Status.Sink → ⊥ }
+{}

@@ -2,7 +2,6 @@
 #![tactic(auto)]
 
 mod delivering;
-mod first_form;
 pub mod laws;
 mod loading;
 mod replying;

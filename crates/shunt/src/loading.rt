@@ -1,18 +1,19 @@
 // Reading an input file and judging it.
-ghost use Rattle.std.specs.Prelude.{◌≡◌, ◌≤◌, length, IfOk, IfSome, IsErrOf};
+ghost use Rattle.std.specs.Prelude.{◌≡◌, ◌≤◌, length, IfOk, IfSome, IsErrOf, option_map};
 ghost use Rattle.shunt_store.specs.defs.Files.{Closed, content};
 ghost use Rattle.shunt_store.specs.defs.Causes.{HasCause};
 ghost use Rattle.shunt_instance.specs.defs.Wellformed.{IsStation, IsTimetable};
-ghost use Rattle.shunt_report.specs.defs.Texts.{refused_of};
+ghost use Rattle.shunt_report.specs.defs.Texts.{input_of};
 ghost use Rattle.shunt.specs.declared.loading.Halt.TheVariants as halt;
 ghost use Rattle.shunt.specs.defs.Halts.{IfInput, Loads, LoadsBytes};
 ghost use Rattle.shunt.specs.defs.Replies.{stated_station, stated_timetable, stated_night};
 
-use crate::first_form::{Refusal, read_station, read_timetable};
 use shunt_instance::{Instance, Station, Timetable};
-use shunt_report::{FileWord, refused_text};
-use shunt_rows::records;
+use shunt_report::{FileWord, input_text};
+use shunt_rows::{ReadError, RowFault, records};
+use shunt_station::read_station;
 use shunt_store::{ReadAllError, Store, read_all};
+use shunt_timetable::read_timetable;
 use std::alloc::{AllocError, Global};
 
 /// Why a command has no answer, or the text of the input that isn't accepted.
@@ -34,12 +35,12 @@ impl From<AllocError> for Halt {
 /// How many bytes may stand in an input file.
 const MOST_BYTES: u64 = 4_194_304;
 
-// The halt at an input file that isn't accepted.
-fn refuse(alloc: Global, file: FileWord) -> Halt
+// The halt at an input file that isn't accepted, with its first fault, or none where it is too long.
+fn refuse(alloc: Global, file: FileWord, fault: Option<&RowFault>) -> Halt
     ensures fault { result ≡ Halt.Fault → ⊥ }
-    ensures text { IfInput result (λ text. text ≡ refused_of file) }
+    ensures text { IfInput result (λ text. text ≡ input_of file (option_map (λ f. f.now) fault.entry)) }
 {
-    match refused_text(alloc, file) {
+    match input_text(alloc, file, fault) {
         Ok(text) => Halt::Input(text),
         Err(_) => Halt::Memory,
     }
@@ -56,7 +57,7 @@ fn load<S: Store>(alloc: Global, store: &mut S, name: &str, file: FileWord) -> R
 {
     match read_all(alloc, store, name, MOST_BYTES) {
         Ok(bytes) => Ok(bytes),
-        Err(ReadAllError::TooLong) => Err(refuse(alloc, file)),
+        Err(ReadAllError::TooLong) => Err(refuse(alloc, file, None)),
         Err(ReadAllError::Fault) => Err(Halt::Fault),
         Err(ReadAllError::Memory) => Err(Halt::Memory),
     }
@@ -72,8 +73,8 @@ fn judge_station(alloc: Global, bytes: &[u8]) -> Result<Station, Halt>
     let rows = records(alloc, bytes)?;
     match read_station(alloc, &rows) {
         Ok(station) => Ok(station),
-        Err(Refusal::Form) => Err(refuse(alloc, FileWord::Station)),
-        Err(Refusal::Memory) => Err(Halt::Memory),
+        Err(ReadError::Fault(fault)) => Err(refuse(alloc, FileWord::Station, Some(&fault))),
+        Err(ReadError::Memory) => Err(Halt::Memory),
     }
 }
 
@@ -101,8 +102,8 @@ fn judge_timetable(alloc: Global, station: &Station, bytes: &[u8]) -> Result<Tim
     let rows = records(alloc, bytes)?;
     match read_timetable(alloc, station, &rows) {
         Ok(timetable) => Ok(timetable),
-        Err(Refusal::Form) => Err(refuse(alloc, FileWord::Timetable)),
-        Err(Refusal::Memory) => Err(Halt::Memory),
+        Err(ReadError::Fault(fault)) => Err(refuse(alloc, FileWord::Timetable, Some(&fault))),
+        Err(ReadError::Memory) => Err(Halt::Memory),
     }
 }
 

@@ -6,4 +6,4 @@ mod text;
 mod words;
 
 pub use matched::{pairs_text, shortage_text};
-pub use words::{FileWord, refused_text};
+pub use words::{FileWord, input_text};

@@ -1,8 +1,9 @@
 // Words for files.
-ghost use Rattle.std.specs.Prelude.{◌≡◌, IfOk};
-ghost use Rattle.shunt_report.specs.defs.Texts.{file_word, refused_of};
+ghost use Rattle.std.specs.Prelude.{◌≡◌, IfOk, option_map};
+ghost use Rattle.shunt_report.specs.defs.Texts.{file_word, input_of};
 
 use crate::text::Text;
+use shunt_rows::RowFault;
 use std::alloc::{AllocError, Global};
 
 /// An input file of a command.
@@ -21,13 +22,30 @@ fn word_of(file: FileWord) -> &'static [u8]
     }
 }
 
-/// The line for an input file that isn't accepted: `input FILE`.
-pub fn refused_text(alloc: Global, file: FileWord) -> Result<Vec<u8>, AllocError>
-    ensures { IfOk result (λ v. v.items ≡ refused_of file) }
+/// The line for an input file that isn't accepted: `input FILE record R field F kind K` with its first fault, or
+/// `input FILE too long` where there is none to tell, since the file is longer than it may be.
+#[tactic(auto, unfolding(crate::specs::defs::Texts::input_of))]
+pub fn input_text(
+    alloc: Global,
+    file: FileWord,
+    fault: Option<&RowFault>,
+) -> Result<Vec<u8>, AllocError>
+    ensures { IfOk result (λ v. v.items ≡ input_of file (option_map (λ f. f.now) fault.entry)) }
 {
     let mut text = Text::new(alloc);
     text.push(b"input ")?;
     text.push(word_of(file))?;
-    text.push(b"\n")?;
+    match fault {
+        Some(fault) => {
+            text.push(b" record ")?;
+            text.push_number(u64::from(fault.row))?;
+            text.push(b" field ")?;
+            text.push_number(u64::from(fault.field))?;
+            text.push(b" kind ")?;
+            text.push_number(u64::from(fault.kind.number()))?;
+            text.push(b"\n")?;
+        }
+        None => text.push(b" too long\n")?,
+    }
     Ok(text.into_bytes())
 }

@@ -1,13 +1,13 @@
 -- What is stated of a timetable is well formed.
 use Rattle.std.proofs.Common.{◌≡◌, ◌≢◌, ◌⊎◌, ℕ, zero, suc, ◌+◌, ◌-◌, ◌<◌, ◌≤◌, Bool, true, false, not, ◌||◌, ◌&&◌, List, [], ◌∷◌, ◌++◌, length, length-append, map, filter, get_or, refl, sym, ap, subst, ◌∙◌, arith, inl, inr, ⊎_elim, IsTrue, cond}
-use Rattle.std.specs.Prelude.{Result, Ok, Err, IfOk, bytes_eq, All, AllPairs, ◌==◌, Option, Some, None, position, nat_le, nat_lt, if◌then◌else◌, codes}
+use Rattle.std.specs.Prelude.{Result, Ok, Err, bytes_eq, All, AllPairs, Option, Some, None, position, nat_lt, if◌then◌else◌, codes}
 use Rattle.std.specs.Option.{is_some, unwrap_or}
 use Rattle.std.specs.List.{list_any}
 use Rattle.std.proofs.lemmas.List.{map-append, append-nil, append_assoc}
 use Rattle.std.proofs.lemmas.List.Elements.{All-append, All-cons, All-tail, filter-append}
 use Rattle.std.proofs.lemmas.List.Quantifiers.{all_pairs_push, position-Some}
 use Rattle.std.proofs.lemmas.Slice.Eq.{bytes_eq-Decides}
-use Rattle.std.proofs.lemmas.Bool.{true≢false, cases_Bool, ltb-true, leb-true}
+use Rattle.std.proofs.lemmas.Bool.{true≢false, ltb-true, leb-true}
 use Rattle.std.proofs.lemmas.Bool.Decides.{nat_tests}
 use Rattle.std.proofs.lemmas.List.Sums.{AllPass-from_list_all, sum_by-append}
 use Rattle.shunt_base.specs.declared.ids.TypeId.{TypeId}
@@ -15,16 +15,14 @@ use Rattle.shunt_base.specs.defs.Spelling.{IsName, is_name_byte, is_name_text, d
 use Rattle.shunt_base.proofs.Minutes.{spelled}
 use Rattle.shunt_rows.specs.declared.fault.RowFault.{RowFault}
 use Rattle.shunt_rows.specs.defs.Records.{at}
-use Rattle.shunt_rows.specs.defs.Checks.{Check, Judged, passes, answer, says, ◌>>=◌}
+use Rattle.shunt_rows.specs.defs.Checks.{Check, Judged, passes, answer}
 use Rattle.shunt_rows.specs.defs.Fields.{is_within, is_word, no_word}
-use Rattle.shunt_instance.specs.declared.records.UnitType.{UnitType}
 use Rattle.shunt_instance.specs.declared.records.Station.{Station}
 use Rattle.shunt_instance.specs.declared.records.Train.{Train}
-use Rattle.shunt_instance.specs.declared.records.Timetable.{Timetable}
 use Rattle.shunt_instance.specs.declared.records.Origin.{Origin}
 use Rattle.shunt_instance.specs.declared.records.Origin.TheVariants as origin
 use Rattle.shunt_instance.specs.defs.Words.{AreDistinct, is_standing, unit_count}
-use Rattle.shunt_instance.specs.defs.Wellformed.{IsOrigin, IsStation, IsTrain, AreTrains, StandingFirst, IsTimetable}
+use Rattle.shunt_instance.specs.defs.Wellformed.{IsOrigin, IsTrain, AreTrains, StandingFirst, IsTimetable}
 use Rattle.shunt_timetable.specs.defs.TimetableFormat.{Listed, first_of, has_train, unit_of, units_from, empty_train, standing_of, moving_of, stand_of, arrive_of, depart_of, may_stand, later_of, timetable_of}
 
 -- a check that was passed

@@ -1,5 +1,5 @@
 -- A record of a train, by what the train's fields say.
-use Rattle.std.proofs.Common.{◌≡◌, ℕ, suc, ◌+◌, true, List, [], ◌∷◌, ◌++◌, length, refl, sym, ap, ◌∙◌, subst}
+use Rattle.std.proofs.Common.{◌≡◌, ℕ, suc, ◌+◌, true, List, [], ◌∷◌, ◌++◌, length, sym, ap, ◌∙◌, subst}
 use Rattle.std.specs.Prelude.{Result, Ok, Err}
 use Rattle.shunt_rows.specs.declared.fault.RowFault.{RowFault}
 use Rattle.shunt_rows.specs.declared.fault.ReadError.{ReadError}

@@ -1,8 +1,7 @@
 -- The rows of a timetable are plain, and their text.
-use Rattle.std.proofs.Common.{◌≡◌, ℕ, zero, suc, ◌+◌, ◌*◌, ◌/◌, ◌%◌, ◌<◌, ◌≤◌, Bool, true, false, not, ◌||◌, List, [], ◌∷◌, ◌++◌, length, length-append, map, filter, refl, sym, ap, subst, ◌∙◌, arith, IsTrue}
+use Rattle.std.proofs.Common.{◌≡◌, ℕ, zero, suc, ◌+◌, ◌/◌, ◌%◌, ◌<◌, not, ◌||◌, List, [], ◌∷◌, ◌++◌, length, map, filter, refl, sym, ap, ◌∙◌, arith, IsTrue}
 use Rattle.std.specs.Prelude.{All, ◌==◌, slice_index_or, codes, Result, Ok, Err, IfOk}
-use Rattle.std.specs.List.{AllByRecursion, flat_map}
-use Rattle.std.proofs.lemmas.List.{append-nil, append_assoc}
+use Rattle.std.specs.List.{AllByRecursion}
 use Rattle.std.proofs.lemmas.List.Concat.{flat_map-cons, flat_map-append}
 use Rattle.std.proofs.lemmas.List.Elements.{All-tail, All-filter}
 use Rattle.std.proofs.lemmas.Bool.Decides.{nat_tests}
@@ -15,10 +14,10 @@ use Rattle.shunt_instance.specs.declared.records.Train.{Train}
 use Rattle.shunt_instance.specs.declared.records.Timetable.{Timetable}
 use Rattle.shunt_instance.specs.declared.records.Origin.{Origin}
 use Rattle.shunt_instance.specs.declared.records.Origin.TheVariants as origin
-use Rattle.shunt_instance.specs.defs.Words.{is_standing, track_names}
+use Rattle.shunt_instance.specs.defs.Words.{is_standing}
 use Rattle.shunt_instance.specs.defs.Wellformed.{IsOrigin, IsStation, IsTrain, IsTimetable}
 use Rattle.shunt_timetable.specs.defs.TimetableFormat.{timetable_format}
-use Rattle.shunt_timetable.specs.defs.WrittenRows.{type_names, place_name, unit_names, standing_row, moving_row, first_row, rows_of}
+use Rattle.shunt_timetable.specs.defs.WrittenRows.{type_names, place_name, standing_row, moving_row, first_row, rows_of}
 use Rattle.shunt_timetable.proofs.Formed.{name_from, filter_whole}
 use Rattle.shunt_timetable.proofs.RoundTrip.{timetable_again}
 

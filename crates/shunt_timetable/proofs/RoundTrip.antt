@@ -1,14 +1,13 @@
 -- The rows of a timetable state it.
-use Rattle.std.proofs.Common.{◌≡◌, ◌≢◌, ℕ, zero, suc, ◌+◌, ◌-◌, ◌<◌, ◌≤◌, Bool, true, false, not, ◌||◌, ◌&&◌, List, [], ◌∷◌, ◌++◌, length, length-append, map, filter, get_or, drop, refl, sym, ap, subst, ◌∙◌, arith, IsTrue, cond}
-use Rattle.std.specs.Prelude.{Result, Ok, Err, bytes_eq, All, ◌==◌, Option, Some, None, position, nat_lt, if◌then◌else◌, codes, slice_index_or, slice_get, sum_by}
+use Rattle.std.proofs.Common.{◌≡◌, ℕ, zero, suc, ◌+◌, ◌-◌, ◌<◌, ◌≤◌, Bool, true, false, not, List, [], ◌∷◌, ◌++◌, length, length-append, map, filter, get_or, drop, refl, sym, ap, subst, ◌∙◌, arith, cond}
+use Rattle.std.specs.Prelude.{Result, Ok, Err, bytes_eq, All, Option, Some, None, position, nat_lt, if◌then◌else◌, codes, slice_index_or}
 use Rattle.std.specs.Option.{is_some, unwrap_or}
-use Rattle.std.specs.List.{list_any, list_all}
-use Rattle.std.proofs.lemmas.List.{append-nil, append_assoc, length-map, map-append}
+use Rattle.std.specs.List.{list_any}
+use Rattle.std.proofs.lemmas.List.{append-nil, append_assoc, length-map}
 use Rattle.std.proofs.lemmas.List.Elements.{All-tail, All-cons}
 use Rattle.std.proofs.lemmas.Option.{slice_get-get_or}
 use Rattle.std.proofs.lemmas.Slice.Eq.{bytes_eq-Decides}
 use Rattle.std.proofs.lemmas.Bool.{true≢false, lt-ltb, le-leb, false_from_ne_true, or_from, and_from}
-use Rattle.std.proofs.lemmas.Bool.Decides.{nat_tests}
 use Rattle.std.proofs.lemmas.List.Sums.{list_all-from_AllPass, sum_by-append, sum_by-cons}
 use Rattle.shunt_base.specs.declared.ids.TypeId.{TypeId}
 use Rattle.shunt_base.specs.declared.ids.PlatformId.{PlatformId}
@@ -26,11 +25,11 @@ use Rattle.shunt_instance.specs.declared.records.Train.{Train}
 use Rattle.shunt_instance.specs.declared.records.Timetable.{Timetable}
 use Rattle.shunt_instance.specs.declared.records.Origin.{Origin}
 use Rattle.shunt_instance.specs.declared.records.Origin.TheVariants as origin
-use Rattle.shunt_instance.specs.defs.Words.{AreDistinct, is_standing, unit_count, names_of, track_names}
+use Rattle.shunt_instance.specs.defs.Words.{AreDistinct, is_standing, unit_count}
 use Rattle.shunt_instance.specs.defs.Wellformed.{IsStation, IsTrain, AreTrains, IsTimetable}
 use Rattle.shunt_instance.proofs.Found.{found_there}
-use Rattle.shunt_timetable.specs.defs.TimetableFormat.{Listed, first_of, has_train, unit_of, units_from, empty_train, standing_of, moving_of, stand_of, arrive_of, depart_of, later_of, timetable_of, timetable_format}
-use Rattle.shunt_timetable.specs.defs.WrittenRows.{type_names, place_name, unit_names, standing_row, moving_row, first_row, rows_of}
+use Rattle.shunt_timetable.specs.defs.TimetableFormat.{Listed, first_of, has_train, unit_of, units_from, empty_train, standing_of, moving_of, later_of, timetable_format}
+use Rattle.shunt_timetable.specs.defs.WrittenRows.{type_names, unit_names, standing_row, moving_row, first_row, rows_of}
 use Rattle.shunt_timetable.proofs.Formed.{Adds, negated}
 use Rattle.shunt_timetable.proofs.Parts.{stand_ok, arrive_ok, depart_ok}
 

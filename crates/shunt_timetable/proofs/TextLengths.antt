@@ -1,22 +1,22 @@
 -- How long the text of a timetable is.
-use Rattle.std.proofs.Common.{◌≡◌, ℕ, zero, suc, ◌+◌, ◌*◌, ◌<◌, ◌≤◌, Bool, true, false, not, List, [], ◌∷◌, ◌++◌, length, length-append, map, filter, refl, sym, ap, subst, ◌∙◌, arith, IsTrue, cond}
-use Rattle.std.specs.Prelude.{All, ◌==◌, codes, slice_index_or, sum_by, Result, Ok, Err, IfOk}
+use Rattle.std.proofs.Common.{◌≡◌, ℕ, ◌+◌, ◌*◌, ◌<◌, ◌≤◌, false, not, List, [], ◌∷◌, ◌++◌, length, length-append, map, filter, refl, ap, ◌∙◌, arith, IsTrue, cond}
+use Rattle.std.specs.Prelude.{All, ◌==◌, codes, slice_index_or}
 use Rattle.std.specs.List.{AllByRecursion, list_any}
 use Rattle.std.proofs.lemmas.List.Concat.{flat_map-cons, flat_map-append}
 use Rattle.std.proofs.lemmas.List.Elements.{All-tail, All-filter}
 use Rattle.std.proofs.lemmas.List.Sums.{sum_by-append, sum_by-cons}
 use Rattle.std.proofs.lemmas.Bool.{or_from}
 use Rattle.std.proofs.lemmas.Bool.Decides.{nat_tests}
-use Rattle.csv.specs.Writing.{fields_text, field_text, row_text, default_writer, needs_byte, quoted, is_blank}
+use Rattle.csv.specs.Writing.{fields_text, field_text, default_writer, needs_byte, quoted, is_blank}
 use Rattle.shunt_base.specs.declared.ids.TypeId.{TypeId}
-use Rattle.shunt_base.specs.defs.Spelling.{IsName, minute_text}
+use Rattle.shunt_base.specs.defs.Spelling.{IsName}
 use Rattle.shunt_rows.specs.defs.Records.{is_plain, IsPlainField, text_of_row, text_of_rows}
 use Rattle.shunt_instance.specs.declared.records.Station.{Station}
 use Rattle.shunt_instance.specs.declared.records.Train.{Train}
 use Rattle.shunt_instance.specs.declared.records.Timetable.{Timetable}
 use Rattle.shunt_instance.specs.defs.Words.{is_standing, unit_count}
 use Rattle.shunt_instance.specs.defs.Wellformed.{IsStation, IsTrain, IsTimetable}
-use Rattle.shunt_timetable.specs.defs.WrittenRows.{type_names, place_name, unit_names, standing_row, moving_row, first_row, rows_of}
+use Rattle.shunt_timetable.specs.defs.WrittenRows.{type_names, standing_row, moving_row, first_row, rows_of}
 use Rattle.shunt_timetable.proofs.Formed.{name_from}
 use Rattle.shunt_timetable.proofs.PlainRows.{IsPlainRow, name_plain, named_plain, place_is_name, moving_plain, standing_plain}
 

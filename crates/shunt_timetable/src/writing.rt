@@ -121,7 +121,7 @@ fn write_all_moving(
     requires trains { All (IsTrain station.now) trains.now }
     ensures { OnOk result (writer.new ≡ record { text = writer.old.text ++ text_of_rows (map (moving_row station.now word.now) (filter (λ r. not (is_standing r)) trains.now)); row = [] }) }
 {
-    'trains: for train in trains {
+    'moving: for train in trains {
         if !stands(train) {
             write_moving(writer, word, station, train)?;
         }

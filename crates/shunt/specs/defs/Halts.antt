@@ -1,7 +1,7 @@
 -- What a step of a run may answer in place of its value.
-use Rattle.std.specs.Prelude.{◌≡◌, ◌<◌, ◌≤◌, ℕ, List, length, Result, Ok, Err, Vec}
+use Rattle.std.specs.Prelude.{◌≡◌, ◌<◌, ◌≤◌, ℕ, List, length, Result, Ok, Err, Vec, None}
 use Rattle.shunt_report.specs.declared.words.FileWord.{FileWord}
-use Rattle.shunt_report.specs.defs.Texts.{refused_of}
+use Rattle.shunt_report.specs.defs.Texts.{input_of}
 use Rattle.shunt.specs.declared.loading.Halt.{Halt}
 use Rattle.shunt.specs.declared.loading.Halt.TheVariants as halt
 use Rattle.shunt.specs.defs.Replies.{Reply, refusal, most_bytes}
@@ -15,7 +15,7 @@ IfInput halt.Memory P = Unit {0}
 -- the bytes of a file that isn't too long, or the line for one that is
 abbrev pub LoadsBytes : {A : Type 0} → FileWord → List ℕ → Result (Vec ℕ A) Halt → Type 0
 LoadsBytes file content (Ok v) = (v.items ≡ content) × (length v.items ≤ most_bytes)
-LoadsBytes file content (Err h) = IfInput h (λ text. (text ≡ refused_of file) × (most_bytes < length content))
+LoadsBytes file content (Err h) = IfInput h (λ text. (text ≡ input_of file None) × (most_bytes < length content))
 
 -- the value is the one that is stated, or the text is the one that is stated in its place, unless the step halted for another cause
 abbrev pub Loads : {X : Type 0} → Result X Halt → Result X (List ℕ) → Type 0

@@ -6,6 +6,8 @@ use Rattle.shunt.specs.declared.delivering.Outcome.{Outcome}
 use Rattle.shunt.specs.declared.delivering.Outcome.TheVariants as outcome
 use Rattle.shunt.specs.declared.delivering.Answer.{Answer}
 use Rattle.shunt.specs.declared.delivering.FileText.{FileText}
+use Rattle.shunt_rows.specs.declared.fault.RowFault.{RowFault}
+use Rattle.shunt_rows.specs.defs.Formats.{Format, reading}
 use Rattle.shunt_rows.specs.defs.Records.{records_of}
 use Rattle.shunt_instance.specs.declared.records.Station.{Station}
 use Rattle.shunt_instance.specs.declared.records.Timetable.{Timetable}
@@ -16,8 +18,9 @@ use Rattle.shunt_matching.specs.defs.Counts.{first_fit_of}
 use Rattle.shunt_matching.specs.defs.Nights.{Matches, IsShortageOf}
 use Rattle.shunt_report.specs.declared.words.FileWord.{FileWord}
 use Rattle.shunt_report.specs.declared.words.FileWord.TheVariants as word
-use Rattle.shunt_report.specs.defs.Texts.{pairs_of, shortage_of, refused_of}
-use Rattle.shunt.specs.defs.FirstForm.{station_of, timetable_of}
+use Rattle.shunt_report.specs.defs.Texts.{pairs_of, shortage_of, input_of}
+use Rattle.shunt_station.specs.defs.Stating.{station_format}
+use Rattle.shunt_timetable.specs.defs.TimetableFormat.{timetable_format}
 use Rattle.shunt.specs.defs.Words.{Call, Match}
 
 -- how a command ends, which files it writes in their order and what they then hold, and what it prints
@@ -49,20 +52,20 @@ Judged (Err text) P r = r ≡ refusal text
 abbrev pub most_bytes : ℕ
 most_bytes = 4194304
 
--- a value, or the line for the file where the records state none
-abbrev pub value_or : {X : Type 0} → FileWord → Option X → Result X (List ℕ)
-value_or file (Some x) = Ok x
-value_or file None = Err (refused_of file)
+-- what the records of an input file state, or the line for it with their first fault
+abbrev pub value_or : {X : Type 0} → FileWord → Result X RowFault → Result X (List ℕ)
+value_or file (Ok x) = Ok x
+value_or file (Err fault) = Err (input_of file (Some fault))
 
--- what an input file states by this reading of its records, or the line for it where it is too long or states nothing
-abbrev pub stated : {X : Type 0} → FileWord → (List (List (List ℕ)) → Option X) → List ℕ → Result X (List ℕ)
-stated file read bytes = if nat_le (length bytes) most_bytes then value_or file (read (records_of bytes)) else Err (refused_of file)
+-- what an input file states in its format, or the line for it where it is too long or has a first fault
+abbrev pub stated : {S X : Type 0} → FileWord → Format S X → List ℕ → Result X (List ℕ)
+stated file format bytes = if nat_le (length bytes) most_bytes then value_or file (reading format (records_of bytes)) else Err (input_of file None)
 
 abbrev pub stated_station : List ℕ → Result Station (List ℕ)
-stated_station bytes = stated word.Station station_of bytes
+stated_station bytes = stated word.Station station_format bytes
 
 abbrev pub stated_timetable : Station → List ℕ → Result Timetable (List ℕ)
-stated_timetable station bytes = stated word.Timetable (timetable_of station) bytes
+stated_timetable station bytes = stated word.Timetable (timetable_format station) bytes
 
 -- a value of the first, and then what is stated over it
 abbrev pub then_stated : {X Y : Type 0} → Result X (List ℕ) → (X → Result Y (List ℕ)) → Result Y (List ℕ)

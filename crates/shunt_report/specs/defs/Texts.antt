@@ -1,5 +1,5 @@
 -- The printed texts, line by line.
-use Rattle.std.specs.Prelude.{◌≡◌, ℕ, zero, suc, ◌<◌, List, [], ◌++◌, length, map, slice_index_or, codes, decimal}
+use Rattle.std.specs.Prelude.{◌≡◌, ℕ, zero, suc, ◌<◌, List, [], ◌++◌, length, map, slice_index_or, codes, decimal, Option, Some, None}
 use Rattle.shunt_base.specs.declared.ids.TypeId.{TypeId}
 use Rattle.shunt_base.specs.defs.Spelling.{minute_text}
 use Rattle.shunt_instance.specs.declared.records.Train.{Train}
@@ -10,6 +10,8 @@ use Rattle.shunt_instance.specs.defs.Instance.{Night, unit_total, position_total
 use Rattle.shunt_instance.specs.defs.Matching.{place_of}
 use Rattle.shunt_matching.specs.declared.types.Shortage.{Shortage}
 use Rattle.shunt_matching.specs.declared.types.Shortage.TheVariants.{Balance, ByMinute}
+use Rattle.shunt_rows.specs.declared.fault.RowFault.{RowFault}
+use Rattle.shunt_rows.specs.defs.Faults.{kind_number}
 use Rattle.shunt_report.specs.declared.words.FileWord.{FileWord}
 use Rattle.shunt_report.specs.declared.words.FileWord.TheVariants as word
 
@@ -49,6 +51,7 @@ abbrev pub file_word : FileWord → List ℕ
 file_word word.Station = codes "station"
 file_word word.Timetable = codes "timetable"
 
--- `input FILE`
-abbrev pub refused_of : FileWord → List ℕ
-refused_of file = codes "input " ++ file_word file ++ codes "\n"
+-- `input FILE record R field F kind K` at a first fault, or `input FILE too long`
+unfoldable pub input_of : FileWord → Option RowFault → List ℕ
+input_of file None = codes "input " ++ file_word file ++ codes " too long\n"
+input_of file (Some fault) = codes "input " ++ file_word file ++ codes " record " ++ decimal fault.row ++ codes " field " ++ decimal fault.field ++ codes " kind " ++ decimal (kind_number fault.kind) ++ codes "\n"

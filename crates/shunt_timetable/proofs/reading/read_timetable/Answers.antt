@@ -1,6 +1,6 @@
-use Rattle.std.proofs.Common.{rules, ◌≡◌, ◌+◌, drop, sym, arith}
+use Rattle.std.proofs.Common.{rules, arith}
 use Rattle.std.proofs.lemmas.Grind.{common_steps}
-use Rattle.shunt_timetable.proofs.Formed.{first_formed, later_keeps, all_formed}
+use Rattle.shunt_timetable.proofs.Formed.{first_formed, later_keeps}
 use Rattle.shunt_timetable.proofs.reading.read_timetable.Goals as goal
 
 -- src/reading.rt:303:5

@@ -1,4 +1,4 @@
-use Rattle.std.proofs.Common.{◌≡◌, ℕ, suc, ◌+◌, ◌-◌, ◌≤◌, List, length, length-append, [], ◌∷◌, Ok, Err, sym, ap, ◌∙◌, arith, subst}
+use Rattle.std.proofs.Common.{◌≡◌, suc, ◌+◌, ◌-◌, length, length-append, [], ◌∷◌, sym, ap, ◌∙◌, arith}
 use Rattle.shunt_rows.specs.declared.fault.ReadError.TheVariants as errors
 use Rattle.shunt_rows.proofs.Joins.{gives_err}
 use Rattle.shunt_instance.specs.declared.records.Train.{Train}

@@ -1,4 +1,4 @@
-use Rattle.std.proofs.Common.{◌≡◌, ◌+◌, ◌-◌, ◌≤◌, length, List}
+use Rattle.std.proofs.Common.{◌≡◌, ◌+◌, ◌-◌, ◌≤◌, length}
 use Rattle.shunt_rows.specs.defs.Checks.{answer}
 use Rattle.shunt_timetable.specs.defs.TimetableFormat.{units_from, empty_train}
 use Rattle.shunt_timetable.proofs.reading.read_units.Given as goal

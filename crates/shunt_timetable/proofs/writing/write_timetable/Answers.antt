@@ -1,5 +1,5 @@
 use Rattle.std.proofs.Common.{◌≡◌, ◌∙◌, ap}
-use Rattle.shunt_rows.specs.defs.Records.{text_of_rows, ReadsBack}
+use Rattle.shunt_rows.specs.defs.Records.{text_of_rows}
 use Rattle.shunt_timetable.specs.defs.WrittenRows.{rows_of}
 use Rattle.shunt_timetable.proofs.TextLengths.{text_wide}
 use Rattle.shunt_timetable.proofs.PlainRows.{text_of_sections, ok_then, rows_read, timetable_read}

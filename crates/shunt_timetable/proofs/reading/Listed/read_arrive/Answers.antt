@@ -1,4 +1,4 @@
-use Rattle.std.proofs.Common.{◌≡◌, sym}
+use Rattle.std.proofs.Common.{sym}
 use Rattle.shunt_rows.proofs.Joins.{gives_err}
 use Rattle.shunt_timetable.proofs.Parts.{arrive_ok, arrive_fails}
 use Rattle.shunt_timetable.proofs.reading.Listed.read_arrive.Goals as goal

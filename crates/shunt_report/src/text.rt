@@ -42,7 +42,8 @@ impl Text {
         ensures { OnOk result (self.new ≡ self.old ++ decimal number) }
     {
         let mut digits = Buffer::new();
-        self.bytes.extend_from_slice(digits.format(number).as_bytes())?;
+        self.bytes
+            .extend_from_slice(digits.format(number).as_bytes())?;
         Ok(())
     }
 

@@ -1,5 +1,5 @@
 // The station that the records so far state.
-ghost use Rattle.std.specs.Prelude.{◌≡◌, ◌↔◌, ◌≤◌, ◌<◌, ◌&&◌, ◌==◌, IsTrue, IfSome, length, position, bytes_eq, option_map};
+ghost use Rattle.std.specs.Prelude.{◌≡◌, ◌&&◌, ◌==◌, position, bytes_eq};
 ghost use Rattle.std.specs.List.{list_any};
 ghost use Rattle.shunt_rows.specs.defs.Checks.{answer};
 ghost use Rattle.shunt_rows.specs.defs.Formats.{in_state};

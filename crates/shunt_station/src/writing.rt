@@ -1,16 +1,16 @@
 // From a station to its text.
-ghost use Rattle.std.specs.Prelude.{◌≡◌, ◌≤◌, ◌<◌, ◌++◌, [], ◌∷◌, map, length, IfOk, OnOk, slice_index_or};
+ghost use Rattle.std.specs.Prelude.{◌≡◌, ◌≤◌, ◌<◌, ◌++◌, [], ◌∷◌, map, length, IfOk, OnOk};
 ghost use Rattle.std.specs.Fmt.{decimal};
 ghost use Rattle.shunt_rows.specs.defs.Records.{text_of_row, text_of_rows};
 ghost use Rattle.shunt_instance.specs.defs.Wellformed.{IsStation};
-ghost use Rattle.shunt_station.specs.defs.Writing.{written_version, type_name, platform_name, track_name, side_text, ends_text, head_row, type_row, platform_row, track_row, route_row, permit_row, cost_row, rows_of, ReadsAsStation};
+ghost use Rattle.shunt_station.specs.defs.Writing.{side_text, ends_text, head_row, type_row, platform_row, track_row, route_row, permit_row, cost_row, rows_of, ReadsAsStation};
 
 use shunt_base::{Name, Side};
 use shunt_instance::{Permit, Route, Station, Track, UnitType};
 use shunt_rows::RowWriter;
 use std::alloc::{AllocError, Global};
 
-/// The version of the files that are written.
+// The version of the files that are written.
 const WRITTEN_VERSION: u32 = 2;
 
 // Adds a number as a field of the open row.

@@ -67,22 +67,22 @@ found_named name xs k d text h lt is =
 abbrev of_parts : List ℕ → ℕ → Origin → List TypeId → Train
 of_parts name minute o units = record { name = name; minute = minute; origin = o; units = units }
 
-units_again : (n : ℕ) (station : Station) (before : ℕ) (name : List ℕ) (minute : ℕ) (o : Origin) (done todo : List TypeId) (row : List (List ℕ)) (j : ℕ) → AreDistinct (type_names station)
-    → drop j row ≡ map (λ k. slice_index_or (type_names station) k.0 []) todo → All (λ k. k.0 < length station.types) todo → before + length done + length todo ≤ 160
-    → answer n (units_from station before (of_parts name minute o done) row (j + 1) (length todo)) ≡ Ok (of_parts name minute o (done ++ todo))
+units_again : (n : ℕ) (station : Station) (before : ℕ) (name : List ℕ) (minute : ℕ) (o : Origin) (done coming : List TypeId) (row : List (List ℕ)) (j : ℕ) → AreDistinct (type_names station)
+    → drop j row ≡ map (λ k. slice_index_or (type_names station) k.0 []) coming → All (λ k. k.0 < length station.types) coming → before + length done + length coming ≤ 160
+    → answer n (units_from station before (of_parts name minute o done) row (j + 1) (length coming)) ≡ Ok (of_parts name minute o (done ++ coming))
 unfolding units_from unit_of
 units_again n station before name minute o done [] row j h e kinds room = ap (λ u. Ok (of_parts name minute o u)) (sym (append-nil done))
-units_again n station before name minute o done (kind ∷ todo) row j h e kinds room =
-    let f = field_of row j (slice_index_or (type_names station) kind.0 []) (map (λ k. slice_index_or (type_names station) k.0 []) todo) e in
+units_again n station before name minute o done (kind ∷ coming) row j h e kinds room =
+    let f = field_of row j (slice_index_or (type_names station) kind.0 []) (map (λ k. slice_index_or (type_names station) k.0 []) coming) e in
     let here : at row (j + 1) ≡ slice_index_or (type_names station) kind.0 [] = ap (λ i. slice_index_or row i []) (let s : j + 1 - 1 ≡ j = omega arith in s) ∙ f.0 in
     let place = position (λ x. bytes_eq x.name (at row (j + 1))) station.types in
     let is : place ≡ Some kind.0 = found_named (λ x. x.name) station.types kind.0 (record { name = []; length = 0; turn = 0 }) (at row (j + 1)) h (kinds 0 kind (omega arith)) here in
     let value : unwrap_or place 0 ≡ kind.0 = ap (λ x. unwrap_or x 0) is in
-    let more = units_again n station before name minute o (done ++ kind ∷ []) todo row (j + 1) h f.1 (All-tail (λ k. k.0 < length station.types) kind todo kinds) (omega (arith, room, length-append done (kind ∷ []))) in
+    let more = units_again n station before name minute o (done ++ kind ∷ []) coming row (j + 1) h f.1 (All-tail (λ k. k.0 < length station.types) kind coming kinds) (omega (arith, room, length-append done (kind ∷ []))) in
     passed (is_some place) _ _ _ (is_there place kind.0 is)
     (passed (nat_lt (before + length done) 160) _ _ _ (lt-ltb _ _ (omega (arith, room)))
-    (subst (λ k. answer n (units_from station before (of_parts name minute o (done ++ record { 0 = k } ∷ [])) row (j + 1 + 1) (length todo)) ≡ Ok (of_parts name minute o (done ++ kind ∷ todo))) (sym value)
-    (more ∙ ap (λ u. Ok (of_parts name minute o u)) (append_assoc done (kind ∷ []) todo))))
+    (subst (λ k. answer n (units_from station before (of_parts name minute o (done ++ record { 0 = k } ∷ [])) row (j + 1 + 1) (length coming)) ≡ Ok (of_parts name minute o (done ++ kind ∷ coming))) (sym value)
+    (more ∙ ap (λ u. Ok (of_parts name minute o u)) (append_assoc done (kind ∷ []) coming))))
 
 many_units : (station : Station) (t : Train) → length (unit_names station t) ≡ length t.units
 many_units station t = length-map t.units (λ k. slice_index_or (type_names station) k.0 [])
@@ -175,15 +175,15 @@ new_name name (x ∷ xs) y zs h = or_from _ _
     (false_from_ne_true (bytes_eq (name x) (name y)) (λ same. h 0 (suc (length xs)) [] (omega arith) (omega (arith, length-map (xs ++ y ∷ zs) name, length-append xs (y ∷ zs))) ((bytes_eq-Decides (name x) (name y)).0 same ∙ sym (behind_name name xs y zs))))
     (new_name name xs y zs (λ i j d lt small. h (suc i) (suc j) d (omega arith) (omega arith)))
 
-adds : (station : Station) (done : List Train) (t : Train) (todo : List Train) → AreTrains station (done ++ t ∷ todo) → Adds station done t
-adds station done t todo h =
+adds : (station : Station) (done : List Train) (t : Train) (coming : List Train) → AreTrains station (done ++ t ∷ coming) → Adds station done t
+adds station done t coming h =
     let few = h.few in
     let units = h.units in
     record {
-      room = omega (arith, few, length-append done (t ∷ todo));
-      train = subst (IsTrain station) (behind done t todo t) (h.each (length done) t (omega (arith, length-append done (t ∷ todo))));
-      new = new_name (λ u. u.name) done t todo h.names;
-      units = omega (arith, units, sum_by-append (λ u. length u.units) done (t ∷ todo), sum_by-cons (λ u. length u.units) t todo);
+      room = omega (arith, few, length-append done (t ∷ coming));
+      train = subst (IsTrain station) (behind done t coming t) (h.each (length done) t (omega (arith, length-append done (t ∷ coming))));
+      new = new_name (λ u. u.name) done t coming h.names;
+      units = omega (arith, units, sum_by-append (λ u. length u.units) done (t ∷ coming), sum_by-cons (λ u. length u.units) t coming);
     }
 
 abbrev listed : List Train → List Train → Bool → Listed
@@ -192,47 +192,47 @@ listed arrive depart moving = record { version = 2; arrive = arrive; depart = de
 read_on : (station : Station) (s t : Listed) (n : ℕ) (row : List (List ℕ)) (rows : List (List (List ℕ))) (q : Result Listed RowFault) → answer n (later_of station s row) ≡ Ok t → reads (timetable_format station) t (n + 1) rows ≡ q → reads (timetable_format station) s n (row ∷ rows) ≡ q
 read_on station s t n row rows q is more = ap (λ r. r >>= (λ u. reads (timetable_format station) u (n + 1) rows)) is ∙ more
 
-standing_section : (station : Station) (n : ℕ) (done todo : List Train) → IsStation station → AreTrains station (done ++ todo) → All (λ r. is_standing r ≡ true) todo → All (λ r. r.minute ≡ 0) todo
-    → reads (timetable_format station) (listed done [] false) n (map (standing_row station) todo) ≡ Ok (listed (done ++ todo) [] false)
+standing_section : (station : Station) (n : ℕ) (done coming : List Train) → IsStation station → AreTrains station (done ++ coming) → All (λ r. is_standing r ≡ true) coming → All (λ r. r.minute ≡ 0) coming
+    → reads (timetable_format station) (listed done [] false) n (map (standing_row station) coming) ≡ Ok (listed (done ++ coming) [] false)
 unfolding later_of
 standing_section station n done [] s h stand start = ap (λ l. Ok (listed l [] false)) (sym (append-nil done))
-standing_section station n done (t ∷ todo) s h stand start =
-    let one = standing_again n station done t s (adds station done t todo h) (stand 0 t (omega arith)) (start 0 t (omega arith)) in
-    let more = standing_section station (n + 1) (done ++ t ∷ []) todo s (subst (AreTrains station) (sym (append_assoc done (t ∷ []) todo)) h) (All-tail (λ r. is_standing r ≡ true) t todo stand) (All-tail (λ r. r.minute ≡ 0) t todo start) in
-    read_on station (listed done [] false) (listed (done ++ t ∷ []) [] false) n (standing_row station t) (map (standing_row station) todo) _
+standing_section station n done (t ∷ coming) s h stand start =
+    let one = standing_again n station done t s (adds station done t coming h) (stand 0 t (omega arith)) (start 0 t (omega arith)) in
+    let more = standing_section station (n + 1) (done ++ t ∷ []) coming s (subst (AreTrains station) (sym (append_assoc done (t ∷ []) coming)) h) (All-tail (λ r. is_standing r ≡ true) t coming stand) (All-tail (λ r. r.minute ≡ 0) t coming start) in
+    read_on station (listed done [] false) (listed (done ++ t ∷ []) [] false) n (standing_row station t) (map (standing_row station) coming) _
     (stand_ok n station (listed done [] false) (listed done [] false) (standing_row station t) t done (done ++ t ∷ []) refl refl refl one)
-    (more ∙ ap (λ l. Ok (listed l [] false)) (append_assoc done (t ∷ []) todo))
+    (more ∙ ap (λ l. Ok (listed l [] false)) (append_assoc done (t ∷ []) coming))
 
 -- whether a train moves, behind these records
 abbrev moves_after : Bool → List Train → Bool
 moves_after b [] = b
-moves_after b (t ∷ todo) = true
+moves_after b (t ∷ coming) = true
 
-still_moves : (todo : List Train) → moves_after true todo ≡ true
+still_moves : (coming : List Train) → moves_after true coming ≡ true
 still_moves [] = refl
-still_moves (t ∷ todo) = refl
+still_moves (t ∷ coming) = refl
 
-arriving_section : (station : Station) (n : ℕ) (b : Bool) (done todo : List Train) → IsStation station → AreTrains station (done ++ todo) → All (λ r. is_standing r ≡ false) todo
-    → reads (timetable_format station) (listed done [] b) n (map (moving_row station (codes "arrive")) todo) ≡ Ok (listed (done ++ todo) [] (moves_after b todo))
+arriving_section : (station : Station) (n : ℕ) (b : Bool) (done coming : List Train) → IsStation station → AreTrains station (done ++ coming) → All (λ r. is_standing r ≡ false) coming
+    → reads (timetable_format station) (listed done [] b) n (map (moving_row station (codes "arrive")) coming) ≡ Ok (listed (done ++ coming) [] (moves_after b coming))
 unfolding later_of
 arriving_section station n b done [] s h moves = ap (λ l. Ok (listed l [] b)) (sym (append-nil done))
-arriving_section station n b done (t ∷ todo) s h moves =
-    let one = moving_again n station done (codes "arrive") t s (adds station done t todo h) (moves 0 t (omega arith)) in
-    let more = arriving_section station (n + 1) true (done ++ t ∷ []) todo s (subst (AreTrains station) (sym (append_assoc done (t ∷ []) todo)) h) (All-tail (λ r. is_standing r ≡ false) t todo moves) in
-    read_on station (listed done [] b) (listed (done ++ t ∷ []) [] true) n (moving_row station (codes "arrive") t) (map (moving_row station (codes "arrive")) todo) _
+arriving_section station n b done (t ∷ coming) s h moves =
+    let one = moving_again n station done (codes "arrive") t s (adds station done t coming h) (moves 0 t (omega arith)) in
+    let more = arriving_section station (n + 1) true (done ++ t ∷ []) coming s (subst (AreTrains station) (sym (append_assoc done (t ∷ []) coming)) h) (All-tail (λ r. is_standing r ≡ false) t coming moves) in
+    read_on station (listed done [] b) (listed (done ++ t ∷ []) [] true) n (moving_row station (codes "arrive") t) (map (moving_row station (codes "arrive")) coming) _
     (arrive_ok n station (listed done [] b) (listed done [] b) (moving_row station (codes "arrive") t) t done (done ++ t ∷ []) refl refl refl one)
-    (more ∙ ap (λ l. Ok (listed l [] (moves_after true todo))) (append_assoc done (t ∷ []) todo) ∙ ap (λ m. Ok (listed (done ++ t ∷ todo) [] m)) (still_moves todo))
+    (more ∙ ap (λ l. Ok (listed l [] (moves_after true coming))) (append_assoc done (t ∷ []) coming) ∙ ap (λ m. Ok (listed (done ++ t ∷ coming) [] m)) (still_moves coming))
 
-departing_section : (station : Station) (n : ℕ) (b : Bool) (arrive done todo : List Train) → IsStation station → AreTrains station (done ++ todo) → All (λ r. is_standing r ≡ false) todo
-    → reads (timetable_format station) (listed arrive done b) n (map (moving_row station (codes "depart")) todo) ≡ Ok (listed arrive (done ++ todo) (moves_after b todo))
+departing_section : (station : Station) (n : ℕ) (b : Bool) (arrive done coming : List Train) → IsStation station → AreTrains station (done ++ coming) → All (λ r. is_standing r ≡ false) coming
+    → reads (timetable_format station) (listed arrive done b) n (map (moving_row station (codes "depart")) coming) ≡ Ok (listed arrive (done ++ coming) (moves_after b coming))
 unfolding later_of
 departing_section station n b arrive done [] s h moves = ap (λ l. Ok (listed arrive l b)) (sym (append-nil done))
-departing_section station n b arrive done (t ∷ todo) s h moves =
-    let one = moving_again n station done (codes "depart") t s (adds station done t todo h) (moves 0 t (omega arith)) in
-    let more = departing_section station (n + 1) true arrive (done ++ t ∷ []) todo s (subst (AreTrains station) (sym (append_assoc done (t ∷ []) todo)) h) (All-tail (λ r. is_standing r ≡ false) t todo moves) in
-    read_on station (listed arrive done b) (listed arrive (done ++ t ∷ []) true) n (moving_row station (codes "depart") t) (map (moving_row station (codes "depart")) todo) _
+departing_section station n b arrive done (t ∷ coming) s h moves =
+    let one = moving_again n station done (codes "depart") t s (adds station done t coming h) (moves 0 t (omega arith)) in
+    let more = departing_section station (n + 1) true arrive (done ++ t ∷ []) coming s (subst (AreTrains station) (sym (append_assoc done (t ∷ []) coming)) h) (All-tail (λ r. is_standing r ≡ false) t coming moves) in
+    read_on station (listed arrive done b) (listed arrive (done ++ t ∷ []) true) n (moving_row station (codes "depart") t) (map (moving_row station (codes "depart")) coming) _
     (depart_ok n station (listed arrive done b) (listed arrive done b) (moving_row station (codes "depart") t) t done (done ++ t ∷ []) refl refl refl one)
-    (more ∙ ap (λ l. Ok (listed arrive l (moves_after true todo))) (append_assoc done (t ∷ []) todo) ∙ ap (λ m. Ok (listed arrive (done ++ t ∷ todo) m)) (still_moves todo))
+    (more ∙ ap (λ l. Ok (listed arrive l (moves_after true coming))) (append_assoc done (t ∷ []) coming) ∙ ap (λ m. Ok (listed arrive (done ++ t ∷ coming) m)) (still_moves coming))
 
 first_again : answer 1 (first_of first_row) ≡ Ok (listed [] [] false)
 unfolding first_of decimal_of is_within

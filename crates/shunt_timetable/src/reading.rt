@@ -320,14 +320,8 @@ impl Listed {
     }
 }
 
-/// The timetable that the records state over this station, or their first fault.
-///
-/// The error Memory is want of memory.
-pub fn read_timetable(
-    alloc: Global,
-    station: &Station,
-    rows: &[Row],
-) -> Result<Timetable, ReadError>
+// The timetable that the records state over this station, or their first fault.
+fn timetable_in(alloc: Global, station: &Station, rows: &[Row]) -> Result<Timetable, ReadError>
     requires { IsStation station.now }
     ensures stated { Gives (λ t. t) result (reading (timetable_format station.now) rows.now) }
     ensures formed { IfOk result (IsTimetable station.now) }
@@ -341,4 +335,20 @@ pub fn read_timetable(
         arrive: Items::from_vec(listed.arrive),
         depart: Items::from_vec(listed.depart),
     })
+}
+
+/// The timetable that the records state over this station, which is well formed, or exactly their first fault.
+///
+/// The station needs to be well formed. Both versions of the file are read. `Fault` is the least fault by record, then
+/// field, then kind; `Memory` is want of memory.
+pub fn read_timetable(
+    alloc: Global,
+    station: &Station,
+    rows: &Vec<Row>,
+) -> Result<Timetable, ReadError>
+    requires { IsStation station.now }
+    ensures stated { Gives (λ t. t) result (reading (timetable_format station.now) rows.now.items) }
+    ensures formed { IfOk result (IsTimetable station.now) }
+{
+    timetable_in(alloc, station, rows)
 }

@@ -1,5 +1,7 @@
-//! Measures, by the first word: `records FILE`. Without words it prints nothing.
+//! Measures, by the first word: `records FILE` and `tracks`. Without words it prints nothing.
 #![tactic(auto)]
+
+mod tracks;
 
 use shunt_rows::records;
 use shunt_store::{DiskStore, read_all};
@@ -7,6 +9,7 @@ use std::process::ExitCode;
 use std::rt::{Clock, Env, Files};
 use std::time::CpuClock;
 use std::{env, io};
+use tracks::measure_tracks;
 
 /// The longest file that is measured, in bytes.
 const MOST_BYTES: u64 = 100_000_000;
@@ -33,11 +36,16 @@ fn measure_records(
 fn main(rt: HostRuntime) -> io::Result<()> {
     let mut words = env::args(&rt)?;
     let _program = words.next();
-    let (Some(bench), Some(name)) = (words.next(), words.next()) else {
+    let Some(bench) = words.next() else {
         return Ok(());
     };
-    if bench.as_str() == "records" {
-        measure_records(&rt, name.as_str())?;
+    match (bench.as_str(), words.next()) {
+        ("records", Some(name)) => measure_records(&rt, name.as_str()),
+        ("tracks", _) => {
+            measure_tracks(&rt, 100, 320)?;
+            measure_tracks(&rt, 400, 80)?;
+            measure_tracks(&rt, 1600, 20)
+        }
+        _ => Ok(()),
     }
-    Ok(())
 }

@@ -1,0 +1,5 @@
+pub mod Leasts
+pub mod Passing
+pub mod Times
+pub mod Sound
+pub mod Small

@@ -1,0 +1,8 @@
+-- The definitions of this crate.
+pub mod Below
+pub mod Shapes
+pub mod Ways
+pub mod Blocks
+pub mod Costs
+pub mod Least
+pub mod Standing

@@ -1,0 +1,56 @@
+-- Ways between trains and tracks.
+use Rattle.std.specs.Prelude.{ℕ, ◌+◌, ◌==◌, Bool, Option, Some, None, if◌then◌else◌}
+use Rattle.shunt_base.specs.declared.ids.ArrId.{ArrId}
+use Rattle.shunt_base.specs.declared.ids.DepId.{DepId}
+use Rattle.shunt_base.specs.declared.ids.TrackId.{TrackId}
+use Rattle.shunt_base.specs.declared.ids.Side.{Side}
+use Rattle.shunt_base.specs.declared.ids.Side.TheVariants.{A, B}
+use Rattle.shunt_instance.specs.declared.records.Station.{Station}
+use Rattle.shunt_instance.specs.declared.records.Origin.{Origin}
+use Rattle.shunt_instance.specs.declared.records.Origin.TheVariants as origin
+use Rattle.shunt_instance.specs.defs.Words.{train_at, route_cost, permits}
+use Rattle.shunt_instance.specs.defs.Instance.{Night, unit_at}
+use Rattle.shunt_blocks.specs.declared.records.Shape.{Shape}
+use Rattle.shunt_blocks.specs.declared.records.Block.{Block}
+use Rattle.shunt_blocks.specs.declared.records.Park.{Park}
+use Rattle.shunt_blocks.specs.defs.Below.{all_below}
+use Rattle.shunt_blocks.specs.defs.Shapes.{unit_from}
+
+-- the cost of the way from a train's origin to a track by a side: the route from its platform, or 0 by B to the track on which it stands
+abbrev pub way_from : Station → Origin → TrackId → Side → Option ℕ
+way_from s (origin.Platform p) track side = route_cost s p track side
+way_from s (origin.Track own) track A = None
+way_from s (origin.Track own) track B = if own.0 == track.0 then Some 0 else None
+
+-- the cost of the way to a departing train, the route from its platform
+abbrev pub way_to : Station → Origin → TrackId → Side → Option ℕ
+way_to s (origin.Platform p) track side = route_cost s p track side
+way_to s (origin.Track own) track side = None
+
+-- the cost of the way in of an arriving train
+abbrev pub park_way_in : Night → ArrId → Park → Option ℕ
+park_way_in night arr k = way_from night.station (train_at night.arrive arr.0).origin k.track k.side_in
+
+-- the cost of the way out to a departing train
+abbrev pub park_way_out : Night → DepId → Park → Option ℕ
+park_way_out night dep k = way_to night.station (train_at night.depart dep.0).origin k.track k.side_out
+
+-- the same where something is parked; what isn't parked has no way
+abbrev pub option_way_in : Night → ArrId → Option Park → Option ℕ
+option_way_in night arr None = None
+option_way_in night arr (Some k) = park_way_in night arr k
+
+abbrev pub option_way_out : Night → DepId → Option Park → Option ℕ
+option_way_out night dep None = None
+option_way_out night dep (Some k) = park_way_out night dep k
+
+-- the cost of a block's way in and of its way out
+abbrev pub way_in : Night → Block → Option ℕ
+way_in night b = option_way_in night b.arr b.park
+
+abbrev pub way_out : Night → Block → Option ℕ
+way_out night b = option_way_out night b.dep b.park
+
+-- whether a track permits the types of all units of a shape
+abbrev pub permits_units : Night → Shape → TrackId → Bool
+permits_units night s track = all_below s.n (λ k. permits night.station track (unit_at night (unit_from night s + k)).kind)

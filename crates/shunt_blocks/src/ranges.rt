@@ -1,0 +1,168 @@
+// Which blocks are in range, and which are blocks by the rules.
+ghost use Rattle.std.specs.Prelude.{◌≡◌, ◌<◌, ◌≤◌, ◌+◌, ◌↔◌, ℕ, IsTrue};
+ghost use Rattle.shunt_instance.specs.defs.Instance.{unit_total, position_total};
+ghost use Rattle.shunt_blocks.specs.defs.Shapes.{AreRunsWithin, IsWithinTrains, IsInRange, IsPair, IsShape, shape_of, unit_from, position_from};
+ghost use Rattle.shunt_blocks.specs.defs.Blocks.{IsBlock, IsOption, have_one_type, type_fault};
+
+use crate::records::{Block, Shape, shape_of};
+use crate::ways::{is_option, permits_units};
+use shunt_instance::Instance;
+
+/// Whether both trains are there, and both runs end inside their trains.
+pub(crate) fn are_runs_within(instance: &Instance, shape: Shape) -> bool
+    ensures { IsTrue result ↔ AreRunsWithin instance.now shape }
+{
+    if shape.arr.0 as usize >= instance.arrivals() {
+        return false;
+    }
+    if shape.dep.0 as usize >= instance.departures() {
+        return false;
+    }
+    if shape.p < 1 {
+        return false;
+    }
+    if shape.n < 1 {
+        return false;
+    }
+    if shape.q < 1 {
+        return false;
+    }
+    let units = instance.arrive(shape.arr).units.len();
+    if shape.p as usize + shape.n as usize > units + 1 {
+        return false;
+    }
+    let positions = instance.depart(shape.dep).units.len();
+    shape.q as usize + shape.n as usize <= positions + 1
+}
+
+/// Whether trains, runs and track are the instance's.
+fn is_within_trains(instance: &Instance, block: &Block) -> bool
+    ensures { IsTrue result ↔ IsWithinTrains instance.now block.now }
+{
+    if !are_runs_within(instance, shape_of(block)) {
+        return false;
+    }
+    match block.park {
+        Some(park) => (park.track.0 as usize) < instance.station().tracks.len(),
+        None => true,
+    }
+}
+
+/// Whether the block's id is from 1 to 1,000,000, its trains and its track are the instance's, and both its runs begin at
+/// place 1 or later, have a unit at least and end inside their trains.
+pub fn in_range(instance: &Instance, block: &Block) -> bool
+    ensures { IsTrue result ↔ IsInRange instance.now block.now }
+{
+    if block.id < 1 {
+        return false;
+    }
+    if block.id > 1_000_000 {
+        return false;
+    }
+    is_within_trains(instance, block)
+}
+
+/// The number of the first unit.
+pub(crate) fn unit_from(instance: &Instance, shape: Shape) -> usize
+    requires { AreRunsWithin instance.now shape }
+    ensures exact { result ≡ unit_from instance.now shape }
+    ensures within { result + shape.n ≤ unit_total instance.now }
+    ensures small { result + shape.n ≤ 160 }
+    ensures few { shape.n ≤ 8 }
+{
+    // Both calls tell bounds: there are at most 160 units, and 8 in a train.
+    instance.units();
+    instance.arrive(shape.arr);
+    instance.first_unit(shape.arr) + (shape.p - 1) as usize
+}
+
+/// The number of the first position.
+pub(crate) fn position_from(instance: &Instance, shape: Shape) -> usize
+    requires { AreRunsWithin instance.now shape }
+    ensures exact { result ≡ position_from instance.now shape }
+    ensures within { result + shape.n ≤ position_total instance.now }
+    ensures small { result + shape.n ≤ 160 }
+{
+    // There are at most 160 positions, which bounds the sum.
+    instance.positions();
+    instance.first_position(shape.dep) + (shape.q - 1) as usize
+}
+
+/// Whether a unit and a position are matchable.
+fn is_pair(instance: &Instance, u: usize, v: usize) -> bool
+    requires unit { u < unit_total instance.now }
+    requires position { v < position_total instance.now }
+    ensures { IsTrue result ↔ IsPair instance.now u v }
+{
+    if instance.unit(u).kind.0 != instance.position(v).kind.0 {
+        return false;
+    }
+    instance.ready(u) <= instance.leaves(v).number()
+}
+
+/// Whether the units and positions are matchable pair by pair.
+fn are_pairs(instance: &Instance, shape: Shape) -> bool
+    requires { AreRunsWithin instance.now shape }
+    ensures { IsTrue result ↔ ((k : ℕ) → k < shape.n → IsPair instance.now (unit_from instance.now shape + k) (position_from instance.now shape + k)) }
+{
+    let from = unit_from(instance, shape);
+    let to = position_from(instance, shape);
+    for k in 0..shape.n as usize {
+        if !is_pair(instance, from + k, to + k) {
+            return false;
+        }
+    }
+    true
+}
+
+/// Whether this is a shape of the instance.
+fn is_shape(instance: &Instance, shape: Shape) -> bool
+    ensures { IsTrue result ↔ IsShape instance.now shape }
+{
+    if !are_runs_within(instance, shape) {
+        return false;
+    }
+    are_pairs(instance, shape)
+}
+
+/// Whether the block is a shape with one of its options and an id. It isn't where it is out of range.
+pub fn fits(instance: &Instance, block: &Block) -> bool
+    ensures { IsTrue result ↔ IsBlock instance.now block.now }
+{
+    if !in_range(instance, block) {
+        return false;
+    }
+    let shape = shape_of(block);
+    if !is_shape(instance, shape) {
+        return false;
+    }
+    is_option(instance, shape, block.park)
+}
+
+/// Whether each unit has the type of its position.
+fn have_one_type(instance: &Instance, shape: Shape) -> bool
+    requires { AreRunsWithin instance.now shape }
+    ensures { result ≡ have_one_type instance.now shape }
+{
+    let from = unit_from(instance, shape);
+    let to = position_from(instance, shape);
+    let mut all = true;
+    for k in 0..shape.n as usize {
+        all = all && instance.unit(from + k).kind.0 == instance.position(to + k).kind.0;
+    }
+    all
+}
+
+/// Whether a pair of the block has two types, or the block is parked on a track that doesn't permit the type of one of its
+/// units.
+pub fn type_fault(instance: &Instance, block: &Block) -> bool
+    requires { IsWithinTrains instance.now block.now }
+    ensures { result ≡ type_fault instance.now block.now }
+{
+    let shape = shape_of(block);
+    let one_type = have_one_type(instance, shape);
+    match block.park {
+        Some(park) => !one_type || !permits_units(instance, shape, park.track),
+        None => !one_type,
+    }
+}

@@ -44,12 +44,12 @@ no_type = record { name = []; length = 0; turn = 0 }
 turn_some : (s : Station) (kind : TypeId) → IsStation s → kind.0 < length s.types → 1 ≤ turn_of s kind
 turn_some s kind h lt = omega (arith, get_or-map (λ (t : UnitType). t.turn) s.types kind.0 no_type 0 lt, (h.types kind.0 no_type lt).turns)
 
-unit_is : (night : Night) (s : Shape) (k : ℕ) → AreRunsWithin night s → k < s.n → unit_at night (unit_from night s + k) ≡ make_unit s.arr.0 (s.p + k) (kind_at (train_at night.arrive s.arr.0) (s.p + k))
+pub unit_is : (night : Night) (s : Shape) (k : ℕ) → AreRunsWithin night s → k < s.n → unit_at night (unit_from night s + k) ≡ make_unit s.arr.0 (s.p + k) (kind_at (train_at night.arrive s.arr.0) (s.p + k))
 unit_is night s k h lt =
     let at : first_unit night s.arr.0 + (s.p + k - 1) ≡ unit_from night s + k = omega (arith, h.p) in
     subst (λ (u : ℕ). unit_at night u ≡ make_unit s.arr.0 (s.p + k) (kind_at (train_at night.arrive s.arr.0) (s.p + k))) at (unit_there night s.arr.0 (s.p + k) h.arr (omega (arith, h.p)) (omega (arith, h.units, lt)))
 
-position_is : (night : Night) (s : Shape) (k : ℕ) → AreRunsWithin night s → k < s.n → position_at night (position_from night s + k) ≡ make_position s.dep.0 (s.q + k) (kind_at (train_at night.depart s.dep.0) (s.q + k))
+pub position_is : (night : Night) (s : Shape) (k : ℕ) → AreRunsWithin night s → k < s.n → position_at night (position_from night s + k) ≡ make_position s.dep.0 (s.q + k) (kind_at (train_at night.depart s.dep.0) (s.q + k))
 position_is night s k h lt =
     let at : first_position night s.dep.0 + (s.q + k - 1) ≡ position_from night s + k = omega (arith, h.q) in
     subst (λ (v : ℕ). position_at night v ≡ make_position s.dep.0 (s.q + k) (kind_at (train_at night.depart s.dep.0) (s.q + k))) at (position_there night s.dep.0 (s.q + k) h.dep (omega (arith, h.q)) (omega (arith, h.positions, lt)))

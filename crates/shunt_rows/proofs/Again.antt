@@ -47,7 +47,7 @@ plain_field : (field : List ℕ) → AllByRecursion (λ b. IsTrue (is_plain b)) 
 plain_field [] all = refl
 plain_field (b ∷ field) all = or_from _ _ (plain_byte b all.0) (plain_field field all.1)
 
-field_is : (field : List ℕ) → AllByRecursion (λ b. IsTrue (is_plain b)) field → field_text default_writer field ≡ field
+pub field_is : (field : List ℕ) → AllByRecursion (λ b. IsTrue (is_plain b)) field → field_text default_writer field ≡ field
 field_is field all = ap (λ t. cond t (quoted default_writer field) field) (plain_field field all)
 
 first_byte : (x : ℕ) (field : List ℕ) (fields : List (List ℕ)) → AllByRecursion (λ b. IsTrue (is_plain b)) (x ∷ field) → (rest : List ℕ) × (row_text default_writer ((x ∷ field) ∷ fields) ≡ x ∷ rest)

@@ -1,9 +1,12 @@
 pub mod Again
 pub mod InOrder
 pub mod Joins
+pub mod Keeping
 pub mod Least
 pub mod Nonempty
 pub mod Places
+pub mod Plain
 pub mod Readings
 pub mod SampleTables
 pub mod Whole
+pub mod Widths

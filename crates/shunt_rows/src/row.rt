@@ -70,7 +70,7 @@ pub fn records(alloc: Global, bytes: &[u8]) -> Result<Vec<Row>, AllocError>
 
 /// The number of the record at this place in a list, counted from 1.
 ///
-/// A list of 2^32 records fits no memory, so from there on the answer is want of memory.
+/// From the place 2^32 - 1 on, the answer is want of memory.
 pub fn record_number(place: usize) -> Result<u32, AllocError>
     ensures ok { IfOk result (λ n. n ≡ place + 1) }
     ensures err { OnErr result (2 ^ 32 ≤ place + 1) }

@@ -1,10 +1,12 @@
 // The text of records.
 ghost use Rattle.std.specs.Prelude.{◌≡◌, ◌≢◌, [], ◌∷◌, ◌++◌, IfOk, OnOk};
+ghost use Rattle.std.specs.Fmt.{decimal};
 ghost use Rattle.csv.specs.Records.{fields_of};
 ghost use Rattle.shunt_rows.specs.defs.Records.{text_of_row, ReadsBack};
-ghost use Rattle.shunt_rows.specs.defs.Written.{Written};
+ghost use Rattle.shunt_rows.specs.defs.Written.{Written, side_text};
 
 use csv::{ByteRecord, WriterBuilder};
+use shunt_base::Side;
 use std::alloc::{AllocError, Global};
 use std::marker::Model;
 
@@ -66,6 +68,24 @@ impl RowWriter {
             return Err(AllocError);
         }
         Ok(())
+    }
+
+    /// Adds a number as a field of the open row, in plain decimals.
+    pub fn number(&mut self, number: u64) -> Result<(), AllocError>
+        ensures { OnOk result (self.new ≡ record self.old { row = self.old.row ++ decimal number ∷ [] }) }
+    {
+        let text = format!(in self.alloc; "{number}")?;
+        self.field(text.as_bytes())
+    }
+
+    /// Adds a side as a field of the open row: `A` or `B`.
+    pub fn side(&mut self, side: Side) -> Result<(), AllocError>
+        ensures { OnOk result (self.new ≡ record self.old { row = self.old.row ++ side_text side ∷ [] }) }
+    {
+        match side {
+            Side::A => self.field(b"A"),
+            Side::B => self.field(b"B"),
+        }
     }
 
     /// Ends the open row, which has a field.

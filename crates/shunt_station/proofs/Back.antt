@@ -6,7 +6,7 @@ use Rattle.std.specs.Option.{is_some, unwrap_or}
 use Rattle.std.specs.Fmt.{decimal}
 use Rattle.std.specs.Char.{is_ascii_digit}
 use Rattle.std.specs.Str.Parse.{digits_value}
-use Rattle.std.proofs.lemmas.List.{append-nil, append_assoc, length-map}
+use Rattle.std.proofs.lemmas.List.{map-id, append-nil, append_assoc, length-map}
 use Rattle.std.proofs.lemmas.Slice.Eq.{bytes_eq-Decides}
 use Rattle.std.proofs.lemmas.Bool.{true≢false, lt-ltb, le-leb, cases_Bool}
 use Rattle.std.proofs.lemmas.Bool.Decides.{nat_tests}
@@ -32,7 +32,9 @@ use Rattle.shunt_instance.specs.defs.Words.{AreDistinct, is_open_at, joins, same
 use Rattle.shunt_instance.specs.defs.Wellformed.{IsUnitType, IsTrack, IsRoute, IsPermit, IsStation}
 use Rattle.shunt_instance.proofs.Found.{found_there}
 use Rattle.shunt_station.specs.defs.Stating.{Draft, Ends, empty_station, first_of, type_of_name, platform_of_name, track_number, ends_of, type_of, platform_of, track_of, opens, stands, route_of, is_permitted, permit_of, cost_of, later_of, station_format}
-use Rattle.shunt_station.specs.defs.Writing.{type_name, platform_name, track_name, side_text, ends_text, head_row, type_row, platform_row, track_row, route_row, permit_row, cost_row, rows_of, ReadsAsStation}
+use Rattle.shunt_rows.specs.defs.Written.{side_text}
+use Rattle.shunt_rows.proofs.Plain.{side_read}
+use Rattle.shunt_station.specs.defs.Writing.{type_name, platform_name, track_name, ends_text, head_row, type_row, platform_row, track_row, route_row, permit_row, cost_row, rows_of, ReadsAsStation}
 use Rattle.shunt_rows.specs.defs.Records.{records_of, text_of_rows, ReadsBack}
 use Rattle.shunt_rows.proofs.Again.{again}
 use Rattle.shunt_station.proofs.Plain.{station_plain}
@@ -114,10 +116,6 @@ not_before f test (x ∷ xs) zs y tells all =
     (one_is_no (test x) (λ e. all 0 (suc (length xs)) (f y) (omega arith) (omega (arith, length-map (xs ++ y ∷ zs) f, length-append xs (y ∷ zs))) (tells x e ∙ sym (in_middle f xs zs y (f y)))))
     (not_before f test xs zs y tells (λ i j d lt small. all (suc i) (suc j) d (omega arith) (omega arith)))
 
-same_list : {X : Type 0} (xs : List X) → map (λ x. x) xs ≡ xs
-same_list [] = refl
-same_list (x ∷ xs) = ap (λ l. x ∷ l) (same_list xs)
-
 by_name : (name other : List ℕ) → bytes_eq other name ≡ true → other ≡ name
 by_name name other e = (bytes_eq-Decides other name).0 e
 
@@ -158,7 +156,7 @@ platform_read : (s : Station) → IsStation s → (n : ℕ) (xs : List (List ℕ
 unfolding later_of platform_of is_within AllHold
 platform_read s f n xs y zs e =
     let is = of_middle IsName s.platforms xs zs y f.platforms e in
-    let apart : AreDistinct (map (λ p. p) (xs ++ y ∷ zs)) = subst AreDistinct (e ∙ sym (same_list (xs ++ y ∷ zs))) f.platform_names in
+    let apart : AreDistinct (map (λ p. p) (xs ++ y ∷ zs)) = subst AreDistinct (e ∙ sym (map-id (xs ++ y ∷ zs))) f.platform_names in
     let new = not_before (λ p. p) (λ p. bytes_eq p y) xs zs y (λ p. by_name y p) apart in
     let m = platform_of (partial s s.types xs [] [] []) (platform_row y) in
     holding n m.checks m.value (refl, (fewer s.platforms xs zs y 30 f.few_platforms e, (name_read y is, (ap not new, tt))))
@@ -189,11 +187,6 @@ track_read s f n xs y zs e =
     let same = ap (λ a. track_from y.name a (unwrap_or (ends_of (ends_text y.side_a y.side_b)) both_ends)) size.value ∙ ap (λ o. track_from y.name y.length (unwrap_or o both_ends)) sides in
     holding n m.checks m.value (refl, (fewer s.tracks xs zs y 60 f.few_tracks e, (name_read y.name is.name, (ap not new, (size.there, (size.range, (ap is_some sides, tt)))))))
     ∙ ap (λ (t : Track). Ok (partial s s.types s.platforms (xs ++ t ∷ []) [] [])) same
-
-side_read : (q : Side) → side_of (side_text q) ≡ Some q
-unfolding side_of
-side_read A = refl
-side_read B = refl
 
 same_way : (s q : Side) → same_side s q ≡ true → s ≡ q
 same_way A A e = refl
@@ -243,8 +236,8 @@ platform_there : (s : Station) (ts : List UnitType) (ks : List Track) (rs : List
     → platform_of_name (partial s ts s.platforms ks rs qs).station (platform_name s.platforms i) ≡ Some i
 unfolding platform_of_name
 platform_there s ts ks rs qs i f lt =
-    ap (option_map platform_id) (found_there (λ (p : List ℕ). p) s.platforms (platform_name s.platforms i) i.0 [] (subst AreDistinct (sym (same_list s.platforms)) f.platform_names)
-    (subst (λ (l : List (List ℕ)). slice_get l i.0 ≡ Some (platform_name s.platforms i)) (sym (same_list s.platforms)) (slice_get-get_or s.platforms i.0 [] lt)))
+    ap (option_map platform_id) (found_there (λ (p : List ℕ). p) s.platforms (platform_name s.platforms i) i.0 [] (subst AreDistinct (sym (map-id s.platforms)) f.platform_names)
+    (subst (λ (l : List (List ℕ)). slice_get l i.0 ≡ Some (platform_name s.platforms i)) (sym (map-id s.platforms)) (slice_get-get_or s.platforms i.0 [] lt)))
 
 abbrev some_track : Track
 some_track = record { name = []; length = 0; side_a = false; side_b = false }
@@ -304,7 +297,7 @@ permit_read s f n xs y zs e =
     let k = type_there s s.platforms s.tracks s.routes xs y.kind f is.kind in
     let tv = ap (λ o. unwrap_or o (track_id 0)) t in
     let kv = ap (λ o. unwrap_or o (type_id 0)) k in
-    let apart : AreDistinct (map (λ p. p) (xs ++ y ∷ zs)) = subst AreDistinct (e ∙ sym (same_list (xs ++ y ∷ zs))) f.permits_differ in
+    let apart : AreDistinct (map (λ p. p) (xs ++ y ∷ zs)) = subst AreDistinct (e ∙ sym (map-id (xs ++ y ∷ zs))) f.permits_differ in
     let new = not_before (λ p. p) (λ p. p.track.0 == y.track.0 && p.kind.0 == y.kind.0) xs zs y (names_tell y) apart in
     let m = permit_of d (permit_row s y) in
     let read_kind = unwrap_or (type_of_name d.station (type_name s.types y.kind)) (type_id 0) in

@@ -1,5 +1,5 @@
 -- What the records of a station file state is well formed.
-use Rattle.std.proofs.Common.{◌≡◌, ◌≢◌, ℕ, zero, suc, ◌+◌, ◌<◌, ◌≤◌, Bool, true, false, not, ◌||◌, ◌&&◌, List, [], ◌∷◌, ◌++◌, length, length-append, map, get_or, refl, sym, ap, subst, ◌∙◌, arith, ⊎_elim}
+use Rattle.std.proofs.Common.{◌≡◌, ◌≢◌, ℕ, zero, suc, ◌<◌, ◌≤◌, Bool, true, false, not, ◌||◌, ◌&&◌, List, [], ◌∷◌, ◌++◌, length, length-append, map, get_or, refl, sym, ap, subst, ◌∙◌, arith}
 use Rattle.std.specs.Prelude.{Result, Ok, Err, IfOk, bytes_eq, All, AllPairs, ◌==◌, Option, Some, None, option_map, position, if◌then◌else◌, codes, slice_get}
 use Rattle.std.specs.List.{list_any}
 use Rattle.std.specs.Option.{is_some, unwrap_or}
@@ -22,10 +22,9 @@ use Rattle.shunt_rows.specs.declared.fault.ReadError.{ReadError}
 use Rattle.shunt_rows.specs.defs.Records.{at}
 use Rattle.shunt_rows.specs.defs.Checks.{Judged, found, answer}
 use Rattle.shunt_rows.specs.defs.Fields.{is_word, is_within, number_in, side_in}
-use Rattle.shunt_rows.specs.defs.Formats as formats
-use Rattle.shunt_rows.specs.defs.Formats.{Format, in_state, ends, reading, reading_from}
+use Rattle.shunt_rows.specs.defs.Formats.{reading}
 use Rattle.shunt_rows.specs.defs.Given.{Gives}
-use Rattle.shunt_rows.proofs.Least.{choice}
+use Rattle.shunt_rows.proofs.Keeping.{all_kept}
 use Rattle.shunt_instance.specs.declared.records.UnitType.{UnitType}
 use Rattle.shunt_instance.specs.declared.records.Track.{Track}
 use Rattle.shunt_instance.specs.declared.records.Route.{Route}
@@ -93,8 +92,8 @@ none_all P k d lt = absurd (omega arith)
 all_push : {X : Type 0} (P : X → Type 0) (xs : List X) (y : X) → All P xs → P y → All P (xs ++ y ∷ [])
 all_push P xs y all p = All-append P xs (y ∷ []) all (All-cons P y [] p (none_all P))
 
-all_kept : {X : Type 0} (P Q : X → Type 0) (xs : List X) → ((x : X) → P x → Q x) → All P xs → All Q xs
-all_kept P Q xs keeps all k d lt = keeps _ (all k d lt)
+each_kept : {X : Type 0} (P Q : X → Type 0) (xs : List X) → ((x : X) → P x → Q x) → All P xs → All Q xs
+each_kept P Q xs keeps all k d lt = keeps _ (all k d lt)
 
 same_name : (name other : List ℕ) → other ≡ name → bytes_eq other name ≡ true
 same_name name other e = (bytes_eq-Decides other name).1 e
@@ -154,9 +153,9 @@ type_formed n d t row s e =
       few_tracks = s.few_tracks;
       tracks = s.tracks;
       track_names = s.track_names;
-      routes = all_kept (IsRoute d.station) (IsRoute next) d.station.routes (route_kept d.station next grows) s.routes;
+      routes = each_kept (IsRoute d.station) (IsRoute next) d.station.routes (route_kept d.station next grows) s.routes;
       ways = s.ways;
-      permits = all_kept (IsPermit d.station) (IsPermit next) d.station.permits (permit_kept d.station next grows) s.permits;
+      permits = each_kept (IsPermit d.station) (IsPermit next) d.station.permits (permit_kept d.station next grows) s.permits;
       permits_differ = s.permits_differ;
       split = s.split;
       couple = s.couple;
@@ -184,9 +183,9 @@ platform_formed n d t row s e =
       few_tracks = s.few_tracks;
       tracks = s.tracks;
       track_names = s.track_names;
-      routes = all_kept (IsRoute d.station) (IsRoute next) d.station.routes (route_kept d.station next grows) s.routes;
+      routes = each_kept (IsRoute d.station) (IsRoute next) d.station.routes (route_kept d.station next grows) s.routes;
       ways = s.ways;
-      permits = all_kept (IsPermit d.station) (IsPermit next) d.station.permits (permit_kept d.station next grows) s.permits;
+      permits = each_kept (IsPermit d.station) (IsPermit next) d.station.permits (permit_kept d.station next grows) s.permits;
       permits_differ = s.permits_differ;
       split = s.split;
       couple = s.couple;
@@ -235,9 +234,9 @@ track_formed n d t row s e =
       few_tracks = let lt : length d.station.tracks < 60 = ltb-true _ _ room.0 in omega (arith, length-append d.station.tracks (t0 ∷ []));
       tracks = all_push IsTrack d.station.tracks t0 s.tracks (record { name = name_from (at row 2) name.0; some = long.0; long = long.1; open_at = ends_open (at row 4) ends (there all_open _ sides.0) });
       track_names = distinct_push (λ u. u.name) (λ u. bytes_eq u.name (at row 2)) d.station.tracks t0 (λ u. same_name (at row 2) u.name) s.track_names (negated _ new.0);
-      routes = all_kept (IsRoute d.station) (IsRoute next) d.station.routes (route_kept d.station next grows) s.routes;
+      routes = each_kept (IsRoute d.station) (IsRoute next) d.station.routes (route_kept d.station next grows) s.routes;
       ways = s.ways;
-      permits = all_kept (IsPermit d.station) (IsPermit next) d.station.permits (permit_kept d.station next grows) s.permits;
+      permits = each_kept (IsPermit d.station) (IsPermit next) d.station.permits (permit_kept d.station next grows) s.permits;
       permits_differ = s.permits_differ;
       split = s.split;
       couple = s.couple;
@@ -326,9 +325,9 @@ route_formed n d t row s e =
       few_tracks = s.few_tracks;
       tracks = s.tracks;
       track_names = s.track_names;
-      routes = all_push (IsRoute next) d.station.routes r0 (all_kept (IsRoute d.station) (IsRoute next) d.station.routes (route_kept d.station next grows) s.routes) is;
+      routes = all_push (IsRoute next) d.station.routes r0 (each_kept (IsRoute d.station) (IsRoute next) d.station.routes (route_kept d.station next grows) s.routes) is;
       ways = distinct_push way_of (joins mp.value mt.value ms.value) d.station.routes r0 (joins_own r0) s.ways (negated _ new.0);
-      permits = all_kept (IsPermit d.station) (IsPermit next) d.station.permits (permit_kept d.station next grows) s.permits;
+      permits = each_kept (IsPermit d.station) (IsPermit next) d.station.permits (permit_kept d.station next grows) s.permits;
       permits_differ = s.permits_differ;
       split = s.split;
       couple = s.couple;
@@ -360,9 +359,9 @@ permit_formed n d t row s e =
       few_tracks = s.few_tracks;
       tracks = s.tracks;
       track_names = s.track_names;
-      routes = all_kept (IsRoute d.station) (IsRoute next) d.station.routes (route_kept d.station next grows) s.routes;
+      routes = each_kept (IsRoute d.station) (IsRoute next) d.station.routes (route_kept d.station next grows) s.routes;
       ways = s.ways;
-      permits = all_push (IsPermit next) d.station.permits p0 (all_kept (IsPermit d.station) (IsPermit next) d.station.permits (permit_kept d.station next grows) s.permits) is;
+      permits = all_push (IsPermit next) d.station.permits p0 (each_kept (IsPermit d.station) (IsPermit next) d.station.permits (permit_kept d.station next grows) s.permits) is;
       permits_differ = plain_push (λ p. p.track.0 == mt.value.0 && p.kind.0 == mk.value.0) d.station.permits p0 (names_own p0) s.permits_differ (negated _ new.0);
       split = s.split;
       couple = s.couple;
@@ -393,9 +392,9 @@ cost_formed n d t row s e =
       few_tracks = s.few_tracks;
       tracks = s.tracks;
       track_names = s.track_names;
-      routes = all_kept (IsRoute d.station) (IsRoute next) d.station.routes (route_kept d.station next grows) s.routes;
+      routes = each_kept (IsRoute d.station) (IsRoute next) d.station.routes (route_kept d.station next grows) s.routes;
       ways = s.ways;
-      permits = all_kept (IsPermit d.station) (IsPermit next) d.station.permits (permit_kept d.station next grows) s.permits;
+      permits = each_kept (IsPermit d.station) (IsPermit next) d.station.permits (permit_kept d.station next grows) s.permits;
       permits_differ = s.permits_differ;
       split = (within 0 1000000 (number_in row 2 0 1000000).value x.0).1;
       couple = (within 0 1000000 (number_in row 3 0 1000000).value y.0).1;
@@ -451,31 +450,10 @@ first_formed d row e =
     let name = next (is_name_text (at row 3)) _ (record { row = 1; field = 3; kind = kinds.Name }) d v.1 in
     subst (λ (u : Draft). IsStation u.station) (value (first_of row).value d name.1) (empty_formed (at row 3) (name_from (at row 3) name.0))
 
--- where reading goes on to a value
-goes_on : {X Y : Type 0} (r : Result X RowFault) (g : X → Result Y RowFault) (z : Y) → formats.◌>>=◌ r g ≡ Ok z → (x : X) × (r ≡ Ok x) × (g x ≡ Ok z)
-goes_on (Ok x) g z e = (x, refl, e)
-goes_on (Err f) g z e = absurd cc
-
-abbrev it_is : Station → Result Station RowFault
-it_is s = Ok s
-
-end_formed : (d : Draft) (n : ℕ) (t : Station) → IsStation d.station → ends station_format d n ≡ Ok t → IsStation t
-end_formed d n t s e = ⊎_elim
-    (λ p. subst IsStation (value d.station t (sym p.1 ∙ e)) s)
-    (λ p. absurd (let f = sym p.1 ∙ e in cc))
-    (choice d.is_costed (it_is d.station) (Err (record { row = n; field = 0; kind = kinds.Missing })))
-
-rows_formed : (d : Draft) (n : ℕ) (rows : List (List (List ℕ))) (t : Station) → IsStation d.station → reading_from station_format d n rows ≡ Ok t → IsStation t
-rows_formed d n [] t s e = end_formed d n t s e
-rows_formed d n (row ∷ rows) t s e =
-    let one = goes_on (answer n (later_of d row)) _ t e in
-    rows_formed one.0 (n + 1) rows t (later_formed n d one.0 row s one.1) one.2
-
 pub station_formed : (rows : List (List (List ℕ))) (t : Station) → reading station_format rows ≡ Ok t → IsStation t
-station_formed [] t e = absurd cc
-station_formed (head ∷ rows) t e =
-    let one = goes_on (answer 1 (first_of head)) _ t e in
-    rows_formed one.0 2 rows t (first_formed one.0 head one.1) one.2
+station_formed rows t e =
+    let l = all_kept station_format (λ d. IsStation d.station) first_formed (λ n d u row s is. later_formed n d u row s is) rows t e in
+    subst IsStation l.value l.has
 
 pub read_formed : (rows : List (List (List ℕ))) (r : Result Station ReadError) → Gives (λ s. s) r (reading station_format rows) → IfOk r IsStation
 read_formed rows (Ok s) h = station_formed rows s h

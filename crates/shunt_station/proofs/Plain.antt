@@ -1,68 +1,24 @@
 -- The records of a station have plain fields.
-use Rattle.std.proofs.Common.{◌≡◌, ℕ, zero, suc, ◌^◌, ◌<◌, Bool, true, false, ◌&&◌, List, [], ◌∷◌, ◌++◌, length, map, get_or, refl, sym, arith, IsTrue}
-use Rattle.std.specs.Prelude.{All, codes, nat_lt}
-use Rattle.std.specs.List.{list_all, AllByRecursion}
-use Rattle.std.specs.Fmt.{decimal}
-use Rattle.std.specs.Char.{is_ascii_digit}
-use Rattle.std.proofs.lemmas.Bool.{ltb-true, true≢false}
-use Rattle.std.proofs.lemmas.Bool.Decides.{nat_tests}
-use Rattle.shunt_base.specs.declared.ids.Side.{Side}
-use Rattle.shunt_base.specs.declared.ids.Side.TheVariants.{A, B}
+use Rattle.std.proofs.Common.{ℕ, zero, suc, ◌<◌, Bool, true, false, List, [], ◌∷◌, ◌++◌, length, map, get_or, refl, arith}
+use Rattle.std.specs.Prelude.{All, codes}
 use Rattle.shunt_base.specs.declared.ids.PlatformId.{PlatformId}
 use Rattle.shunt_base.specs.declared.ids.TrackId.{TrackId}
 use Rattle.shunt_base.specs.declared.ids.TypeId.{TypeId}
-use Rattle.shunt_base.specs.defs.Spelling.{IsName, is_name_byte}
-use Rattle.shunt_base.proofs.Decimal.{spelled}
-use Rattle.shunt_rows.specs.defs.Records.{is_plain, IsPlainField, ArePlain}
+use Rattle.shunt_base.specs.defs.Spelling.{IsName}
+use Rattle.shunt_rows.specs.defs.Records.{IsPlainField, IsPlainRow, ArePlain}
+use Rattle.shunt_rows.proofs.Plain.{plain_name, plain_number, plain_word, plain_side}
 use Rattle.shunt_instance.specs.declared.records.UnitType.{UnitType}
 use Rattle.shunt_instance.specs.declared.records.Track.{Track}
 use Rattle.shunt_instance.specs.declared.records.Route.{Route}
 use Rattle.shunt_instance.specs.declared.records.Permit.{Permit}
 use Rattle.shunt_instance.specs.declared.records.Station.{Station}
 use Rattle.shunt_instance.specs.defs.Wellformed.{IsUnitType, IsTrack, IsRoute, IsPermit, IsStation}
-use Rattle.shunt_station.specs.defs.Writing.{type_name, platform_name, track_name, side_text, ends_text, head_row, type_row, platform_row, track_row, route_row, permit_row, cost_row, rows_of}
-
-abbrev ArePlainBytes : List ℕ → Type 0
-ArePlainBytes field = AllByRecursion (λ b. IsTrue (is_plain b)) field
-
-by_places : {X : Type 0} (P Q : X → Type 0) (xs : List X) → ((x : X) → P x → Q x) → All P xs → AllByRecursion Q xs
-by_places P Q [] h all = tt
-by_places P Q (x ∷ xs) h all = (h x (all 0 x (omega arith)), by_places P Q xs h (λ k d lt. all (suc k) d (omega arith)))
-
-name_byte : (b : ℕ) → IsTrue (is_name_byte b) → IsTrue (is_plain b)
-name_byte b is = cc
-
-digit_byte : (b : ℕ) → IsTrue (is_ascii_digit b) → IsTrue (is_plain b)
-digit_byte b is = grind (arith, nat_tests)
-
-pub plain_name : (name : List ℕ) → IsName name → IsPlainField name
-plain_name name is = (is.0, by_places (λ b. IsTrue (is_name_byte b)) (λ b. IsTrue (is_plain b)) name name_byte is.2)
-
-pub plain_number : (x : ℕ) → x < 10 ^ 18 → IsPlainField (decimal x)
-plain_number x lt = let d = spelled x lt in (d.nonempty, by_places (λ b. IsTrue (is_ascii_digit b)) (λ b. IsTrue (is_plain b)) (decimal x) digit_byte d.digits)
-
-both : (a b : Bool) → (a && b) ≡ true → (a ≡ true) × (b ≡ true)
-both true b e = (refl, e)
-both false b e = absurd (true≢false (sym e))
-
-plain_bytes : (field : List ℕ) → list_all is_plain field ≡ true → ArePlainBytes field
-plain_bytes [] e = tt
-plain_bytes (b ∷ field) e = let p = both (is_plain b) (list_all is_plain field) e in (p.0, plain_bytes field p.1)
-
-pub plain_word : (word : List ℕ) → nat_lt 0 (length word) ≡ true → list_all is_plain word ≡ true → IsPlainField word
-plain_word word some e = (ltb-true 0 (length word) some, plain_bytes word e)
-
-pub plain_side : (q : Side) → IsPlainField (side_text q)
-plain_side A = plain_word (codes "A") refl refl
-plain_side B = plain_word (codes "B") refl refl
+use Rattle.shunt_station.specs.defs.Writing.{type_name, platform_name, track_name, ends_text, head_row, type_row, platform_row, track_row, route_row, permit_row, cost_row, rows_of}
 
 pub plain_ends : (a b : Bool) → IsPlainField (ends_text a b)
 plain_ends true true = plain_word (codes "AB") refl refl
 plain_ends true false = plain_word (codes "A") refl refl
 plain_ends false b = plain_word (codes "B") refl refl
-
-abbrev pub IsPlainRow : List (List ℕ) → Type 0
-IsPlainRow row = (0 < length row) × AllByRecursion IsPlainField row
 
 plain_more : (rows more : List (List (List ℕ))) → ArePlain rows → ArePlain more → ArePlain (rows ++ more)
 plain_more [] more p q = q

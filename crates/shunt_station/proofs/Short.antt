@@ -1,25 +1,23 @@
 -- The text of a station, and its length.
-use Rattle.std.proofs.Common.{◌≡◌, ℕ, suc, ◌+◌, ◌*◌, ◌<◌, ◌≤◌, Bool, true, false, ◌||◌, cond, List, [], ◌∷◌, ◌++◌, length, length-append, map, get_or, refl, sym, ap, ◌∙◌, subst, arith, IsTrue}
-use Rattle.std.specs.Prelude.{All, codes, Result, Ok, Err, IfOk}
-use Rattle.std.specs.List.{list_any, AllByRecursion, IsDistinct}
-use Rattle.std.specs.Fmt.{decimal}
-use Rattle.std.proofs.lemmas.Bool.{ne_eqb, or_from, eqb-true}
-use Rattle.std.proofs.lemmas.Bool.Decides.{nat_tests}
-use Rattle.std.proofs.lemmas.List.{get_or-map, length-map, append_assoc, append-nil}
+use Rattle.std.proofs.Common.{◌≡◌, ℕ, suc, ◌+◌, ◌*◌, ◌<◌, ◌≤◌, Bool, true, false, ◌||◌, List, [], ◌∷◌, ◌++◌, length, length-append, map, get_or, refl, sym, ap, ◌∙◌, subst, arith}
+use Rattle.std.specs.Prelude.{All, Result, Ok, Err, IfOk}
+use Rattle.std.specs.List.{list_any, IsDistinct}
+use Rattle.std.proofs.lemmas.Bool.{ne_eqb, eqb-true}
+use Rattle.std.proofs.lemmas.List.{map-id, get_or-map, length-map, append_assoc, append-nil}
 use Rattle.std.proofs.lemmas.List.Concat.{flat_map-cons}
 use Rattle.std.proofs.lemmas.Fmt.{length-decimal-le}
 use Rattle.std.proofs.lemmas.Map.Keys.{IsDistinct-from_apart}
 use Rattle.std.proofs.lemmas.Map.Steps.{length-le_from_distinct_below}
 use Rattle.std.proofs.Math.Dec.{eqb}
-use Rattle.csv.specs.Writing.{field_text, fields_text, default_writer, needs_byte, quoted, is_blank}
 use Rattle.shunt_base.specs.declared.ids.Side.{Side}
 use Rattle.shunt_base.specs.declared.ids.Side.TheVariants.{A, B}
 use Rattle.shunt_base.specs.declared.ids.PlatformId.{PlatformId}
 use Rattle.shunt_base.specs.declared.ids.TrackId.{TrackId}
 use Rattle.shunt_base.specs.declared.ids.TypeId.{TypeId}
 use Rattle.shunt_base.specs.defs.Spelling.{IsName}
-use Rattle.shunt_rows.specs.defs.Records.{is_plain, IsPlainField, text_of_row, text_of_rows}
+use Rattle.shunt_rows.specs.defs.Records.{text_of_row, text_of_rows}
 use Rattle.shunt_rows.specs.defs.Written.{Written}
+use Rattle.shunt_rows.proofs.Widths.{row_width, rows_width}
 use Rattle.shunt_instance.specs.declared.records.UnitType.{UnitType}
 use Rattle.shunt_instance.specs.declared.records.Track.{Track}
 use Rattle.shunt_instance.specs.declared.records.Route.{Route}
@@ -27,61 +25,20 @@ use Rattle.shunt_instance.specs.declared.records.Permit.{Permit}
 use Rattle.shunt_instance.specs.declared.records.Station.{Station}
 use Rattle.shunt_instance.specs.defs.Words.{AreDistinct, way_of}
 use Rattle.shunt_instance.specs.defs.Wellformed.{IsUnitType, IsTrack, IsRoute, IsPermit, IsStation}
-use Rattle.shunt_station.specs.defs.Writing.{type_name, platform_name, track_name, side_text, ends_text, head_row, type_row, platform_row, track_row, route_row, permit_row, cost_row, rows_of}
-use Rattle.shunt_station.proofs.Plain.{IsPlainRow, platform_named, track_named, type_named, plain_head, plain_type, plain_platform, plain_track, plain_route, plain_permit, plain_cost}
-
-plain_byte : (b : ℕ) → IsTrue (is_plain b) → needs_byte default_writer b ≡ false
-plain_byte b is = grind (arith, nat_tests)
-
-none_needs : (field : List ℕ) → AllByRecursion (λ b. IsTrue (is_plain b)) field → list_any (needs_byte default_writer) field ≡ false
-none_needs [] all = refl
-none_needs (b ∷ field) all = or_from _ _ (plain_byte b all.0) (none_needs field all.1)
-
-field_is : (field : List ℕ) → AllByRecursion (λ b. IsTrue (is_plain b)) field → field_text default_writer field ≡ field
-field_is field all = ap (λ t. cond t (quoted default_writer field) field) (none_needs field all)
-
--- the bytes of fields, with one more for each
-width : List (List ℕ) → ℕ
-width [] = 0
-width (field ∷ fields) = 1 + length field + width fields
-
-fields_length : (fields : List (List ℕ)) → AllByRecursion IsPlainField fields → length (fields_text default_writer fields) ≡ width fields
-unfolding fields_text width
-fields_length [] all = refl
-fields_length (field ∷ fields) all =
-    let rest = fields_length fields all.1 in
-    let here = ap length (field_is field all.0.1) in
-    omega (arith, rest, here, length-append (field_text default_writer field) (fields_text default_writer fields))
-
-row_length : (first second : List ℕ) (fields : List (List ℕ)) → IsPlainRow (first ∷ second ∷ fields) → length (text_of_row (first ∷ second ∷ fields)) ≡ width (first ∷ second ∷ fields)
-unfolding is_blank width
-row_length first second fields all =
-    let rest = fields_length (second ∷ fields) all.1.1 in
-    let here = ap length (field_is first all.1.0.1) in
-    omega (arith, rest, here, length-append (field_text default_writer first) (fields_text default_writer (second ∷ fields)), length-append (field_text default_writer first ++ fields_text default_writer (second ∷ fields)) (10 ∷ []))
-
--- each record of a list is at most so long
-rows_length : {X : Type 0} (P : X → Type 0) (row : X → List (List ℕ)) (most : ℕ) (xs : List X) → ((x : X) → P x → length (text_of_row (row x)) ≤ most) → All P xs → length (text_of_rows (map row xs)) ≤ most * length xs
-rows_length P row most [] h all = omega arith
-rows_length P row most (x ∷ xs) h all =
-    let rest = rows_length P row most xs h (λ k d lt. all (suc k) d (omega arith)) in
-    let here = h x (all 0 x (omega arith)) in
-    let split = ap length (flat_map-cons text_of_row (row x) (map row xs)) in
-    let sum = length-append (text_of_row (row x)) (text_of_rows (map row xs)) in
-    omega (arith, rest, here, split, sum)
+use Rattle.shunt_rows.proofs.Plain.{side_short}
+use Rattle.shunt_station.specs.defs.Writing.{ends_text, head_row, type_row, platform_row, track_row, route_row, permit_row, cost_row, rows_of}
+use Rattle.shunt_station.proofs.Plain.{platform_named, track_named, type_named, plain_head, plain_type, plain_platform, plain_track, plain_route, plain_permit, plain_cost}
 
 type_short : (t : UnitType) → IsUnitType t → length (text_of_row (type_row t)) ≤ 32
-unfolding width
 type_short t is =
-    let w = row_length (codes "type") t.name (decimal t.length ∷ decimal t.turn ∷ []) (plain_type t is) in
+    let w = row_width (type_row t) (plain_type t is) in
     let n = is.name.1 in
     let a = length-decimal-le 4 t.length (omega arith) (let l = is.long in omega arith) (let l = is.long in omega arith) in
     let b = length-decimal-le 4 t.turn (omega arith) (let l = is.turn in omega arith) (let l = is.turn in omega arith) in
     omega (arith, w, n, a, b)
 
 platform_short : (p : List ℕ) → IsName p → length (text_of_row (platform_row p)) ≤ 26
-unfolding width
-platform_short p is = let w = row_length (codes "platform") p [] (plain_platform p is) in let n = is.1 in omega (arith, w, n)
+platform_short p is = let w = row_width (platform_row p) (plain_platform p is) in let n = is.1 in omega (arith, w, n)
 
 ends_short : (a b : Bool) → length (ends_text a b) ≤ 2
 ends_short true true = omega arith
@@ -89,22 +46,16 @@ ends_short true false = omega arith
 ends_short false b = omega arith
 
 track_short : (t : Track) → IsTrack t → length (text_of_row (track_row t)) ≤ 32
-unfolding width
 track_short t is =
-    let w = row_length (codes "track") t.name (decimal t.length ∷ ends_text t.side_a t.side_b ∷ []) (plain_track t is) in
+    let w = row_width (track_row t) (plain_track t is) in
     let n = is.name.1 in
     let a = length-decimal-le 5 t.length (omega arith) (let l = is.long in omega arith) (let l = is.long in omega arith) in
     let b = ends_short t.side_a t.side_b in
     omega (arith, w, n, a, b)
 
-side_short : (q : Side) → length (side_text q) ≤ 1
-side_short A = omega arith
-side_short B = omega arith
-
 route_short : (s : Station) → IsStation s → (r : Route) → IsRoute s r → length (text_of_row (route_row s r)) ≤ 50
-unfolding width
 route_short s f r is =
-    let w = row_length (codes "route") (platform_name s.platforms r.platform) (track_name s.tracks r.track ∷ side_text r.side ∷ decimal r.cost ∷ []) (plain_route s f r is) in
+    let w = row_width (route_row s r) (plain_route s f r is) in
     let n = (platform_named s r.platform f is.platform).1 in
     let m = (track_named s r.track f is.track).1 in
     let a = length-decimal-le 7 r.cost (omega arith) (let l = is.cost in omega arith) (let l = is.cost in omega arith) in
@@ -112,26 +63,23 @@ route_short s f r is =
     omega (arith, w, n, m, a, b)
 
 permit_short : (s : Station) → IsStation s → (p : Permit) → IsPermit s p → length (text_of_row (permit_row s p)) ≤ 41
-unfolding width
 permit_short s f p is =
-    let w = row_length (codes "permit") (track_name s.tracks p.track) (type_name s.types p.kind ∷ []) (plain_permit s f p is) in
+    let w = row_width (permit_row s p) (plain_permit s f p is) in
     let n = (track_named s p.track f is.track).1 in
     let m = (type_named s p.kind f is.kind).1 in
     omega (arith, w, n, m)
 
 cost_short : (s : Station) → IsStation s → length (text_of_row (cost_row s)) ≤ 29
-unfolding width
 cost_short s f =
-    let w = row_length (codes "cost") (decimal s.split) (decimal s.couple ∷ decimal s.unparked ∷ []) (plain_cost s f) in
+    let w = row_width (cost_row s) (plain_cost s f) in
     let a = length-decimal-le 7 s.split (omega arith) (let l = f.split in omega arith) (let l = f.split in omega arith) in
     let b = length-decimal-le 7 s.couple (omega arith) (let l = f.couple in omega arith) (let l = f.couple in omega arith) in
     let c = length-decimal-le 7 s.unparked (omega arith) (let l = f.unparked in omega arith) (let l = f.unparked in omega arith) in
     omega (arith, w, a, b, c)
 
 head_short : (s : Station) → IsStation s → length (text_of_row (head_row s)) ≤ 27
-unfolding width
 head_short s f =
-    let w = row_length (codes "station") (decimal 2) (s.name ∷ []) (plain_head s f) in
+    let w = row_width (head_row s) (plain_head s f) in
     let n = f.name.1 in
     let a = length-decimal-le 1 2 (omega arith) (omega arith) (omega arith) in
     omega (arith, w, n, a)
@@ -232,12 +180,8 @@ pair_tells s f p q is js e =
     let k_same : p.kind.0 ≡ q.kind.0 = omega arith in
     ap (λ k. permit_from (track_id k) p.kind) t_same ∙ ap (λ k. permit_from q.track (type_id k)) k_same
 
-same_list : {X : Type 0} (xs : List X) → map (λ x. x) xs ≡ xs
-same_list [] = refl
-same_list (x ∷ xs) = ap (λ l. x ∷ l) (same_list xs)
-
 few_permits : (s : Station) → IsStation s → length s.permits ≤ 2400
-few_permits s f = few (IsPermit s) (λ p. p) pair_number 2400 (permit_from (track_id 0) (type_id 0)) s.permits (permit_from (track_id 0) (type_id 0)) (subst AreDistinct (sym (same_list s.permits)) f.permits_differ) f.permits (pair_small s f) (pair_tells s f)
+few_permits s f = few (IsPermit s) (λ p. p) pair_number 2400 (permit_from (track_id 0) (type_id 0)) s.permits (permit_from (track_id 0) (type_id 0)) (subst AreDistinct (sym (map-id s.permits)) f.permits_differ) f.permits (pair_small s f) (pair_tells s f)
 
 -- the text of two lists of records
 pub texts_join : (rows more : List (List (List ℕ))) → text_of_rows (rows ++ more) ≡ text_of_rows rows ++ text_of_rows more
@@ -261,11 +205,11 @@ pub station_short : (s : Station) → IsStation s → length (text_of_rows (rows
 station_short s f =
     let a = few_routes s f in let b = few_permits s f in
     let ct = f.few_types in let cp = f.few_platforms in let ck = f.few_tracks in
-    let types : length (text_of_rows (map type_row s.types)) ≤ 1280 = let r = rows_length IsUnitType type_row 32 s.types type_short f.types in omega arith in
-    let platforms : length (text_of_rows (map platform_row s.platforms)) ≤ 780 = let r = rows_length IsName platform_row 26 s.platforms platform_short f.platforms in omega arith in
-    let tracks : length (text_of_rows (map track_row s.tracks)) ≤ 1920 = let r = rows_length IsTrack track_row 32 s.tracks track_short f.tracks in omega arith in
-    let routes : length (text_of_rows (map (route_row s) s.routes)) ≤ 180000 = let r = rows_length (IsRoute s) (route_row s) 50 s.routes (route_short s f) f.routes in omega arith in
-    let permits : length (text_of_rows (map (permit_row s) s.permits)) ≤ 98400 = let r = rows_length (IsPermit s) (permit_row s) 41 s.permits (permit_short s f) f.permits in omega arith in
+    let types : length (text_of_rows (map type_row s.types)) ≤ 1280 = let r = rows_width IsUnitType type_row 32 s.types type_short f.types in omega arith in
+    let platforms : length (text_of_rows (map platform_row s.platforms)) ≤ 780 = let r = rows_width IsName platform_row 26 s.platforms platform_short f.platforms in omega arith in
+    let tracks : length (text_of_rows (map track_row s.tracks)) ≤ 1920 = let r = rows_width IsTrack track_row 32 s.tracks track_short f.tracks in omega arith in
+    let routes : length (text_of_rows (map (route_row s) s.routes)) ≤ 180000 = let r = rows_width (IsRoute s) (route_row s) 50 s.routes (route_short s f) f.routes in omega arith in
+    let permits : length (text_of_rows (map (permit_row s) s.permits)) ≤ 98400 = let r = rows_width (IsPermit s) (permit_row s) 41 s.permits (permit_short s f) f.permits in omega arith in
     join_short (head_row s ∷ []) (rest_rows s) 27 282409 (one_short (head_row s) 27 (head_short s f))
     (join_short (map type_row s.types) (map platform_row s.platforms ++ (map track_row s.tracks ++ (map (route_row s) s.routes ++ (map (permit_row s) s.permits ++ cost_row s ∷ [])))) 1280 281129 types
     (join_short (map platform_row s.platforms) (map track_row s.tracks ++ (map (route_row s) s.routes ++ (map (permit_row s) s.permits ++ cost_row s ∷ []))) 780 280349 platforms

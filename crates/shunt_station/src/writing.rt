@@ -1,44 +1,35 @@
 // From a station to its text.
 ghost use Rattle.std.specs.Prelude.{◌≡◌, ◌≤◌, ◌<◌, ◌++◌, [], ◌∷◌, map, length, IfOk, OnOk};
-ghost use Rattle.std.specs.Fmt.{decimal};
 ghost use Rattle.shunt_rows.specs.defs.Records.{text_of_row, text_of_rows};
 ghost use Rattle.shunt_instance.specs.defs.Wellformed.{IsStation};
-ghost use Rattle.shunt_station.specs.defs.Writing.{side_text, ends_text, head_row, type_row, platform_row, track_row, route_row, permit_row, cost_row, rows_of, ReadsAsStation};
+ghost use Rattle.shunt_station.specs.defs.Writing.{ends_text, head_row, type_row, platform_row, track_row, route_row, permit_row, cost_row, rows_of, ReadsAsStation};
 
-use shunt_base::{Name, Side};
+use shunt_base::Name;
 use shunt_instance::{Permit, Route, Station, Track, UnitType};
 use shunt_rows::RowWriter;
 use std::alloc::{AllocError, Global};
 
 // The version of the files that are written.
-const WRITTEN_VERSION: u32 = 2;
+const WRITTEN_VERSION: u64 = 2;
 
-// Adds a number as a field of the open row.
-fn write_number(alloc: Global, writer: &mut RowWriter, number: u32) -> Result<(), AllocError>
-    ensures { OnOk result (writer.new ≡ record writer.old { row = writer.old.row ++ decimal number ∷ [] }) }
-{
-    let text = format!(in alloc; "{number}")?;
-    writer.field(text.as_bytes())
-}
-
-fn write_head(alloc: Global, writer: &mut RowWriter, station: &Station) -> Result<(), AllocError>
+fn write_head(writer: &mut RowWriter, station: &Station) -> Result<(), AllocError>
     requires { writer.old.row ≡ [] }
     ensures { OnOk result (writer.new ≡ record { text = writer.old.text ++ text_of_row (head_row station.now); row = [] }) }
 {
     writer.field(b"station")?;
-    write_number(alloc, writer, WRITTEN_VERSION)?;
+    writer.number(WRITTEN_VERSION)?;
     writer.field(station.name.bytes())?;
     writer.end_row()
 }
 
-fn write_type(alloc: Global, writer: &mut RowWriter, kind: &UnitType) -> Result<(), AllocError>
+fn write_type(writer: &mut RowWriter, kind: &UnitType) -> Result<(), AllocError>
     requires { writer.old.row ≡ [] }
     ensures { OnOk result (writer.new ≡ record { text = writer.old.text ++ text_of_row (type_row kind.now); row = [] }) }
 {
     writer.field(b"type")?;
     writer.field(kind.name.bytes())?;
-    write_number(alloc, writer, kind.length)?;
-    write_number(alloc, writer, kind.turn as u32)?;
+    writer.number(u64::from(kind.length))?;
+    writer.number(u64::from(kind.turn))?;
     writer.end_row()
 }
 
@@ -61,32 +52,18 @@ fn sides_of(track: &Track) -> &'static [u8]
     if track.side_a { b"A" } else { b"B" }
 }
 
-fn write_track(alloc: Global, writer: &mut RowWriter, track: &Track) -> Result<(), AllocError>
+fn write_track(writer: &mut RowWriter, track: &Track) -> Result<(), AllocError>
     requires { writer.old.row ≡ [] }
     ensures { OnOk result (writer.new ≡ record { text = writer.old.text ++ text_of_row (track_row track.now); row = [] }) }
 {
     writer.field(b"track")?;
     writer.field(track.name.bytes())?;
-    write_number(alloc, writer, track.length)?;
+    writer.number(u64::from(track.length))?;
     writer.field(sides_of(track))?;
     writer.end_row()
 }
 
-fn letter_of(side: Side) -> &'static [u8]
-    ensures { result.now ≡ side_text side }
-{
-    match side {
-        Side::A => b"A",
-        Side::B => b"B",
-    }
-}
-
-fn write_route(
-    alloc: Global,
-    writer: &mut RowWriter,
-    station: &Station,
-    route: &Route,
-) -> Result<(), AllocError>
+fn write_route(writer: &mut RowWriter, station: &Station, route: &Route) -> Result<(), AllocError>
     requires open_row { writer.old.row ≡ [] }
     requires platform { route.now.platform.0 < length station.now.platforms }
     requires track { route.now.track.0 < length station.now.tracks }
@@ -99,8 +76,8 @@ fn write_route(
             .name
             .bytes(),
     )?;
-    writer.field(letter_of(route.side))?;
-    write_number(alloc, writer, route.cost)?;
+    writer.side(route.side)?;
+    writer.number(u64::from(route.cost))?;
     writer.end_row()
 }
 
@@ -128,23 +105,23 @@ fn write_permit(
     writer.end_row()
 }
 
-fn write_costs(alloc: Global, writer: &mut RowWriter, station: &Station) -> Result<(), AllocError>
+fn write_costs(writer: &mut RowWriter, station: &Station) -> Result<(), AllocError>
     requires { writer.old.row ≡ [] }
     ensures { OnOk result (writer.new ≡ record { text = writer.old.text ++ text_of_row (cost_row station.now); row = [] }) }
 {
     writer.field(b"cost")?;
-    write_number(alloc, writer, station.split)?;
-    write_number(alloc, writer, station.couple)?;
-    write_number(alloc, writer, station.unparked)?;
+    writer.number(u64::from(station.split))?;
+    writer.number(u64::from(station.couple))?;
+    writer.number(u64::from(station.unparked))?;
     writer.end_row()
 }
 
-fn write_types(alloc: Global, writer: &mut RowWriter, types: &[UnitType]) -> Result<(), AllocError>
+fn write_types(writer: &mut RowWriter, types: &[UnitType]) -> Result<(), AllocError>
     requires { writer.old.row ≡ [] }
     ensures { OnOk result (writer.new ≡ record { text = writer.old.text ++ text_of_rows (map type_row types.now); row = [] }) }
 {
     'types: for kind in types {
-        write_type(alloc, writer, kind)?;
+        write_type(writer, kind)?;
     }
     Ok(())
 }
@@ -159,23 +136,23 @@ fn write_platforms(writer: &mut RowWriter, platforms: &[Name]) -> Result<(), All
     Ok(())
 }
 
-fn write_tracks(alloc: Global, writer: &mut RowWriter, tracks: &[Track]) -> Result<(), AllocError>
+fn write_tracks(writer: &mut RowWriter, tracks: &[Track]) -> Result<(), AllocError>
     requires { writer.old.row ≡ [] }
     ensures { OnOk result (writer.new ≡ record { text = writer.old.text ++ text_of_rows (map track_row tracks.now); row = [] }) }
 {
     'tracks: for track in tracks {
-        write_track(alloc, writer, track)?;
+        write_track(writer, track)?;
     }
     Ok(())
 }
 
-fn write_routes(alloc: Global, writer: &mut RowWriter, station: &Station) -> Result<(), AllocError>
+fn write_routes(writer: &mut RowWriter, station: &Station) -> Result<(), AllocError>
     requires open_row { writer.old.row ≡ [] }
     requires station { IsStation station.now }
     ensures { OnOk result (writer.new ≡ record { text = writer.old.text ++ text_of_rows (map (route_row station.now) station.now.routes); row = [] }) }
 {
     'routes: for route in station.routes.as_slice() {
-        write_route(alloc, writer, station, route)?;
+        write_route(writer, station, route)?;
     }
     Ok(())
 }
@@ -201,12 +178,12 @@ pub fn write_station(alloc: Global, station: &Station) -> Result<Vec<u8>, AllocE
     ensures short { IfOk result (λ v. length v.items ≤ 282436) }
 {
     let mut writer = RowWriter::new(alloc)?;
-    write_head(alloc, &mut writer, station)?;
-    write_types(alloc, &mut writer, station.types.as_slice())?;
+    write_head(&mut writer, station)?;
+    write_types(&mut writer, station.types.as_slice())?;
     write_platforms(&mut writer, station.platforms.as_slice())?;
-    write_tracks(alloc, &mut writer, station.tracks.as_slice())?;
-    write_routes(alloc, &mut writer, station)?;
+    write_tracks(&mut writer, station.tracks.as_slice())?;
+    write_routes(&mut writer, station)?;
     write_permits(&mut writer, station)?;
-    write_costs(alloc, &mut writer, station)?;
+    write_costs(&mut writer, station)?;
     writer.finish()
 }

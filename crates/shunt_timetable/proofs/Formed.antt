@@ -17,13 +17,16 @@ use Rattle.shunt_rows.specs.declared.fault.RowFault.{RowFault}
 use Rattle.shunt_rows.specs.defs.Records.{at}
 use Rattle.shunt_rows.specs.defs.Checks.{Check, Judged, passes, answer}
 use Rattle.shunt_rows.specs.defs.Fields.{is_within, is_word, no_word}
+use Rattle.shunt_rows.specs.defs.Formats.{reading}
+use Rattle.shunt_rows.proofs.Keeping.{all_kept}
 use Rattle.shunt_instance.specs.declared.records.Station.{Station}
+use Rattle.shunt_instance.specs.declared.records.Timetable.{Timetable}
 use Rattle.shunt_instance.specs.declared.records.Train.{Train}
 use Rattle.shunt_instance.specs.declared.records.Origin.{Origin}
 use Rattle.shunt_instance.specs.declared.records.Origin.TheVariants as origin
 use Rattle.shunt_instance.specs.defs.Words.{AreDistinct, is_standing, unit_count}
 use Rattle.shunt_instance.specs.defs.Wellformed.{IsOrigin, IsTrain, AreTrains, StandingFirst, IsTimetable}
-use Rattle.shunt_timetable.specs.defs.TimetableFormat.{Listed, first_of, has_train, unit_of, units_from, empty_train, standing_of, moving_of, stand_of, arrive_of, depart_of, may_stand, later_of, timetable_of}
+use Rattle.shunt_timetable.specs.defs.TimetableFormat.{Listed, first_of, has_train, unit_of, units_from, empty_train, standing_of, moving_of, stand_of, arrive_of, depart_of, may_stand, later_of, timetable_of, timetable_format}
 
 -- a check that was passed
 checked : {A : Type 0} (b : Bool) (r : Result A RowFault) (e : RowFault) (y : A) → (if b then r else Err e) ≡ Ok y → (b ≡ true) × (r ≡ Ok y)
@@ -309,3 +312,8 @@ later_keeps n station s t row f e =
 
 pub all_formed : (station : Station) (s : Listed) → IsListed station s → IsTimetable station (timetable_of s)
 all_formed station s f = record { arrive = f.arrive; depart = f.depart; first = f.first; at_start = f.at_start; from_platform = f.from_platform }
+
+pub timetable_formed : (station : Station) (rows : List (List (List ℕ))) (t : Timetable) → reading (timetable_format station) rows ≡ Ok t → IsTimetable station t
+timetable_formed station rows t e =
+    let l = all_kept (timetable_format station) (IsListed station) (first_formed station) (λ n s u row f is. later_keeps n station s u row f is) rows t e in
+    subst (IsTimetable station) l.value (all_formed station l.state l.has)

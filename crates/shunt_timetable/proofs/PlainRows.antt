@@ -1,14 +1,15 @@
 -- The rows of a timetable are plain, and their text.
-use Rattle.std.proofs.Common.{◌≡◌, ℕ, zero, suc, ◌+◌, ◌/◌, ◌%◌, ◌<◌, not, ◌||◌, List, [], ◌∷◌, ◌++◌, length, map, filter, refl, sym, ap, ◌∙◌, arith, IsTrue}
-use Rattle.std.specs.Prelude.{All, ◌==◌, slice_index_or, codes, Result, Ok, Err, IfOk}
+use Rattle.std.proofs.Common.{◌≡◌, ℕ, zero, suc, ◌+◌, ◌/◌, ◌%◌, ◌<◌, not, List, [], ◌∷◌, ◌++◌, length, map, filter, refl, sym, ap, ◌∙◌, arith, IsTrue}
+use Rattle.std.specs.Prelude.{All, slice_index_or, codes, Result, Ok, Err, IfOk}
 use Rattle.std.specs.List.{AllByRecursion}
 use Rattle.std.proofs.lemmas.List.Concat.{flat_map-cons, flat_map-append}
 use Rattle.std.proofs.lemmas.List.Elements.{All-tail, All-filter}
 use Rattle.std.proofs.lemmas.Bool.Decides.{nat_tests}
 use Rattle.shunt_base.specs.declared.ids.TypeId.{TypeId}
-use Rattle.shunt_base.specs.defs.Spelling.{IsName, is_name_byte, minute_text}
-use Rattle.shunt_rows.specs.defs.Records.{is_plain, IsPlainField, ArePlain, text_of_row, text_of_rows, records_of, ReadsBack}
+use Rattle.shunt_base.specs.defs.Spelling.{IsName, minute_text}
+use Rattle.shunt_rows.specs.defs.Records.{is_plain, IsPlainField, IsPlainRow, ArePlain, text_of_row, text_of_rows, records_of, ReadsBack}
 use Rattle.shunt_rows.specs.defs.Formats.{reading}
+use Rattle.shunt_rows.proofs.Plain.{plain_name}
 use Rattle.shunt_instance.specs.declared.records.Station.{Station}
 use Rattle.shunt_instance.specs.declared.records.Train.{Train}
 use Rattle.shunt_instance.specs.declared.records.Timetable.{Timetable}
@@ -20,16 +21,6 @@ use Rattle.shunt_timetable.specs.defs.TimetableFormat.{timetable_format}
 use Rattle.shunt_timetable.specs.defs.WrittenRows.{type_names, place_name, standing_row, moving_row, first_row, rows_of}
 use Rattle.shunt_timetable.proofs.Formed.{name_from, filter_whole}
 use Rattle.shunt_timetable.proofs.RoundTrip.{timetable_again}
-
-abbrev pub IsPlainRow : List (List ℕ) → Type 0
-IsPlainRow row = (0 < length row) × AllByRecursion IsPlainField row
-
-bytes_plain : (xs : List ℕ) → All (λ b. IsTrue (is_name_byte b)) xs → AllByRecursion (λ b. IsTrue (is_plain b)) xs
-bytes_plain [] h = tt
-bytes_plain (b ∷ xs) h = (ap (λ x. x || b == 58) (h 0 b (omega arith)), bytes_plain xs (All-tail (λ b. IsTrue (is_name_byte b)) b xs h))
-
-pub name_plain : (text : List ℕ) → IsName text → IsPlainField text
-name_plain text h = (h.0, bytes_plain text h.2)
 
 digit_plain : (d : ℕ) → d < 10 → IsTrue (is_plain (48 + d))
 digit_plain d lt = grind (arith, nat_tests)
@@ -52,15 +43,15 @@ place_is_name station (origin.Track k) s lt = named_plain (λ t. t.name) station
 units_plain : (station : Station) (units : List TypeId) → IsStation station → All (λ k. k.0 < length station.types) units → AllByRecursion IsPlainField (map (λ k. slice_index_or (type_names station) k.0 []) units)
 units_plain station [] s h = tt
 units_plain station (k ∷ units) s h = (
-  name_plain _ (named_plain (λ t. t.name) station.types k.0 (λ i d l. (s.types i d l).name) (h 0 k (omega arith))),
+  plain_name _ (named_plain (λ t. t.name) station.types k.0 (λ i d l. (s.types i d l).name) (h 0 k (omega arith))),
   units_plain station units s (All-tail (λ k. k.0 < length station.types) k units h),
 )
 
 pub moving_plain : (station : Station) (word : List ℕ) → IsStation station → IsName word → (t : Train) → IsTrain station t → IsPlainRow (moving_row station word t)
-moving_plain station word s w t h = (omega arith, (name_plain word w, (name_plain t.name h.name, (minute_plain t.minute h.minute, (name_plain (place_name station t.origin) (place_is_name station t.origin s h.origin), units_plain station t.units s h.kinds)))))
+moving_plain station word s w t h = (omega arith, (plain_name word w, (plain_name t.name h.name, (minute_plain t.minute h.minute, (plain_name (place_name station t.origin) (place_is_name station t.origin s h.origin), units_plain station t.units s h.kinds)))))
 
 pub standing_plain : (station : Station) → IsStation station → (t : Train) → IsTrain station t → IsPlainRow (standing_row station t)
-standing_plain station s t h = (omega arith, (name_plain (codes "stand") (name_from (codes "stand") refl), (name_plain t.name h.name, (name_plain (place_name station t.origin) (place_is_name station t.origin s h.origin), units_plain station t.units s h.kinds))))
+standing_plain station s t h = (omega arith, (plain_name (codes "stand") (name_from (codes "stand") refl), (plain_name t.name h.name, (plain_name (place_name station t.origin) (place_is_name station t.origin s h.origin), units_plain station t.units s h.kinds))))
 
 rows_plain : (station : Station) (row : Train → List (List ℕ)) (ts : List Train) → ((t : Train) → IsTrain station t → IsPlainRow (row t)) → All (IsTrain station) ts → ArePlain (map row ts)
 rows_plain station row [] f h = tt
@@ -75,7 +66,7 @@ timetable_plain station t s h =
     let a = rows_plain station (standing_row station) (filter is_standing t.arrive) (standing_plain station s) (All-filter is_standing (IsTrain station) t.arrive h.arrive.each) in
     let b = rows_plain station (moving_row station (codes "arrive")) (filter (λ r. not (is_standing r)) t.arrive) (moving_plain station (codes "arrive") s (name_from (codes "arrive") refl)) (All-filter (λ r. not (is_standing r)) (IsTrain station) t.arrive h.arrive.each) in
     let c = rows_plain station (moving_row station (codes "depart")) t.depart (moving_plain station (codes "depart") s (name_from (codes "depart") refl)) h.depart.each in
-    ((omega arith, (name_plain (codes "timetable") (name_from (codes "timetable") refl), (name_plain (codes "2") (name_from (codes "2") refl), tt))), both_plain _ _ (both_plain _ _ a b) c)
+    ((omega arith, (plain_name (codes "timetable") (name_from (codes "timetable") refl), (plain_name (codes "2") (name_from (codes "2") refl), tt))), both_plain _ _ (both_plain _ _ a b) c)
 
 -- the text of the sections, one after the other
 text_is : (station : Station) (t : Timetable) (p : List ℕ) → IsTimetable station t → p ≡ [] →

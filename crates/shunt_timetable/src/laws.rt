@@ -14,6 +14,11 @@ pub fn timetable_or_first_fault()
     ensures { (station : Station) (rows : List (List (List ℕ))) → Tells (timetable_format station) rows }
 {}
 
+/// The timetable that records state over a station is well formed.
+pub fn stated_timetables_are_well_formed()
+    ensures { (station : Station) (rows : List (List (List ℕ))) (t : Timetable) → reading (timetable_format station) rows ≡ Ok t → IsTimetable station t }
+{}
+
 /// The rows of a timetable state it.
 pub fn rows_of_a_timetable_state_it()
     ensures { (station : Station) (timetable : Timetable) → IsStation station → IsTimetable station timetable → reading (timetable_format station) (rows_of station timetable) ≡ Ok timetable }

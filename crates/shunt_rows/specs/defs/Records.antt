@@ -1,5 +1,5 @@
 -- The records of a file, and the text of records.
-use Rattle.std.specs.Prelude.{◌≡◌, ℕ, ◌-◌, ◌<◌, Bool, ◌||◌, ◌==◌, List, [], length, IsTrue, slice_index_or}
+use Rattle.std.specs.Prelude.{◌≡◌, ℕ, ◌+◌, ◌-◌, ◌<◌, Bool, ◌||◌, ◌==◌, List, [], ◌∷◌, length, IsTrue, slice_index_or}
 use Rattle.std.specs.List.{flat_map, AllByRecursion}
 use Rattle.csv.specs.Reading.{records, default_config, strip_bom}
 use Rattle.csv.specs.Writing.{row_text, default_writer}
@@ -29,9 +29,18 @@ is_plain b = is_name_byte b || b == 58
 abbrev pub IsPlainField : List ℕ → Type 0
 IsPlainField field = (0 < length field) × AllByRecursion (λ b. IsTrue (is_plain b)) field
 
--- rows of at least one such field
+-- at least one such field, and no other
+abbrev pub IsPlainRow : List (List ℕ) → Type 0
+IsPlainRow row = (0 < length row) × AllByRecursion IsPlainField row
+
+-- such rows
 abbrev pub ArePlain : List (List (List ℕ)) → Type 0
-ArePlain rows = AllByRecursion (λ row. (0 < length row) × AllByRecursion IsPlainField row) rows
+ArePlain rows = AllByRecursion IsPlainRow rows
+
+-- the bytes of the fields, with one more for each
+abbrev pub width : List (List ℕ) → ℕ
+width [] = 0
+width (field ∷ fields) = length field + 1 + width fields
 
 -- where the rows that were written are plain, they are the records of these bytes
 abbrev pub ReadsBack : List ℕ → List ℕ → Type 0

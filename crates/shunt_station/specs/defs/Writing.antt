@@ -4,10 +4,9 @@ use Rattle.std.specs.Fmt.{decimal}
 use Rattle.shunt_base.specs.declared.ids.PlatformId.{PlatformId}
 use Rattle.shunt_base.specs.declared.ids.TrackId.{TrackId}
 use Rattle.shunt_base.specs.declared.ids.TypeId.{TypeId}
-use Rattle.shunt_base.specs.declared.ids.Side.{Side}
-use Rattle.shunt_base.specs.declared.ids.Side.TheVariants.{A, B}
 use Rattle.shunt_rows.specs.defs.Records.{records_of}
 use Rattle.shunt_rows.specs.defs.Formats.{reading}
+use Rattle.shunt_rows.specs.defs.Written.{side_text}
 use Rattle.shunt_instance.specs.declared.records.UnitType.{UnitType}
 use Rattle.shunt_instance.specs.declared.records.Track.{Track}
 use Rattle.shunt_instance.specs.declared.records.Route.{Route}
@@ -30,11 +29,6 @@ platform_name platforms k = slice_index_or platforms k.0 []
 -- the name of the track with a number
 abbrev pub track_name : List Track → TrackId → List ℕ
 track_name tracks k = slice_index_or (map (λ t. t.name) tracks) k.0 []
-
--- a side's letter
-abbrev pub side_text : Side → List ℕ
-side_text A = codes "A"
-side_text B = codes "B"
 
 -- the letters of the sides at which a track is open
 abbrev pub ends_text : Bool → Bool → List ℕ

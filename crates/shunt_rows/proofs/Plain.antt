@@ -1,0 +1,58 @@
+-- Names, numbers, words and sides are plain fields, and a side's letter is read back.
+use Rattle.std.proofs.Common.{◌≡◌, ℕ, suc, ◌^◌, ◌<◌, ◌≤◌, Bool, true, false, ◌&&◌, List, [], ◌∷◌, length, refl, sym, arith, IsTrue}
+use Rattle.std.specs.Prelude.{All, codes, nat_lt, Some}
+use Rattle.std.specs.List.{list_all, AllByRecursion}
+use Rattle.std.specs.Fmt.{decimal}
+use Rattle.std.specs.Char.{is_ascii_digit}
+use Rattle.std.proofs.lemmas.Bool.{ltb-true, true≢false}
+use Rattle.std.proofs.lemmas.Bool.Decides.{nat_tests}
+use Rattle.shunt_base.specs.declared.ids.Side.{Side}
+use Rattle.shunt_base.specs.declared.ids.Side.TheVariants.{A, B}
+use Rattle.shunt_base.specs.defs.Spelling.{IsName, is_name_byte}
+use Rattle.shunt_base.proofs.Decimal.{spelled}
+use Rattle.shunt_rows.specs.defs.Records.{is_plain, IsPlainField}
+use Rattle.shunt_rows.specs.defs.Fields.{side_of}
+use Rattle.shunt_rows.specs.defs.Written.{side_text}
+
+abbrev ArePlainBytes : List ℕ → Type 0
+ArePlainBytes field = AllByRecursion (λ b. IsTrue (is_plain b)) field
+
+pub by_places : {X : Type 0} (P Q : X → Type 0) (xs : List X) → ((x : X) → P x → Q x) → All P xs → AllByRecursion Q xs
+by_places P Q [] h all = tt
+by_places P Q (x ∷ xs) h all = (h x (all 0 x (omega arith)), by_places P Q xs h (λ k d lt. all (suc k) d (omega arith)))
+
+name_byte : (b : ℕ) → IsTrue (is_name_byte b) → IsTrue (is_plain b)
+name_byte b is = cc
+
+digit_byte : (b : ℕ) → IsTrue (is_ascii_digit b) → IsTrue (is_plain b)
+digit_byte b is = grind (arith, nat_tests)
+
+pub plain_name : (name : List ℕ) → IsName name → IsPlainField name
+plain_name name is = (is.0, by_places (λ b. IsTrue (is_name_byte b)) (λ b. IsTrue (is_plain b)) name name_byte is.2)
+
+pub plain_number : (x : ℕ) → x < 10 ^ 18 → IsPlainField (decimal x)
+plain_number x lt = let d = spelled x lt in (d.nonempty, by_places (λ b. IsTrue (is_ascii_digit b)) (λ b. IsTrue (is_plain b)) (decimal x) digit_byte d.digits)
+
+both : (a b : Bool) → (a && b) ≡ true → (a ≡ true) × (b ≡ true)
+both true b e = (refl, e)
+both false b e = absurd (true≢false (sym e))
+
+plain_bytes : (field : List ℕ) → list_all is_plain field ≡ true → ArePlainBytes field
+plain_bytes [] e = tt
+plain_bytes (b ∷ field) e = let p = both (is_plain b) (list_all is_plain field) e in (p.0, plain_bytes field p.1)
+
+pub plain_word : (word : List ℕ) → nat_lt 0 (length word) ≡ true → list_all is_plain word ≡ true → IsPlainField word
+plain_word word some e = (ltb-true 0 (length word) some, plain_bytes word e)
+
+pub plain_side : (q : Side) → IsPlainField (side_text q)
+plain_side A = plain_word (codes "A") refl refl
+plain_side B = plain_word (codes "B") refl refl
+
+pub side_read : (q : Side) → side_of (side_text q) ≡ Some q
+unfolding side_of
+side_read A = refl
+side_read B = refl
+
+pub side_short : (q : Side) → length (side_text q) ≤ 1
+side_short A = omega arith
+side_short B = omega arith

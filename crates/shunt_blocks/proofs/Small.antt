@@ -17,19 +17,19 @@ use Rattle.shunt_instance.specs.declared.records.Train.{Train}
 use Rattle.shunt_instance.specs.defs.Words.{AreDistinct, is_standing}
 use Rattle.shunt_instance.specs.defs.Wellformed.{IsUnitType, IsTrack, IsRoute, IsPermit, IsStation, IsTrain, IsTimetable}
 
-only : {X : Type 0} (P : X → Type 0) (x : X) → P x → All P (x ∷ [])
+pub only : {X : Type 0} (P : X → Type 0) (x : X) → P x → All P (x ∷ [])
 only P x p = All-cons P x [] p (All-nil P)
 
-both : {X : Type 0} (P : X → Type 0) (x y : X) → P x → P y → All P (x ∷ y ∷ [])
+pub both : {X : Type 0} (P : X → Type 0) (x y : X) → P x → P y → All P (x ∷ y ∷ [])
 both P x y p q = All-cons P x (y ∷ []) p (only P y q)
 
 nobody : {X : Type 0} → AreDistinct {X = X} []
 nobody i j d before within = absurd (omega arith)
 
-alone : {X : Type 0} (x : X) → AreDistinct (x ∷ [])
+pub alone : {X : Type 0} (x : X) → AreDistinct (x ∷ [])
 alone x i j d before within = absurd (omega arith)
 
-apart : {X : Type 0} (x y : X) → x ≢ y → AreDistinct (x ∷ y ∷ [])
+pub apart : {X : Type 0} (x y : X) → x ≢ y → AreDistinct (x ∷ y ∷ [])
 apart x y ne = AllPairs-cons (λ a b. a ≢ b) x (y ∷ []) (only (λ b. x ≢ b) y ne) (alone y)
 
 abbrev pub small_type : List ℕ → UnitType
@@ -48,7 +48,7 @@ small_station n x y p t = record {
   unparked = 100;
 }
 
-type_is : (name : List ℕ) → IsName name → IsUnitType (small_type name)
+pub type_is : (name : List ℕ) → IsName name → IsUnitType (small_type name)
 type_is name h = record { name = h; some = omega arith; long = omega arith; turns = omega arith; turn = omega arith }
 
 station_is : (n x y p t : List ℕ) → IsName n → IsName x → IsName y → x ≢ y → IsName p → IsName t → IsStation (small_station n x y p t)
@@ -72,13 +72,13 @@ station_is n x y p t nn xx yy ne pp tt' = record {
   unparked = omega arith;
 }
 
-abbrev station_from : List ℕ → List UnitType → List (List ℕ) → List Track → List Route → List Permit → Station
+abbrev pub station_from : List ℕ → List UnitType → List (List ℕ) → List Track → List Route → List Permit → Station
 station_from n ks ps ts rs qs = record { name = n; types = ks; platforms = ps; tracks = ts; routes = rs; permits = qs; split = 5; couple = 4; unparked = 100 }
 
-from_alike : (n : List ℕ) (ks kk : List UnitType) (ps pp : List (List ℕ)) (ts tt' : List Track) (rs rr : List Route) (qs qq : List Permit) → ks ≡ kk → ps ≡ pp → ts ≡ tt' → rs ≡ rr → qs ≡ qq → station_from n ks ps ts rs qs ≡ station_from n kk pp tt' rr qq
+pub from_alike : (n : List ℕ) (ks kk : List UnitType) (ps pp : List (List ℕ)) (ts tt' : List Track) (rs rr : List Route) (qs qq : List Permit) → ks ≡ kk → ps ≡ pp → ts ≡ tt' → rs ≡ rr → qs ≡ qq → station_from n ks ps ts rs qs ≡ station_from n kk pp tt' rr qq
 from_alike n ks kk ps pp ts tt' rs rr qs qq a b c d e = cc
 
-types_alike : (k l m n : UnitType) (ks : List UnitType) → ks ≡ k ∷ l ∷ [] → k ≡ m → l ≡ n → ks ≡ m ∷ n ∷ []
+pub types_alike : (k l m n : UnitType) (ks : List UnitType) → ks ≡ k ∷ l ∷ [] → k ≡ m → l ≡ n → ks ≡ m ∷ n ∷ []
 types_alike k l m n ks e f g = cc
 
 pub station_made : (n x y p t : List ℕ) (k l : UnitType) (ks : List UnitType) (ps : List (List ℕ)) (ts : List Track) (rs : List Route) (qs : List Permit) → IsName n → k ≡ small_type x → IsName k.name → l ≡ small_type y → IsName l.name → x ≢ y → IsName p → IsName t → ks ≡ k ∷ l ∷ [] → ps ≡ (small_station n x y p t).platforms → ts ≡ (small_station n x y p t).tracks → rs ≡ (small_station n x y p t).routes → qs ≡ [] → IsStation (station_from n ks ps ts rs qs)
@@ -95,7 +95,7 @@ type_y = record { 0 = 1 }
 abbrev pub small_train : List ℕ → ℕ → List TypeId → Train
 small_train name minute units = record { name = name; minute = minute; origin = origin.Platform (record { 0 = 0 }); units = units }
 
-train_is : (s : Station) (name : List ℕ) (minute : ℕ) (units : List TypeId) → length s.platforms ≡ 1 → IsName name → minute < 2880 → 1 ≤ length units → length units ≤ 8 → All (λ k. k.0 < length s.types) units → IsTrain s (small_train name minute units)
+pub train_is : (s : Station) (name : List ℕ) (minute : ℕ) (units : List TypeId) → length s.platforms ≡ 1 → IsName name → minute < 2880 → 1 ≤ length units → length units ≤ 8 → All (λ k. k.0 < length s.types) units → IsTrain s (small_train name minute units)
 train_is s name minute units e n m some few kinds = record { name = n; minute = m; origin = omega arith; some = some; few = few; kinds = kinds }
 
 abbrev come : List ℕ → Train
@@ -126,10 +126,10 @@ timetable_is s a d e aa dd ee ne types platforms =
 one_alike : (t x : Train) (ts : List Train) → ts ≡ t ∷ [] → t ≡ x → ts ≡ x ∷ []
 one_alike t x ts e f = cc
 
-two_alike : (t u x y : Train) (ts : List Train) → ts ≡ t ∷ u ∷ [] → t ≡ x → u ≡ y → ts ≡ x ∷ y ∷ []
+pub two_alike : (t u x y : Train) (ts : List Train) → ts ≡ t ∷ u ∷ [] → t ≡ x → u ≡ y → ts ≡ x ∷ y ∷ []
 two_alike t u x y ts e f g = cc
 
-name_is : (t x : Train) → t ≡ x → IsName t.name → IsName x.name
+pub name_is : (t x : Train) → t ≡ x → IsName t.name → IsName x.name
 name_is t x e h = subst IsName (ap (λ (t : Train). t.name) e) h
 
 pub timetable_made : (s : Station) (a d e : List ℕ) (t u v : Train) (ts us : List Train) → IsName t.name → IsName u.name → IsName v.name → d ≢ e → t ≡ come a → u ≡ sooner d → v ≡ later e → ts ≡ t ∷ [] → us ≡ u ∷ v ∷ [] → length s.types ≡ 2 → length s.platforms ≡ 1 → IsTimetable s (record { arrive = ts; depart = us })

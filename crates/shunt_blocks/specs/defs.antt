@@ -6,3 +6,11 @@ pub mod Blocks
 pub mod Costs
 pub mod Least
 pub mod Standing
+pub mod Lists
+pub mod Pins
+pub mod Filling
+pub mod Paths
+pub mod Free
+pub mod Choices
+pub mod Cursors
+pub mod Polished

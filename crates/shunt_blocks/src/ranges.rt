@@ -2,7 +2,9 @@
 ghost use Rattle.std.specs.Prelude.{◌≡◌, ◌<◌, ◌≤◌, ◌+◌, ◌↔◌, ℕ, IsTrue};
 ghost use Rattle.shunt_instance.specs.defs.Instance.{unit_total, position_total};
 ghost use Rattle.shunt_blocks.specs.defs.Shapes.{AreRunsWithin, IsWithinTrains, IsInRange, IsPair, IsShape, shape_of, unit_from, position_from};
+ghost use Rattle.shunt_blocks.specs.defs.Free.{is_pair};
 ghost use Rattle.shunt_blocks.specs.defs.Blocks.{IsBlock, IsOption, have_one_type, type_fault};
+ghost use Rattle.shunt_blocks.specs.defs.Lists.{has_unit, has_position};
 
 use crate::records::{Block, Shape, shape_of};
 use crate::ways::{is_option, permits_units};
@@ -89,10 +91,11 @@ pub(crate) fn position_from(instance: &Instance, shape: Shape) -> usize
 }
 
 /// Whether a unit and a position are matchable.
-fn is_pair(instance: &Instance, u: usize, v: usize) -> bool
+pub(crate) fn is_pair(instance: &Instance, u: usize, v: usize) -> bool
     requires unit { u < unit_total instance.now }
     requires position { v < position_total instance.now }
-    ensures { IsTrue result ↔ IsPair instance.now u v }
+    ensures fact { IsTrue result ↔ IsPair instance.now u v }
+    ensures is { result ≡ is_pair instance.now u v }
 {
     if instance.unit(u).kind.0 != instance.position(v).kind.0 {
         return false;
@@ -165,4 +168,22 @@ pub fn type_fault(instance: &Instance, block: &Block) -> bool
         Some(park) => !one_type || !permits_units(instance, shape, park.track),
         None => !one_type,
     }
+}
+
+/// Whether the unit with this number is one of the block's.
+pub fn has_unit(instance: &Instance, block: &Block, unit: usize) -> bool
+    requires { IsWithinTrains instance.now block.now }
+    ensures { result ≡ has_unit instance.now (shape_of block.now) unit }
+{
+    let from = unit_from(instance, shape_of(block));
+    from <= unit && unit < from + block.n as usize
+}
+
+/// Whether the position with this number is one of the block's.
+pub fn has_position(instance: &Instance, block: &Block, position: usize) -> bool
+    requires { IsWithinTrains instance.now block.now }
+    ensures { result ≡ has_position instance.now (shape_of block.now) position }
+{
+    let from = position_from(instance, shape_of(block));
+    from <= position && position < from + block.n as usize
 }

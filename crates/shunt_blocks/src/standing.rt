@@ -1,7 +1,7 @@
 // How long blocks are, and when they stand on a track.
 ghost use Rattle.std.specs.Prelude.{◌≡◌, ◌<◌, ◌≤◌, IfSome, length};
 ghost use Rattle.shunt_base.specs.defs.Keys.{IsWellFormed};
-ghost use Rattle.shunt_blocks.specs.defs.Shapes.{AreRunsWithin, IsWithinTrains};
+ghost use Rattle.shunt_blocks.specs.defs.Shapes.{AreRunsWithin, IsWithinTrains, shape_of};
 ghost use Rattle.shunt_blocks.specs.defs.Standing.{length_of, shape_length, block_length, is_too_soon, enter_key, leave_key, stay_of};
 
 use crate::ranges::unit_from;
@@ -42,7 +42,7 @@ pub fn block_length(instance: &Instance, block: &Block) -> u32
 }
 
 /// Whether the departing train leaves before one of the units is ready.
-fn is_too_soon(instance: &Instance, shape: Shape) -> bool
+fn leaves_too_soon(instance: &Instance, shape: Shape) -> bool
     requires { AreRunsWithin instance.now shape }
     ensures { result ≡ is_too_soon instance.now shape }
 {
@@ -53,6 +53,14 @@ fn is_too_soon(instance: &Instance, shape: Shape) -> bool
         all = all && instance.ready(from + k) <= minute;
     }
     !all
+}
+
+/// Whether the block's departing train leaves before one of its units is ready.
+pub fn is_too_soon(instance: &Instance, block: &Block) -> bool
+    requires { IsWithinTrains instance.now block.now }
+    ensures { result ≡ is_too_soon instance.now (shape_of block.now) }
+{
+    leaves_too_soon(instance, shape_of(block))
 }
 
 /// When the block enters.
@@ -92,7 +100,7 @@ fn stay_of(instance: &Instance, block: &Block) -> Option<Stay>
     let Some(park) = block.park else {
         return None;
     };
-    if is_too_soon(instance, shape_of(block)) {
+    if is_too_soon(instance, block) {
         return None;
     }
     Some(Stay {

@@ -4,6 +4,7 @@ ghost use Rattle.shunt_instance.specs.defs.Wellformed.{IsOrigin};
 ghost use Rattle.shunt_blocks.specs.defs.Shapes.{AreRunsWithin, IsWithinTrains};
 ghost use Rattle.shunt_blocks.specs.defs.Ways.{way_from, way_to, park_way_in, park_way_out, way_in, way_out, permits_units};
 ghost use Rattle.shunt_blocks.specs.defs.Blocks.{IsParkable, IsOption};
+ghost use Rattle.shunt_blocks.specs.defs.Choices.{can_park, is_option};
 
 use crate::ranges::unit_from;
 use crate::records::{Block, Park, Shape};
@@ -116,22 +117,25 @@ pub(crate) fn permits_units(instance: &Instance, shape: Shape, track: TrackId) -
 fn is_parkable(instance: &Instance, shape: Shape, park: Park) -> bool
     requires within { AreRunsWithin instance.now shape }
     requires track { park.track.0 < length instance.now.station.tracks }
-    ensures { IsTrue result ↔ IsParkable instance.now shape park }
+    ensures fact { IsTrue result ↔ IsParkable instance.now shape park }
+    ensures is { result ≡ can_park instance.now shape park }
 {
-    if !permits_units(instance, shape, park.track) {
-        return false;
-    }
     if park_way_in(instance, shape.arr, park).is_none() {
         return false;
     }
-    park_way_out(instance, shape.dep, park).is_some()
+    if park_way_out(instance, shape.dep, park).is_none() {
+        return false;
+    }
+    permits_units(instance, shape, park.track)
 }
 
 /// Whether this is an option of a shape.
+#[tactic(auto, unfolding(crate::specs::defs::Choices::is_option))]
 pub(crate) fn is_option(instance: &Instance, shape: Shape, option: Option<Park>) -> bool
     requires within { AreRunsWithin instance.now shape }
     requires track { IfSome option (λ k. k.track.0 < length instance.now.station.tracks) }
-    ensures { IsTrue result ↔ IsOption instance.now shape option }
+    ensures fact { IsTrue result ↔ IsOption instance.now shape option }
+    ensures is { result ≡ is_option instance.now shape option }
 {
     match option {
         Some(park) => is_parkable(instance, shape, park),

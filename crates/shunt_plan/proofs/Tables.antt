@@ -1,0 +1,66 @@
+-- The tables of plans and pins stand in order.
+use Rattle.std.proofs.Common.{ℕ, Bool, true, false, List, [], ◌++◌, length, refl, sym, subst}
+use Rattle.std.specs.Prelude.{codes, ◌==◌, if◌then◌else◌}
+use Rattle.std.proofs.lemmas.List.{append-nil}
+use Rattle.shunt_rows.specs.defs.Checks.{Check}
+use Rattle.shunt_rows.specs.defs.Fields.{is_word}
+use Rattle.shunt_rows.specs.defs.FirstFault.{AreInOrder, Tells}
+use Rattle.shunt_rows.proofs.InOrder.{in_if, no_word_up, Ascends}
+use Rattle.shunt_rows.proofs.Readings.{tells}
+use Rattle.shunt_instance.specs.declared.records.Station.{Station}
+use Rattle.shunt_instance.specs.defs.Instance.{Night}
+use Rattle.shunt_blocks.specs.declared.records.Block.{Block}
+use Rattle.shunt_plan.specs.defs.BlockRecords.{unparked_in, parked_in, option_in, runs_of, block_of, blocks_of}
+use Rattle.shunt_plan.specs.defs.PlanFormat as plan
+use Rattle.shunt_plan.specs.defs.PlanFormat.{Draft, plan_format}
+use Rattle.shunt_plan.specs.defs.PinsFormat.{pins_first, pins_later, pins_format}
+
+option_up : (s : Station) (row : List (List ℕ)) → Ascends 92 ((option_in s row 8).checks ++ [])
+unfolding option_in unparked_in parked_in
+option_up s row = by (length row == 8)
+  where
+    by : (b : Bool) → Ascends 92 ((if b then unparked_in row 8 else parked_in s row 8).checks ++ [])
+    by true = record { up = refl }
+    by false = record { up = refl }
+
+block_up : (night : Night) (blocks : List Block) (row : List (List ℕ)) → Ascends 13 (block_of night blocks row).checks
+unfolding block_of runs_of
+block_up night blocks row = record { up = (option_up night.station row).up }
+
+-- behind a block's checks there are no more
+whole_up : (least : ℕ) (checks : List Check) → Ascends least checks → Ascends least (checks ++ [])
+whole_up least checks up = subst (Ascends least) (sym (append-nil checks)) up
+
+blocks_up : (night : Night) (blocks : List Block) (row : List (List ℕ)) → AreInOrder (blocks_of night blocks row)
+unfolding blocks_of
+blocks_up night blocks row = record { up = (whole_up 13 (block_of night blocks row).checks (block_up night blocks row)).up }
+
+more_up : (night : Night) (d : Draft) (row : List (List ℕ)) → AreInOrder (plan.more_of night d row)
+unfolding plan.more_of
+more_up night d row = record { up = (whole_up 13 (blocks_of night d.blocks row).checks (record { up = (blocks_up night d.blocks row).up })).up }
+
+cost_up : (d : Draft) (row : List (List ℕ)) → AreInOrder (plan.cost_of d row)
+unfolding plan.cost_of
+cost_up d row = record { up = refl }
+
+first_up : (row : List (List ℕ)) → AreInOrder (plan.first_of row)
+unfolding plan.first_of
+first_up row = record { up = refl }
+
+later_up : (night : Night) (d : Draft) (row : List (List ℕ)) → AreInOrder (plan.later_of night d row)
+unfolding plan.later_of
+later_up night d row = in_if (is_word row (codes "block")) (more_up night d row) (in_if (is_word row (codes "cost")) (cost_up d row) (no_word_up d))
+
+pins_first_up : (row : List (List ℕ)) → AreInOrder (pins_first row)
+unfolding pins_first
+pins_first_up row = record { up = refl }
+
+pins_later_up : (night : Night) (blocks : List Block) (row : List (List ℕ)) → AreInOrder (pins_later night blocks row)
+unfolding pins_later
+pins_later_up night blocks row = in_if (is_word row (codes "block")) (blocks_up night blocks row) (no_word_up blocks)
+
+pub plans_tell : (night : Night) (rows : List (List (List ℕ))) → Tells (plan_format night) rows
+plans_tell night rows = tells (plan_format night) (record { first = first_up; later = later_up night }) rows
+
+pub pins_tell : (night : Night) (rows : List (List (List ℕ))) → Tells (pins_format night) rows
+pins_tell night rows = tells (pins_format night) (record { first = pins_first_up; later = pins_later_up night }) rows

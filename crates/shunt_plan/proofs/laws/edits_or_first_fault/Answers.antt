@@ -1,0 +1,5 @@
+use Rattle.shunt_plan.proofs.EditsTables.{edits_tell}
+use Rattle.shunt_plan.proofs.laws.edits_or_first_fault.Goals as goal
+
+pub returns : goal.returns
+returns c = edits_tell

@@ -1,0 +1,27 @@
+//! The files of a plan, of pins and of edits in a night: what their records state, or their first fault, and how plans and
+//! edits are written.
+#![tactic(auto)]
+
+mod block_records;
+mod edits;
+#[cfg(test)]
+mod edits_tests;
+mod kept;
+pub mod laws;
+mod pins;
+mod plan;
+mod ranges;
+mod records;
+#[cfg(test)]
+mod tests;
+mod writing;
+mod writing_edits;
+
+pub use edits::{Edit, Turn, read_edits};
+pub use kept::lost_pin;
+pub use pins::read_pins;
+pub use plan::read_plan;
+pub use ranges::{plan_cost, plan_in_range};
+pub use records::Plan;
+pub use writing::write_plan;
+pub use writing_edits::write_edits;

@@ -1,0 +1,375 @@
+// Files of a small night, whose values and first faults are worked out by hand: a1 has two units, a2 has one, d1 has three.
+ghost use Rattle.std.specs.Prelude.{◌≡◌, IfOk, length, [], ◌∷◌};
+ghost use Rattle.shunt_base.specs.defs.Spelling.{IsName};
+ghost use Rattle.shunt_instance.specs.declared.records.Station.{Station};
+ghost use Rattle.shunt_instance.specs.defs.Wellformed.{IsStation, IsTimetable};
+ghost use Rattle.shunt_plan.specs.defs.Plans.{IsPlanInRange};
+
+use super::*;
+use shunt_base::{ArrId, Minute, Name, PlatformId, Side, TrackId, TypeId, is_name};
+use shunt_blocks::Block;
+use shunt_instance::{Instance, Origin, Permit, Route, Station, Timetable, Track, Train, UnitType};
+use shunt_lists::Items;
+use shunt_rows::{ReadError, Row, records};
+use std::alloc::{AllocError, Global};
+use std::test::Fail;
+
+fn named(alloc: Global, text: &[u8]) -> Result<Name, Fail>
+    ensures value { IfOk result (λ n. n ≡ text.now) }
+    ensures name { IfOk result IsName }
+{
+    if !is_name(text) {
+        return Err("a name".into());
+    }
+    Ok(Name::new(alloc, text)?)
+}
+
+fn one<T: Drop>(alloc: Global, item: T) -> Result<Items<T>, Fail>
+    ensures { IfOk result (λ v. v ≡ item ∷ []) }
+{
+    let mut items = Vec::new(alloc);
+    items.push(item)?;
+    Ok(Items::from_vec(items))
+}
+
+fn two<T: Drop>(alloc: Global, first: T, second: T) -> Result<Items<T>, Fail>
+    ensures { IfOk result (λ v. v ≡ first ∷ second ∷ []) }
+{
+    let mut items = Vec::new(alloc);
+    items.push(first)?;
+    items.push(second)?;
+    Ok(Items::from_vec(items))
+}
+
+fn station(alloc: Global) -> Result<Station, Fail>
+    ensures formed { IfOk result IsStation }
+    ensures types { IfOk result (λ s. length s.types ≡ 1) }
+    ensures platforms { IfOk result (λ s. length s.platforms ≡ 1) }
+{
+    let name = named(alloc, b"Demo")?;
+    let kind = UnitType {
+        name: named(alloc, b"K")?,
+        length: 200,
+        turn: 10,
+    };
+    let types = one(alloc, kind)?;
+    let platforms = one(alloc, named(alloc, b"P")?)?;
+    let track = Track {
+        name: named(alloc, b"T")?,
+        length: 900,
+        side_a: true,
+        side_b: false,
+    };
+    let tracks = one(alloc, track)?;
+    let route = Route {
+        platform: PlatformId(0),
+        track: TrackId(0),
+        side: Side::A,
+        cost: 3,
+    };
+    let routes = one(alloc, route)?;
+    let permit = Permit {
+        track: TrackId(0),
+        kind: TypeId(0),
+    };
+    let permits = one(alloc, permit)?;
+    Ok(Station {
+        name,
+        types,
+        platforms,
+        tracks,
+        routes,
+        permits,
+        split: 1,
+        couple: 2,
+        unparked: 20,
+    })
+}
+
+fn train(alloc: Global, name: &[u8], minute: u16, units: &[TypeId]) -> Result<Train, Fail>
+    ensures name { IfOk result (λ t. IsName t.name) }
+    ensures value { IfOk result (λ t. t ≡ record { name = name.now; minute = minute; origin = Origin.Platform (record { 0 = 0 }); units = units.now }) }
+{
+    Ok(Train {
+        name: named(alloc, name)?,
+        minute: Minute::new(minute).ok_or("a minute")?,
+        origin: Origin::Platform(PlatformId(0)),
+        units: Items::from_vec(Vec::from_slice(alloc, units)?),
+    })
+}
+
+fn timetable(alloc: Global) -> Result<Timetable, Fail>
+    ensures { IfOk result (λ t. (s : Station) → length s.types ≡ 1 → length s.platforms ≡ 1 → IsTimetable s t) }
+{
+    let late = train(alloc, b"a1", 600, &[TypeId(0), TypeId(0)])?;
+    let early = train(alloc, b"a2", 500, &[TypeId(0)])?;
+    let arrive = two(alloc, late, early)?;
+    let out = train(alloc, b"d1", 900, &[TypeId(0), TypeId(0), TypeId(0)])?;
+    let depart = one(alloc, out)?;
+    Ok(Timetable { arrive, depart })
+}
+
+pub(crate) fn night(alloc: Global) -> Result<Instance, Fail> {
+    Ok(Instance::join(alloc, station(alloc)?, timetable(alloc)?)?)
+}
+
+pub(crate) fn joined(alloc: Global, front: &str, text: &[u8]) -> Result<Vec<Row>, AllocError> {
+    let mut bytes = Vec::from_slice(alloc, front.as_bytes())?;
+    bytes.extend_from_slice(text)?;
+    records(alloc, &bytes)
+}
+
+// The record, field and number of the kind of the first fault, or `ok` for a value.
+pub(crate) fn place<T: Drop>(alloc: Global, read: Result<T, ReadError>) -> Result<String, Fail> {
+    match read {
+        Ok(_) => Ok(String::from_str(alloc, "ok")?),
+        Err(ReadError::Fault(fault)) => {
+            let kind = fault.kind.number();
+            Ok(format!(in alloc; "{}.{}.{kind}", fault.row, fault.field)?)
+        }
+        Err(ReadError::Memory) => Err("out of memory".into()),
+    }
+}
+
+fn place_of_plan(alloc: Global, night: &Instance, rows: &Vec<Row>) -> Result<String, Fail> {
+    place(alloc, read_plan(alloc, night, rows))
+}
+
+fn place_of_pins(alloc: Global, night: &Instance, rows: &Vec<Row>) -> Result<String, Fail> {
+    place(alloc, read_pins(alloc, night, rows))
+}
+
+// Whether the files that begin with this text and go on as a table says have the first faults that it says. The table's
+// records are the place of a fault and what the file goes on with.
+fn have_places(
+    alloc: Global,
+    night: &Instance,
+    are_plans: bool,
+    front: &str,
+    table: &str,
+) -> Result<bool, Fail> {
+    for case in records(alloc, table.as_bytes())? {
+        if case.len() != 2 {
+            return Ok(false);
+        }
+        let rows = joined(alloc, front, case.field(2))?;
+        let found = if are_plans {
+            place_of_plan(alloc, night, &rows)?
+        } else {
+            place_of_pins(alloc, night, &rows)?
+        };
+        if found.as_bytes() != case.field(1) {
+            return Ok(false);
+        }
+    }
+    Ok(true)
+}
+
+const ENDS: &str = r#"
+1.0.9,""
+1.1.1,"plans,1"
+1.1.2,"plan"
+1.1.2,"plan,1,1"
+1.2.4,"plan,01"
+1.2.8,"plan,2"
+2.0.9,"plan,1"
+ok,"plan,1
+cost,0"
+ok,"plan,1
+cost,1000000000000"
+2.2.8,"plan,1
+cost,1000000000001"
+2.2.4,"plan,1
+cost,x"
+2.1.2,"plan,1
+cost,1,2"
+2.1.1,"plan,1
+plan,1"
+3.1.11,"plan,1
+cost,0
+cost,0"
+3.1.11,"plan,1
+cost,0
+block,0,a9,0"
+2.2.4,"plan,1
+cost,x
+block,0,a9,0"
+"#;
+
+const BLOCKS: &str = r#"
+ok,"1,a1,1,2,d1,1,park,T,A,A
+cost,6"
+3.1.2,"1,a1,1,2,d1,1,park,T,A,A
+cost"
+3.0.9,"1,a1,1,2,d1,1,park,T,A,A"
+2.5.8,"1,a1,2,2,d1,1,unparked"
+ok,"1,a1,2,1,d1,3,unparked
+cost,0"
+ok,"1,a1,1,2,d1,2,park,T,B,B
+cost,0"
+2.8.1,"1,a1,1,2,d1,1,park"
+2.8.1,"1,a1,1,2,d1,1,unparked,T,A,A"
+2.1.2,"1,a1,1,2,d1,1,park,T,A"
+2.1.2,"1,a1,1,2,d1,1,park,T"
+2.1.2,"1,a1,1,2,d1,1"
+2.2.8,"0,a1,1,2,d1,1,unparked"
+2.2.8,"1000001,a1,1,2,d1,1,unparked"
+ok,"1000000,a1,1,2,d1,1,unparked
+cost,0"
+2.2.4,"01,a1,1,2,d1,1,unparked"
+3.2.7,"7,a2,1,1,d1,1,unparked
+block,7,a9,0,0,d1,2,unparked"
+2.3.6,"1,d1,9,9,d9,9,parked"
+2.4.8,"1,a1,0,2,d9,9,parked"
+2.4.8,"1,a2,2,1,d1,1,unparked"
+2.4.4,"1,a1,x,0,d1,1,unparked"
+2.5.8,"1,a1,1,0,d9,1,unparked"
+2.5.8,"1,a1,1,3,d1,1,unparked"
+2.6.6,"1,a1,1,2,a1,9,unparked"
+2.7.8,"1,a1,1,2,d1,0,unparked"
+2.7.8,"1,a1,1,2,d1,3,parked"
+2.7.4,"1,a1,1,2,d1,,unparked"
+2.9.6,"1,a1,1,2,d1,1,park,P,C,C"
+2.10.1,"1,a1,1,2,d1,1,park,T,C,AB"
+2.11.1,"1,a1,1,2,d1,1,park,T,A,AB"
+"#;
+
+const PINS: &str = r#"
+1.1.1,"plan,1"
+1.2.8,"pins,2"
+ok,"pins,1"
+2.1.1,"pins,1
+cost,0"
+2.5.8,"pins,1
+block,1,a1,2,2,d1,1,unparked"
+ok,"pins,1
+block,9,a1,1,2,d1,2,park,T,A,B
+block,1,a2,1,1,d1,1,unparked"
+3.2.7,"pins,1
+block,9,a2,1,1,d1,1,unparked
+block,9,a2,1,1,d1,1,unparked"
+"#;
+
+fn all_have_places(alloc: Global, night: &Instance) -> Result<bool, Fail> {
+    let ends = have_places(alloc, night, true, "", ENDS)?;
+    let blocks = have_places(alloc, night, true, "plan,1\nblock,", BLOCKS)?;
+    let pins = have_places(alloc, night, false, "", PINS)?;
+    Ok(ends && blocks && pins)
+}
+
+#[test]
+fn files_have_first_faults(rt: HostRuntime) -> Result<(), Fail> {
+    let alloc = rt.alloc();
+    let night = night(alloc)?;
+    assert!(rt; all_have_places(alloc, &night)?);
+    Ok(())
+}
+
+// A plan with this many blocks, whose ids count from 1, and a further record.
+fn many(alloc: Global, count: u16, last: &str) -> Result<Vec<Row>, AllocError> {
+    let mut text = Vec::from_slice(alloc, b"plan,1\n")?;
+    for k in 1..count as u32 + 1 {
+        let record = format!(in alloc; "block,{k},a1,1,1,d1,1,unparked\n")?;
+        text.extend_from_slice(record.as_bytes())?;
+    }
+    text.extend_from_slice(last.as_bytes())?;
+    records(alloc, &text)
+}
+
+// The place of the first fault of 400 blocks and this further record.
+fn place_after_400(alloc: Global, night: &Instance, last: &str) -> Result<String, Fail> {
+    let rows = many(alloc, 400, last)?;
+    place_of_plan(alloc, night, &rows)
+}
+
+#[test]
+fn there_are_at_most_400_blocks(rt: HostRuntime) -> Result<(), Fail> {
+    let alloc = rt.alloc();
+    let night = night(alloc)?;
+    let whole = place_after_400(alloc, &night, "cost,0")?;
+    assert!(rt; whole.as_str() == "ok");
+    let more = place_after_400(alloc, &night, "block,400,a1,1,1,d1,1,unparked")?;
+    assert!(rt; more.as_str() == "402.1.8");
+    Ok(())
+}
+
+const PLAN: &str = "plan,1\nblock,2,a1,1,2,d1,2,park,T,A,B\nblock,1,a2,1,1,d1,1,unparked\ncost,7\n";
+
+fn plan(alloc: Global, night: &Instance, text: &str) -> Result<Plan, Fail>
+    ensures { IfOk result (IsPlanInRange night.now) }
+{
+    let rows = joined(alloc, text, b"")?;
+    match read_plan(alloc, night, &rows) {
+        Ok(plan) => Ok(plan),
+        Err(_) => Err("a plan".into()),
+    }
+}
+
+#[test]
+fn a_plan_is_written_as_it_was_read(rt: HostRuntime) -> Result<(), Fail> {
+    let alloc = rt.alloc();
+    let night = night(alloc)?;
+    let plan = plan(alloc, &night, PLAN)?;
+    let written = write_plan(alloc, &night, &plan)?;
+    assert!(rt; written.as_slice() == PLAN.as_bytes());
+    Ok(())
+}
+
+fn is_parked_from_a_to_b(block: &Block) -> bool {
+    match block.park {
+        Some(park) => {
+            park.track == TrackId(0) && park.side_in == Side::A && park.side_out == Side::B
+        }
+        None => false,
+    }
+}
+
+// Whether it has the number, the train and the runs of the first block.
+fn is_first(block: &Block) -> bool {
+    block.id == 2 && block.arr == ArrId(1) && block.p == 1 && block.n == 2 && block.q == 2
+}
+
+#[test]
+fn a_plan_has_its_values(rt: HostRuntime) -> Result<(), Fail> {
+    let alloc = rt.alloc();
+    let night = night(alloc)?;
+    let mut plan = plan(alloc, &night, PLAN)?;
+    let [block, other] = plan.blocks.as_slice() else {
+        return Err("two blocks".into());
+    };
+    // The train a1 comes later than a2, and is numbered behind it.
+    assert!(rt; is_first(block) && is_parked_from_a_to_b(block));
+    assert!(rt; other.id == 1 && other.arr == ArrId(0) && other.park.is_none());
+    // Coupling 2 and the way in 3, as there is no way out by B; and 20 for the unparked block.
+    assert!(rt; plan_cost(&night, &plan) == 25);
+    assert!(rt; plan_in_range(&night, &plan));
+    plan.cost = 1_000_000_000_001;
+    assert!(rt; !plan_in_range(&night, &plan));
+    Ok(())
+}
+
+// The id of the first of these pins that the plan of this text doesn't keep; 0 where it keeps all.
+fn first_lost(alloc: Global, night: &Instance, pins: &str) -> Result<u32, Fail> {
+    let plan = plan(alloc, night, PLAN)?;
+    let rows = joined(
+        alloc,
+        "pins,1\nblock,9,a2,1,1,d1,1,unparked\n",
+        pins.as_bytes(),
+    )?;
+    match read_pins(alloc, night, &rows) {
+        Ok(pins) => Ok(lost_pin(&plan, &pins).unwrap_or(0)),
+        Err(_) => Err("pins".into()),
+    }
+}
+
+#[test]
+fn pins_are_kept_whatever_their_ids(rt: HostRuntime) -> Result<(), Fail> {
+    let alloc = rt.alloc();
+    let night = night(alloc)?;
+    let kept = first_lost(alloc, &night, "block,8,a1,1,2,d1,2,park,T,A,B")?;
+    assert!(rt; kept == 0);
+    let two = "block,2,a1,1,2,d1,2,park,T,A,A\nblock,1,a2,1,1,d1,2,unparked";
+    let lost = first_lost(alloc, &night, two)?;
+    assert!(rt; lost == 2);
+    Ok(())
+}

@@ -1,0 +1,8 @@
+pub mod Lists
+pub mod ById
+pub mod Standing
+pub mod Order
+pub mod Exactly
+pub mod Feasible
+pub mod Stated
+pub mod Pinned

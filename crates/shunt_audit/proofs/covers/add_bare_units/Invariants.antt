@@ -1,0 +1,9 @@
+use Rattle.std.specs.Prelude.{◌==◌}
+use Rattle.std.proofs.Common.{◌≡◌, ◌++◌}
+use Rattle.shunt_blocks.specs.defs.Lists.{times_unit}
+use Rattle.shunt_audit.specs.declared.types.Finding.TheVariants.{UnitBare}
+use Rattle.shunt_audit.specs.defs.Listed.{noted, noted_below}
+use Rattle.shunt_audit.proofs.covers.add_bare_units.Given as goal
+
+abbrev pub invariant-loop-unit : goal.invariant-loop-unit
+invariant-loop-unit l = l.findings.items ≡ l.initial.findings.items ++ noted_below l.unit (λ k. noted (times_unit l.instance l.blocks k == 0) (UnitBare k))

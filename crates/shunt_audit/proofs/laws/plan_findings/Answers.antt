@@ -1,0 +1,14 @@
+use Rattle.shunt_audit.proofs.Stated.{plan_exactly, plan_ordered, only_plan, plan_none}
+use Rattle.shunt_audit.proofs.laws.plan_findings.Goals as goal
+
+pub returns-clause-exactly : goal.returns-clause-exactly
+returns-clause-exactly c = plan_exactly
+
+pub returns-clause-in_order : goal.returns-clause-in_order
+returns-clause-in_order c = plan_ordered
+
+pub returns-clause-one : goal.returns-clause-one
+returns-clause-one c = only_plan
+
+pub returns-clause-none : goal.returns-clause-none
+returns-clause-none c = plan_none

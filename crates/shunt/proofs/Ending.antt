@@ -4,7 +4,7 @@ use Rattle.std.specs.Prelude.{IfSome, Err, Vec}
 use Rattle.std.specs.Global.{Global}
 use Rattle.shunt_store.specs.defs.Files.{Files, BothTold}
 use Rattle.shunt_store.proofs.Texts.{both_same}
-use Rattle.shunt.specs.defs.Words.{Call, Match}
+use Rattle.shunt.specs.defs.Words.{Call, Match, Audit}
 use Rattle.shunt.specs.defs.Replies.{Reply, IsReply, reply_of, refusal}
 use Rattle.shunt.specs.defs.Ends.{Seen, CutInFiles, CutInText, IsWhole, Delivers, Ends, MayBegin}
 use Rattle.shunt.specs.defs.Halts.{Replies}
@@ -54,3 +54,4 @@ early_same c f ff same = both_same (MayBegin c) f ff same (nothing c)
   where
     nothing : (c : Call) (a : Files) → MayBegin c a a
     nothing (Match s t) a = refl
+    nothing (Audit s t p) a = refl

@@ -10,7 +10,7 @@ use Rattle.shunt.specs.declared.delivering.Outcome.TheVariants as outcome
 use Rattle.shunt.specs.declared.running.Status.{Status}
 use Rattle.shunt.specs.declared.running.Status.TheVariants as status
 use Rattle.shunt.specs.defs.Words.{Call, Match}
-use Rattle.shunt.specs.defs.Replies.{Reply, IsReply, IsMatched, IsPaired, IsShort, Judged, stated_night, refusal}
+use Rattle.shunt.specs.defs.Replies.{Reply, IsReply, IsMatched, IsPaired, IsShort, Judged, stated_night}
 use Rattle.shunt.specs.defs.Ends.{Seen, Delivers, StopsEarly, Ends, Yields, the_status}
 
 -- a delivered reply has its own status, or yields
@@ -37,7 +37,7 @@ early c old new status.Unfinished h = absurd h
 early c old new status.Sink h = absurd h
 
 -- what all defined replies have decides the status
-decides : (c : Call) (files : Files) (o : Outcome) (old new : Seen) (s : Status) → old.files ≡ Some files → ((r : Reply) → IsReply c files r → r.outcome ≡ o) → Ends c old new s → (s ≡ the_status o) ⊎ Yields s
+pub decides : (c : Call) (files : Files) (o : Outcome) (old new : Seen) (s : Status) → old.files ≡ Some files → ((r : Reply) → IsReply c files r → r.outcome ≡ o) → Ends c old new s → (s ≡ the_status o) ⊎ Yields s
 decides c files o old new s told all (inl e) = inr (early c old new s e)
 decides c files o old new s told all (inr h) = at (its_own h.0 old new s h.2)
   where
@@ -49,7 +49,7 @@ decides c files o old new s told all (inr h) = at (its_own h.0 old new s h.2)
     at (inr y) = inr y
 
 -- a status that doesn't yield is that of a defined reply
-abbrev HasReply : Call → Outcome → Seen → Type 0
+abbrev pub HasReply : Call → Outcome → Seen → Type 0
 HasReply c o old = (r : Reply) × IfSome old.files (λ files. IsReply c files r) × (r.outcome ≡ o)
 
 pub done_reply : (c : Call) (old new : Seen) → Ends c old new status.Done → HasReply c outcome.Done old
@@ -136,7 +136,7 @@ other_tells (Err text) r o is e = inr (inr (sym e ∙ ap (λ (r : Reply). r.outc
 other_tells (Ok night) r o (inl p) e = inl (sym e ∙ paired_outcome night r p)
 other_tells (Ok night) r o (inr p) e = inr (inl (sym e ∙ short_outcome night r p))
 
-on_told : (f : Option Files) (P Q : Files → Type 0) → ((files : Files) → P files → Q files) → IfSome f P → IfSome f Q
+pub on_told : (f : Option Files) (P Q : Files → Type 0) → ((files : Files) → P files → Q files) → IfSome f P → IfSome f Q
 on_told None P Q h p = tt
 on_told (Some files) P Q h p = h files p
 

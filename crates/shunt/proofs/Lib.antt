@@ -1,3 +1,4 @@
 mod Writes
 mod Ending
 mod Exactly
+pub mod Audits

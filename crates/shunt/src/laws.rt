@@ -4,9 +4,10 @@ ghost use Rattle.shunt_store.specs.defs.Files.{Files, content};
 ghost use Rattle.shunt_store.specs.defs.Causes.{Rose};
 ghost use Rattle.shunt_instance.specs.defs.Instance.{Night};
 ghost use Rattle.shunt_matching.specs.defs.Nights.{Matches};
+ghost use Rattle.shunt_plan.specs.declared.records.Plan.{Plan};
 ghost use Rattle.shunt.specs.declared.running.Status.{Status};
-ghost use Rattle.shunt.specs.defs.Words.{Call, Match};
-ghost use Rattle.shunt.specs.defs.Replies.{stated_night};
+ghost use Rattle.shunt.specs.defs.Words.{Call, Match, Audit};
+ghost use Rattle.shunt.specs.defs.Replies.{stated_night, plans_in, IsSound};
 ghost use Rattle.shunt.specs.defs.Ends.{Ends, Seen, Yields};
 
 /// `Store` comes only where the store failed in the call, and `Sink` only where the sink did.
@@ -44,4 +45,27 @@ pub fn match_completes()
     ensures ends { (s t : List ℕ) (old new : Seen) (status : Status) (files : Files) (night : Night) → old.files ≡ Some files → stated_night (content files s) (content files t) ≡ Ok night → (Rose old.store_faults new.store_faults → ⊥) → (Rose old.sink_faults new.sink_faults → ⊥) → Ends (Match s t) old new status → (status ≡ Status.Done) ⊎ ((status ≡ Status.NoMatching) ⊎ (status ≡ Status.Memory)) }
     ensures sure_store { (c : Call) (old new : Seen) → new.store_faults ≡ 0 → Ends c old new Status.Store → ⊥ }
     ensures sure_sink { (c : Call) (old new : Seen) → new.sink_faults ≡ 0 → Ends c old new Status.Sink → ⊥ }
+{}
+
+/// `audit` ends with `Input` exactly where a file isn't accepted, unless the store, memory or the sink came first.
+pub fn audit_input_exactly()
+    ensures there { (s t p : List ℕ) (old new : Seen) (status : Status) (files : Files) → old.files ≡ Some files → IsErr (plans_in s t p files) → Ends (Audit s t p) old new status → (status ≡ Status.Input) ⊎ Yields status }
+    ensures only { (s t p : List ℕ) (old new : Seen) → Ends (Audit s t p) old new Status.Input → IfSome old.files (λ files. IsErr (plans_in s t p files)) }
+{}
+
+/// `audit` ends with `Done` exactly where the files are accepted and the plan is feasible and states its cost, and with
+/// `Findings` exactly where they are accepted and it isn't so, unless the store, memory or the sink came first. It never ends
+/// with `NoMatching` or `Unfinished`.
+pub fn audit_done_exactly()
+    ensures done { (s t p : List ℕ) (old new : Seen) (status : Status) (files : Files) (x : Night × Plan) → old.files ≡ Some files → plans_in s t p files ≡ Ok x → IsSound x → Ends (Audit s t p) old new status → (status ≡ Status.Done) ⊎ Yields status }
+    ensures done_only { (s t p : List ℕ) (old new : Seen) → Ends (Audit s t p) old new Status.Done → IfSome old.files (λ files. (x : Night × Plan) × (plans_in s t p files ≡ Ok x) × IsSound x) }
+    ensures findings { (s t p : List ℕ) (old new : Seen) (status : Status) (files : Files) (x : Night × Plan) → old.files ≡ Some files → plans_in s t p files ≡ Ok x → (IsSound x → ⊥) → Ends (Audit s t p) old new status → (status ≡ Status.Findings) ⊎ Yields status }
+    ensures findings_only { (s t p : List ℕ) (old new : Seen) → Ends (Audit s t p) old new Status.Findings → IfSome old.files (λ files. (x : Night × Plan) × (plans_in s t p files ≡ Ok x) × (IsSound x → ⊥)) }
+    ensures no_matching { (s t p : List ℕ) (old new : Seen) (files : Files) → old.files ≡ Some files → Ends (Audit s t p) old new Status.NoMatching → ⊥ }
+    ensures no_unfinished { (s t p : List ℕ) (old new : Seen) (files : Files) → old.files ≡ Some files → Ends (Audit s t p) old new Status.Unfinished → ⊥ }
+{}
+
+/// Where the files are accepted and neither the store nor the sink fails, `audit` ends with `Done`, `Findings` or `Memory`.
+pub fn audit_completes()
+    ensures { (s t p : List ℕ) (old new : Seen) (status : Status) (files : Files) (x : Night × Plan) → old.files ≡ Some files → plans_in s t p files ≡ Ok x → (Rose old.store_faults new.store_faults → ⊥) → (Rose old.sink_faults new.sink_faults → ⊥) → Ends (Audit s t p) old new status → (status ≡ Status.Done) ⊎ ((status ≡ Status.Findings) ⊎ (status ≡ Status.Memory)) }
 {}

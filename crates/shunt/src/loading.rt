@@ -3,12 +3,14 @@ ghost use Rattle.std.specs.Prelude.{◌≡◌, ◌≤◌, length, IfOk, IfSome, 
 ghost use Rattle.shunt_store.specs.defs.Files.{Closed, content};
 ghost use Rattle.shunt_store.specs.defs.Causes.{HasCause};
 ghost use Rattle.shunt_instance.specs.defs.Wellformed.{IsStation, IsTimetable};
+ghost use Rattle.shunt_plan.specs.defs.Plans.{IsPlanInRange};
 ghost use Rattle.shunt_report.specs.defs.Texts.{input_of};
 ghost use Rattle.shunt.specs.declared.loading.Halt.TheVariants as halt;
 ghost use Rattle.shunt.specs.defs.Halts.{IfInput, Loads, LoadsBytes};
-ghost use Rattle.shunt.specs.defs.Replies.{stated_station, stated_timetable, stated_night};
+ghost use Rattle.shunt.specs.defs.Replies.{stated_station, stated_timetable, stated_night, stated_plan};
 
 use shunt_instance::{Instance, Station, Timetable};
+use shunt_plan::{Plan, read_plan};
 use shunt_report::{FileWord, input_text};
 use shunt_rows::{ReadError, RowFault, records};
 use shunt_station::read_station;
@@ -142,4 +144,37 @@ pub fn load_instance<S: Store>(
     let station = load_station(alloc, store, station)?;
     let timetable = load_timetable(alloc, store, &station, timetable)?;
     Ok(Instance::join(alloc, station, timetable)?)
+}
+
+// The plan that the bytes of a file state over an instance.
+fn judge_plan(alloc: Global, instance: &Instance, bytes: &[u8]) -> Result<Plan, Halt>
+    requires { length bytes.now ≤ 4194304 }
+    ensures stated { Loads result (stated_plan instance.now bytes.now) }
+    ensures in_range { IfOk result (IsPlanInRange instance.now) }
+    ensures no_fault { IsErrOf result Halt.Fault → ⊥ }
+{
+    let rows = records(alloc, bytes)?;
+    match read_plan(alloc, instance, &rows) {
+        Ok(plan) => Ok(plan),
+        Err(ReadError::Fault(fault)) => Err(refuse(alloc, FileWord::Plan, Some(&fault))),
+        Err(ReadError::Memory) => Err(Halt::Memory),
+    }
+}
+
+/// Reads and judges the plan file, over an instance.
+pub fn load_plan<S: Store>(
+    alloc: Global,
+    store: &mut S,
+    instance: &Instance,
+    name: &str,
+) -> Result<Plan, Halt>
+    requires { S.stage store.old ≡ Closed }
+    ensures told { IfSome (S.told store.old) (λ files. Loads result (stated_plan instance.now (content files name.now))) }
+    ensures in_range { IfOk result (IsPlanInRange instance.now) }
+    ensures files { S.told store.new ≡ S.told store.old }
+    ensures closed { (IsErrOf result Halt.Fault → ⊥) → S.stage store.new ≡ Closed }
+    ensures cause { HasCause Halt.Fault (S.faults store.old) (S.faults store.new) result }
+{
+    let bytes = load(alloc, store, name, FileWord::Plan)?;
+    judge_plan(alloc, instance, &bytes)
 }

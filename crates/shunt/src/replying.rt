@@ -2,16 +2,19 @@
 ghost use Rattle.std.specs.Prelude.{◌≡◌, IfOk, IfSome, IsErrOf};
 ghost use Rattle.shunt_store.specs.defs.Files.{Closed};
 ghost use Rattle.shunt_store.specs.defs.Causes.{HasCause};
+ghost use Rattle.shunt_plan.specs.defs.Plans.{IsPlanInRange};
 ghost use Rattle.shunt.specs.defs.Words.{call_of};
-ghost use Rattle.shunt.specs.defs.Replies.{IsMatched, IsReply, reply_of};
+ghost use Rattle.shunt.specs.defs.Replies.{IsMatched, IsAudited, IsReply, reply_of};
 ghost use Rattle.shunt.specs.defs.Halts.{Replies};
 
 use crate::delivering::{Answer, Outcome};
-use crate::loading::{Halt, load_instance};
+use crate::loading::{Halt, load_instance, load_plan};
 use crate::words::Command;
+use shunt_audit::audit;
 use shunt_instance::Instance;
 use shunt_matching::{MatchError, first_fit};
-use shunt_report::{pairs_text, shortage_text};
+use shunt_plan::Plan;
+use shunt_report::{findings_text, pairs_text, shortage_text};
 use shunt_store::Store;
 use std::alloc::{AllocError, Global};
 
@@ -31,6 +34,11 @@ pub fn answer_to<S: Store>(
         Command::Match(first, second) => {
             let instance = load_instance(alloc, store, first, second)?;
             Ok(match_answer(alloc, &instance)?)
+        }
+        Command::Audit(first, second, third) => {
+            let instance = load_instance(alloc, store, first, second)?;
+            let plan = load_plan(alloc, store, &instance, third)?;
+            Ok(audit_answer(alloc, &instance, &plan)?)
         }
     }
 }
@@ -52,4 +60,22 @@ fn match_answer(alloc: Global, instance: &Instance) -> Result<Answer, AllocError
         }),
         Err(MatchError::Memory) => Err(AllocError),
     }
+}
+
+// What is wrong with a plan, and what it costs.
+fn audit_answer(alloc: Global, instance: &Instance, plan: &Plan) -> Result<Answer, AllocError>
+    requires { IsPlanInRange instance.now plan.now }
+    ensures { IfOk result (λ a. IsAudited (instance.now, plan.now) (reply_of a)) }
+{
+    let found = audit(alloc, instance, plan)?;
+    let findings = found.findings.as_slice();
+    Ok(Answer {
+        outcome: if findings.is_empty() {
+            Outcome::Done
+        } else {
+            Outcome::Findings
+        },
+        writes: Vec::new(alloc),
+        text: findings_text(alloc, instance, findings, found.cost)?,
+    })
 }

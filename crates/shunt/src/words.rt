@@ -7,6 +7,8 @@ ghost use Rattle.shunt.specs.defs.Words.{Call, Spells, texts, call_of};
 pub enum Command<'w> {
     /// `match STATION TIMETABLE`
     Match(&'w str, &'w str),
+    /// `audit STATION TIMETABLE PLAN`
+    Audit(&'w str, &'w str, &'w str),
 }
 
 /// The command that the words spell. None exactly where they spell none.
@@ -16,6 +18,7 @@ pub fn command_of(words: &[String]) -> Option<Command<'_>>
 {
     match words {
         [word, first, second] => of_two_files(word, first, second),
+        [word, first, second, third] => of_three_files(word, first, second, third),
         _ => None,
     }
 }
@@ -36,4 +39,27 @@ fn of_two_files<'w>(word: &'w String, first: &'w String, second: &'w String) -> 
         return None;
     }
     Some(Command::Match(first, second))
+}
+
+// The command that a word and the names of three files spell.
+fn of_three_files<'w>(
+    word: &'w String,
+    first: &'w String,
+    second: &'w String,
+    third: &'w String,
+) -> Option<Command<'w>>
+    ensures some { IfSome result (λ c. Spells (texts (word.now ∷ first.now ∷ second.now ∷ third.now ∷ [])) (call_of c)) }
+    ensures only { (c : Call) → Spells (texts (word.now ∷ first.now ∷ second.now ∷ third.now ∷ [])) c → IsSome result }
+{
+    let (first, second, third) = (first.as_str(), second.as_str(), third.as_str());
+    if word.as_str() != "audit" {
+        return None;
+    }
+    if first.is_empty() || second.is_empty() || third.is_empty() {
+        return None;
+    }
+    if first == second || first == third || second == third {
+        return None;
+    }
+    Some(Command::Audit(first, second, third))
 }

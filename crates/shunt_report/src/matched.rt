@@ -12,7 +12,7 @@ use shunt_matching::Matching;
 use shunt_matching::types::Shortage;
 use std::alloc::{AllocError, Global};
 
-fn push_train(text: &mut Text, train: &Train, place: u8) -> Result<(), AllocError>
+pub(crate) fn push_train(text: &mut Text, train: &Train, place: u8) -> Result<(), AllocError>
     ensures { OnOk result (text.new ≡ text.old ++ train_place train.now place) }
 {
     text.push(train.name.bytes())?;

@@ -11,6 +11,7 @@ use std::alloc::{AllocError, Global};
 pub enum FileWord {
     Station,
     Timetable,
+    Plan,
 }
 
 fn word_of(file: FileWord) -> &'static [u8]
@@ -19,6 +20,7 @@ fn word_of(file: FileWord) -> &'static [u8]
     match file {
         FileWord::Station => b"station",
         FileWord::Timetable => b"timetable",
+        FileWord::Plan => b"plan",
     }
 }
 

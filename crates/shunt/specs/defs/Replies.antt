@@ -1,5 +1,5 @@
 -- The defined answer of a command, over the contents of its files.
-use Rattle.std.specs.Prelude.{◌≡◌, ◌⊎◌, ℕ, nat_le, List, [], map, length, Option, Some, None, Result, Ok, Err, string_bytes, if◌then◌else◌}
+use Rattle.std.specs.Prelude.{◌≡◌, ◌⊎◌, ℕ, nat_le, List, [], ◌∷◌, map, length, Option, Some, None, Result, Ok, Err, string_bytes, if◌then◌else◌}
 use Rattle.std.specs.Result.{result_err}
 use Rattle.shunt_store.specs.defs.Files.{Files, content}
 use Rattle.shunt.specs.declared.delivering.Outcome.{Outcome}
@@ -18,10 +18,16 @@ use Rattle.shunt_matching.specs.defs.Counts.{first_fit_of}
 use Rattle.shunt_matching.specs.defs.Nights.{Matches, IsShortageOf}
 use Rattle.shunt_report.specs.declared.words.FileWord.{FileWord}
 use Rattle.shunt_report.specs.declared.words.FileWord.TheVariants as word
+use Rattle.shunt_blocks.specs.defs.Lists.{IsFeasible, total_cost}
+use Rattle.shunt_plan.specs.declared.records.Plan.{Plan}
+use Rattle.shunt_plan.specs.defs.PlanFormat.{plan_format}
+use Rattle.shunt_audit.specs.declared.types.Finding.{Finding}
+use Rattle.shunt_audit.specs.defs.Plans.{ArePlanFindings}
 use Rattle.shunt_report.specs.defs.Texts.{pairs_of, shortage_of, input_of}
+use Rattle.shunt_report.specs.defs.FindingTexts.{findings_of}
 use Rattle.shunt_station.specs.defs.Stating.{station_format}
 use Rattle.shunt_timetable.specs.defs.TimetableFormat.{timetable_format}
-use Rattle.shunt.specs.defs.Words.{Call, Match}
+use Rattle.shunt.specs.defs.Words.{Call, Match, Audit}
 
 -- how a command ends, which files it writes in their order and what they then hold, and what it prints
 pub record Reply : Type 0 where
@@ -94,10 +100,40 @@ pub record IsShort (night : Night) (r : Reply) : Type 0 where
 abbrev pub IsMatched : Night → Reply → Type 0
 IsMatched night r = IsPaired night r ⊎ IsShort night r
 
+-- a plan file over a night
+abbrev pub stated_plan : Night → List ℕ → Result Plan (List ℕ)
+stated_plan night bytes = stated word.Plan (plan_format night) bytes
+
+-- the night that a station file and a timetable file state, and the plan that a plan file states in it, or the line for the first
+-- of them that isn't accepted
+abbrev pub stated_plans : List ℕ → List ℕ → List ℕ → Result (Night × Plan) (List ℕ)
+stated_plans s t p = then_stated (stated_night s t) (λ night. then_stated (stated_plan night p) (λ plan. Ok (night, plan)))
+
+-- the same of what the files of these names hold
+abbrev pub plans_in : List ℕ → List ℕ → List ℕ → Files → Result (Night × Plan) (List ℕ)
+plans_in s t p files = stated_plans (content files s) (content files t) (content files p)
+
+-- the plan is feasible in its night and states its cost
+abbrev pub IsSound : Night × Plan → Type 0
+IsSound x = IsFeasible x.0 x.1.blocks × (x.1.cost ≡ total_cost x.0 x.1.blocks)
+
+-- an audit ends well where it finds nothing
+abbrev pub audit_outcome : List Finding → Outcome
+audit_outcome [] = outcome.Done
+audit_outcome (f ∷ findings) = outcome.Findings
+
+-- the answer of `audit` on a plan: its findings and what its blocks cost are printed
+pub record IsAudited (x : Night × Plan) (r : Reply) : Type 0 where
+  pub findings : List Finding
+  pub told : ArePlanFindings x.0 x.1 findings
+  pub reply : r ≡ says (audit_outcome findings) (findings_of x.0 findings (total_cost x.0 x.1.blocks))
+
 -- the defined answer of a command: its input files are judged in the order of the words
 abbrev pub IsReply : Call → Files → Reply → Type 0
 IsReply (Match s t) files r = Judged (stated_night (content files s) (content files t)) IsMatched r
+IsReply (Audit s t p) files r = Judged (plans_in s t p files) IsAudited r
 
 -- the line for the first input file that isn't accepted
 abbrev pub refused : Call → Files → Option (List ℕ)
 refused (Match s t) files = result_err (stated_night (content files s) (content files t))
+refused (Audit s t p) files = result_err (plans_in s t p files)

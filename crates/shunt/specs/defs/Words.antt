@@ -11,13 +11,16 @@ texts = map string_bytes
 -- a command, by the names of its files
 pub data Call : Type 0 where
   Match : List ℕ → List ℕ → Call
+  Audit : List ℕ → List ℕ → List ℕ → Call
 
 abbrev pub call_of : Command → Call
 call_of (command.Match s t) = Match s.now t.now
+call_of (command.Audit s t p) = Audit s.now t.now p.now
 
 -- the words that ask for it
 abbrev pub words_of : Call → List (List ℕ)
 words_of (Match s t) = codes "match" ∷ s ∷ t ∷ []
+words_of (Audit s t p) = codes "audit" ∷ s ∷ t ∷ p ∷ []
 
 -- no name is empty, and no two are the same
 abbrev pub AreNames : List (List ℕ) → Type 0
@@ -27,6 +30,7 @@ AreNames (n ∷ ns) = (n ≢ []) × AllByRecursion (λ m. n ≢ m) ns × AreName
 -- its files have names that can be used
 abbrev pub IsUsable : Call → Type 0
 IsUsable (Match s t) = AreNames (s ∷ t ∷ [])
+IsUsable (Audit s t p) = AreNames (s ∷ t ∷ p ∷ [])
 
 -- the words are those of this command, and its files have names that can be used
 abbrev pub Spells : List (List ℕ) → Call → Type 0

@@ -50,6 +50,7 @@ shortage_of night (ByMinute kind minute need have) = codes "no matching type " +
 abbrev pub file_word : FileWord → List ℕ
 file_word word.Station = codes "station"
 file_word word.Timetable = codes "timetable"
+file_word word.Plan = codes "plan"
 
 -- `input FILE record R field F kind K` at a first fault, or `input FILE too long`
 unfoldable pub input_of : FileWord → Option RowFault → List ℕ

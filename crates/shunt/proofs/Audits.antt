@@ -1,0 +1,190 @@
+-- When each status of `audit` comes.
+use Rattle.std.proofs.Common.{◌≡◌, Some, None, sym, subst, ap, inl, inr, refl, ⊎_elim, Bool, true, false, Result, Ok, Err, List, [], ◌∷◌, length, ◌∙◌, ℕ}
+use Rattle.std.specs.Prelude.{◌↔◌, IfSome, ◌⊎◌, IsErr, nat_le, if◌then◌else◌}
+use Rattle.shunt_store.specs.defs.Files.{Files, content}
+use Rattle.shunt_store.specs.defs.Causes.{Rose}
+use Rattle.shunt_rows.specs.declared.fault.RowFault.{RowFault}
+use Rattle.shunt_rows.specs.defs.Formats.{Format, reading}
+use Rattle.shunt_rows.specs.defs.Records.{records_of}
+use Rattle.shunt_instance.specs.defs.Instance.{Night, night_of, IsInstance}
+use Rattle.shunt_instance.proofs.Orders.{night_is, closed}
+use Rattle.shunt_plan.specs.declared.records.Plan.{Plan}
+use Rattle.shunt_plan.specs.defs.PlanFormat.{plan_format}
+use Rattle.shunt_plan.specs.defs.Plans.{IsPlanInRange}
+use Rattle.shunt_plan.proofs.Formed.{plan_formed}
+use Rattle.shunt_station.specs.defs.Stating.{station_format}
+use Rattle.shunt_station.proofs.Formed.{station_formed}
+use Rattle.shunt_timetable.specs.defs.TimetableFormat.{timetable_format}
+use Rattle.shunt_timetable.proofs.Formed.{timetable_formed}
+use Rattle.shunt_report.specs.declared.words.FileWord.{FileWord}
+use Rattle.shunt_report.specs.declared.words.FileWord.TheVariants as word
+use Rattle.shunt_report.specs.defs.Texts.{input_of}
+use Rattle.shunt_audit.specs.declared.types.Finding.{Finding}
+use Rattle.shunt_audit.specs.defs.Plans.{ArePlanFindings, plan_findings}
+use Rattle.shunt_audit.proofs.Stated.{plan_none, only_plan}
+use Rattle.shunt.specs.declared.delivering.Outcome.{Outcome}
+use Rattle.shunt.specs.declared.delivering.Outcome.TheVariants as outcome
+use Rattle.shunt.specs.declared.running.Status.{Status}
+use Rattle.shunt.specs.declared.running.Status.TheVariants as status
+use Rattle.shunt.specs.defs.Words.{Audit}
+use Rattle.shunt.specs.defs.Replies.{Reply, IsReply, IsAudited, Judged, IsSound, audit_outcome, most_bytes, value_or, stated, then_stated, stated_station, stated_timetable, stated_night, stated_plan, stated_plans, plans_in}
+use Rattle.shunt.specs.defs.Ends.{Seen, Ends, Yields}
+use Rattle.shunt.proofs.Exactly.{decides, HasReply, done_reply, findings_reply, input_reply, no_matching_reply, unfinished_reply, on_told, store_rose, sink_rose, never_words}
+
+-- ---- the outcome of a reply, by what the files state
+
+refused_reply : (x : Result (Night × Plan) (List ℕ)) (r : Reply) → IsErr x → Judged x IsAudited r → r.outcome ≡ outcome.Input
+refused_reply (Ok y) r err is = cc
+refused_reply (Err text) r err is = ap (λ (r : Reply). r.outcome) is
+
+audited : (x : Result (Night × Plan) (List ℕ)) (y : Night × Plan) (r : Reply) → x ≡ Ok y → Judged x IsAudited r → IsAudited y r
+audited x y r e is = subst (λ x. Judged x IsAudited r) e is
+
+-- ---- what the files state is a night and a plan in it
+
+ok_value : {X : Type 0} (file : FileWord) (x : Result X RowFault) (v : X) → value_or file x ≡ Ok v → x ≡ Ok v
+ok_value file (Ok y) v e = cc
+ok_value file (Err fault) v e = absurd (let h : Err (input_of file (Some fault)) ≡ Ok v = e in cc)
+
+stated_value : {S X : Type 0} (file : FileWord) (format : Format S X) (bytes : List ℕ) (v : X) → stated file format bytes ≡ Ok v → reading format (records_of bytes) ≡ Ok v
+stated_value file format bytes v e = at (nat_le (length bytes) most_bytes) e
+  where
+    at : (short : Bool) → (if short then value_or file (reading format (records_of bytes)) else Err (input_of file None)) ≡ Ok v → reading format (records_of bytes) ≡ Ok v
+    at true h = ok_value file (reading format (records_of bytes)) v h
+    at false h = absurd (let no : Err (input_of file None) ≡ Ok v = h in cc)
+
+-- a value of both comes of a value of the first
+pub parted : {X Y : Type 0} (first : Result X (List ℕ)) (rest : X → Result Y (List ℕ)) (v : Y) → then_stated first rest ≡ Ok v → (x : X) × (first ≡ Ok x) × (rest x ≡ Ok v)
+parted (Ok x) rest v e = (x, refl, e)
+parted (Err text) rest v e = absurd (let h : Err text ≡ Ok v = e in cc)
+
+pub night_stated : (s t : List ℕ) (night : Night) → stated_night s t ≡ Ok night → IsInstance night
+night_stated s t night e =
+    let first = parted (stated_station s) _ night e in
+    let second = parted (stated_timetable first.0 t) _ night first.2 in
+    let station = station_formed (records_of s) first.0 (stated_value word.Station station_format s first.0 first.1) in
+    let timetable = timetable_formed first.0 (records_of t) second.0 (stated_value word.Timetable (timetable_format first.0) t second.0 second.1) in
+    let made : night_of first.0 second.0 ≡ night = cc (second.2) in
+    subst IsInstance made (closed (night_of first.0 second.0) (night_is first.0 second.0 station timetable))
+
+pub plan_stated : (s t p : List ℕ) (y : Night × Plan) → stated_plans s t p ≡ Ok y → IsInstance y.0 × IsPlanInRange y.0 y.1
+plan_stated s t p y e =
+    let first = parted (stated_night s t) _ y e in
+    let second = parted (stated_plan first.0 p) _ y first.2 in
+    let made : (first.0, second.0) ≡ y = cc (second.2) in
+    subst (λ (z : Night × Plan). IsInstance z.0 × IsPlanInRange z.0 z.1) made (night_stated s t first.0 first.1, plan_formed first.0 (records_of p) second.0 (stated_value word.Plan (plan_format first.0) p second.0 second.1))
+
+-- ---- exactly when each comes
+
+sound_where : (s t p : List ℕ) (y : Night × Plan) → stated_plans s t p ≡ Ok y → (plan_findings y.0 y.1 ≡ []) ↔ IsSound y
+sound_where s t p y e = let h = plan_stated s t p y e in plan_none y.0 y.1 h.0 h.1.blocks
+
+-- the findings that are told are those that the audit computes
+told_is : (s t p : List ℕ) (y : Night × Plan) (fs : List Finding) → stated_plans s t p ≡ Ok y → ArePlanFindings y.0 y.1 fs → fs ≡ plan_findings y.0 y.1
+told_is s t p y fs e told = only_plan y.0 y.1 fs (plan_stated s t p y e).1.blocks told.in_order told.exactly
+
+told_outcome : (y : Night × Plan) (r : Reply) (a : IsAudited y r) → r.outcome ≡ audit_outcome a.findings
+told_outcome y r a = ap (λ (r : Reply). r.outcome) a.reply
+
+some_found : (fs : List Finding) → (fs ≡ [] → ⊥) → audit_outcome fs ≡ outcome.Findings
+some_found [] never_nil = absurd (never_nil refl)
+some_found (f ∷ fs) never_nil = refl
+
+none_found : (fs : List Finding) → audit_outcome fs ≡ outcome.Done → fs ≡ []
+none_found [] e = refl
+none_found (f ∷ fs) e = absurd (let h : outcome.Findings ≡ outcome.Done = e in cc)
+
+found_some : (fs : List Finding) → audit_outcome fs ≡ outcome.Findings → fs ≡ [] → ⊥
+found_some [] e nil = absurd (let h : outcome.Done ≡ outcome.Findings = e in cc)
+found_some (f ∷ fs) e nil = absurd (let h : (f ∷ fs) ≡ [] = nil in cc)
+
+pub input_there : (s t p : List ℕ) (old new : Seen) (x : Status) (files : Files) → old.files ≡ Some files → IsErr (plans_in s t p files) → Ends (Audit s t p) old new x → (x ≡ status.Input) ⊎ Yields x
+input_there s t p old new x files told err e = decides (Audit s t p) files outcome.Input old new x told (λ r. refused_reply (plans_in s t p files) r err) e
+
+pub done_there : (s t p : List ℕ) (old new : Seen) (x : Status) (files : Files) (y : Night × Plan) → old.files ≡ Some files → plans_in s t p files ≡ Ok y → IsSound y → Ends (Audit s t p) old new x → (x ≡ status.Done) ⊎ Yields x
+done_there s t p old new x files y told ok sound e =
+    let none = (sound_where (content files s) (content files t) (content files p) y ok).1 sound in
+    decides (Audit s t p) files outcome.Done old new x told (λ r is.
+    let a = audited (plans_in s t p files) y r ok is in
+    told_outcome y r a ∙ ap audit_outcome (told_is (content files s) (content files t) (content files p) y a.findings ok a.told ∙ none)) e
+
+pub findings_there : (s t p : List ℕ) (old new : Seen) (x : Status) (files : Files) (y : Night × Plan) → old.files ≡ Some files → plans_in s t p files ≡ Ok y → (IsSound y → ⊥) → Ends (Audit s t p) old new x → (x ≡ status.Findings) ⊎ Yields x
+findings_there s t p old new x files y told ok unsound e =
+    decides (Audit s t p) files outcome.Findings old new x told (λ r is.
+    let a = audited (plans_in s t p files) y r ok is in
+    let same = told_is (content files s) (content files t) (content files p) y a.findings ok a.told in
+    told_outcome y r a ∙ some_found a.findings (λ nil. unsound ((sound_where (content files s) (content files t) (content files p) y ok).0 (sym same ∙ nil)))) e
+
+-- what each outcome tells of the files
+input_tells : (x : Result (Night × Plan) (List ℕ)) (r : Reply) → Judged x IsAudited r → r.outcome ≡ outcome.Input → IsErr x
+input_tells (Err text) r is o = refl
+input_tells (Ok y) r is o = absurd (no_input is.findings (sym (told_outcome y r is) ∙ o))
+  where
+    no_input : (fs : List Finding) → audit_outcome fs ≡ outcome.Input → ⊥
+    no_input [] e = let h : outcome.Done ≡ outcome.Input = e in cc
+    no_input (f ∷ fs) e = let h : outcome.Findings ≡ outcome.Input = e in cc
+
+-- an outcome of an accepted plan is that of its findings
+record Tells (x : Result (Night × Plan) (List ℕ)) (o : Outcome) : Type 0 where
+  plan : Night × Plan
+  ok : x ≡ Ok plan
+  findings : List Finding
+  told : ArePlanFindings plan.0 plan.1 findings
+  outcome : audit_outcome findings ≡ o
+
+tells : (x : Result (Night × Plan) (List ℕ)) (r : Reply) (o : Outcome) → (o ≡ outcome.Input → ⊥) → Judged x IsAudited r → r.outcome ≡ o → Tells x o
+tells (Err text) r o other is e = absurd (other (sym e ∙ ap (λ (r : Reply). r.outcome) is))
+tells (Ok y) r o other is e = record { plan = y; ok = refl; findings = is.findings; told = is.told; outcome = sym (told_outcome y r is) ∙ e }
+
+pub input_only : (s t p : List ℕ) (old new : Seen) → Ends (Audit s t p) old new status.Input → IfSome old.files (λ files. IsErr (plans_in s t p files))
+input_only s t p old new e = let h = input_reply (Audit s t p) old new e in
+    on_told old.files _ _ (λ files is. input_tells (plans_in s t p files) h.0 is h.2) h.1
+
+pub done_only : (s t p : List ℕ) (old new : Seen) → Ends (Audit s t p) old new status.Done → IfSome old.files (λ files. (y : Night × Plan) × (plans_in s t p files ≡ Ok y) × IsSound y)
+done_only s t p old new e = let h = done_reply (Audit s t p) old new e in
+    on_told old.files _ _ (λ files is.
+    let at = tells (plans_in s t p files) h.0 outcome.Done (λ e. cc) is h.2 in
+    let same = told_is (content files s) (content files t) (content files p) at.plan at.findings at.ok at.told in
+    (at.plan, at.ok, (sound_where (content files s) (content files t) (content files p) at.plan at.ok).0 (sym same ∙ none_found at.findings at.outcome))) h.1
+
+pub findings_only : (s t p : List ℕ) (old new : Seen) → Ends (Audit s t p) old new status.Findings → IfSome old.files (λ files. (y : Night × Plan) × (plans_in s t p files ≡ Ok y) × (IsSound y → ⊥))
+findings_only s t p old new e = let h = findings_reply (Audit s t p) old new e in
+    on_told old.files _ _ (λ files is.
+    let at = tells (plans_in s t p files) h.0 outcome.Findings (λ e. cc) is h.2 in
+    let same = told_is (content files s) (content files t) (content files p) at.plan at.findings at.ok at.told in
+    (at.plan, at.ok, λ sound. found_some at.findings at.outcome (same ∙ (sound_where (content files s) (content files t) (content files p) at.plan at.ok).1 sound))) h.1
+
+neither : (fs : List Finding) (o : Outcome) → audit_outcome fs ≡ o → (o ≡ outcome.Done) ⊎ (o ≡ outcome.Findings)
+neither [] o e = inl (sym e)
+neither (f ∷ fs) o e = inr (sym e)
+
+never : (s t p : List ℕ) (o : Outcome) (old : Seen) (files : Files) → (o ≡ outcome.Done → ⊥) → (o ≡ outcome.Findings → ⊥) → (o ≡ outcome.Input → ⊥) → old.files ≡ Some files → HasReply (Audit s t p) o old → ⊥
+never s t p o old files a b c told h =
+    let at = tells (plans_in s t p files) h.0 o c (subst (λ f. IfSome f (λ files. IsReply (Audit s t p) files h.0)) told h.1) h.2 in
+    ⊎_elim a b (neither at.findings o at.outcome)
+
+pub no_matching : (s t p : List ℕ) (old new : Seen) (files : Files) → old.files ≡ Some files → Ends (Audit s t p) old new status.NoMatching → ⊥
+no_matching s t p old new files told e = never s t p outcome.NoMatching old files (λ e. cc) (λ e. cc) (λ e. cc) told (no_matching_reply (Audit s t p) old new e)
+
+pub no_unfinished : (s t p : List ℕ) (old new : Seen) (files : Files) → old.files ≡ Some files → Ends (Audit s t p) old new status.Unfinished → ⊥
+no_unfinished s t p old new files told e = never s t p outcome.Unfinished old files (λ e. cc) (λ e. cc) (λ e. cc) told (unfinished_reply (Audit s t p) old new e)
+
+-- ---- completeness
+
+abbrev EndsWell : Status → Type 0
+EndsWell x = (x ≡ status.Done) ⊎ ((x ≡ status.Findings) ⊎ (x ≡ status.Memory))
+
+accepted : (x : Result (Night × Plan) (List ℕ)) (y : Night × Plan) → x ≡ Ok y → IsErr x → ⊥
+accepted (Ok z) y e err = cc
+accepted (Err text) y e err = let h : Err text ≡ Ok y = e in cc
+
+pub ends_well : (s t p : List ℕ) (old new : Seen) (x : Status) (files : Files) (y : Night × Plan) → old.files ≡ Some files → plans_in s t p files ≡ Ok y → (Rose old.store_faults new.store_faults → ⊥) → (Rose old.sink_faults new.sink_faults → ⊥) → Ends (Audit s t p) old new x → EndsWell x
+ends_well s t p old new status.Done files y told ok ns nk e = inl refl
+ends_well s t p old new status.Findings files y told ok ns nk e = inr (inl refl)
+ends_well s t p old new status.Words files y told ok ns nk e = absurd (never_words (Audit s t p) old new e)
+ends_well s t p old new status.Input files y told ok ns nk e = absurd (accepted (plans_in s t p files) y ok (subst (λ f. IfSome f (λ files. IsErr (plans_in s t p files))) told (input_only s t p old new e)))
+ends_well s t p old new status.Store files y told ok ns nk e = absurd (ns (store_rose (Audit s t p) old new e))
+ends_well s t p old new status.Memory files y told ok ns nk e = inr (inr refl)
+ends_well s t p old new status.NoMatching files y told ok ns nk e = absurd (no_matching s t p old new files told e)
+ends_well s t p old new status.Unfinished files y told ok ns nk e = absurd (no_unfinished s t p old new files told e)
+ends_well s t p old new status.Sink files y told ok ns nk e = absurd (nk (sink_rose (Audit s t p) old new e))

@@ -2,7 +2,10 @@
 //!
 //! `plain make timetable SIZE` and `plain make certificate SIZE` print a file of about that many bytes;
 //! `plain largest station` and `plain largest timetable` print files that reach every limit and are accepted;
-//! `plain split FILE` splits it at commas and line ends and keeps the fields.
+//! `plain largest plan` prints a plan of 400 blocks over them; `plain split FILE` splits it at commas and line ends and keeps
+//! the fields; `plain choices STATION TIMETABLE WALKS` walks over the choices for each unit.
+
+mod choices;
 
 use std::io::Write;
 use std::time::Instant;
@@ -13,7 +16,9 @@ fn main() {
         ["make", kind, size] => make(kind, size.parse().expect("a size")),
         ["largest", "station"] => print!("{}", largest_station()),
         ["largest", "timetable"] => print!("{}", largest_timetable()),
+        ["largest", "plan"] => print!("{}", largest_plan()),
         ["split", name] => split(name),
+        ["choices", station, timetable, walks] => choices::measure(station, timetable, walks.parse().expect("a number")),
         _ => std::process::exit(2),
     }
 }
@@ -72,6 +77,17 @@ fn largest_timetable() -> String {
             text.push_str(&format!("{word},train{train},{:02}:{:02},platform{},{units}\n", hour + train / 60, train % 60, train % 30));
         }
     }
+    text
+}
+
+// 400 parked blocks of one unit by falling ids, so that most units are in four of them.
+fn largest_plan() -> String {
+    let mut text = String::from("plan,1\n");
+    for id in (1..=400).rev() {
+        let (train, track) = (id % 100, id % 60);
+        text.push_str(&format!("block,{id},train{train},1,1,train{train},1,park,track{track},A,A\n"));
+    }
+    text.push_str("cost,1000000000000\n");
     text
 }
 

@@ -1,1 +1,3 @@
 mod Numbers
+mod Bare
+mod Counts

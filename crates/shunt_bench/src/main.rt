@@ -1,11 +1,16 @@
-//! Measures, by the first word: `records FILE` and `tracks`. Without words it prints nothing.
+//! Measures, by the first word: `records FILE`, `tracks`, `choices STATION TIMETABLE WALKS` and `audit STATION TIMETABLE PLAN
+//! RUNS`. Without words it prints nothing.
 #![tactic(auto)]
 
+mod audits;
+mod choices;
+mod nights;
 mod tracks;
 
+use audits::measure_audit;
+use choices::measure_choices;
 use shunt_rows::records;
 use shunt_store::{DiskStore, read_all};
-use std::process::ExitCode;
 use std::rt::{Clock, Env, Files};
 use std::time::CpuClock;
 use std::{env, io};
@@ -39,12 +44,25 @@ fn main(rt: HostRuntime) -> io::Result<()> {
     let Some(bench) = words.next() else {
         return Ok(());
     };
-    match (bench.as_str(), words.next()) {
-        ("records", Some(name)) => measure_records(&rt, name.as_str()),
+    let names = (words.next(), words.next(), words.next(), words.next());
+    match (bench.as_str(), &names) {
+        ("records", (Some(name), ..)) => measure_records(&rt, name.as_str()),
         ("tracks", _) => {
             measure_tracks(&rt, 100, 320)?;
             measure_tracks(&rt, 400, 80)?;
             measure_tracks(&rt, 1600, 20)
+        }
+        ("choices", (Some(station), Some(timetable), Some(walks), _)) => {
+            measure_choices(&rt, station.as_str(), timetable.as_str(), walks.as_str())
+        }
+        ("audit", (Some(station), Some(timetable), Some(plan), Some(runs))) => {
+            measure_audit(
+                &rt,
+                station.as_str(),
+                timetable.as_str(),
+                plan.as_str(),
+                runs.as_str(),
+            )
         }
         _ => Ok(()),
     }

@@ -1,0 +1,86 @@
+// Reading the files that are measured.
+ghost use Rattle.std.specs.Prelude.{◌<◌, IfOk, IfSome};
+ghost use Rattle.shunt_plan.specs.defs.Plans.{IsPlanInRange};
+
+use shunt_base::parse_decimal;
+use shunt_instance::Instance;
+use shunt_plan::{Plan, read_plan};
+use shunt_rows::{Row, records};
+use shunt_station::read_station;
+use shunt_store::{DiskStore, read_all};
+use shunt_timetable::read_timetable;
+use std::rt::Files;
+
+/// The longest file that is measured, in bytes.
+const MOST_BYTES: u64 = 4_194_304;
+
+/// What wasn't read, or isn't accepted.
+#[derive(Clone, Copy, Debug, Drop)]
+pub(crate) enum Refused {
+    Station,
+    Timetable,
+    Plan,
+    Memory,
+}
+
+impl Refused {
+    /// The line that says so.
+    pub(crate) fn line(self) -> &'static str {
+        match self {
+            Refused::Station => "the station was refused",
+            Refused::Timetable => "the timetable was refused",
+            Refused::Plan => "the plan was refused",
+            Refused::Memory => "out of memory",
+        }
+    }
+}
+
+// The records of a file. None where it wasn't read.
+fn rows_of(rt: &(impl Files + AllocGlobal), name: &str) -> Option<Vec<Row>> {
+    let mut store = DiskStore::new(rt);
+    let bytes = read_all(rt.alloc(), &mut store, name, MOST_BYTES).ok()?;
+    records(rt.alloc(), &bytes).ok()
+}
+
+/// The night of a station file and a timetable file.
+pub(crate) fn read_night(
+    rt: &(impl Files + AllocGlobal),
+    station: &str,
+    timetable: &str,
+) -> Result<Instance, Refused> {
+    let rows = rows_of(rt, station).ok_or(Refused::Station)?;
+    let Ok(station) = read_station(rt.alloc(), &rows) else {
+        return Err(Refused::Station);
+    };
+    let rows = rows_of(rt, timetable).ok_or(Refused::Timetable)?;
+    let Ok(timetable) = read_timetable(rt.alloc(), &station, &rows) else {
+        return Err(Refused::Timetable);
+    };
+    Instance::join(rt.alloc(), station, timetable).or(Err(Refused::Memory))
+}
+
+/// The plan of a file over a night.
+pub(crate) fn read_plan_of(
+    rt: &(impl Files + AllocGlobal),
+    instance: &Instance,
+    plan: &str,
+) -> Result<Plan, Refused>
+    ensures { IfOk result (IsPlanInRange instance.now) }
+{
+    let rows = rows_of(rt, plan).ok_or(Refused::Plan)?;
+    match read_plan(rt.alloc(), instance, &rows) {
+        Ok(plan) => Ok(plan),
+        Err(_) => Err(Refused::Plan),
+    }
+}
+
+/// How many times a word says, at least once.
+pub(crate) fn times(word: &str) -> Option<u64>
+    ensures { IfSome result (λ n. 0 < n) }
+{
+    let count = parse_decimal(word.as_bytes())?;
+    if count == 0 {
+        return None;
+    }
+    Some(count)
+}

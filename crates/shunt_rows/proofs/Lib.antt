@@ -1,12 +1,17 @@
 pub mod Again
+pub mod Holding
 pub mod InOrder
 pub mod Joins
 pub mod Keeping
 pub mod Least
+pub mod Named
 pub mod Nonempty
 pub mod Places
 pub mod Plain
 pub mod Readings
 pub mod SampleTables
+pub mod Sections
+pub mod Spelled
+pub mod Texts
 pub mod Whole
 pub mod Widths

@@ -1,5 +1,5 @@
 -- Names, numbers, words and sides are plain fields, and a side's letter is read back.
-use Rattle.std.proofs.Common.{◌≡◌, ℕ, suc, ◌^◌, ◌<◌, ◌≤◌, Bool, true, false, ◌&&◌, List, [], ◌∷◌, length, refl, sym, arith, IsTrue}
+use Rattle.std.proofs.Common.{◌≡◌, ℕ, suc, ◌^◌, ◌<◌, ◌≤◌, Bool, true, false, ◌&&◌, List, [], ◌∷◌, ◌++◌, length, map, ◌+◌, ◌/◌, ◌%◌, refl, sym, arith, IsTrue}
 use Rattle.std.specs.Prelude.{All, codes, nat_lt, Some}
 use Rattle.std.specs.List.{list_all, AllByRecursion}
 use Rattle.std.specs.Fmt.{decimal}
@@ -8,9 +8,9 @@ use Rattle.std.proofs.lemmas.Bool.{ltb-true, true≢false}
 use Rattle.std.proofs.lemmas.Bool.Decides.{nat_tests}
 use Rattle.shunt_base.specs.declared.ids.Side.{Side}
 use Rattle.shunt_base.specs.declared.ids.Side.TheVariants.{A, B}
-use Rattle.shunt_base.specs.defs.Spelling.{IsName, is_name_byte}
+use Rattle.shunt_base.specs.defs.Spelling.{IsName, is_name_byte, minute_text}
 use Rattle.shunt_base.proofs.Decimal.{spelled}
-use Rattle.shunt_rows.specs.defs.Records.{is_plain, IsPlainField}
+use Rattle.shunt_rows.specs.defs.Records.{is_plain, IsPlainField, IsPlainRow, ArePlain}
 use Rattle.shunt_rows.specs.defs.Fields.{side_of}
 use Rattle.shunt_rows.specs.defs.Written.{side_text}
 
@@ -56,3 +56,19 @@ side_read B = refl
 pub side_short : (q : Side) → length (side_text q) ≤ 1
 side_short A = omega arith
 side_short B = omega arith
+
+digit_plain : (d : ℕ) → d < 10 → IsTrue (is_plain (48 + d))
+digit_plain d lt = grind (arith, nat_tests)
+
+pub plain_minute : (m : ℕ) → m < 2880 → IsPlainField (minute_text m)
+plain_minute m small = (omega arith, (digit_plain (m / 60 / 10) (omega arith), (digit_plain (m / 60 % 10) (omega arith), (refl, (digit_plain (m % 60 / 10) (omega arith), (digit_plain (m % 60 % 10) (omega arith), tt))))))
+
+-- plain rows of two lists
+pub plain_more : (rows more : List (List (List ℕ))) → ArePlain rows → ArePlain more → ArePlain (rows ++ more)
+plain_more [] more p q = q
+plain_more (row ∷ rows) more p q = (p.0, plain_more rows more p.1 q)
+
+-- plain rows of a list of things
+pub plain_map : {X : Type 0} (P : X → Type 0) (row : X → List (List ℕ)) (xs : List X) → ((x : X) → P x → IsPlainRow (row x)) → All P xs → ArePlain (map row xs)
+plain_map P row [] h all = tt
+plain_map P row (x ∷ xs) h all = (h x (all 0 x (omega arith)), plain_map P row xs h (λ k d lt. all (suc k) d (omega arith)))

@@ -5,6 +5,7 @@ mod check;
 mod fault;
 mod fields;
 pub mod laws;
+mod reading;
 mod row;
 pub mod samples;
 #[cfg(test)]
@@ -16,5 +17,6 @@ pub use fault::{ReadError, RowFault, RowKind};
 pub use fields::{
     fields_in, is_within, known_in, minute_in, number_in, place_of, place_of_name, side_in, word_in,
 };
+pub use reading::{FormatReader, read};
 pub use row::{Row, record_number, records};
 pub use writer::RowWriter;

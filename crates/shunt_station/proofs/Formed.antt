@@ -1,30 +1,25 @@
 -- What the records of a station file state is well formed.
-use Rattle.std.proofs.Common.{◌≡◌, ◌≢◌, ℕ, zero, suc, ◌<◌, ◌≤◌, Bool, true, false, not, ◌||◌, ◌&&◌, List, [], ◌∷◌, ◌++◌, length, length-append, map, get_or, refl, sym, ap, subst, ◌∙◌, arith}
-use Rattle.std.specs.Prelude.{Result, Ok, Err, IfOk, bytes_eq, All, AllPairs, ◌==◌, Option, Some, None, option_map, position, if◌then◌else◌, codes, slice_get}
-use Rattle.std.specs.List.{list_any}
-use Rattle.std.specs.Option.{is_some, unwrap_or}
-use Rattle.std.proofs.lemmas.List.{map-append}
-use Rattle.std.proofs.lemmas.List.Elements.{All-append, All-cons}
-use Rattle.std.proofs.lemmas.List.Quantifiers.{all_pairs_push, position-Some}
-use Rattle.std.proofs.lemmas.Slice.Eq.{bytes_eq-Decides}
-use Rattle.std.proofs.lemmas.Bool.{true≢false, ltb-true, leb-true}
+use Rattle.std.proofs.Common.{◌≡◌, ◌≢◌, ℕ, zero, suc, ◌<◌, ◌≤◌, Bool, true, false, ◌||◌, ◌&&◌, List, [], ◌∷◌, ◌++◌, length, length-append, map, refl, sym, ap, ◌∙◌, subst, arith}
+use Rattle.std.specs.Prelude.{Ok, bytes_eq, nat_lt, All, ◌==◌, Option, Some, None, option_map, position, if◌then◌else◌, codes, slice_get}
+use Rattle.std.specs.Option.{unwrap_or}
+use Rattle.std.proofs.lemmas.List.Elements.{All-nil, All-push, All-weaker}
+use Rattle.std.proofs.lemmas.Bool.{true≢false, ltb-true, not-true, and_from}
 use Rattle.std.proofs.lemmas.Bool.Decides.{nat_tests}
-use Rattle.std.proofs.lemmas.List.Sums.{AllPass-from_list_all}
 use Rattle.shunt_base.specs.declared.ids.PlatformId.{PlatformId}
 use Rattle.shunt_base.specs.declared.ids.TrackId.{TrackId}
 use Rattle.shunt_base.specs.declared.ids.TypeId.{TypeId}
 use Rattle.shunt_base.specs.declared.ids.Side.{Side}
 use Rattle.shunt_base.specs.declared.ids.Side.TheVariants.{A, B}
-use Rattle.shunt_base.specs.defs.Spelling.{IsName, is_name_byte, is_name_text, decimal_of}
-use Rattle.shunt_rows.specs.declared.fault.RowFault.{RowFault}
+use Rattle.shunt_base.specs.defs.Spelling.{IsName}
 use Rattle.shunt_rows.specs.declared.fault.RowKind.TheVariants as kinds
-use Rattle.shunt_rows.specs.declared.fault.ReadError.{ReadError}
 use Rattle.shunt_rows.specs.defs.Records.{at}
-use Rattle.shunt_rows.specs.defs.Checks.{Judged, found, answer}
-use Rattle.shunt_rows.specs.defs.Fields.{is_word, is_within, number_in, side_in}
+use Rattle.shunt_rows.specs.defs.Checks.{found, answer}
+use Rattle.shunt_rows.specs.defs.Fields.{is_word, number_in, side_in}
 use Rattle.shunt_rows.specs.defs.Formats.{reading}
-use Rattle.shunt_rows.specs.defs.Given.{Gives}
-use Rattle.shunt_rows.proofs.Keeping.{all_kept}
+use Rattle.shunt_rows.proofs.Holding.{says, in_either}
+use Rattle.shunt_rows.proofs.Keeping.{formed}
+use Rattle.shunt_rows.proofs.Named.{distinct_push, plain_push, same_name, number_found, no_pairs}
+use Rattle.shunt_rows.proofs.Spelled.{there, within, name_from}
 use Rattle.shunt_instance.specs.declared.records.UnitType.{UnitType}
 use Rattle.shunt_instance.specs.declared.records.Track.{Track}
 use Rattle.shunt_instance.specs.declared.records.Route.{Route}
@@ -34,69 +29,57 @@ use Rattle.shunt_instance.specs.defs.Words.{AreDistinct, is_open, is_open_at, jo
 use Rattle.shunt_instance.specs.defs.Wellformed.{IsUnitType, IsTrack, IsRoute, IsPermit, IsStation}
 use Rattle.shunt_station.specs.defs.Stating.{Draft, Ends, empty_station, first_of, type_of_name, platform_of_name, track_number, ends_of, type_of, platform_of, track_of, opens, stands, route_of, is_permitted, permit_of, cost_of, later_of, station_format}
 
-value : {A : Type 0} (x y : A) → ◌≡◌ {A = Result A RowFault} (Ok x) (Ok y) → x ≡ y
-value x y e = cc
+-- the lists of a station, each with what is true of it
+abbrev AreTypes : List UnitType → Type 0
+AreTypes types = (length types ≤ 40) × All IsUnitType types × AreDistinct (map (λ t. t.name) types)
 
--- a check holds where the record says a value
-next : {A : Type 0} (b : Bool) (r : Result A RowFault) (f : RowFault) (z : A) → (if b then r else Err f) ≡ Ok z → (b ≡ true) × (r ≡ Ok z)
-next true r f z e = (refl, e)
-next false r f z e = absurd cc
+abbrev ArePlatforms : List (List ℕ) → Type 0
+ArePlatforms platforms = (length platforms ≤ 30) × All IsName platforms × AreDistinct platforms
 
-there : {X : Type 0} (nothing : X) (o : Option X) → is_some o ≡ true → o ≡ Some (unwrap_or o nothing)
-there nothing None e = absurd cc
-there nothing (Some y) e = refl
+abbrev AreTracks : List Track → Type 0
+AreTracks tracks = (length tracks ≤ 60) × All IsTrack tracks × AreDistinct (map (λ t. t.name) tracks)
 
-within : (least most x : ℕ) → is_within least most x ≡ true → (least ≤ x) × (x ≤ most)
-unfolding is_within
-within least most x e = grind (arith, nat_tests)
+abbrev AreRoutes : Station → List Route → Type 0
+AreRoutes s routes = All (IsRoute s) routes × AreDistinct (map way_of routes)
 
-both : (a b : Bool) → (a && b) ≡ true → (a ≡ true) × (b ≡ true)
-both true b e = (refl, e)
-both false b e = absurd (true≢false (sym e))
+abbrev ArePermits : Station → List Permit → Type 0
+ArePermits s permits = All (IsPermit s) permits × AreDistinct permits
 
-name_from : (text : List ℕ) → is_name_text text ≡ true → IsName text
-name_from text t =
-    let parts = both _ _ t in
-    let first = both _ _ parts.0 in
-    (ltb-true _ _ first.0, leb-true _ _ first.1, AllPass-from_list_all is_name_byte text parts.1)
+abbrev AreCosts : Station → Type 0
+AreCosts s = (s.split ≤ 1000000) × (s.couple ≤ 1000000) × (s.unparked ≤ 1000000)
 
-neither : (a b : Bool) → (a || b) ≡ false → (a ≡ false) × (b ≡ false)
-neither true b e = absurd (true≢false e)
-neither false b e = (refl, e)
+of_parts : (s : Station) → IsName s.name → AreTypes s.types → ArePlatforms s.platforms → AreTracks s.tracks → AreRoutes s s.routes → ArePermits s s.permits → AreCosts s → IsStation s
+of_parts s name types platforms tracks routes permits costs = record {
+  name = name;
+  few_types = types.0;
+  types = types.1;
+  type_names = types.2;
+  few_platforms = platforms.0;
+  platforms = platforms.1;
+  platform_names = platforms.2;
+  few_tracks = tracks.0;
+  tracks = tracks.1;
+  track_names = tracks.2;
+  routes = routes.0;
+  ways = routes.1;
+  permits = permits.0;
+  permits_differ = permits.1;
+  split = costs.0;
+  couple = costs.1;
+  unparked = costs.2;
+}
 
-negated : (b : Bool) → not b ≡ true → b ≡ false
-negated true e = absurd (true≢false (sym e))
-negated false e = refl
+types_of : (s : Station) → IsStation s → AreTypes s.types
+types_of s f = (f.few_types, f.types, f.type_names)
 
--- where none passes a test that this one passes, each differs from it
-none_such : {X Y : Type 0} (f : X → Y) (test : X → Bool) (xs : List X) (y : Y) → ((x : X) → f x ≡ y → test x ≡ true) → list_any test xs ≡ false → (k : ℕ) (d : Y) → k < length (map f xs) → get_or (map f xs) k d ≢ y
-none_such f test [] y same e k d lt is = absurd (omega arith)
-none_such f test (x ∷ xs) y same e zero d lt is = true≢false (sym (same x is) ∙ (neither _ _ e).0)
-none_such f test (x ∷ xs) y same e (suc k) d lt is = none_such f test xs y same (neither _ _ e).1 k d (omega arith) is
+platforms_of : (s : Station) → IsStation s → ArePlatforms s.platforms
+platforms_of s f = (f.few_platforms, f.platforms, f.platform_names)
 
-none_same : {Y : Type 0} (test : Y → Bool) (ys : List Y) (y : Y) → ((x : Y) → x ≡ y → test x ≡ true) → list_any test ys ≡ false → (k : ℕ) (d : Y) → k < length ys → get_or ys k d ≢ y
-none_same test [] y same e k d lt is = absurd (omega arith)
-none_same test (x ∷ xs) y same e zero d lt is = true≢false (sym (same x is) ∙ (neither _ _ e).0)
-none_same test (x ∷ xs) y same e (suc k) d lt is = none_same test xs y same (neither _ _ e).1 k d (omega arith) is
+tracks_of : (s : Station) → IsStation s → AreTracks s.tracks
+tracks_of s f = (f.few_tracks, f.tracks, f.track_names)
 
--- one more thing, unlike the others
-distinct_push : {X Y : Type 0} (f : X → Y) (test : X → Bool) (xs : List X) (y : X) → ((x : X) → f x ≡ f y → test x ≡ true) → AreDistinct (map f xs) → list_any test xs ≡ false → AreDistinct (map f (xs ++ y ∷ []))
-distinct_push f test xs y same all e = subst AreDistinct (sym (map-append f xs (y ∷ []))) (all_pairs_push (λ m n. m ≢ n) (map f xs) (f y) all (none_such f test xs (f y) same e))
-
-plain_push : {Y : Type 0} (test : Y → Bool) (ys : List Y) (y : Y) → ((x : Y) → x ≡ y → test x ≡ true) → AreDistinct ys → list_any test ys ≡ false → AreDistinct (ys ++ y ∷ [])
-plain_push test ys y same all e = all_pairs_push (λ m n. m ≢ n) ys y all (none_same test ys y same e)
-
-none_all : {X : Type 0} (P : X → Type 0) → All P []
-none_all P k d lt = absurd (omega arith)
-
-all_push : {X : Type 0} (P : X → Type 0) (xs : List X) (y : X) → All P xs → P y → All P (xs ++ y ∷ [])
-all_push P xs y all p = All-append P xs (y ∷ []) all (All-cons P y [] p (none_all P))
-
-each_kept : {X : Type 0} (P Q : X → Type 0) (xs : List X) → ((x : X) → P x → Q x) → All P xs → All Q xs
-each_kept P Q xs keeps all k d lt = keeps _ (all k d lt)
-
-same_name : (name other : List ℕ) → other ≡ name → bytes_eq other name ≡ true
-same_name name other e = (bytes_eq-Decides other name).1 e
+costs_of : (s : Station) → IsStation s → AreCosts s
+costs_of s f = (f.split, f.couple, f.unparked)
 
 -- a station that has at least what another has
 record Grows (s t : Station) : Type 0 where
@@ -127,70 +110,67 @@ open_kept [] more k side e = absurd (true≢false (sym e))
 open_kept (t ∷ tracks) more zero side e = e
 open_kept (t ∷ tracks) more (suc k) side e = open_kept tracks more k side e
 
+-- the routes and permits of a station stand over one that grew
+routes_on : (s t : Station) → Grows s t → IsStation s → AreRoutes t s.routes
+routes_on s t g f = (All-weaker (IsRoute s) (IsRoute t) (route_kept s t g) s.routes f.routes, f.ways)
+
+permits_on : (s t : Station) → Grows s t → IsStation s → ArePermits t s.permits
+permits_on s t g f = (All-weaker (IsPermit s) (IsPermit t) (permit_kept s t g) s.permits f.permits, f.permits_differ)
+
+-- a station over which as much stands
+same_size : (s t : Station) → t.types ≡ s.types → t.platforms ≡ s.platforms → t.tracks ≡ s.tracks → Grows s t
+same_size s t types platforms tracks = record {
+  types = omega (arith, ap length types);
+  platforms = omega (arith, ap length platforms);
+  tracks = omega (arith, ap length tracks);
+  open_at = λ k side o. ap (λ l. open_in l k.0 side) tracks ∙ o;
+}
+
+-- one more of a list
+more : {X : Type 0} (xs : List X) (x : X) (most : ℕ) → nat_lt (length xs) most ≡ true → length (xs ++ x ∷ []) ≤ most
+more xs x most lt = let l = ltb-true _ _ lt in omega (arith, l, length-append xs (x ∷ []))
+
+at_least : {X : Type 0} (xs : List X) (x : X) → length xs ≤ length (xs ++ x ∷ [])
+at_least xs x = omega (arith, length-append xs (x ∷ []))
+
 type_formed : (n : ℕ) (d t : Draft) (row : List (List ℕ)) → IsStation d.station → answer n (type_of d row) ≡ Ok t → IsStation t.station
 unfolding type_of
 type_formed n d t row s e =
-    let a = next _ _ _ t e in
-    let room = next _ _ _ t a.1 in
-    let name = next _ _ _ t room.1 in
-    let new = next _ _ _ t name.1 in
-    let size = next _ _ _ t (next _ _ _ t new.1).1 in
-    let turn = next _ _ _ t (next _ _ _ t size.1).1 in
+    let all = says n (type_of d row) t e in
+    let room = all.0.1 in
+    let name = room.1 in
+    let new = name.1 in
+    let size = new.1.1 in
+    let turn = size.1.1 in
     let long = within 1 5000 (number_in row 3 1 5000).value size.0 in
     let late = within 1 1440 (number_in row 4 1 1440).value turn.0 in
+    let old = d.station in
     let t0 : UnitType = record { name = at row 2; length = (number_in row 3 1 5000).value; turn = (number_in row 4 1 1440).value } in
-    let all = d.station.types ++ t0 ∷ [] in
-    let next : Station = record d.station { types = all } in
-    let grows : Grows d.station next = record { types = omega (arith, length-append d.station.types (t0 ∷ [])); platforms = omega arith; tracks = omega arith; open_at = λ k side o. o } in
-    subst (λ (u : Draft). IsStation u.station) (value _ _ turn.1) (record {
-      name = s.name;
-      few_types = let lt : length d.station.types < 40 = ltb-true _ _ room.0 in omega (arith, length-append d.station.types (t0 ∷ []));
-      types = all_push IsUnitType d.station.types t0 s.types (record { name = name_from (at row 2) name.0; some = long.0; long = long.1; turns = late.0; turn = late.1 });
-      type_names = distinct_push (λ u. u.name) (λ u. bytes_eq u.name (at row 2)) d.station.types t0 (λ u. same_name (at row 2) u.name) s.type_names (negated _ new.0);
-      few_platforms = s.few_platforms;
-      platforms = s.platforms;
-      platform_names = s.platform_names;
-      few_tracks = s.few_tracks;
-      tracks = s.tracks;
-      track_names = s.track_names;
-      routes = each_kept (IsRoute d.station) (IsRoute next) d.station.routes (route_kept d.station next grows) s.routes;
-      ways = s.ways;
-      permits = each_kept (IsPermit d.station) (IsPermit next) d.station.permits (permit_kept d.station next grows) s.permits;
-      permits_differ = s.permits_differ;
-      split = s.split;
-      couple = s.couple;
-      unparked = s.unparked;
-    })
+    let next : Station = record old { types = old.types ++ t0 ∷ [] } in
+    let grows : Grows old next = record { types = at_least old.types t0; platforms = omega arith; tracks = omega arith; open_at = λ k side o. o } in
+    let types : AreTypes next.types = (
+      more old.types t0 40 room.0,
+      All-push IsUnitType old.types t0 s.types (record { name = name_from (at row 2) name.0; some = long.0; long = long.1; turns = late.0; turn = late.1 }),
+      distinct_push (λ u. u.name) (λ u. bytes_eq u.name (at row 2)) old.types t0 (λ u. same_name (at row 2) u.name) s.type_names (not-true _ new.0),
+    ) in
+    subst (λ (u : Draft). IsStation u.station) all.1 (of_parts next s.name types (platforms_of old s) (tracks_of old s) (routes_on old next grows s) (permits_on old next grows s) (costs_of old s))
 
 platform_formed : (n : ℕ) (d t : Draft) (row : List (List ℕ)) → IsStation d.station → answer n (platform_of d row) ≡ Ok t → IsStation t.station
 unfolding platform_of
 platform_formed n d t row s e =
-    let a = next _ _ _ t e in
-    let room = next _ _ _ t a.1 in
-    let name = next _ _ _ t room.1 in
-    let new = next _ _ _ t name.1 in
-    let all = d.station.platforms ++ at row 2 ∷ [] in
-    let next : Station = record d.station { platforms = all } in
-    let grows : Grows d.station next = record { types = omega arith; platforms = omega (arith, length-append d.station.platforms (at row 2 ∷ [])); tracks = omega arith; open_at = λ k side o. o } in
-    subst (λ (u : Draft). IsStation u.station) (value _ _ new.1) (record {
-      name = s.name;
-      few_types = s.few_types;
-      types = s.types;
-      type_names = s.type_names;
-      few_platforms = let lt : length d.station.platforms < 30 = ltb-true _ _ room.0 in omega (arith, length-append d.station.platforms (at row 2 ∷ []));
-      platforms = all_push IsName d.station.platforms (at row 2) s.platforms (name_from (at row 2) name.0);
-      platform_names = plain_push (λ p. bytes_eq p (at row 2)) d.station.platforms (at row 2) (λ p. same_name (at row 2) p) s.platform_names (negated _ new.0);
-      few_tracks = s.few_tracks;
-      tracks = s.tracks;
-      track_names = s.track_names;
-      routes = each_kept (IsRoute d.station) (IsRoute next) d.station.routes (route_kept d.station next grows) s.routes;
-      ways = s.ways;
-      permits = each_kept (IsPermit d.station) (IsPermit next) d.station.permits (permit_kept d.station next grows) s.permits;
-      permits_differ = s.permits_differ;
-      split = s.split;
-      couple = s.couple;
-      unparked = s.unparked;
-    })
+    let all = says n (platform_of d row) t e in
+    let room = all.0.1 in
+    let name = room.1 in
+    let new = name.1 in
+    let old = d.station in
+    let next : Station = record old { platforms = old.platforms ++ at row 2 ∷ [] } in
+    let grows : Grows old next = record { types = omega arith; platforms = at_least old.platforms (at row 2); tracks = omega arith; open_at = λ k side o. o } in
+    let platforms : ArePlatforms next.platforms = (
+      more old.platforms (at row 2) 30 room.0,
+      All-push IsName old.platforms (at row 2) s.platforms (name_from (at row 2) name.0),
+      plain_push (λ p. bytes_eq p (at row 2)) old.platforms (at row 2) (λ p. same_name (at row 2) p) s.platform_names (not-true _ new.0),
+    ) in
+    subst (λ (u : Draft). IsStation u.station) all.1 (of_parts next s.name (types_of old s) platforms (tracks_of old s) (routes_on old next grows s) (permits_on old next grows s) (costs_of old s))
 
 if_is : {X : Type 0} (P : X → Type 0) (b : Bool) (r s : X) → (b ≡ true → P r) → (b ≡ false → P s) → P (if b then r else s)
 if_is P true r s f g = f refl
@@ -210,59 +190,37 @@ ends_open text =
 track_formed : (n : ℕ) (d t : Draft) (row : List (List ℕ)) → IsStation d.station → answer n (track_of d row) ≡ Ok t → IsStation t.station
 unfolding track_of AreEnds
 track_formed n d t row s e =
-    let a = next _ _ _ t e in
-    let room = next _ _ _ t a.1 in
-    let name = next _ _ _ t room.1 in
-    let new = next _ _ _ t name.1 in
-    let size = next _ _ _ t (next _ _ _ t new.1).1 in
-    let all_open : Ends = record { side_a = true; side_b = true } in
-    let sides = next _ _ _ t size.1 in
+    let all = says n (track_of d row) t e in
+    let room = all.0.1 in
+    let name = room.1 in
+    let new = name.1 in
+    let size = new.1.1 in
+    let sides = size.1 in
     let long = within 1 50000 (number_in row 3 1 50000).value size.0 in
+    let all_open : Ends = record { side_a = true; side_b = true } in
     let ends = (found all_open (ends_of (at row 4)) 4 kinds.Kind).value in
+    let old = d.station in
     let t0 : Track = record { name = at row 2; length = (number_in row 3 1 50000).value; side_a = ends.side_a; side_b = ends.side_b } in
-    let all = d.station.tracks ++ t0 ∷ [] in
-    let next : Station = record d.station { tracks = all } in
-    let grows : Grows d.station next = record { types = omega arith; platforms = omega arith; tracks = omega (arith, length-append d.station.tracks (t0 ∷ [])); open_at = λ k side o. open_kept d.station.tracks (t0 ∷ []) k.0 side o } in
-    subst (λ (u : Draft). IsStation u.station) (value _ _ sides.1) (record {
-      name = s.name;
-      few_types = s.few_types;
-      types = s.types;
-      type_names = s.type_names;
-      few_platforms = s.few_platforms;
-      platforms = s.platforms;
-      platform_names = s.platform_names;
-      few_tracks = let lt : length d.station.tracks < 60 = ltb-true _ _ room.0 in omega (arith, length-append d.station.tracks (t0 ∷ []));
-      tracks = all_push IsTrack d.station.tracks t0 s.tracks (record { name = name_from (at row 2) name.0; some = long.0; long = long.1; open_at = ends_open (at row 4) ends (there all_open _ sides.0) });
-      track_names = distinct_push (λ u. u.name) (λ u. bytes_eq u.name (at row 2)) d.station.tracks t0 (λ u. same_name (at row 2) u.name) s.track_names (negated _ new.0);
-      routes = each_kept (IsRoute d.station) (IsRoute next) d.station.routes (route_kept d.station next grows) s.routes;
-      ways = s.ways;
-      permits = each_kept (IsPermit d.station) (IsPermit next) d.station.permits (permit_kept d.station next grows) s.permits;
-      permits_differ = s.permits_differ;
-      split = s.split;
-      couple = s.couple;
-      unparked = s.unparked;
-    })
-
--- a number that is found is one of the list's
-number_found : {X I : Type 0} (p : X → Bool) (xs : List X) (d : X) (id : ℕ → I) (number : I → ℕ) → ((k : ℕ) → number (id k) ≡ k) → (i : I) (o : Option ℕ) → position p xs ≡ o → option_map id o ≡ Some i → number i < length xs
-number_found p xs d id number is i None at e = absurd cc
-number_found p xs d id number is i (Some k) at e =
-    let lt = (position-Some p xs k d at).0 in
-    let same : id k ≡ i = cc in
-    let num : number i ≡ k = ap number (sym same) ∙ is k in
-    omega (arith, num, lt)
+    let next : Station = record old { tracks = old.tracks ++ t0 ∷ [] } in
+    let grows : Grows old next = record { types = omega arith; platforms = omega arith; tracks = at_least old.tracks t0; open_at = λ k side o. open_kept old.tracks (t0 ∷ []) k.0 side o } in
+    let tracks : AreTracks next.tracks = (
+      more old.tracks t0 60 room.0,
+      All-push IsTrack old.tracks t0 s.tracks (record { name = name_from (at row 2) name.0; some = long.0; long = long.1; open_at = ends_open (at row 4) ends (there all_open _ sides.0) }),
+      distinct_push (λ u. u.name) (λ u. bytes_eq u.name (at row 2)) old.tracks t0 (λ u. same_name (at row 2) u.name) s.track_names (not-true _ new.0),
+    ) in
+    subst (λ (u : Draft). IsStation u.station) all.1 (of_parts next s.name (types_of old s) (platforms_of old s) tracks (routes_on old next grows s) (permits_on old next grows s) (costs_of old s))
 
 platform_within : (s : Station) (name : List ℕ) (i : PlatformId) → platform_of_name s name ≡ Some i → i.0 < length s.platforms
 unfolding platform_of_name
-platform_within s name i e = number_found (λ p. bytes_eq p name) s.platforms [] (λ k. record { 0 = k }) (λ j. j.0) (λ k. refl) i (position (λ p. bytes_eq p name) s.platforms) refl e
+platform_within s name i e = number_found (λ p. bytes_eq p name) s.platforms [] (λ k. record { 0 = k }) (λ j. j.0) (λ k. refl) i e
 
 track_within : (s : Station) (name : List ℕ) (i : TrackId) → track_number s name ≡ Some i → i.0 < length s.tracks
 unfolding track_number
-track_within s name i e = number_found (λ t. bytes_eq t.name name) s.tracks (record { name = []; length = 0; side_a = false; side_b = false }) (λ k. record { 0 = k }) (λ j. j.0) (λ k. refl) i (position (λ t. bytes_eq t.name name) s.tracks) refl e
+track_within s name i e = number_found (λ t. bytes_eq t.name name) s.tracks (record { name = []; length = 0; side_a = false; side_b = false }) (λ k. record { 0 = k }) (λ j. j.0) (λ k. refl) i e
 
 type_within : (s : Station) (name : List ℕ) (i : TypeId) → type_of_name s name ≡ Some i → i.0 < length s.types
 unfolding type_of_name
-type_within s name i e = number_found (λ t. bytes_eq t.name name) s.types (record { name = []; length = 0; turn = 0 }) (λ k. record { 0 = k }) (λ j. j.0) (λ k. refl) i (position (λ t. bytes_eq t.name name) s.types) refl e
+type_within s name i e = number_found (λ t. bytes_eq t.name name) s.types (record { name = []; length = 0; turn = 0 }) (λ k. record { 0 = k }) (λ j. j.0) (λ k. refl) i e
 
 same_number : (k : ℕ) → (k == k) ≡ true
 same_number k = grind (arith, nat_tests)
@@ -271,19 +229,13 @@ same_side_is : (s : Side) → same_side s s ≡ true
 same_side_is A = refl
 same_side_is B = refl
 
-all_three : (a b c : Bool) → a ≡ true → b ≡ true → c ≡ true → (a && b && c) ≡ true
-all_three a b c e f g = cc
-
 joins_own : (r q : Route) → way_of q ≡ way_of r → joins r.platform r.track r.side q ≡ true
 joins_own r q e =
     subst (λ (w : PlatformId × (TrackId × Side)). (q.platform.0 == w.0.0 && q.track.0 == w.1.0.0 && same_side q.side w.1.1) ≡ true) e
-    (all_three _ _ _ (same_number q.platform.0) (same_number q.track.0) (same_side_is q.side))
-
-both_true : (a b : Bool) → a ≡ true → b ≡ true → (a && b) ≡ true
-both_true a b e f = cc
+    (and_from _ _ (and_from _ _ (same_number q.platform.0) (same_number q.track.0)) (same_side_is q.side))
 
 names_own : (p q : Permit) → q ≡ p → (q.track.0 == p.track.0 && q.kind.0 == p.kind.0) ≡ true
-names_own p q e = subst (λ (w : Permit). (q.track.0 == w.track.0 && q.kind.0 == w.kind.0) ≡ true) e (both_true _ _ (same_number q.track.0) (same_number q.kind.0))
+names_own p q e = subst (λ (w : Permit). (q.track.0 == w.track.0 && q.kind.0 == w.kind.0) ≡ true) e (and_from _ _ (same_number q.track.0) (same_number q.kind.0))
 
 abbrev no_platform : PlatformId
 no_platform = record { 0 = 0 }
@@ -297,164 +249,80 @@ no_type = record { 0 = 0 }
 route_formed : (n : ℕ) (d t : Draft) (row : List (List ℕ)) → IsStation d.station → answer n (route_of d row) ≡ Ok t → IsStation t.station
 unfolding route_of stands opens
 route_formed n d t row s e =
-    let a = next _ _ _ t e in
+    let all = says n (route_of d row) t e in
+    let p = all.0.1 in
+    let k = p.1 in
+    let new = k.1.1 in
+    let shut = new.1 in
+    let price = shut.1.1 in
     let mp = found no_platform (platform_of_name d.station (at row 2)) 2 kinds.Unknown in
-    let p = next _ _ _ t a.1 in
     let mt = found no_track (track_number d.station (at row 3)) 3 kinds.Unknown in
-    let k = next _ _ _ t p.1 in
     let ms = side_in row 4 in
-    let side = next _ _ _ t k.1 in
-    let new = next _ _ _ t side.1 in
-    let shut = next _ _ _ t new.1 in
     let mc = number_in row 5 0 1000000 in
-    let price = next _ _ _ t (next _ _ _ t shut.1).1 in
-    let small = within 0 1000000 mc.value price.0 in
+    let old = d.station in
     let r0 : Route = record { platform = mp.value; track = mt.value; side = ms.value; cost = mc.value } in
-    let all = d.station.routes ++ r0 ∷ [] in
-    let next : Station = record d.station { routes = all } in
-    let grows : Grows d.station next = record { types = omega arith; platforms = omega arith; tracks = omega arith; open_at = λ k side o. o } in
-    let is : IsRoute next r0 = record { platform = platform_within d.station (at row 2) mp.value (there no_platform _ p.0); track = track_within d.station (at row 3) mt.value (there no_track _ k.0); open_at = shut.0; cost = small.1 } in
-    subst (λ (u : Draft). IsStation u.station) (value _ _ price.1) (record {
-      name = s.name;
-      few_types = s.few_types;
-      types = s.types;
-      type_names = s.type_names;
-      few_platforms = s.few_platforms;
-      platforms = s.platforms;
-      platform_names = s.platform_names;
-      few_tracks = s.few_tracks;
-      tracks = s.tracks;
-      track_names = s.track_names;
-      routes = all_push (IsRoute next) d.station.routes r0 (each_kept (IsRoute d.station) (IsRoute next) d.station.routes (route_kept d.station next grows) s.routes) is;
-      ways = distinct_push way_of (joins mp.value mt.value ms.value) d.station.routes r0 (joins_own r0) s.ways (negated _ new.0);
-      permits = each_kept (IsPermit d.station) (IsPermit next) d.station.permits (permit_kept d.station next grows) s.permits;
-      permits_differ = s.permits_differ;
-      split = s.split;
-      couple = s.couple;
-      unparked = s.unparked;
-    })
+    let next : Station = record old { routes = old.routes ++ r0 ∷ [] } in
+    let grows = same_size old next refl refl refl in
+    let kept = routes_on old next grows s in
+    let is : IsRoute next r0 = record { platform = platform_within old (at row 2) mp.value (there no_platform _ p.0); track = track_within old (at row 3) mt.value (there no_track _ k.0); open_at = shut.0; cost = (within 0 1000000 mc.value price.0).1 } in
+    let routes : AreRoutes next next.routes = (All-push (IsRoute next) old.routes r0 kept.0 is, distinct_push way_of (joins mp.value mt.value ms.value) old.routes r0 (joins_own r0) kept.1 (not-true _ new.0)) in
+    subst (λ (u : Draft). IsStation u.station) all.1 (of_parts next s.name (types_of old s) (platforms_of old s) (tracks_of old s) routes (permits_on old next grows s) (costs_of old s))
 
 permit_formed : (n : ℕ) (d t : Draft) (row : List (List ℕ)) → IsStation d.station → answer n (permit_of d row) ≡ Ok t → IsStation t.station
 unfolding permit_of is_permitted
 permit_formed n d t row s e =
-    let a = next _ _ _ t e in
+    let all = says n (permit_of d row) t e in
+    let k = all.0.1 in
+    let u = k.1 in
+    let new = u.1 in
     let mt = found no_track (track_number d.station (at row 2)) 2 kinds.Unknown in
-    let k = next _ _ _ t a.1 in
     let mk = found no_type (type_of_name d.station (at row 3)) 3 kinds.Unknown in
-    let u = next _ _ _ t k.1 in
-    let new = next _ _ _ t u.1 in
+    let old = d.station in
     let p0 : Permit = record { track = mt.value; kind = mk.value } in
-    let all = d.station.permits ++ p0 ∷ [] in
-    let next : Station = record d.station { permits = all } in
-    let grows : Grows d.station next = record { types = omega arith; platforms = omega arith; tracks = omega arith; open_at = λ k side o. o } in
-    let is : IsPermit next p0 = record { track = track_within d.station (at row 2) mt.value (there no_track _ k.0); kind = type_within d.station (at row 3) mk.value (there no_type _ u.0) } in
-    subst (λ (u : Draft). IsStation u.station) (value _ _ new.1) (record {
-      name = s.name;
-      few_types = s.few_types;
-      types = s.types;
-      type_names = s.type_names;
-      few_platforms = s.few_platforms;
-      platforms = s.platforms;
-      platform_names = s.platform_names;
-      few_tracks = s.few_tracks;
-      tracks = s.tracks;
-      track_names = s.track_names;
-      routes = each_kept (IsRoute d.station) (IsRoute next) d.station.routes (route_kept d.station next grows) s.routes;
-      ways = s.ways;
-      permits = all_push (IsPermit next) d.station.permits p0 (each_kept (IsPermit d.station) (IsPermit next) d.station.permits (permit_kept d.station next grows) s.permits) is;
-      permits_differ = plain_push (λ p. p.track.0 == mt.value.0 && p.kind.0 == mk.value.0) d.station.permits p0 (names_own p0) s.permits_differ (negated _ new.0);
-      split = s.split;
-      couple = s.couple;
-      unparked = s.unparked;
-    })
+    let next : Station = record old { permits = old.permits ++ p0 ∷ [] } in
+    let grows = same_size old next refl refl refl in
+    let kept = permits_on old next grows s in
+    let is : IsPermit next p0 = record { track = track_within old (at row 2) mt.value (there no_track _ k.0); kind = type_within old (at row 3) mk.value (there no_type _ u.0) } in
+    let permits : ArePermits next next.permits = (All-push (IsPermit next) old.permits p0 kept.0 is, plain_push (λ p. p.track.0 == mt.value.0 && p.kind.0 == mk.value.0) old.permits p0 (names_own p0) kept.1 (not-true _ new.0)) in
+    subst (λ (u : Draft). IsStation u.station) all.1 (of_parts next s.name (types_of old s) (platforms_of old s) (tracks_of old s) (routes_on old next grows s) permits (costs_of old s))
 
 cost_formed : (n : ℕ) (d t : Draft) (row : List (List ℕ)) → IsStation d.station → answer n (cost_of d row) ≡ Ok t → IsStation t.station
 unfolding cost_of
 cost_formed n d t row s e =
-    let a = next (is_within 4 4 (length row)) _ (record { row = n; field = 1; kind = kinds.Fields }) t e in
-    let once = next (not d.is_costed) _ (record { row = n; field = 1; kind = kinds.Repeat }) t a.1 in
-    let b = next (is_some (decimal_of (at row 2))) _ (record { row = n; field = 2; kind = kinds.Number }) t once.1 in
-    let x = next (is_within 0 1000000 (number_in row 2 0 1000000).value) _ (record { row = n; field = 2; kind = kinds.Limit }) t b.1 in
-    let f = next (is_some (decimal_of (at row 3))) _ (record { row = n; field = 3; kind = kinds.Number }) t x.1 in
-    let y = next (is_within 0 1000000 (number_in row 3 0 1000000).value) _ (record { row = n; field = 3; kind = kinds.Limit }) t f.1 in
-    let g = next (is_some (decimal_of (at row 4))) _ (record { row = n; field = 4; kind = kinds.Number }) t y.1 in
-    let z = next (is_within 0 1000000 (number_in row 4 0 1000000).value) _ (record { row = n; field = 4; kind = kinds.Limit }) t g.1 in
-    let next : Station = record d.station { split = (number_in row 2 0 1000000).value; couple = (number_in row 3 0 1000000).value; unparked = (number_in row 4 0 1000000).value } in
-    let grows : Grows d.station next = record { types = omega arith; platforms = omega arith; tracks = omega arith; open_at = λ k side o. o } in
-    subst (λ (u : Draft). IsStation u.station) (value (cost_of d row).value t z.1) (record {
-      name = s.name;
-      few_types = s.few_types;
-      types = s.types;
-      type_names = s.type_names;
-      few_platforms = s.few_platforms;
-      platforms = s.platforms;
-      platform_names = s.platform_names;
-      few_tracks = s.few_tracks;
-      tracks = s.tracks;
-      track_names = s.track_names;
-      routes = each_kept (IsRoute d.station) (IsRoute next) d.station.routes (route_kept d.station next grows) s.routes;
-      ways = s.ways;
-      permits = each_kept (IsPermit d.station) (IsPermit next) d.station.permits (permit_kept d.station next grows) s.permits;
-      permits_differ = s.permits_differ;
-      split = (within 0 1000000 (number_in row 2 0 1000000).value x.0).1;
-      couple = (within 0 1000000 (number_in row 3 0 1000000).value y.0).1;
-      unparked = (within 0 1000000 (number_in row 4 0 1000000).value z.0).1;
-    })
-
--- a choice of two records
-in_either : {A : Type 0} (n : ℕ) (b : Bool) (m k : Judged A) (z : A) (P : Type 0) → (answer n m ≡ Ok z → P) → (answer n k ≡ Ok z → P) → answer n (if b then m else k) ≡ Ok z → P
-in_either n true m k z P f g e = f e
-in_either n false m k z P f g e = g e
+    let all = says n (cost_of d row) t e in
+    let a = all.0.1.1.1 in
+    let b = a.1.1 in
+    let c = b.1.1 in
+    let old = d.station in
+    let next : Station = record old { split = (number_in row 2 0 1000000).value; couple = (number_in row 3 0 1000000).value; unparked = (number_in row 4 0 1000000).value } in
+    let grows = same_size old next refl refl refl in
+    let costs : AreCosts next = ((within 0 1000000 next.split a.0).1, (within 0 1000000 next.couple b.0).1, (within 0 1000000 next.unparked c.0).1) in
+    subst (λ (u : Draft). IsStation u.station) all.1 (of_parts next s.name (types_of old s) (platforms_of old s) (tracks_of old s) (routes_on old next grows s) (permits_on old next grows s) costs)
 
 later_formed : (n : ℕ) (d t : Draft) (row : List (List ℕ)) → IsStation d.station → answer n (later_of d row) ≡ Ok t → IsStation t.station
 unfolding later_of
 later_formed n d t row s =
-    in_either n (is_word row (codes "type")) _ _ t (IsStation t.station) (type_formed n d t row s)
-    (in_either n (is_word row (codes "platform")) _ _ t (IsStation t.station) (platform_formed n d t row s)
-    (in_either n (is_word row (codes "track")) _ _ t (IsStation t.station) (track_formed n d t row s)
-    (in_either n (is_word row (codes "route")) _ _ t (IsStation t.station) (route_formed n d t row s)
-    (in_either n (is_word row (codes "cost")) _ _ t (IsStation t.station) (cost_formed n d t row s)
-    (in_either n (d.version == 2 && is_word row (codes "permit")) _ _ t (IsStation t.station) (permit_formed n d t row s) (λ e. absurd cc))))))
-
-no_pairs : {X : Type 0} (R : X → X → Type 0) → AllPairs R []
-no_pairs R i j d lt small = absurd (omega arith)
+    in_either n (is_word row (codes "type")) _ _ t (IsStation t.station) (λ w. type_formed n d t row s)
+    (in_either n (is_word row (codes "platform")) _ _ t (IsStation t.station) (λ w. platform_formed n d t row s)
+    (in_either n (is_word row (codes "track")) _ _ t (IsStation t.station) (λ w. track_formed n d t row s)
+    (in_either n (is_word row (codes "route")) _ _ t (IsStation t.station) (λ w. route_formed n d t row s)
+    (in_either n (is_word row (codes "cost")) _ _ t (IsStation t.station) (λ w. cost_formed n d t row s)
+    (in_either n (d.version == 2 && is_word row (codes "permit")) _ _ t (IsStation t.station) (λ w. permit_formed n d t row s) (λ e. absurd cc))))))
 
 empty_formed : (name : List ℕ) → IsName name → IsStation (empty_station name)
-empty_formed name is = record {
-  name = is;
-  few_types = omega arith;
-  types = none_all IsUnitType;
-  type_names = no_pairs (λ m n. m ≢ n);
-  few_platforms = omega arith;
-  platforms = none_all IsName;
-  platform_names = no_pairs (λ m n. m ≢ n);
-  few_tracks = omega arith;
-  tracks = none_all IsTrack;
-  track_names = no_pairs (λ m n. m ≢ n);
-  routes = none_all (IsRoute (empty_station name));
-  ways = no_pairs (λ m n. m ≢ n);
-  permits = none_all (IsPermit (empty_station name));
-  permits_differ = no_pairs (λ m n. m ≢ n);
-  split = omega arith;
-  couple = omega arith;
-  unparked = omega arith;
-}
+empty_formed name is = of_parts (empty_station name) is
+    (omega arith, All-nil IsUnitType, no_pairs (λ m n. m ≢ n))
+    (omega arith, All-nil IsName, no_pairs (λ m n. m ≢ n))
+    (omega arith, All-nil IsTrack, no_pairs (λ m n. m ≢ n))
+    (All-nil (IsRoute (empty_station name)), no_pairs (λ m n. m ≢ n))
+    (All-nil (IsPermit (empty_station name)), no_pairs (λ m n. m ≢ n))
+    (omega arith, omega arith, omega arith)
 
 first_formed : (d : Draft) (row : List (List ℕ)) → answer 1 (first_of row) ≡ Ok d → IsStation d.station
 unfolding first_of
 first_formed d row e =
-    let w = next (is_word row (codes "station")) _ (record { row = 1; field = 1; kind = kinds.Kind }) d e in
-    let a = next (is_within 3 3 (length row)) _ (record { row = 1; field = 1; kind = kinds.Fields }) d w.1 in
-    let b = next (is_some (decimal_of (at row 2))) _ (record { row = 1; field = 2; kind = kinds.Number }) d a.1 in
-    let v = next (is_within 1 2 (number_in row 2 1 2).value) _ (record { row = 1; field = 2; kind = kinds.Limit }) d b.1 in
-    let name = next (is_name_text (at row 3)) _ (record { row = 1; field = 3; kind = kinds.Name }) d v.1 in
-    subst (λ (u : Draft). IsStation u.station) (value (first_of row).value d name.1) (empty_formed (at row 3) (name_from (at row 3) name.0))
+    let all = says 1 (first_of row) d e in
+    subst (λ (u : Draft). IsStation u.station) all.1 (empty_formed (at row 3) (name_from (at row 3) all.0.1.1.1.1.0))
 
 pub station_formed : (rows : List (List (List ℕ))) (t : Station) → reading station_format rows ≡ Ok t → IsStation t
-station_formed rows t e =
-    let l = all_kept station_format (λ d. IsStation d.station) first_formed (λ n d u row s is. later_formed n d u row s is) rows t e in
-    subst IsStation l.value l.has
-
-pub read_formed : (rows : List (List (List ℕ))) (r : Result Station ReadError) → Gives (λ s. s) r (reading station_format rows) → IfOk r IsStation
-read_formed rows (Ok s) h = station_formed rows s h
-read_formed rows (Err e) h = tt
+station_formed = formed station_format (λ d. IsStation d.station) IsStation first_formed (λ n d t row s e. later_formed n d t row s e) (λ d is. is)

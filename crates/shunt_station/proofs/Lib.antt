@@ -1,5 +1,5 @@
-pub mod Back
 pub mod Formed
+pub mod Lengths
 pub mod Plain
-pub mod Short
-pub mod Told
+pub mod RoundTrip
+pub mod Tables

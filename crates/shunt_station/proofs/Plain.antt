@@ -1,12 +1,13 @@
 -- The records of a station have plain fields.
-use Rattle.std.proofs.Common.{ℕ, zero, suc, ◌<◌, Bool, true, false, List, [], ◌∷◌, ◌++◌, length, map, get_or, refl, arith}
-use Rattle.std.specs.Prelude.{All, codes}
+use Rattle.std.proofs.Common.{ℕ, ◌<◌, Bool, true, false, List, [], ◌∷◌, ◌++◌, length, map, refl, arith}
+use Rattle.std.specs.Prelude.{codes}
 use Rattle.shunt_base.specs.declared.ids.PlatformId.{PlatformId}
 use Rattle.shunt_base.specs.declared.ids.TrackId.{TrackId}
 use Rattle.shunt_base.specs.declared.ids.TypeId.{TypeId}
 use Rattle.shunt_base.specs.defs.Spelling.{IsName}
 use Rattle.shunt_rows.specs.defs.Records.{IsPlainField, IsPlainRow, ArePlain}
-use Rattle.shunt_rows.proofs.Plain.{plain_name, plain_number, plain_word, plain_side}
+use Rattle.shunt_rows.proofs.Named.{name_at}
+use Rattle.shunt_rows.proofs.Plain.{plain_name, plain_number, plain_word, plain_side, plain_more, plain_map}
 use Rattle.shunt_instance.specs.declared.records.UnitType.{UnitType}
 use Rattle.shunt_instance.specs.declared.records.Track.{Track}
 use Rattle.shunt_instance.specs.declared.records.Route.{Route}
@@ -20,21 +21,8 @@ plain_ends true true = plain_word (codes "AB") refl refl
 plain_ends true false = plain_word (codes "A") refl refl
 plain_ends false b = plain_word (codes "B") refl refl
 
-plain_more : (rows more : List (List (List ℕ))) → ArePlain rows → ArePlain more → ArePlain (rows ++ more)
-plain_more [] more p q = q
-plain_more (row ∷ rows) more p q = (p.0, plain_more rows more p.1 q)
-
-plain_map : {X : Type 0} (P : X → Type 0) (row : X → List (List ℕ)) (xs : List X) → ((x : X) → P x → IsPlainRow (row x)) → All P xs → ArePlain (map row xs)
-plain_map P row [] h all = tt
-plain_map P row (x ∷ xs) h all = (h x (all 0 x (omega arith)), plain_map P row xs h (λ k d lt. all (suc k) d (omega arith)))
-
 pub platform_named : (s : Station) (i : PlatformId) → IsStation s → i.0 < length s.platforms → IsName (platform_name s.platforms i)
 platform_named s i f lt = f.platforms i.0 [] lt
-
-name_at : {X : Type 0} (name : X → List ℕ) (xs : List X) (k : ℕ) → All (λ x. IsName (name x)) xs → k < length xs → IsName (get_or (map name xs) k [])
-name_at name [] k all lt = absurd (omega arith)
-name_at name (x ∷ xs) zero all lt = all 0 x (omega arith)
-name_at name (x ∷ xs) (suc k) all lt = name_at name xs k (λ j d le. all (suc j) d (omega arith)) (omega arith)
 
 pub track_named : (s : Station) (i : TrackId) → IsStation s → i.0 < length s.tracks → IsName (track_name s.tracks i)
 track_named s i f lt = name_at (λ (t : Track). t.name) s.tracks i.0 (λ k d le. (f.tracks k d le).name) lt

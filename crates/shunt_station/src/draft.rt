@@ -2,7 +2,6 @@
 ghost use Rattle.std.specs.Prelude.{◌≡◌, ◌&&◌, ◌==◌, position, bytes_eq};
 ghost use Rattle.std.specs.List.{list_any};
 ghost use Rattle.shunt_rows.specs.defs.Checks.{answer};
-ghost use Rattle.shunt_rows.specs.defs.Formats.{in_state};
 ghost use Rattle.shunt_rows.specs.defs.Given.{Gives};
 ghost use Rattle.shunt_instance.specs.defs.Words.{is_open, joins, same_side};
 ghost use Rattle.shunt_station.specs.defs.Stating.{Draft, Ends, first_of, has_type, has_platform, has_track, type_of_name, platform_of_name, track_number, opens, stands, is_permitted, ends_of, type_of, platform_of, track_of, route_of, permit_of, cost_of, later_of, station_format};
@@ -10,7 +9,7 @@ ghost use Rattle.shunt_station.specs.defs.Stating.{Draft, Ends, first_of, has_ty
 use shunt_base::{Name, PlatformId, Side, TrackId, TypeId, is_name};
 use shunt_instance::{Permit, Route, Station, Track, UnitType};
 use shunt_lists::Items;
-use shunt_rows::{ReadError, Row, RowKind, fields_in, found, must, number_in, side_in};
+use shunt_rows::{FormatReader, ReadError, Row, RowKind, fields_in, found, must, number_in, side_in};
 use std::alloc::Global;
 use std::marker::Model;
 
@@ -150,32 +149,6 @@ fn is_open(track: &Track, side: Side) -> bool
 }
 
 impl Draft {
-    /// What the first record states.
-    #[tactic(auto, unfolding(crate::specs::defs::Stating::first_of))]
-    pub(crate) fn read_first(alloc: Global, row: &Row) -> Result<Draft, ReadError>
-        ensures { Gives (λ d. d) result (answer 1 (first_of row.now)) }
-    {
-        let _len = row.len();
-        must(row.field(1) == b"station".as_slice(), 1, 1, RowKind::Kind)?;
-        fields_in(row, 1, 3, 3)?;
-        let version = number_in(row, 1, 2, 1, 2)?;
-        let name = row.field(3);
-        must(is_name(name), 1, 3, RowKind::Name)?;
-        Ok(Draft {
-            version,
-            name: Name::new(alloc, name)?,
-            types: Vec::new(alloc),
-            platforms: Vec::new(alloc),
-            tracks: Vec::new(alloc),
-            routes: Vec::new(alloc),
-            permits: Vec::new(alloc),
-            split: 0,
-            couple: 0,
-            unparked: 0,
-            is_costed: false,
-        })
-    }
-
     #[tactic(auto, unfolding(crate::specs::defs::Stating::type_of))]
     fn read_type(&mut self, alloc: Global, n: u32, row: &Row) -> Result<(), ReadError>
         ensures { Gives (λ _. self.new) result (answer n (type_of self.old row.now)) }
@@ -341,12 +314,41 @@ impl Draft {
         self.is_costed = true;
         Ok(())
     }
+}
 
-    /// What the record with number `n` adds.
+impl<'r> FormatReader<'r> for Draft {
+    type Context = ();
+    type Output = Station;
+
+    ghost format = { λ _. station_format };
+
+    ghost suits = { λ _. Unit };
+
+    #[tactic(auto, unfolding(crate::specs::defs::Stating::first_of))]
+    fn read_first(_: &'r (), alloc: Global, row: &'r Row) -> Result<Draft, ReadError> {
+        let _len = row.len();
+        must(row.field(1) == b"station".as_slice(), 1, 1, RowKind::Kind)?;
+        fields_in(row, 1, 3, 3)?;
+        let version = number_in(row, 1, 2, 1, 2)?;
+        let name = row.field(3);
+        must(is_name(name), 1, 3, RowKind::Name)?;
+        Ok(Draft {
+            version,
+            name: Name::new(alloc, name)?,
+            types: Vec::new(alloc),
+            platforms: Vec::new(alloc),
+            tracks: Vec::new(alloc),
+            routes: Vec::new(alloc),
+            permits: Vec::new(alloc),
+            split: 0,
+            couple: 0,
+            unparked: 0,
+            is_costed: false,
+        })
+    }
+
     #[tactic(auto, unfolding(crate::specs::defs::Stating::later_of))]
-    pub(crate) fn read_later(&mut self, alloc: Global, n: u32, row: &Row) -> Result<(), ReadError>
-        ensures { Gives (λ _. self.new) result (answer n (in_state station_format self.old row.now)) }
-    {
+    fn read_later(&mut self, _: &'r (), alloc: Global, n: u32, row: &'r Row) -> Result<(), ReadError> {
         let _len = row.len();
         let word = row.field(1);
         if word == b"type".as_slice() {
@@ -371,17 +373,11 @@ impl Draft {
         Ok(())
     }
 
-    /// Whether its cost record was read.
-    pub(crate) fn is_costed(&self) -> bool
-        ensures { result ≡ self.now.is_costed }
-    {
+    fn is_whole(&self, _: &'r ()) -> bool {
         self.is_costed
     }
 
-    /// The station. It takes no memory.
-    pub(crate) fn into_station(self) -> Station
-        ensures { result ≡ self.station }
-    {
+    fn into_output(self, _: &'r ()) -> Station {
         Station {
             name: self.name,
             types: Items::from_vec(self.types),

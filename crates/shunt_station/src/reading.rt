@@ -7,26 +7,8 @@ ghost use Rattle.shunt_station.specs.defs.Stating.{station_format};
 
 use crate::draft::Draft;
 use shunt_instance::Station;
-use shunt_rows::{ReadError, Row, RowKind, must, record_number};
+use shunt_rows::{ReadError, Row, read};
 use std::alloc::Global;
-
-// The station that the records state, or their first fault.
-fn station_in(alloc: Global, rows: &[Row]) -> Result<Station, ReadError>
-    ensures { Gives (λ s. s) result (reading station_format rows.now) }
-{
-    must(!rows.is_empty(), 1, 0, RowKind::Missing)?;
-    let mut draft = Draft::read_first(alloc, &rows[0])?;
-    for i in 1..rows.len() {
-        draft.read_later(alloc, record_number(i)?, &rows[i])?;
-    }
-    must(
-        draft.is_costed(),
-        record_number(rows.len())?,
-        0,
-        RowKind::Missing,
-    )?;
-    Ok(draft.into_station())
-}
 
 /// The station that the records state, which is well formed, or exactly their first fault.
 ///
@@ -36,5 +18,5 @@ pub fn read_station(alloc: Global, rows: &Vec<Row>) -> Result<Station, ReadError
     ensures stated { Gives (λ s. s) result (reading station_format rows.now.items) }
     ensures formed { IfOk result IsStation }
 {
-    station_in(alloc, rows)
+    read::<Draft>(&(), alloc, rows)
 }

@@ -1,5 +1,5 @@
 -- What a record is checked for, what it says, and its first fault.
-use Rattle.std.specs.Prelude.{ℕ, Bool, List, [], ◌∷◌, ◌++◌, Option, Result, Ok, Err, if◌then◌else◌}
+use Rattle.std.specs.Prelude.{◌≡◌, ℕ, Bool, true, List, [], ◌∷◌, ◌++◌, Option, Result, Ok, Err, if◌then◌else◌}
 use Rattle.std.specs.Option.{is_some, unwrap_or}
 use Rattle.shunt_rows.specs.declared.fault.RowFault.{RowFault}
 use Rattle.shunt_rows.specs.declared.fault.RowKind.{RowKind}
@@ -42,3 +42,12 @@ passes n (c ∷ checks) x = if c.holds then passes n checks x else Err (record {
 -- what the record with this number says, or its first fault
 abbrev pub answer : {A : Type 0} → ℕ → Judged A → Result A RowFault
 answer n judged = passes n judged.checks judged.value
+
+-- all of these checks hold
+abbrev pub AllHold : List Check → Type 0
+AllHold [] = Unit {0}
+AllHold (c ∷ checks) = (c.holds ≡ true) × AllHold checks
+
+-- where the answer is a value, all checks hold, and it is the value that the record says
+abbrev pub Says : {A : Type 0} → Judged A → A → Type 0
+Says m x = AllHold m.checks × (m.value ≡ x)

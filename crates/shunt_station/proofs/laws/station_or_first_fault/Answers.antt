@@ -1,4 +1,4 @@
-use Rattle.shunt_station.proofs.Told.{station_tells}
+use Rattle.shunt_station.proofs.Tables.{station_tells}
 use Rattle.shunt_station.proofs.laws.station_or_first_fault.Goals as goal
 
 pub returns : goal.returns

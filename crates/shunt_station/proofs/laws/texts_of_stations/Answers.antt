@@ -1,5 +1,5 @@
-use Rattle.shunt_station.proofs.Back.{text_back}
-use Rattle.shunt_station.proofs.Short.{station_short}
+use Rattle.shunt_station.proofs.RoundTrip.{text_back}
+use Rattle.shunt_station.proofs.Lengths.{station_short}
 use Rattle.shunt_station.proofs.laws.texts_of_stations.Goals as goal
 
 pub returns-clause-again : goal.returns-clause-again

@@ -1,5 +1,7 @@
-use Rattle.shunt_station.proofs.Formed.{read_formed}
+use Rattle.shunt_rows.proofs.Keeping.{given}
+use Rattle.shunt_instance.specs.defs.Wellformed.{IsStation}
+use Rattle.shunt_station.proofs.Formed.{station_formed}
 use Rattle.shunt_station.proofs.reading.read_station.Goals as goal
 
 pub returns-clause-formed : goal.returns-clause-formed
-returns-clause-formed c = read_formed _ c.station_in.result c.station_in.ensures
+returns-clause-formed c = given (λ s. s) IsStation _ (station_formed _) c.read.result c.read.ensures

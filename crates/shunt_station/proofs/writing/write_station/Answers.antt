@@ -1,6 +1,7 @@
 use Rattle.std.proofs.Common.{List, ℕ, ◌≤◌, length, sym, subst, ◌∙◌}
-use Rattle.shunt_station.proofs.Back.{back_from}
-use Rattle.shunt_station.proofs.Short.{station_short, station_written, if_ok}
+use Rattle.shunt_rows.proofs.Texts.{if_ok}
+use Rattle.shunt_station.proofs.RoundTrip.{back_from}
+use Rattle.shunt_station.proofs.Lengths.{station_short, station_written}
 use Rattle.shunt_station.proofs.writing.write_station.Goals as goal
 
 pub returns-clause-text : goal.returns-clause-text

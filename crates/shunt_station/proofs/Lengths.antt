@@ -26,6 +26,7 @@ use Rattle.shunt_instance.specs.declared.records.Station.{Station}
 use Rattle.shunt_instance.specs.defs.Words.{AreDistinct, way_of}
 use Rattle.shunt_instance.specs.defs.Wellformed.{IsUnitType, IsTrack, IsRoute, IsPermit, IsStation}
 use Rattle.shunt_rows.proofs.Plain.{side_short}
+use Rattle.shunt_rows.proofs.Texts.{join_short, one_short, row_written, rows_written}
 use Rattle.shunt_station.specs.defs.Writing.{ends_text, head_row, type_row, platform_row, track_row, route_row, permit_row, cost_row, rows_of}
 use Rattle.shunt_station.proofs.Plain.{platform_named, track_named, type_named, plain_head, plain_type, plain_platform, plain_track, plain_route, plain_permit, plain_cost}
 
@@ -183,20 +184,6 @@ pair_tells s f p q is js e =
 few_permits : (s : Station) → IsStation s → length s.permits ≤ 2400
 few_permits s f = few (IsPermit s) (λ p. p) pair_number 2400 (permit_from (track_id 0) (type_id 0)) s.permits (permit_from (track_id 0) (type_id 0)) (subst AreDistinct (sym (map-id s.permits)) f.permits_differ) f.permits (pair_small s f) (pair_tells s f)
 
--- the text of two lists of records
-pub texts_join : (rows more : List (List (List ℕ))) → text_of_rows (rows ++ more) ≡ text_of_rows rows ++ text_of_rows more
-texts_join [] more = refl
-texts_join (row ∷ rows) more =
-    flat_map-cons text_of_row row (rows ++ more) ∙ ap (λ t. text_of_row row ++ t) (texts_join rows more)
-    ∙ sym (append_assoc (text_of_row row) (text_of_rows rows) (text_of_rows more)) ∙ ap (λ t. t ++ text_of_rows more) (sym (flat_map-cons text_of_row row rows))
-
--- so long at most where its parts are
-join_short : (rows more : List (List (List ℕ))) (a b : ℕ) → length (text_of_rows rows) ≤ a → length (text_of_rows more) ≤ b → length (text_of_rows (rows ++ more)) ≤ a + b
-join_short rows more a b p q = omega (arith, p, q, ap length (texts_join rows more), length-append (text_of_rows rows) (text_of_rows more))
-
-one_short : (row : List (List ℕ)) (a : ℕ) → length (text_of_row row) ≤ a → length (text_of_rows (row ∷ [])) ≤ a
-one_short row a p = omega (arith, p, ap length (flat_map-cons text_of_row row []), length-append (text_of_row row) [])
-
 abbrev rest_rows : Station → List (List (List ℕ))
 rest_rows s = map type_row s.types ++ (map platform_row s.platforms ++ (map track_row s.tracks ++ (map (route_row s) s.routes ++ (map (permit_row s) s.permits ++ cost_row s ∷ []))))
 
@@ -216,16 +203,6 @@ station_short s f =
     (join_short (map track_row s.tracks) (map (route_row s) s.routes ++ (map (permit_row s) s.permits ++ cost_row s ∷ [])) 1920 278429 tracks
     (join_short (map (route_row s) s.routes) (map (permit_row s) s.permits ++ cost_row s ∷ []) 180000 98429 routes
     (join_short (map (permit_row s) s.permits) (cost_row s ∷ []) 98400 29 permits (one_short (cost_row s) 29 (cost_short s f)))))))
-
--- one more record is written of those that are left
-pub row_written : (w v : Written) (row : List (List ℕ)) (rest : List (List (List ℕ))) (all : List ℕ) → v ≡ record { text = w.text ++ text_of_row row; row = [] } → w.text ++ text_of_rows (row ∷ rest) ≡ all → v.text ++ text_of_rows rest ≡ all
-row_written w v row rest all e left =
-    ap (λ (x : Written). x.text ++ text_of_rows rest) e ∙ append_assoc w.text (text_of_row row) (text_of_rows rest) ∙ ap (λ t. w.text ++ t) (sym (flat_map-cons text_of_row row rest)) ∙ left
-
--- a list of records is written of those that are left
-pub rows_written : (w v : Written) (rows rest : List (List (List ℕ))) (all : List ℕ) → v ≡ record { text = w.text ++ text_of_rows rows; row = [] } → w.text ++ text_of_rows (rows ++ rest) ≡ all → v.text ++ text_of_rows rest ≡ all
-rows_written w v rows rest all e left =
-    ap (λ (x : Written). x.text ++ text_of_rows rest) e ∙ append_assoc w.text (text_of_rows rows) (text_of_rows rest) ∙ ap (λ t. w.text ++ t) (sym (texts_join rows rest)) ∙ left
 
 abbrev wrote : List ℕ → Written
 wrote text = record { text = text; row = [] }
@@ -255,7 +232,3 @@ station_written s ts ps ks w a b c d e f g ht hp hk h0 h1 h2 h3 h4 h5 h6 h7 =
     (rows_written b c (map platform_row s.platforms) _ all i3
     (rows_written a b (map type_row s.types) _ all i2
     (row_written w a (head_row s) (rest_rows s) all h1 (ap (λ (x : Written). x.text ++ all) h0)))))))
-
-pub if_ok : {X E : Type 0} (r : Result X E) (P Q : X → Type 0) → IfOk r P → ((v : X) → P v → Q v) → IfOk r Q
-if_ok (Ok v) P Q p h = h v p
-if_ok (Err e) P Q p h = tt

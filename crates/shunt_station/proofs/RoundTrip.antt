@@ -1,28 +1,29 @@
 -- A station's records state that station.
-use Rattle.std.proofs.Common.{◌≡◌, ℕ, suc, ◌+◌, ◌^◌, ◌<◌, ◌≤◌, Bool, true, false, not, ◌||◌, ◌&&◌, List, [], ◌∷◌, ◌++◌, length, length-append, map, get_or, refl, sym, ap, subst, ◌∙◌, arith, ⊎_elim, IsTrue}
-use Rattle.std.specs.Prelude.{Ok, Err, bytes_eq, All, ◌==◌, Some, None, option_map, nat_lt, if◌then◌else◌, slice_get}
-use Rattle.std.specs.List.{list_any, list_all}
+use Rattle.std.proofs.Common.{◌≡◌, ℕ, ◌+◌, ◌<◌, Bool, true, false, not, ◌||◌, ◌&&◌, List, [], ◌∷◌, ◌++◌, length, map, refl, sym, ap, subst, ◌∙◌, arith}
+use Rattle.std.specs.Prelude.{Ok, bytes_eq, ◌==◌, Some, option_map, slice_get}
+use Rattle.std.specs.List.{list_any}
 use Rattle.std.specs.Option.{is_some, unwrap_or}
 use Rattle.std.specs.Fmt.{decimal}
-use Rattle.std.specs.Char.{is_ascii_digit}
-use Rattle.std.specs.Str.Parse.{digits_value}
-use Rattle.std.proofs.lemmas.List.{map-id, append-nil, append_assoc, length-map}
-use Rattle.std.proofs.lemmas.Slice.Eq.{bytes_eq-Decides}
-use Rattle.std.proofs.lemmas.Bool.{true≢false, lt-ltb, le-leb, cases_Bool}
-use Rattle.std.proofs.lemmas.Bool.Decides.{nat_tests}
+use Rattle.std.proofs.lemmas.List.{map-id, length-map}
+use Rattle.std.proofs.lemmas.Bool.{true≢false, and_parts, eqb-true}
 use Rattle.std.proofs.lemmas.Option.{slice_get-get_or}
 use Rattle.shunt_base.specs.declared.ids.PlatformId.{PlatformId}
 use Rattle.shunt_base.specs.declared.ids.TrackId.{TrackId}
 use Rattle.shunt_base.specs.declared.ids.TypeId.{TypeId}
 use Rattle.shunt_base.specs.declared.ids.Side.{Side}
 use Rattle.shunt_base.specs.declared.ids.Side.TheVariants.{A, B}
-use Rattle.shunt_base.specs.defs.Spelling.{IsName, IsDecimal, is_name_byte, is_name_text, is_decimal_text, decimal_of}
-use Rattle.shunt_base.proofs.Decimal.{spelled, value_again}
-use Rattle.shunt_rows.specs.defs.Checks.{Check, passes, answer}
+use Rattle.shunt_base.specs.defs.Spelling.{IsName, decimal_of}
+use Rattle.shunt_rows.specs.defs.Checks.{answer}
 use Rattle.shunt_rows.specs.defs.Fields.{is_within, side_of}
-use Rattle.shunt_rows.specs.defs.Formats as formats
-use Rattle.shunt_rows.specs.defs.Formats.{Format, in_state, ends, reads, reading}
-use Rattle.shunt_rows.proofs.Joins.{reads_more, reading_is}
+use Rattle.shunt_rows.specs.defs.Formats.{reading}
+use Rattle.shunt_rows.specs.defs.Records.{records_of, text_of_rows, ReadsBack}
+use Rattle.shunt_rows.specs.defs.Written.{side_text}
+use Rattle.shunt_rows.proofs.Again.{again}
+use Rattle.shunt_rows.proofs.Holding.{holding}
+use Rattle.shunt_rows.proofs.Named.{by_name, not_before, of_middle, fewer}
+use Rattle.shunt_rows.proofs.Plain.{side_read}
+use Rattle.shunt_rows.proofs.Sections.{section_then, one_reads, all_read}
+use Rattle.shunt_rows.proofs.Spelled.{name_read, number_read}
 use Rattle.shunt_instance.specs.declared.records.UnitType.{UnitType}
 use Rattle.shunt_instance.specs.declared.records.Track.{Track}
 use Rattle.shunt_instance.specs.declared.records.Route.{Route}
@@ -32,104 +33,8 @@ use Rattle.shunt_instance.specs.defs.Words.{AreDistinct, is_open_at, joins, same
 use Rattle.shunt_instance.specs.defs.Wellformed.{IsUnitType, IsTrack, IsRoute, IsPermit, IsStation}
 use Rattle.shunt_instance.proofs.Found.{found_there}
 use Rattle.shunt_station.specs.defs.Stating.{Draft, Ends, empty_station, first_of, type_of_name, platform_of_name, track_number, ends_of, type_of, platform_of, track_of, opens, stands, route_of, is_permitted, permit_of, cost_of, later_of, station_format}
-use Rattle.shunt_rows.specs.defs.Written.{side_text}
-use Rattle.shunt_rows.proofs.Plain.{side_read}
 use Rattle.shunt_station.specs.defs.Writing.{type_name, platform_name, track_name, ends_text, head_row, type_row, platform_row, track_row, route_row, permit_row, cost_row, rows_of, ReadsAsStation}
-use Rattle.shunt_rows.specs.defs.Records.{records_of, text_of_rows, ReadsBack}
-use Rattle.shunt_rows.proofs.Again.{again}
 use Rattle.shunt_station.proofs.Plain.{station_plain}
-
--- all of these checks hold
-AllHold : List Check → Type 0
-AllHold [] = Unit {0}
-AllHold (c ∷ checks) = (c.holds ≡ true) × AllHold checks
-
-yes_is : {X : Type 0} (b : Bool) (r s : X) → b ≡ true → (if b then r else s) ≡ r
-yes_is true r s e = refl
-yes_is false r s e = absurd cc
-
-holding : {X : Type 0} (n : ℕ) (checks : List Check) (x : X) → AllHold checks → passes n checks x ≡ Ok x
-unfolding AllHold
-holding n [] x all = refl
-holding n (c ∷ checks) x all = yes_is c.holds (passes n checks x) (Err record { row = n; field = c.field; kind = c.kind }) all.0 ∙ holding n checks x all.1
-
-and_two : (a b : Bool) → a ≡ true → b ≡ true → (a && b) ≡ true
-and_two a b e f = cc
-
-all_pass : {X : Type 0} (p : X → Bool) (xs : List X) → All (λ x. IsTrue (p x)) xs → list_all p xs ≡ true
-all_pass p [] all = refl
-all_pass p (x ∷ xs) all = and_two (p x) (list_all p xs) (all 0 x (omega arith)) (all_pass p xs (λ k d lt. all (suc k) d (omega arith)))
-
--- a name is spelled as one
-name_read : (name : List ℕ) → IsName name → is_name_text name ≡ true
-name_read name is = and_two _ _ (and_two _ _ (lt-ltb 0 (length name) is.0) (le-leb (length name) 16 is.1)) (all_pass is_name_byte name is.2)
-
-lead : (a n : ℕ) → (a ≡ 48 → n ≡ 1) → (not (a == 48) || n == 1) ≡ true
-lead a n h = ⊎_elim (λ t. let m = h (eq_of a t) in grind (arith, nat_tests)) (λ f. or_left _ _ (ap not f)) (cases_Bool (a == 48))
-  where
-    eq_of : (a : ℕ) → (a == 48) ≡ true → a ≡ 48
-    eq_of a t = grind (arith, nat_tests)
-
-    or_left : (b c : Bool) → b ≡ true → (b || c) ≡ true
-    or_left b c e = cc
-
-decimal_test : (bytes : List ℕ) → IsDecimal bytes → is_decimal_text bytes ≡ true
-decimal_test bytes is = and_two _ _ (and_two _ _ (and_two _ _ (lt-ltb 0 (length bytes) is.nonempty) (le-leb (length bytes) 18 is.short)) (lead _ _ is.leading)) (all_pass is_ascii_digit bytes is.digits)
-
-number_again : (x : ℕ) → x < 10 ^ 18 → decimal_of (decimal x) ≡ Some x
-unfolding decimal_of
-number_again x lt = yes_is (is_decimal_text (decimal x)) (Some (digits_value 10 (decimal x))) None (decimal_test (decimal x) (spelled x lt)) ∙ ap (λ y. Some y) (value_again x lt)
-
--- a number from the one to the other is read from what is printed of it
-record IsRead (least most x : ℕ) : Type 0 where
-  there : is_some (decimal_of (decimal x)) ≡ true
-  value : unwrap_or (decimal_of (decimal x)) 0 ≡ x
-  range : is_within least most (unwrap_or (decimal_of (decimal x)) 0) ≡ true
-
-in_range : (least most x : ℕ) → least ≤ x → x ≤ most → is_within least most x ≡ true
-unfolding is_within
-in_range least most x le ge = and_two _ _ (le-leb least x le) (le-leb x most ge)
-
-number_read : (least most x : ℕ) → least ≤ x → x ≤ most → most < 10 ^ 18 → IsRead least most x
-number_read least most x le ge small =
-    let again = number_again x (omega (arith, ge, small)) in
-    let same = ap (λ o. unwrap_or o 0) again in
-    record { there = ap is_some again; value = same; range = ap (is_within least most) same ∙ in_range least most x le ge }
-
--- the one in the middle
-in_middle : {X Y : Type 0} (f : X → Y) (xs zs : List X) (y : X) (d : Y) → get_or (map f (xs ++ y ∷ zs)) (length xs) d ≡ f y
-in_middle f [] zs y d = refl
-in_middle f (x ∷ xs) zs y d = in_middle f xs zs y d
-
-one_is_no : (b : Bool) → (b ≡ true → ⊥) → b ≡ false
-one_is_no true h = absurd (h refl)
-one_is_no false h = refl
-
-none_or : (a b : Bool) → a ≡ false → b ≡ false → (a || b) ≡ false
-none_or a b e f = cc
-
--- of distinct things none before one of them passes a test that tells it
-not_before : {X Y : Type 0} (f : X → Y) (test : X → Bool) (xs zs : List X) (y : X) → ((x : X) → test x ≡ true → f x ≡ f y) → AreDistinct (map f (xs ++ y ∷ zs)) → list_any test xs ≡ false
-not_before f test [] zs y tells all = refl
-not_before f test (x ∷ xs) zs y tells all =
-    none_or (test x) (list_any test xs)
-    (one_is_no (test x) (λ e. all 0 (suc (length xs)) (f y) (omega arith) (omega (arith, length-map (xs ++ y ∷ zs) f, length-append xs (y ∷ zs))) (tells x e ∙ sym (in_middle f xs zs y (f y)))))
-    (not_before f test xs zs y tells (λ i j d lt small. all (suc i) (suc j) d (omega arith) (omega arith)))
-
-by_name : (name other : List ℕ) → bytes_eq other name ≡ true → other ≡ name
-by_name name other e = (bytes_eq-Decides other name).0 e
-
--- what is true of each is true of the one in the middle
-of_middle : {X : Type 0} (P : X → Type 0) (all xs zs : List X) (y : X) → All P all → all ≡ xs ++ y ∷ zs → P y
-of_middle {X = X} P all xs zs y h e = at_place xs (subst (All P) e h)
-  where
-    at_place : (xs : List X) → All P (xs ++ y ∷ zs) → P y
-    at_place [] h = h 0 y (omega arith)
-    at_place (x ∷ xs) h = at_place xs (λ k d lt. h (suc k) d (omega arith))
-
--- fewer stand before the one in the middle
-fewer : {X : Type 0} (all xs zs : List X) (y : X) (most : ℕ) → length all ≤ most → all ≡ xs ++ y ∷ zs → nat_lt (length xs) most ≡ true
-fewer all xs zs y most few e = lt-ltb (length xs) most (omega (arith, few, ap length e, length-append xs (y ∷ zs)))
 
 -- the parts of a station that were read
 abbrev partial : Station → List UnitType → List (List ℕ) → List Track → List Route → List Permit → Draft
@@ -140,7 +45,7 @@ type_from name size turn = record { name = name; length = size; turn = turn }
 
 type_read : (s : Station) → IsStation s → (n : ℕ) (xs : List UnitType) (y : UnitType) (zs : List UnitType) → s.types ≡ xs ++ y ∷ zs
     → answer n (later_of (partial s xs [] [] [] []) (type_row y)) ≡ Ok (partial s (xs ++ y ∷ []) [] [] [] [])
-unfolding later_of type_of is_within AllHold
+unfolding later_of type_of is_within
 type_read s f n xs y zs e =
     let is = of_middle IsUnitType s.types xs zs y f.types e in
     let size = number_read 1 5000 y.length is.some is.long (omega arith) in
@@ -153,7 +58,7 @@ type_read s f n xs y zs e =
 
 platform_read : (s : Station) → IsStation s → (n : ℕ) (xs : List (List ℕ)) (y : List ℕ) (zs : List (List ℕ)) → s.platforms ≡ xs ++ y ∷ zs
     → answer n (later_of (partial s s.types xs [] [] []) (platform_row y)) ≡ Ok (partial s s.types (xs ++ y ∷ []) [] [] [])
-unfolding later_of platform_of is_within AllHold
+unfolding later_of platform_of is_within
 platform_read s f n xs y zs e =
     let is = of_middle IsName s.platforms xs zs y f.platforms e in
     let apart : AreDistinct (map (λ p. p) (xs ++ y ∷ zs)) = subst AreDistinct (e ∙ sym (map-id (xs ++ y ∷ zs))) f.platform_names in
@@ -177,7 +82,7 @@ both_ends = record { side_a = true; side_b = true }
 
 track_read : (s : Station) → IsStation s → (n : ℕ) (xs : List Track) (y : Track) (zs : List Track) → s.tracks ≡ xs ++ y ∷ zs
     → answer n (later_of (partial s s.types s.platforms xs [] []) (track_row y)) ≡ Ok (partial s s.types s.platforms (xs ++ y ∷ []) [] [])
-unfolding later_of track_of is_within AllHold
+unfolding later_of track_of is_within
 track_read s f n xs y zs e =
     let is = of_middle IsTrack s.tracks xs zs y f.tracks e in
     let size = number_read 1 50000 y.length is.some is.long (omega arith) in
@@ -194,13 +99,6 @@ same_way A B e = absurd (true≢false (sym e))
 same_way B A e = absurd (true≢false (sym e))
 same_way B B e = refl
 
-same_number : (a b : ℕ) → (a == b) ≡ true → a ≡ b
-same_number a b e = grind (arith, nat_tests)
-
-both : (a b : Bool) → (a && b) ≡ true → (a ≡ true) × (b ≡ true)
-both true b e = (refl, e)
-both false b e = absurd (true≢false (sym e))
-
 abbrev platform_id : ℕ → PlatformId
 platform_id k = record { 0 = k }
 
@@ -215,10 +113,10 @@ way_from p t q = (p, (t, q))
 
 joins_tells : (y r : Route) → joins y.platform y.track y.side r ≡ true → way_of r ≡ way_of y
 joins_tells y r e =
-    let c = both _ (same_side r.side y.side) e in
-    let d = both (r.platform.0 == y.platform.0) _ c.0 in
-    ap (λ k. way_from (platform_id k) r.track r.side) (same_number r.platform.0 y.platform.0 d.0)
-    ∙ ap (λ k. way_from y.platform (track_id k) r.side) (same_number r.track.0 y.track.0 d.1)
+    let c = and_parts _ (same_side r.side y.side) e in
+    let d = and_parts (r.platform.0 == y.platform.0) _ c.0 in
+    ap (λ k. way_from (platform_id k) r.track r.side) (eqb-true r.platform.0 y.platform.0 d.0)
+    ∙ ap (λ k. way_from y.platform (track_id k) r.side) (eqb-true r.track.0 y.track.0 d.1)
     ∙ ap (λ q. way_from y.platform y.track q) (same_way r.side y.side c.1)
 
 abbrev permit_from : TrackId → TypeId → Permit
@@ -226,8 +124,8 @@ permit_from t k = record { track = t; kind = k }
 
 names_tell : (y p : Permit) → (p.track.0 == y.track.0 && p.kind.0 == y.kind.0) ≡ true → p ≡ y
 names_tell y p e =
-    let c = both _ _ e in
-    ap (λ k. permit_from (track_id k) p.kind) (same_number p.track.0 y.track.0 c.0) ∙ ap (λ k. permit_from y.track (type_id k)) (same_number p.kind.0 y.kind.0 c.1)
+    let c = and_parts _ _ e in
+    ap (λ k. permit_from (track_id k) p.kind) (eqb-true p.track.0 y.track.0 c.0) ∙ ap (λ k. permit_from y.track (type_id k)) (eqb-true p.kind.0 y.kind.0 c.1)
 
 name_of_type : UnitType → List ℕ
 name_of_type t = t.name
@@ -268,7 +166,7 @@ three test p q t u a b e f g = ap (λ k. test k t a) e ∙ ap (λ k. test q k a)
 
 route_read : (s : Station) → IsStation s → (n : ℕ) (xs : List Route) (y : Route) (zs : List Route) → s.routes ≡ xs ++ y ∷ zs
     → answer n (later_of (partial s s.types s.platforms s.tracks xs []) (route_row s y)) ≡ Ok (partial s s.types s.platforms s.tracks (xs ++ y ∷ []) [])
-unfolding later_of route_of opens stands is_within AllHold
+unfolding later_of route_of opens stands is_within
 route_read s f n xs y zs e =
     let is = of_middle (IsRoute s) s.routes xs zs y f.routes e in
     let d = partial s s.types s.platforms s.tracks xs [] in
@@ -289,7 +187,7 @@ route_read s f n xs y zs e =
 
 permit_read : (s : Station) → IsStation s → (n : ℕ) (xs : List Permit) (y : Permit) (zs : List Permit) → s.permits ≡ xs ++ y ∷ zs
     → answer n (later_of (partial s s.types s.platforms s.tracks s.routes xs) (permit_row s y)) ≡ Ok (partial s s.types s.platforms s.tracks s.routes (xs ++ y ∷ []))
-unfolding later_of permit_of is_permitted is_within AllHold
+unfolding later_of permit_of is_permitted is_within
 permit_read s f n xs y zs e =
     let is = of_middle (IsPermit s) s.permits xs zs y f.permits e in
     let d = partial s s.types s.platforms s.tracks s.routes xs in
@@ -310,7 +208,7 @@ abbrev whole : Station → ℕ → ℕ → ℕ → Draft
 whole s a b c = record { version = 2; station = record { name = s.name; types = s.types; platforms = s.platforms; tracks = s.tracks; routes = s.routes; permits = s.permits; split = a; couple = b; unparked = c }; is_costed = true }
 
 cost_read : (s : Station) → IsStation s → (n : ℕ) → answer n (later_of (partial s s.types s.platforms s.tracks s.routes s.permits) (cost_row s)) ≡ Ok (whole s s.split s.couple s.unparked)
-unfolding later_of cost_of is_within AllHold
+unfolding later_of cost_of is_within
 cost_read s f n =
     let a = number_read 0 1000000 s.split (omega arith) f.split (omega arith) in
     let b = number_read 0 1000000 s.couple (omega arith) f.couple (omega arith) in
@@ -322,52 +220,25 @@ cost_read s f n =
     ∙ ap (λ x. Ok (whole s s.split s.couple x)) c.value
 
 head_read : (s : Station) → IsStation s → answer 1 (first_of (head_row s)) ≡ Ok (partial s [] [] [] [] [])
-unfolding first_of is_within AllHold
+unfolding first_of is_within
 head_read s f =
     let v = number_read 1 2 2 (omega arith) (omega arith) (omega arith) in
     let m = first_of (head_row s) in
     holding 1 m.checks m.value (refl, (refl, (v.there, (v.range, (name_read s.name f.name, tt)))))
     ∙ ap (λ (x : ℕ). Ok (record { version = x; station = empty_station s.name; is_costed = false })) v.value
 
--- a list is read one after the other
-section : {X S V : Type 0} (f : Format S V) (row : X → List (List ℕ)) (state : List X → S) (all : List X)
-    → ((k : ℕ) (xs : List X) (y : X) (zs : List X) → all ≡ xs ++ y ∷ zs → answer k (in_state f (state xs) (row y)) ≡ Ok (state (xs ++ y ∷ [])))
-    → (n : ℕ) (xs ys : List X) → all ≡ xs ++ ys → reads f (state xs) n (map row ys) ≡ Ok (state all)
-section f row state all step n xs [] e = ap (λ l. Ok (state l)) (sym (e ∙ append-nil xs))
-section f row state all step n xs (y ∷ ys) e =
-    ap (λ r. formats.◌>>=◌ r (λ t. reads f t (n + 1) (map row ys))) (step n xs y ys e)
-    ∙ section f row state all step (n + 1) (xs ++ y ∷ []) ys (e ∙ sym (append_assoc xs (y ∷ []) ys))
-
--- and then what follows
-then_reads : {S V : Type 0} (f : Format S V) (s t u : S) (n : ℕ) (rows more : List (List (List ℕ))) → reads f s n rows ≡ Ok t → ((k : ℕ) → reads f t k more ≡ Ok u) → reads f s n (rows ++ more) ≡ Ok u
-then_reads f s t u n rows more e h =
-    reads_more f s n rows more ∙ ap (λ r. formats.◌>>=◌ r (λ v. reads f v (n + length rows) more)) e ∙ h (n + length rows)
-
-rest_read : (s : Station) → IsStation s → (n : ℕ) → reads station_format (partial s [] [] [] [] []) n
-    (map type_row s.types ++ (map platform_row s.platforms ++ (map track_row s.tracks ++ (map (route_row s) s.routes ++ (map (permit_row s) s.permits ++ cost_row s ∷ []))))) ≡ Ok (whole s s.split s.couple s.unparked)
-rest_read s f n =
-    let end = whole s s.split s.couple s.unparked in
-    let types : List UnitType → Draft = λ l. partial s l [] [] [] [] in
-    let platforms : List (List ℕ) → Draft = λ l. partial s s.types l [] [] [] in
-    let tracks : List Track → Draft = λ l. partial s s.types s.platforms l [] [] in
-    let routes : List Route → Draft = λ l. partial s s.types s.platforms s.tracks l [] in
-    let permits : List Permit → Draft = λ l. partial s s.types s.platforms s.tracks s.routes l in
-    then_reads station_format (types []) (types s.types) end n (map type_row s.types) _ (section station_format type_row types s.types (type_read s f) n [] s.types refl)
-    (λ n. then_reads station_format (platforms []) (platforms s.platforms) end n (map platform_row s.platforms) _ (section station_format platform_row platforms s.platforms (platform_read s f) n [] s.platforms refl)
-    (λ n. then_reads station_format (tracks []) (tracks s.tracks) end n (map track_row s.tracks) _ (section station_format track_row tracks s.tracks (track_read s f) n [] s.tracks refl)
-    (λ n. then_reads station_format (routes []) (routes s.routes) end n (map (route_row s) s.routes) _ (section station_format (route_row s) routes s.routes (route_read s f) n [] s.routes refl)
-    (λ n. then_reads station_format (permits []) (permits s.permits) end n (map (permit_row s) s.permits) _ (section station_format (permit_row s) permits s.permits (permit_read s f) n [] s.permits refl)
-    (λ n. ap (λ r. formats.◌>>=◌ r (λ v. reads station_format v (n + 1) [])) (cost_read s f n))))))
-
-abbrev rest_of : Station → List (List (List ℕ))
-rest_of s = map type_row s.types ++ (map platform_row s.platforms ++ (map track_row s.tracks ++ (map (route_row s) s.routes ++ (map (permit_row s) s.permits ++ cost_row s ∷ []))))
-
 -- the records of a station state it
 pub station_back : (s : Station) → IsStation s → reading station_format (rows_of s) ≡ Ok s
 station_back s f =
-    reading_is station_format (head_row s) (rest_of s)
-    ∙ ap (λ r. formats.◌>>=◌ r (λ d. formats.◌>>=◌ (reads station_format d 2 (rest_of s)) (λ t. ends station_format t (length (rest_of s) + 2)))) (head_read s f)
-    ∙ ap (λ r. formats.◌>>=◌ r (λ t. ends station_format t (length (rest_of s) + 2))) (rest_read s f 2)
+    let end = whole s s.split s.couple s.unparked in
+    all_read station_format (head_row s) _ (partial s [] [] [] [] []) end (head_read s f)
+    (section_then station_format type_row (λ l. partial s l [] [] [] []) s.types end _ (type_read s f)
+    (section_then station_format platform_row (λ l. partial s s.types l [] [] []) s.platforms end _ (platform_read s f)
+    (section_then station_format track_row (λ l. partial s s.types s.platforms l [] []) s.tracks end _ (track_read s f)
+    (section_then station_format (route_row s) (λ l. partial s s.types s.platforms s.tracks l []) s.routes end _ (route_read s f)
+    (section_then station_format (permit_row s) (λ l. partial s s.types s.platforms s.tracks s.routes l) s.permits end _ (permit_read s f)
+    (λ n. one_reads station_format (partial s s.types s.platforms s.tracks s.routes s.permits) end n (cost_row s) (cost_read s f n)))))) 2)
+    refl
 
 -- the station's text is read back
 pub back_from : (s : Station) → IsStation s → (text bytes : List ℕ) → text ≡ text_of_rows (rows_of s) → ReadsBack text bytes → ReadsAsStation s bytes

@@ -1,0 +1,74 @@
+-- What is read of fields that were spelled, and what the tests of fields tell.
+use Rattle.std.proofs.Common.{◌≡◌, ℕ, ◌^◌, ◌<◌, ◌≤◌, Bool, true, false, not, ◌||◌, ◌&&◌, List, length, refl, sym, ap, ◌∙◌, arith, ⊎_elim}
+use Rattle.std.specs.Prelude.{◌==◌, Option, Some, None, if◌then◌else◌}
+use Rattle.std.specs.Option.{is_some, unwrap_or}
+use Rattle.std.specs.Fmt.{decimal}
+use Rattle.std.specs.Char.{is_ascii_digit}
+use Rattle.std.specs.Str.Parse.{digits_value}
+use Rattle.std.proofs.lemmas.Bool.{ltb-true, leb-true, lt-ltb, le-leb, cases_Bool, and_parts, and_from, or_left}
+use Rattle.std.proofs.lemmas.Bool.Decides.{nat_tests}
+use Rattle.std.proofs.lemmas.List.Sums.{AllPass-from_list_all, list_all-from_AllPass}
+use Rattle.shunt_base.specs.defs.Spelling.{IsName, IsDecimal, is_name_byte, is_name_text, is_decimal_text, decimal_of, minute_of, is_minute_text, minute_value}
+use Rattle.shunt_base.proofs.Decimal.{spelled, value_again}
+use Rattle.shunt_base.proofs.Minutes as minutes
+use Rattle.shunt_rows.specs.defs.Fields.{is_within}
+use Rattle.shunt_rows.proofs.Holding.{yes_is}
+
+-- what is found is there
+pub there : {X : Type 0} (nothing : X) (o : Option X) → is_some o ≡ true → o ≡ Some (unwrap_or o nothing)
+there nothing None e = absurd cc
+there nothing (Some y) e = refl
+
+-- the test of a range
+pub within : (least most x : ℕ) → is_within least most x ≡ true → (least ≤ x) × (x ≤ most)
+unfolding is_within
+within least most x e = grind (arith, nat_tests)
+
+pub in_range : (least most x : ℕ) → least ≤ x → x ≤ most → is_within least most x ≡ true
+unfolding is_within
+in_range least most x le ge = and_from _ _ (le-leb least x le) (le-leb x most ge)
+
+-- the test of a name
+pub name_from : (text : List ℕ) → is_name_text text ≡ true → IsName text
+name_from text t =
+    let parts = and_parts _ _ t in
+    let first = and_parts _ _ parts.0 in
+    (ltb-true _ _ first.0, leb-true _ _ first.1, AllPass-from_list_all is_name_byte text parts.1)
+
+pub name_read : (name : List ℕ) → IsName name → is_name_text name ≡ true
+name_read name is = and_from _ _ (and_from _ _ (lt-ltb 0 (length name) is.0) (le-leb (length name) 16 is.1)) (list_all-from_AllPass is_name_byte name is.2)
+
+lead : (a n : ℕ) → (a ≡ 48 → n ≡ 1) → (not (a == 48) || n == 1) ≡ true
+lead a n h = ⊎_elim (λ t. let m = h (eq_of a t) in grind (arith, nat_tests)) (λ f. or_left _ _ (ap not f)) (cases_Bool (a == 48))
+  where
+    eq_of : (a : ℕ) → (a == 48) ≡ true → a ≡ 48
+    eq_of a t = grind (arith, nat_tests)
+
+decimal_test : (bytes : List ℕ) → IsDecimal bytes → is_decimal_text bytes ≡ true
+decimal_test bytes is = and_from _ _ (and_from _ _ (and_from _ _ (lt-ltb 0 (length bytes) is.nonempty) (le-leb (length bytes) 18 is.short)) (lead _ _ is.leading)) (list_all-from_AllPass is_ascii_digit bytes is.digits)
+
+-- a number is read from what is printed of it
+pub number_again : (x : ℕ) → x < 10 ^ 18 → decimal_of (decimal x) ≡ Some x
+unfolding decimal_of
+number_again x lt = yes_is (is_decimal_text (decimal x)) (Some (digits_value 10 (decimal x))) None (decimal_test (decimal x) (spelled x lt)) ∙ ap (λ y. Some y) (value_again x lt)
+
+-- a number from the one to the other is read from what is printed of it
+pub record IsRead (least most x : ℕ) : Type 0 where
+  pub there : is_some (decimal_of (decimal x)) ≡ true
+  pub value : unwrap_or (decimal_of (decimal x)) 0 ≡ x
+  pub range : is_within least most (unwrap_or (decimal_of (decimal x)) 0) ≡ true
+
+pub number_read : (least most x : ℕ) → least ≤ x → x ≤ most → most < 10 ^ 18 → IsRead least most x
+number_read least most x le ge small =
+    let again = number_again x (omega (arith, ge, small)) in
+    let same = ap (λ o. unwrap_or o 0) again in
+    record { there = ap is_some again; value = same; range = ap (is_within least most) same ∙ in_range least most x le ge }
+
+-- a minute that is read is one of two days
+pub minute_small : (text : List ℕ) (m : ℕ) → minute_of text ≡ Some m → m < 2880
+unfolding minute_of
+minute_small text m e = by (is_minute_text text) refl
+  where
+    by : (b : Bool) → is_minute_text text ≡ b → m < 2880
+    by true t = let is : minute_value text ≡ m = cc in omega (arith, (minutes.spelled text t).0, is)
+    by false t = let is : None ≡ Some m = sym (ap (λ (b : Bool). if b then Some (minute_value text) else None) t) ∙ e in cc

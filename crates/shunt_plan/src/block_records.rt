@@ -16,8 +16,7 @@ use shunt_rows::{
 pub(crate) fn read_first(row: &Row, word: &[u8]) -> Result<(), RowFault>
     ensures { result ≡ answer 1 (first_in word.now tt row.now) }
 {
-    let _len = row.len();
-    must(row.field(1) == word, 1, 1, RowKind::Kind)?;
+    must(row.word() == word, 1, 1, RowKind::Kind)?;
     fields_in(row, 1, 2, 2)?;
     number_in(row, 1, 2, 1, 1)?;
     Ok(())

@@ -189,8 +189,7 @@ fn read_redo(before: usize, row: &Row, n: u32) -> Result<Turn, RowFault>
 fn read_turn(instance: &Instance, before: usize, row: &Row, n: u32) -> Result<Turn, RowFault>
     ensures { result ≡ answer n (turn_of instance.now before row.now) }
 {
-    let _len = row.len();
-    let word = row.field(1);
+    let word = row.word();
     if word == b"add".as_slice() {
         return read_add(instance, before, row, n);
     }

@@ -26,8 +26,7 @@ fn first_pins(alloc: Global, row: &Row) -> Result<Vec<Block>, ReadError>
 fn read_pin(instance: &Instance, pins: &mut Vec<Block>, n: u32, row: &Row) -> Result<(), ReadError>
     ensures { Gives (λ _. pins.new.items) result (answer n (in_state (pins_format instance.now) pins.old.items row.now)) }
 {
-    let _len = row.len();
-    must(row.field(1) == b"block".as_slice(), n, 1, RowKind::Kind)?;
+    must(row.word() == b"block".as_slice(), n, 1, RowKind::Kind)?;
     read_more(instance, pins, row, n)
 }
 

@@ -62,9 +62,8 @@ impl Draft {
     fn read_later(&mut self, instance: &Instance, n: u32, row: &Row) -> Result<(), ReadError>
         ensures { Gives (λ _. self.new) result (answer n (in_state (plan_format instance.now) self.old row.now)) }
     {
-        let _len = row.len();
         must(self.cost.is_none(), n, 1, RowKind::Tail)?;
-        let word = row.field(1);
+        let word = row.word();
         if word == b"block".as_slice() {
             return self.read_more(instance, n, row);
         }

@@ -116,25 +116,13 @@ pub least_faulty : (checks : List Check) (e : RowFault) → IsTrue (ascends_from
 least_faulty checks e up l =
     let low = later 13 checks up e.field e.kind l.found in
     let range = kind_range e.kind in
+    let before : (k : RowKind) → 2 ≤ e.field → kind_number k ≤ 2 → Finds checks 1 k → ⊥ = λ k ge small found. let le = l.least 13 up 1 k found in omega (arith, le, ge, small, range.0) in
     record {
       found = l.found;
       judged = ⊎_elim
-          (λ small.
-          let one : e.field ≡ 1 = omega (arith, low, range.0, range.1, small) in
-          inl (
-            one,
-            ⊎_elim
-                (λ lt. inl (kind_tells e.kind kinds.Kind (let k : kind_number e.kind ≡ 1 = omega (arith, range.0, lt) in k)))
-                (λ ge. inr (kind_tells e.kind kinds.Fields (let k : kind_number e.kind ≡ 2 = omega (arith, one, small, ge) in k)))
-                (cases_lt (kind_number e.kind) 2),
-          ))
-          (λ big. inr (λ other shape found.
-          let le = l.least 13 up 1 other found in
-          ⊎_elim
-          (λ is. absurd (let k : kind_number other ≡ 1 = ap kind_number is in omega (arith, k, le, big)))
-          (λ is. absurd (let k : kind_number other ≡ 2 = ap kind_number is in omega (arith, k, le, big)))
-          shape.1))
-          (cases_lt (12 * e.field + kind_number e.kind) 15);
+          (λ lt. inl (let one : e.field ≡ 1 = omega (arith, low, range.1, lt) in one))
+          (λ ge. inr (λ shapeless. ⊎_elim (λ word. before kinds.Kind ge (omega arith) word) (λ count. before kinds.Fields ge (omega arith) count) shapeless))
+          (cases_lt e.field 2);
     }
 
 abbrev made : ℕ → ℕ → RowKind → RowFault

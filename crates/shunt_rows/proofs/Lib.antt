@@ -6,10 +6,10 @@ pub mod Keeping
 pub mod Least
 pub mod Named
 pub mod Nonempty
+pub mod Numbers
 pub mod Places
 pub mod Plain
 pub mod Readings
-pub mod SampleTables
 pub mod Sections
 pub mod Spelled
 pub mod Texts

@@ -1,14 +1,15 @@
 -- Names, numbers, words and sides are plain fields, and a side's letter is read back.
-use Rattle.std.proofs.Common.{◌≡◌, ℕ, suc, ◌^◌, ◌<◌, ◌≤◌, Bool, true, false, ◌&&◌, List, [], ◌∷◌, ◌++◌, length, map, ◌+◌, ◌/◌, ◌%◌, refl, sym, arith, IsTrue}
+use Rattle.std.proofs.Common.{◌≡◌, ℕ, ℤ, pos, negsuc, suc, ◌^◌, ◌<◌, ◌≤◌, Bool, true, false, ◌&&◌, List, [], ◌∷◌, ◌++◌, length, map, ◌+◌, ◌/◌, ◌%◌, refl, sym, arith, IsTrue}
 use Rattle.std.specs.Prelude.{All, codes, nat_lt, Some}
 use Rattle.std.specs.List.{list_all, AllByRecursion}
-use Rattle.std.specs.Fmt.{decimal}
+use Rattle.std.specs.Fmt.{decimal, signed_decimal}
 use Rattle.std.specs.Char.{is_ascii_digit}
 use Rattle.std.proofs.lemmas.Bool.{ltb-true, true≢false}
 use Rattle.std.proofs.lemmas.Bool.Decides.{nat_tests}
+use Rattle.std.proofs.lemmas.Int.{ints}
 use Rattle.shunt_base.specs.declared.ids.Side.{Side}
 use Rattle.shunt_base.specs.declared.ids.Side.TheVariants.{A, B}
-use Rattle.shunt_base.specs.defs.Spelling.{IsName, is_name_byte, minute_text}
+use Rattle.shunt_base.specs.defs.Spelling.{IsName, IsSigned, is_name_byte, minute_text}
 use Rattle.shunt_base.proofs.Decimal.{spelled}
 use Rattle.shunt_rows.specs.defs.Records.{is_plain, IsPlainField, IsPlainRow, ArePlain}
 use Rattle.shunt_rows.specs.defs.Fields.{side_of}
@@ -72,3 +73,10 @@ plain_more (row ∷ rows) more p q = (p.0, plain_more rows more p.1 q)
 pub plain_map : {X : Type 0} (P : X → Type 0) (row : X → List (List ℕ)) (xs : List X) → ((x : X) → P x → IsPlainRow (row x)) → All P xs → ArePlain (map row xs)
 plain_map P row [] h all = tt
 plain_map P row (x ∷ xs) h all = (h x (all 0 x (omega arith)), plain_map P row xs h (λ k d lt. all (suc k) d (omega arith)))
+
+-- a signed number
+pub plain_signed : (z : ℤ) → IsSigned z → IsPlainField (signed_decimal z)
+plain_signed (pos n) is = plain_number n (omega (arith, ints, is.1))
+plain_signed (negsuc n) is =
+    let digits = plain_number (suc n) (omega (arith, ints, is.0)) in
+    (omega (arith, digits.0), (refl, digits.1))

@@ -1,16 +1,15 @@
 -- Records that were written in sections are read section by section.
 use Rattle.std.proofs.Common.{◌≡◌, ℕ, ◌+◌, true, List, [], ◌∷◌, ◌++◌, length, map, refl, sym, ap, ◌∙◌}
-use Rattle.std.specs.Prelude.{Ok, Err, if◌then◌else◌}
+use Rattle.std.specs.Prelude.{Ok}
 use Rattle.std.proofs.lemmas.List.{append-nil, append_assoc}
-use Rattle.shunt_rows.specs.declared.fault.RowKind.TheVariants as kinds
 use Rattle.shunt_rows.specs.defs.Checks.{answer}
-use Rattle.shunt_rows.specs.defs.Formats.{Format, in_state, ends, reads, reading, ◌>>=◌}
+use Rattle.shunt_rows.specs.defs.Formats.{Format, in_state, IsReadByEach, ends, reads, reading, ◌>>=◌}
 use Rattle.shunt_rows.proofs.Holding.{yes_is}
 use Rattle.shunt_rows.proofs.Joins.{reads_more, reading_is}
 
 -- a list of things is read from its records, where each of them adds its own behind those before it
 pub section : {X S V : Type 0} (f : Format S V) (row : X → List (List ℕ)) (state : List X → S) (all : List X)
-    → ((k : ℕ) (xs : List X) (y : X) (zs : List X) → all ≡ xs ++ y ∷ zs → answer k (in_state f (state xs) (row y)) ≡ Ok (state (xs ++ y ∷ [])))
+    → IsReadByEach f row state all
     → (n : ℕ) (xs ys : List X) → all ≡ xs ++ ys → reads f (state xs) n (map row ys) ≡ Ok (state all)
 section f row state all step n xs [] e = ap (λ l. Ok (state l)) (sym (e ∙ append-nil xs))
 section f row state all step n xs (y ∷ ys) e =
@@ -24,7 +23,7 @@ then_reads f s t u n rows more e h =
 
 -- a list of things, and then what follows
 pub section_then : {X S V : Type 0} (f : Format S V) (row : X → List (List ℕ)) (state : List X → S) (all : List X) (u : S) (more : List (List (List ℕ)))
-    → ((k : ℕ) (xs : List X) (y : X) (zs : List X) → all ≡ xs ++ y ∷ zs → answer k (in_state f (state xs) (row y)) ≡ Ok (state (xs ++ y ∷ [])))
+    → IsReadByEach f row state all
     → ((k : ℕ) → reads f (state all) k more ≡ Ok u) → (n : ℕ) → reads f (state []) n (map row all ++ more) ≡ Ok u
 section_then f row state all u more step rest n = then_reads f (state []) (state all) u n (map row all) more (section f row state all step n [] all refl) rest
 

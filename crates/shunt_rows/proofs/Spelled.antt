@@ -1,15 +1,16 @@
 -- What is read of fields that were spelled, and what the tests of fields tell.
-use Rattle.std.proofs.Common.{◌≡◌, ℕ, ◌^◌, ◌<◌, ◌≤◌, Bool, true, false, not, ◌||◌, ◌&&◌, List, length, refl, sym, ap, ◌∙◌, arith, ⊎_elim}
-use Rattle.std.specs.Prelude.{◌==◌, Option, Some, None, if◌then◌else◌}
+use Rattle.std.proofs.Common.{◌≡◌, ℕ, ℤ, pos, negsuc, suc, ◌^◌, ◌<◌, ◌≤◌, Bool, true, false, not, ◌||◌, List, length, refl, sym, ap, ◌∙◌, arith, ⊎_elim}
+use Rattle.std.specs.Prelude.{◌==◌, Option, Some, None, option_map, slice_index, if◌then◌else◌}
 use Rattle.std.specs.Option.{is_some, unwrap_or}
-use Rattle.std.specs.Fmt.{decimal}
+use Rattle.std.specs.Fmt.{decimal, signed_decimal}
 use Rattle.std.specs.Char.{is_ascii_digit}
 use Rattle.std.specs.Str.Parse.{digits_value}
-use Rattle.std.proofs.lemmas.Bool.{ltb-true, leb-true, lt-ltb, le-leb, cases_Bool, and_parts, and_from, or_left}
+use Rattle.std.proofs.lemmas.Bool.{ltb-true, leb-true, lt-ltb, le-leb, cases_Bool, and_parts, and_from, or_left, cond-false, ne_eqb}
+use Rattle.std.proofs.lemmas.Int.{ints}
 use Rattle.std.proofs.lemmas.Bool.Decides.{nat_tests}
 use Rattle.std.proofs.lemmas.List.Sums.{AllPass-from_list_all, list_all-from_AllPass}
-use Rattle.shunt_base.specs.defs.Spelling.{IsName, IsDecimal, is_name_byte, is_name_text, is_decimal_text, decimal_of, minute_of, is_minute_text, minute_value}
-use Rattle.shunt_base.proofs.Decimal.{spelled, value_again}
+use Rattle.shunt_base.specs.defs.Spelling.{IsName, IsDecimal, IsSigned, is_name_byte, is_name_text, is_decimal_text, decimal_of, negative_of, signed_of, minute_of, is_minute_text, minute_value}
+use Rattle.shunt_base.proofs.Decimal.{spelled, value_again, digit_in}
 use Rattle.shunt_base.proofs.Minutes as minutes
 use Rattle.shunt_rows.specs.defs.Fields.{is_within}
 use Rattle.shunt_rows.proofs.Holding.{yes_is}
@@ -72,3 +73,13 @@ minute_small text m e = by (is_minute_text text) refl
     by : (b : Bool) → is_minute_text text ≡ b → m < 2880
     by true t = let is : minute_value text ≡ m = cc in omega (arith, (minutes.spelled text t).0, is)
     by false t = let is : None ≡ Some m = sym (ap (λ (b : Bool). if b then Some (minute_value text) else None) t) ∙ e in cc
+
+-- a signed number is read from what is printed of it
+pub signed_again : (z : ℤ) → IsSigned z → signed_of (signed_decimal z) ≡ Some z
+unfolding signed_of
+signed_again (pos n) is =
+    let lt : n < 10 ^ 18 = omega (arith, ints, is.1) in
+    let d = spelled n lt in
+    let digit = digit_in (decimal n) d 0 d.nonempty in
+    cond-false (slice_index (decimal n) 0 == 45) _ _ (ne_eqb (slice_index (decimal n) 0) 45 (λ e. omega (arith, digit.0, e))) ∙ ap (option_map pos) (number_again n lt)
+signed_again (negsuc n) is = ap negative_of (number_again (suc n) (omega (arith, ints, is.0)))

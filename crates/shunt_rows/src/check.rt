@@ -1,5 +1,5 @@
 // One check of a record.
-ghost use Rattle.std.specs.Prelude.{◌≡◌, IsTrue, OnOk};
+ghost use Rattle.std.specs.Prelude.{◌≡◌, Some, IsTrue, IfOk, OnOk};
 ghost use Rattle.shunt_rows.specs.defs.Checks.{answer, must, found};
 
 use crate::fault::{RowFault, RowKind};
@@ -22,7 +22,8 @@ pub fn must(holds: bool, n: u32, field: u32, kind: RowKind) -> Result<(), RowFau
 
 /// The value that was found, or the fault of this kind at a field of the record with number `n`.
 pub fn found<T>(value: Option<T>, n: u32, field: u32, kind: RowKind) -> Result<T, RowFault>
-    ensures { (nothing : T) → result ≡ answer n (found nothing value field kind) }
+    ensures answer { (nothing : T) → result ≡ answer n (found nothing value field kind) }
+    ensures there { IfOk result (λ x. value ≡ Some x) }
 {
     match value {
         Some(value) => Ok(value),

@@ -1,12 +1,12 @@
-// Fields that are numbers, minutes, sides, words and names.
-ghost use Rattle.std.specs.Prelude.{◌≡◌, ◌↔◌, ◌≤◌, IsTrue, IfOk, OnOk, length, map};
+// Fields that are numbers, minutes and sides.
+ghost use Rattle.std.specs.Prelude.{◌≡◌, ◌↔◌, ◌≤◌, IsTrue, IfOk, OnOk, length};
 ghost use Rattle.shunt_rows.specs.defs.Checks.{answer};
-ghost use Rattle.shunt_rows.specs.defs.Fields.{is_within, fields_in, number_in, minute_in, side_in, side_of, place_of, word_in, known_in};
+ghost use Rattle.shunt_rows.specs.defs.Fields.{is_within, fields_in, number_in, minute_in, side_in, side_of};
 
 use crate::check::{found, must};
 use crate::fault::{RowFault, RowKind};
 use crate::row::Row;
-use shunt_base::{Minute, Name, Side, parse_decimal, parse_minute};
+use shunt_base::{Minute, Side, parse_decimal, parse_minute};
 
 /// Whether a number lies from `least` to `most`.
 #[tactic(auto, unfolding(crate::specs::defs::Fields::is_within))]
@@ -69,53 +69,4 @@ pub fn side_in(row: &Row, n: u32, k: u32) -> Result<Side, RowFault>
     ensures { result ≡ answer n (side_in row.now k) }
 {
     found(side_named(row.field(k as usize)), n, k, RowKind::Kind)
-}
-
-/// The place of a word in a list of words, from 0; of the first, where it stands there twice.
-#[tactic(auto, unfolding(crate::specs::defs::Fields::place_of))]
-pub fn place_of(words: &[&[u8]], word: &[u8]) -> Option<usize>
-    ensures { result ≡ place_of (map (λ w. w.now) words.now) word.now }
-{
-    for (place, other) in words.iter().enumerate() {
-        if *other == word {
-            return Some(place);
-        }
-    }
-    None
-}
-
-/// The place of a name in a list of names, from 0; of the first, where it stands there twice.
-#[tactic(auto, unfolding(crate::specs::defs::Fields::place_of))]
-pub fn place_of_name(names: &[Name], name: &[u8]) -> Option<usize>
-    ensures { result ≡ place_of names.now name.now }
-{
-    for (place, other) in names.iter().enumerate() {
-        if other.bytes() == name {
-            return Some(place);
-        }
-    }
-    None
-}
-
-/// The place of field `k` of record `n` among these words, from 0: else Kind.
-pub fn word_in(row: &Row, n: u32, k: u32, words: &[&[u8]]) -> Result<usize, RowFault>
-    requires first { 1 ≤ k }
-    requires last { k ≤ length row.now }
-    ensures { result ≡ answer n (word_in row.now k (map (λ w. w.now) words.now)) }
-{
-    found(place_of(words, row.field(k as usize)), n, k, RowKind::Kind)
-}
-
-/// The place of field `k` of record `n` among the names that are known, from 0: else Unknown.
-pub fn known_in(row: &Row, n: u32, k: u32, names: &[Name]) -> Result<usize, RowFault>
-    requires first { 1 ≤ k }
-    requires last { k ≤ length row.now }
-    ensures { result ≡ answer n (known_in row.now k names.now) }
-{
-    found(
-        place_of_name(names, row.field(k as usize)),
-        n,
-        k,
-        RowKind::Unknown,
-    )
 }

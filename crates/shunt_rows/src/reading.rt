@@ -25,12 +25,22 @@ pub trait FormatReader<'r>: Drop {
     ghost suits: { Self.Context → Type 0 };
 
     /// What the first record states.
-    fn read_first(context: &'r Self::Context, alloc: Global, row: &'r Row) -> Result<Self, ReadError>
+    fn read_first(
+        context: &'r Self::Context,
+        alloc: Global,
+        row: &'r Row,
+    ) -> Result<Self, ReadError>
         requires { suits context.now }
         ensures { Gives (λ s. s) result (answer 1 ((format context.now).first row.now)) };
 
     /// What the record with number `n` adds.
-    fn read_later(&mut self, context: &'r Self::Context, alloc: Global, n: u32, row: &'r Row) -> Result<(), ReadError>
+    fn read_later(
+        &mut self,
+        context: &'r Self::Context,
+        alloc: Global,
+        n: u32,
+        row: &'r Row,
+    ) -> Result<(), ReadError>
         requires { suits context.now }
         ensures { Gives (λ _. self.new) result (answer n (in_state (format context.now) self.old row.now)) };
 
@@ -47,7 +57,11 @@ pub trait FormatReader<'r>: Drop {
 /// What the records state, or exactly their first fault.
 ///
 /// `Fault` is the least fault by record, then field, then kind; `Memory` is want of memory.
-pub fn read<'r, R: FormatReader<'r>>(context: &'r R::Context, alloc: Global, rows: &'r [Row]) -> Result<R::Output, ReadError>
+pub fn read<'r, R: FormatReader<'r>>(
+    context: &'r R::Context,
+    alloc: Global,
+    rows: &'r [Row],
+) -> Result<R::Output, ReadError>
     requires { R.suits context.now }
     ensures { Gives (λ v. v) result (reading (R.format context.now) rows.now) }
 {
@@ -56,6 +70,11 @@ pub fn read<'r, R: FormatReader<'r>>(context: &'r R::Context, alloc: Global, row
     for i in 1..rows.len() {
         reader.read_later(context, alloc, record_number(i)?, &rows[i])?;
     }
-    must(reader.is_whole(context), record_number(rows.len())?, 0, RowKind::Missing)?;
+    must(
+        reader.is_whole(context),
+        record_number(rows.len())?,
+        0,
+        RowKind::Missing,
+    )?;
     Ok(reader.into_output(context))
 }

@@ -34,6 +34,15 @@ impl Row {
         self.record.len()
     }
 
+    /// The word of the record: its first field.
+    pub fn word(&self) -> &[u8]
+        ensures some { 0 < length self.now }
+        ensures value { result.now ≡ at self.now 1 }
+    {
+        let _some = self.len();
+        self.field(1)
+    }
+
     /// The k-th field, counted from 1.
     pub fn field(&self, k: usize) -> &[u8]
         requires first { 1 ≤ k }
@@ -70,7 +79,7 @@ pub fn records(alloc: Global, bytes: &[u8]) -> Result<Vec<Row>, AllocError>
 
 /// The number of the record at this place in a list, counted from 1.
 ///
-/// From the place 2^32 - 1 on, the answer is want of memory.
+/// Want of memory is an answer only from the place 2^32 - 1 on.
 pub fn record_number(place: usize) -> Result<u32, AllocError>
     ensures ok { IfOk result (λ n. n ≡ place + 1) }
     ensures err { OnErr result (2 ^ 32 ≤ place + 1) }

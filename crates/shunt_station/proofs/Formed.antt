@@ -1,6 +1,6 @@
 -- What the records of a station file state is well formed.
 use Rattle.std.proofs.Common.{◌≡◌, ◌≢◌, ℕ, zero, suc, ◌<◌, ◌≤◌, Bool, true, false, ◌||◌, ◌&&◌, List, [], ◌∷◌, ◌++◌, length, length-append, map, refl, sym, ap, ◌∙◌, subst, arith}
-use Rattle.std.specs.Prelude.{Ok, bytes_eq, nat_lt, All, ◌==◌, Option, Some, None, option_map, position, if◌then◌else◌, codes, slice_get}
+use Rattle.std.specs.Prelude.{Ok, bytes_eq, nat_lt, All, ◌==◌, Option, Some, option_map, if◌then◌else◌, codes, slice_get}
 use Rattle.std.specs.Option.{unwrap_or}
 use Rattle.std.proofs.lemmas.List.Elements.{All-nil, All-push, All-weaker}
 use Rattle.std.proofs.lemmas.Bool.{true≢false, ltb-true, not-true, and_from}

@@ -9,7 +9,9 @@ ghost use Rattle.shunt_station.specs.defs.Stating.{Draft, Ends, first_of, has_ty
 use shunt_base::{Name, PlatformId, Side, TrackId, TypeId, is_name};
 use shunt_instance::{Permit, Route, Station, Track, UnitType};
 use shunt_lists::Items;
-use shunt_rows::{FormatReader, ReadError, Row, RowKind, fields_in, found, must, number_in, side_in};
+use shunt_rows::{
+    FormatReader, ReadError, Row, RowKind, fields_in, found, must, number_in, side_in,
+};
 use std::alloc::Global;
 use std::marker::Model;
 
@@ -318,6 +320,7 @@ impl Draft {
 
 impl<'r> FormatReader<'r> for Draft {
     type Context = ();
+
     type Output = Station;
 
     ghost format = { λ _. station_format };
@@ -326,8 +329,7 @@ impl<'r> FormatReader<'r> for Draft {
 
     #[tactic(auto, unfolding(crate::specs::defs::Stating::first_of))]
     fn read_first(_: &'r (), alloc: Global, row: &'r Row) -> Result<Draft, ReadError> {
-        let _len = row.len();
-        must(row.field(1) == b"station".as_slice(), 1, 1, RowKind::Kind)?;
+        must(row.word() == b"station".as_slice(), 1, 1, RowKind::Kind)?;
         fields_in(row, 1, 3, 3)?;
         let version = number_in(row, 1, 2, 1, 2)?;
         let name = row.field(3);
@@ -348,9 +350,14 @@ impl<'r> FormatReader<'r> for Draft {
     }
 
     #[tactic(auto, unfolding(crate::specs::defs::Stating::later_of))]
-    fn read_later(&mut self, _: &'r (), alloc: Global, n: u32, row: &'r Row) -> Result<(), ReadError> {
-        let _len = row.len();
-        let word = row.field(1);
+    fn read_later(
+        &mut self,
+        _: &'r (),
+        alloc: Global,
+        n: u32,
+        row: &'r Row,
+    ) -> Result<(), ReadError> {
+        let word = row.word();
         if word == b"type".as_slice() {
             return self.read_type(alloc, n, row);
         }

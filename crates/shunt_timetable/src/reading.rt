@@ -73,8 +73,7 @@ impl Listed {
     fn read_first(alloc: Global, row: &Row) -> Result<Listed, ReadError>
         ensures { Gives (λ x. x) result (answer 1 (first_of row.now)) }
     {
-        let _len = row.len();
-        must(row.field(1) == b"timetable".as_slice(), 1, 1, RowKind::Kind)?;
+        must(row.word() == b"timetable".as_slice(), 1, 1, RowKind::Kind)?;
         fields_in(row, 1, 2, 2)?;
         let version = number_in(row, 1, 2, 1, 2)?;
         Ok(Listed {
@@ -303,8 +302,7 @@ impl Listed {
         requires depart { unit_count self.old.depart ≤ 160 }
         ensures { Gives (λ _. self.new) result (answer n (in_state (timetable_format station.now) self.old row.now)) }
     {
-        let _len = row.len();
-        let word = row.field(1);
+        let word = row.word();
         if word == b"arrive".as_slice() {
             return self.read_arrive(alloc, station, n, row);
         }

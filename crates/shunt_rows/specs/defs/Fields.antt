@@ -1,5 +1,5 @@
 -- What a field may be.
-use Rattle.std.specs.Prelude.{ℕ, suc, Bool, false, ◌&&◌, nat_le, List, [], ◌∷◌, length, Option, Some, None, option_map, if◌then◌else◌, codes}
+use Rattle.std.specs.Prelude.{ℕ, Bool, false, ◌&&◌, nat_le, List, [], ◌∷◌, length, Option, Some, None, position, if◌then◌else◌, codes}
 use Rattle.std.specs.Str.{bytes_eq}
 use Rattle.shunt_base.specs.declared.ids.Side.{Side}
 use Rattle.shunt_base.specs.declared.ids.Side.TheVariants as sides
@@ -43,15 +43,6 @@ side_of bytes = if bytes_eq bytes (codes "A") then Some sides.A else if bytes_eq
 abbrev pub side_in : List (List ℕ) → ℕ → Judged Side
 side_in row k = found sides.A (side_of (at row k)) k kinds.Kind
 
--- the place of the first of these words that is this one, from 0
-unfoldable pub place_of : List (List ℕ) → List ℕ → Option ℕ
-place_of [] word = None
-place_of (other ∷ words) word = if bytes_eq other word then Some 0 else option_map suc (place_of words word)
-
--- the field is one of these words, and says its place among them
-abbrev pub word_in : List (List ℕ) → ℕ → List (List ℕ) → Judged ℕ
-word_in row k words = found 0 (place_of words (at row k)) k kinds.Kind
-
--- the field is one of these names, and says its place among them
+-- the field is one of these names, and says its place among them, from 0
 abbrev pub known_in : List (List ℕ) → ℕ → List (List ℕ) → Judged ℕ
-known_in row k names = found 0 (place_of names (at row k)) k kinds.Unknown
+known_in row k names = found 0 (position (λ n. bytes_eq n (at row k)) names) k kinds.Unknown

@@ -16,14 +16,14 @@ abbrev pub Finds : List Check → ℕ → RowKind → Type 0
 Finds [] field k = ⊥
 Finds (c ∷ checks) field k = (c ≡ record { field = field; kind = k; holds = false }) ⊎ Finds checks field k
 
--- Kind and Fields at field 1
-abbrev pub IsShape : ℕ → RowKind → Type 0
-IsShape field k = (field ≡ 1) × ((k ≡ kinds.Kind) ⊎ (k ≡ kinds.Fields))
+-- the word of a record or its number of fields is at fault
+abbrev pub IsShapeless : List Check → Type 0
+IsShapeless checks = Finds checks 1 kinds.Kind ⊎ Finds checks 1 kinds.Fields
 
 -- a fault holds of a record; where its word or its number of fields is at fault, its other fields are not judged
 pub record IsFaulty (checks : List Check) (field : ℕ) (k : RowKind) : Type 0 where
   pub found : Finds checks field k
-  pub judged : IsShape field k ⊎ ((other : RowKind) → IsShape 1 other → Finds checks 1 other → ⊥)
+  pub judged : (field ≡ 1) ⊎ (IsShapeless checks → ⊥)
 
 -- a fault holds of one of these records, given the records before it
 pub record AtRecord {S V : Type 0} (f : Format S V) (rows : List (List (List ℕ))) (fault : RowFault) : Type 0 where

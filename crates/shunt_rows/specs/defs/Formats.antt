@@ -69,3 +69,7 @@ reads f s n (row ∷ rows) = do
 -- reading the records of two lists, one after the other, goes on from the state that the first list leaves
 abbrev pub GoesOn : {S V : Type 0} → Format S V → S → ℕ → List (List (List ℕ)) → List (List (List ℕ)) → Type 0
 GoesOn f s n rows more = reading_from f s n (rows ++ more) ≡ (reads f s n rows >>= (λ t. reading_from f t (n + length rows) more))
+
+-- each thing of a list is read from its own record, in the state that those before it leave
+abbrev pub IsReadByEach : {X S V : Type 0} → Format S V → (X → List (List ℕ)) → (List X → S) → List X → Type 0
+IsReadByEach {X = X} f row state all = (n : ℕ) (xs : List X) (y : X) (zs : List X) → all ≡ xs ++ y ∷ zs → answer n (in_state f (state xs) (row y)) ≡ Ok (state (xs ++ y ∷ []))

@@ -1,0 +1,43 @@
+-- Names that an index set numbers are found where they stand in their list.
+use Rattle.std.proofs.Common.{◌≡◌, ℕ, ◌+◌, Bool, true, false, not, cond, ◌||◌, ◌↔◌, List, [], ◌∷◌, ◌++◌, length, map, refl, sym, ap, ◌∙◌, Bor}
+use Rattle.std.specs.Prelude.{bytes_eq, nat_eq, nat_lt, Some, None, position}
+use Rattle.std.specs.List.{list_any, position_or_len}
+use Rattle.std.specs.Cmp.Lexicographic.{pointwise}
+use Rattle.std.proofs.lemmas.List.{length-map, map-append}
+use Rattle.std.proofs.lemmas.Bool.{cond-false}
+use Rattle.std.proofs.lemmas.Bool.Decides.{Decides-eqb}
+use Rattle.std.proofs.lemmas.Slice.Eq.{bytes_eq-Decides, slice_eq-Decides}
+
+-- tests that decide one thing are one
+one_test : (a b : Bool) (P Q : Type 0) → ((a ≡ true) ↔ P) → ((b ≡ true) ↔ Q) → (P → Q) → (Q → P) → a ≡ b
+one_test true true P Q d e f g = refl
+one_test true false P Q d e f g = sym (e.1 (f (d.0 refl)))
+one_test false true P Q d e f g = d.1 (g (e.0 refl))
+one_test false false P Q d e f g = refl
+
+by_bytes : (q k : List ℕ) → pointwise nat_eq q k ≡ bytes_eq k q
+by_bytes q k =
+    let d = slice_eq-Decides Decides-eqb q k (pointwise nat_eq q k) refl in
+    let e = bytes_eq-Decides k q in
+    one_test _ _ (q ≡ k) (k ≡ q) d e sym sym
+
+or_len_is : (p : List ℕ → Bool) (q : Bor (List ℕ) → Bool) → ((k : Bor (List ℕ)) → q k ≡ p k.now) → (keys : List (Bor (List ℕ))) → position_or_len q keys ≡ position_or_len p (map (λ k. k.now) keys)
+or_len_is p q h [] = refl
+or_len_is p q h (k ∷ keys) = ap (λ b. cond (not b) (1 + position_or_len q keys) 0) (h k) ∙ ap (λ n. cond (not (p k.now)) (1 + n) 0) (or_len_is p q h keys)
+
+pub place_is : (q : List ℕ) (keys : List (Bor (List ℕ))) → position (λ k. pointwise nat_eq q k.now) keys ≡ position (λ n. bytes_eq n q) (map (λ k. k.now) keys)
+place_is q keys =
+    let place = position_or_len (λ n. bytes_eq n q) (map (λ k. k.now) keys) in
+    ap (λ n. cond (nat_lt n (length keys)) (Some n) None) (or_len_is (λ n. bytes_eq n q) (λ k. pointwise nat_eq q k.now) (λ k. by_bytes q k.now) keys)
+    ∙ ap (λ m. cond (nat_lt place m) (Some place) None) (sym (length-map keys (λ k. k.now)))
+
+pub any_is : (q : List ℕ) (keys : List (Bor (List ℕ))) → list_any (λ k. pointwise nat_eq q k.now) keys ≡ list_any (λ n. bytes_eq n q) (map (λ k. k.now) keys)
+any_is q [] = refl
+any_is q (k ∷ keys) = ap (λ b. b || list_any (λ k. pointwise nat_eq q k.now) keys) (by_bytes q k.now) ∙ ap (λ b. bytes_eq k.now q || b) (any_is q keys)
+
+-- a new name goes last
+pub name_added : (k : Bor (List ℕ)) (keys new : List (Bor (List ℕ))) (names : List (List ℕ)) → map (λ k. k.now) keys ≡ names → list_any (λ n. bytes_eq n k.now) names ≡ false
+    → new ≡ cond (list_any (λ x. pointwise nat_eq k.now x.now) keys) keys (keys ++ k ∷ []) → map (λ k. k.now) new ≡ names ++ k.now ∷ []
+name_added k keys new names is none e =
+    let fresh = any_is k.now keys ∙ ap (list_any (λ n. bytes_eq n k.now)) is ∙ none in
+    ap (map (λ k. k.now)) (e ∙ cond-false _ _ _ fresh) ∙ map-append (λ k. k.now) keys (k ∷ []) ∙ ap (λ l. l ++ k.now ∷ []) is

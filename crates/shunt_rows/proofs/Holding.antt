@@ -8,6 +8,10 @@ pub yes_is : {X : Type 0} (b : Bool) (r s : X) → b ≡ true → (if b then r e
 yes_is true r s e = refl
 yes_is false r s e = absurd cc
 
+-- one check that holds, and what the rest says
+pub passes_on : {A : Type 0} (b : Bool) (r q : Result A RowFault) (e : RowFault) → b ≡ true → r ≡ q → (if b then r else Err e) ≡ q
+passes_on b r q e is same = yes_is b r (Err e) is ∙ same
+
 -- where all checks hold, the record says its value
 pub holding : {X : Type 0} (n : ℕ) (checks : List Check) (x : X) → AllHold checks → passes n checks x ≡ Ok x
 holding n [] x all = refl

@@ -1,82 +1,30 @@
 -- What is stated of a timetable is well formed.
-use Rattle.std.proofs.Common.{◌≡◌, ◌≢◌, ◌⊎◌, ℕ, zero, suc, ◌+◌, ◌-◌, ◌<◌, ◌≤◌, Bool, true, false, not, ◌||◌, ◌&&◌, List, [], ◌∷◌, ◌++◌, length, length-append, map, filter, get_or, refl, sym, ap, subst, ◌∙◌, arith, inl, inr, ⊎_elim, IsTrue, cond}
-use Rattle.std.specs.Prelude.{Result, Ok, Err, bytes_eq, All, AllPairs, Option, Some, None, position, nat_lt, if◌then◌else◌, codes}
-use Rattle.std.specs.Option.{is_some, unwrap_or}
-use Rattle.std.specs.List.{list_any}
-use Rattle.std.proofs.lemmas.List.{map-append, append-nil, append_assoc}
-use Rattle.std.proofs.lemmas.List.Elements.{All-append, All-cons, All-tail, filter-append}
-use Rattle.std.proofs.lemmas.List.Quantifiers.{all_pairs_push, position-Some}
-use Rattle.std.proofs.lemmas.Slice.Eq.{bytes_eq-Decides}
-use Rattle.std.proofs.lemmas.Bool.{true≢false, ltb-true, leb-true}
-use Rattle.std.proofs.lemmas.Bool.Decides.{nat_tests}
-use Rattle.std.proofs.lemmas.List.Sums.{AllPass-from_list_all, sum_by-append}
+use Rattle.std.proofs.Common.{◌≡◌, ◌≢◌, ℕ, zero, suc, ◌+◌, ◌-◌, ◌<◌, ◌≤◌, Bool, true, false, not, ◌&&◌, List, [], ◌∷◌, ◌++◌, length, length-append, filter, refl, sym, ap, subst, ◌∙◌, arith, IsTrue, cond}
+use Rattle.std.specs.Prelude.{Ok, bytes_eq, All, position, nat_lt, codes}
+use Rattle.std.specs.Option.{unwrap_or}
+use Rattle.std.proofs.lemmas.List.{append-nil, append_assoc}
+use Rattle.std.proofs.lemmas.List.Elements.{All-nil, All-push, All-tail, filter-append}
+use Rattle.std.proofs.lemmas.List.Quantifiers.{position-Some}
+use Rattle.std.proofs.lemmas.Bool.{true≢false, ltb-true, and_parts, not-true}
+use Rattle.std.proofs.lemmas.List.Sums.{sum_by-append}
 use Rattle.shunt_base.specs.declared.ids.TypeId.{TypeId}
-use Rattle.shunt_base.specs.defs.Spelling.{IsName, is_name_byte, is_name_text, decimal_of, minute_of, is_minute_text, minute_value}
-use Rattle.shunt_base.proofs.Minutes.{spelled}
-use Rattle.shunt_rows.specs.declared.fault.RowFault.{RowFault}
+use Rattle.shunt_base.specs.defs.Spelling.{IsName, decimal_of, minute_of}
 use Rattle.shunt_rows.specs.defs.Records.{at}
-use Rattle.shunt_rows.specs.defs.Checks.{Check, Judged, passes, answer}
-use Rattle.shunt_rows.specs.defs.Fields.{is_within, is_word, no_word}
+use Rattle.shunt_rows.specs.defs.Checks.{Judged, answer, ◌>>=◌, says as only}
+use Rattle.shunt_rows.specs.defs.Fields.{is_word}
 use Rattle.shunt_rows.specs.defs.Formats.{reading}
-use Rattle.shunt_rows.proofs.Keeping.{all_kept}
+use Rattle.shunt_rows.proofs.Holding.{says, answered, hold_first, next, in_either}
+use Rattle.shunt_rows.proofs.Keeping.{formed}
+use Rattle.shunt_rows.proofs.Named.{distinct_push, same_name, no_pairs}
+use Rattle.shunt_rows.proofs.Spelled.{there, within, name_from, minute_small}
 use Rattle.shunt_instance.specs.declared.records.Station.{Station}
 use Rattle.shunt_instance.specs.declared.records.Timetable.{Timetable}
 use Rattle.shunt_instance.specs.declared.records.Train.{Train}
 use Rattle.shunt_instance.specs.declared.records.Origin.{Origin}
 use Rattle.shunt_instance.specs.declared.records.Origin.TheVariants as origin
-use Rattle.shunt_instance.specs.defs.Words.{AreDistinct, is_standing, unit_count}
+use Rattle.shunt_instance.specs.defs.Words.{is_standing, unit_count}
 use Rattle.shunt_instance.specs.defs.Wellformed.{IsOrigin, IsTrain, AreTrains, StandingFirst, IsTimetable}
 use Rattle.shunt_timetable.specs.defs.TimetableFormat.{Listed, first_of, has_train, unit_of, units_from, empty_train, standing_of, moving_of, stand_of, arrive_of, depart_of, may_stand, later_of, timetable_of, timetable_format}
-
--- a check that was passed
-checked : {A : Type 0} (b : Bool) (r : Result A RowFault) (e : RowFault) (y : A) → (if b then r else Err e) ≡ Ok y → (b ≡ true) × (r ≡ Ok y)
-checked true r e y is = (refl, is)
-checked false r e y is = absurd cc
-
-value : {A : Type 0} (x y : A) → ◌≡◌ {A = Result A RowFault} (Ok x) (Ok y) → x ≡ y
-value x y e = cc
-
-there : {A : Type 0} (o : Option A) (d : A) → is_some o ≡ true → o ≡ Some (unwrap_or o d)
-there (Some x) d e = refl
-there None d e = absurd (true≢false (sym e))
-
-within : (least most x : ℕ) → is_within least most x ≡ true → (least ≤ x) × (x ≤ most)
-unfolding is_within
-within least most x e = grind (arith, nat_tests)
-
-both : (a b : Bool) → (a && b) ≡ true → (a ≡ true) × (b ≡ true)
-both true b e = (refl, e)
-both false b e = absurd (true≢false (sym e))
-
-neither : (a b : Bool) → (a || b) ≡ false → (a ≡ false) × (b ≡ false)
-neither true b e = absurd (true≢false e)
-neither false b e = (refl, e)
-
-pub negated : (b : Bool) → not b ≡ true → b ≡ false
-negated true e = absurd (true≢false (sym e))
-negated false e = refl
-
-pub name_from : (text : List ℕ) → is_name_text text ≡ true → IsName text
-name_from text t =
-    let parts = both _ _ t in
-    let first = both _ _ parts.0 in
-    (ltb-true _ _ first.0, leb-true _ _ first.1, AllPass-from_list_all is_name_byte text parts.1)
-
--- a name that none has differs from each
-none_named : {X : Type 0} (name : X → List ℕ) (xs : List X) (n : List ℕ) → list_any (λ x. bytes_eq (name x) n) xs ≡ false → (k : ℕ) (d : List ℕ) → k < length (map name xs) → get_or (map name xs) k d ≢ n
-none_named name [] n e k d lt is = absurd (omega arith)
-none_named name (x ∷ xs) n e zero d lt is = true≢false (sym ((bytes_eq-Decides (name x) n).1 is) ∙ (neither _ _ e).0)
-none_named name (x ∷ xs) n e (suc k) d lt is = none_named name xs n (neither _ _ e).1 k d (omega arith) is
-
--- one more thing with a new name
-distinct_push : {X : Type 0} (name : X → List ℕ) (xs : List X) (y : X) → AreDistinct (map name xs) → list_any (λ x. bytes_eq (name x) (name y)) xs ≡ false → AreDistinct (map name (xs ++ y ∷ []))
-distinct_push name xs y all e = subst AreDistinct (sym (map-append name xs (y ∷ []))) (all_pairs_push (λ m n. m ≢ n) (map name xs) (name y) all (none_named name xs (name y) e))
-
-none_all : {X : Type 0} (P : X → Type 0) → All P []
-none_all P k d lt = absurd (omega arith)
-
-all_push : {X : Type 0} (P : X → Type 0) (xs : List X) (y : X) → All P xs → P y → All P (xs ++ y ∷ [])
-all_push P xs y all p = All-append P xs (y ∷ []) all (All-cons P y [] p (none_all P))
 
 -- a train with more units, and the same in all else
 record Fills (station : Station) (before : ℕ) (t : Train) (more : ℕ) (u : Train) : Type 0 where
@@ -91,15 +39,15 @@ units_fill : (n : ℕ) (station : Station) (before : ℕ) (t : Train) (row : Lis
     → answer n (units_from station before t row k more) ≡ Ok u → Fills station before t more u
 unfolding units_from unit_of
 units_fill n station before t row k zero u kinds room e =
-    subst (Fills station before t zero) (value t u e) (record { name = refl; minute = refl; origin = refl; many = omega arith; kinds = kinds; room = room })
+    subst (Fills station before t zero) (says n (units_from station before t row k zero) u e).1 (record { name = refl; minute = refl; origin = refl; many = omega arith; kinds = kinds; room = room })
 units_fill n station before t row k (suc more) u kinds room e =
     let place = position (λ x. bytes_eq x.name (at row k)) station.types in
-    let a = checked (is_some place) _ _ u e in
-    let b = checked (nat_lt (before + length t.units) 160) _ _ u a.1 in
+    let a = next _ _ _ u e in
+    let b = next _ _ _ u a.1 in
     let kind : TypeId = record { 0 = unwrap_or place 0 } in
-    let lt = (position-Some (λ x. bytes_eq x.name (at row k)) station.types (unwrap_or place 0) (record { name = []; length = 0; turn = 0 }) (there place 0 a.0)).0 in
+    let lt = (position-Some (λ x. bytes_eq x.name (at row k)) station.types (unwrap_or place 0) (record { name = []; length = 0; turn = 0 }) (there 0 place a.0)).0 in
     let less = ltb-true (before + length t.units) 160 b.0 in
-    let f = units_fill n station before (record t { units = t.units ++ kind ∷ [] }) row (k + 1) more u (all_push (λ k. k.0 < length station.types) t.units kind kinds lt) (omega (arith, less, length-append t.units (kind ∷ []))) b.1 in
+    let f = units_fill n station before (record t { units = t.units ++ kind ∷ [] }) row (k + 1) more u (All-push (λ k. k.0 < length station.types) t.units kind kinds lt) (omega (arith, less, length-append t.units (kind ∷ []))) b.1 in
     record { name = f.name; minute = f.minute; origin = f.origin; many = omega (arith, f.many, length-append t.units (kind ∷ [])); kinds = f.kinds; room = f.room }
 
 -- what is stated of one more train
@@ -108,14 +56,6 @@ pub record Adds (station : Station) (trains : List Train) (t : Train) : Type 0 w
   pub train : IsTrain station t
   pub new : has_train trains t.name ≡ false
   pub units : unit_count trains + length t.units ≤ 160
-
-minute_small : (text : List ℕ) (m : ℕ) → minute_of text ≡ Some m → m < 2880
-unfolding minute_of
-minute_small text m e = by (is_minute_text text) refl
-  where
-    by : (b : Bool) → is_minute_text text ≡ b → m < 2880
-    by true t = let is : minute_value text ≡ m = cc in omega (arith, (spelled text t).0, is)
-    by false t = let is : None ≡ Some m = sym (ap (λ (b : Bool). if b then Some (minute_value text) else None) t) ∙ e in cc
 
 stands_at : (t : Train) (o : Origin) → t.origin ≡ o → is_standing t ≡ is_standing (empty_train [] 0 o)
 stands_at t o is = ap (λ o. is_standing (empty_train [] 0 o)) is
@@ -140,17 +80,17 @@ moving_adds : (n : ℕ) (station : Station) (trains : List Train) (row : List (L
 unfolding moving_of
 moving_adds n station trains row t units e =
     let place = position (λ x. bytes_eq x (at row 4)) station.platforms in
-    let a = checked (is_within 5 12 (length row)) _ _ t e in
-    let b = checked (nat_lt (length trains) 100) _ _ t a.1 in
-    let c = checked (is_name_text (at row 2)) _ _ t b.1 in
-    let d = checked (not (has_train trains (at row 2))) _ _ t c.1 in
-    let m = checked (is_some (minute_of (at row 3))) _ _ t d.1 in
-    let p = checked (is_some place) _ _ t m.1 in
+    let a = next _ _ _ t e in
+    let b = next _ _ _ t a.1 in
+    let c = next _ _ _ t b.1 in
+    let d = next _ _ _ t c.1 in
+    let m = next _ _ _ t d.1 in
+    let p = next _ _ _ t m.1 in
     let bare : Train = empty_train (at row 2) (unwrap_or (minute_of (at row 3)) 0) (origin.Platform (record { 0 = unwrap_or place 0 })) in
-    let f = units_fill n station (unit_count trains) bare row 5 (length row - 4) t (none_all (λ k. k.0 < length station.types)) (omega (arith, units)) p.1 in
+    let f = units_fill n station (unit_count trains) bare row 5 (length row - 4) t (All-nil (λ k. k.0 < length station.types)) (omega (arith, units)) p.1 in
     let w = within 5 12 (length row) a.0 in
-    let lt = (position-Some (λ x. bytes_eq x (at row 4)) station.platforms (unwrap_or place 0) [] (there place 0 p.0)).0 in (
-      filled station trains bare t (length row - 4) (ltb-true _ _ b.0) (name_from (at row 2) c.0) (negated _ d.0) (minute_small (at row 3) _ (there (minute_of (at row 3)) 0 m.0)) lt refl (omega (arith, w.0)) (omega (arith, w.1)) f,
+    let lt = (position-Some (λ x. bytes_eq x (at row 4)) station.platforms (unwrap_or place 0) [] (there 0 place p.0)).0 in (
+      filled station trains bare t (length row - 4) (ltb-true _ _ b.0) (name_from (at row 2) c.0) (not-true _ d.0) (minute_small (at row 3) _ (there 0 (minute_of (at row 3)) m.0)) lt refl (omega (arith, w.0)) (omega (arith, w.1)) f,
       stands_at t bare.origin f.origin,
     )
 
@@ -158,16 +98,16 @@ standing_adds : (n : ℕ) (station : Station) (trains : List Train) (row : List 
 unfolding standing_of
 standing_adds n station trains row t units e =
     let place = position (λ x. bytes_eq x.name (at row 3)) station.tracks in
-    let a = checked (is_within 4 11 (length row)) _ _ t e in
-    let b = checked (nat_lt (length trains) 100) _ _ t a.1 in
-    let c = checked (is_name_text (at row 2)) _ _ t b.1 in
-    let d = checked (not (has_train trains (at row 2))) _ _ t c.1 in
-    let p = checked (is_some place) _ _ t d.1 in
+    let a = next _ _ _ t e in
+    let b = next _ _ _ t a.1 in
+    let c = next _ _ _ t b.1 in
+    let d = next _ _ _ t c.1 in
+    let p = next _ _ _ t d.1 in
     let bare : Train = empty_train (at row 2) 0 (origin.Track (record { 0 = unwrap_or place 0 })) in
-    let f = units_fill n station (unit_count trains) bare row 4 (length row - 3) t (none_all (λ k. k.0 < length station.types)) (omega (arith, units)) p.1 in
+    let f = units_fill n station (unit_count trains) bare row 4 (length row - 3) t (All-nil (λ k. k.0 < length station.types)) (omega (arith, units)) p.1 in
     let w = within 4 11 (length row) a.0 in
-    let lt = (position-Some (λ x. bytes_eq x.name (at row 3)) station.tracks (unwrap_or place 0) (record { name = []; length = 0; side_a = true; side_b = true }) (there place 0 p.0)).0 in (
-      filled station trains bare t (length row - 3) (ltb-true _ _ b.0) (name_from (at row 2) c.0) (negated _ d.0) (omega arith) lt refl (omega (arith, w.0)) (omega (arith, w.1)) f,
+    let lt = (position-Some (λ x. bytes_eq x.name (at row 3)) station.tracks (unwrap_or place 0) (record { name = []; length = 0; side_a = true; side_b = true }) (there 0 place p.0)).0 in (
+      filled station trains bare t (length row - 3) (ltb-true _ _ b.0) (name_from (at row 2) c.0) (not-true _ d.0) (omega arith) lt refl (omega (arith, w.0)) (omega (arith, w.1)) f,
       stands_at t bare.origin f.origin,
       f.minute,
     )
@@ -176,8 +116,8 @@ trains_push : (station : Station) (trains : List Train) (t : Train) → AreTrain
 trains_push station trains t all one = record {
   few = let room = one.room in omega (arith, length-append trains (t ∷ []));
   units = let fit = one.units in omega (arith, sum_by-append (λ t. length t.units) trains (t ∷ []));
-  each = all_push (IsTrain station) trains t all.each one.train;
-  names = distinct_push (λ u. u.name) trains t all.names one.new;
+  each = All-push (IsTrain station) trains t all.each one.train;
+  names = distinct_push (λ u. u.name) (λ u. bytes_eq u.name t.name) trains t (λ u. same_name t.name u.name) all.names one.new;
 }
 
 pub filter_none : {X : Type 0} (p : X → Bool) (xs : List X) → All (λ x. p x ≡ false) xs → filter p xs ≡ []
@@ -212,50 +152,40 @@ pub record IsListed (station : Station) (s : Listed) : Type 0 where
   pub from_platform : All (λ r. is_standing r ≡ false) s.depart
   pub still : s.moving ≡ false → All (λ r. is_standing r ≡ true) s.arrive
 
-no_pairs : {X : Type 0} (R : X → X → Type 0) → AllPairs R []
-no_pairs R i j d lt small = absurd (omega arith)
-
 no_trains : (station : Station) → AreTrains station []
-no_trains station = record { few = omega arith; units = omega arith; each = none_all (IsTrain station); names = no_pairs (λ m n. m ≢ n) }
+no_trains station = record { few = omega arith; units = omega arith; each = All-nil (IsTrain station); names = no_pairs (λ m n. m ≢ n) }
 
 nothing_listed : (station : Station) (version : ℕ) → IsListed station (record { version = version; arrive = []; depart = []; moving = false })
 nothing_listed station version = record {
   arrive = no_trains station;
   depart = no_trains station;
   first = refl;
-  at_start = none_all (λ r. IsTrue (is_standing r) → r.minute ≡ 0);
-  from_platform = none_all (λ r. is_standing r ≡ false);
-  still = λ e. none_all (λ r. is_standing r ≡ true);
+  at_start = All-nil (λ r. IsTrue (is_standing r) → r.minute ≡ 0);
+  from_platform = All-nil (λ r. is_standing r ≡ false);
+  still = λ e. All-nil (λ r. is_standing r ≡ true);
 }
 
 pub first_formed : (station : Station) (s : Listed) (row : List (List ℕ)) → answer 1 (first_of row) ≡ Ok s → IsListed station s
 unfolding first_of
 first_formed station s row e =
-    let a = checked (is_word row (codes "timetable")) _ _ s e in
-    let b = checked (is_within 2 2 (length row)) _ _ s a.1 in
-    let c = checked (is_some (decimal_of (at row 2))) _ _ s b.1 in
-    let d = checked (is_within 1 2 (unwrap_or (decimal_of (at row 2)) 0)) _ _ s c.1 in
-    subst (IsListed station) (value _ s d.1) (nothing_listed station (unwrap_or (decimal_of (at row 2)) 0))
+    subst (IsListed station) (says 1 (first_of row) s e).1 (nothing_listed station (unwrap_or (decimal_of (at row 2)) 0))
 
-pass_split : {A B : Type 0} (n : ℕ) (checks : List Check) (x : A) (z y : B) → passes n (checks ++ []) z ≡ Ok y → (passes n checks x ≡ Ok x) × (z ≡ y)
-pass_split n [] x z y e = (refl, value z y e)
-pass_split {A = A} n (c ∷ checks) x z y e =
-    let p = checked c.holds _ _ y e in
-    let more = pass_split n checks x z y p.1 in
-    (ap (λ (b : Bool). let r : Result A RowFault = if b then passes n checks x else Err (record { row = n; field = c.field; kind = c.kind }) in r) p.0 ∙ more.0, more.1)
+-- a train that is read, and what a record says with it
+alone : {A B : Type 0} (n : ℕ) (m : Judged A) (more : A → B) (y : B) → answer n (m >>= (λ t. only (more t))) ≡ Ok y → (answer n m ≡ Ok m.value) × (more m.value ≡ y)
+alone n m more y e = let all = says n (m >>= (λ t. only (more t))) y e in (answered n m m.value (hold_first m.checks [] all.0, refl), all.1)
 
 stand_keeps : (n : ℕ) (station : Station) (s t : Listed) (row : List (List ℕ)) → IsListed station s → s.moving ≡ false → answer n (stand_of station s row) ≡ Ok t → IsListed station t
 unfolding stand_of
 stand_keeps n station s t row f still e =
     let m = standing_of station s.arrive row in
-    let p = pass_split n m.checks m.value (record s { arrive = s.arrive ++ m.value ∷ [] }) t e in
+    let p = alone n m (λ u. record s { arrive = s.arrive ++ u ∷ [] }) t e in
     let one = standing_adds n station s.arrive row m.value f.arrive.units p.0 in
-    let all = all_push (λ r. is_standing r ≡ true) s.arrive m.value (f.still still) one.1 in
+    let all = All-push (λ r. is_standing r ≡ true) s.arrive m.value (f.still still) one.1 in
     subst (IsListed station) p.1 (record {
       arrive = trains_push station s.arrive m.value f.arrive one.0;
       depart = f.depart;
       first = all_stand (s.arrive ++ m.value ∷ []) all;
-      at_start = all_push (λ r. IsTrue (is_standing r) → r.minute ≡ 0) s.arrive m.value f.at_start (λ stands. one.2);
+      at_start = All-push (λ r. IsTrue (is_standing r) → r.minute ≡ 0) s.arrive m.value f.at_start (λ stands. one.2);
       from_platform = f.from_platform;
       still = λ e. all;
     })
@@ -264,13 +194,13 @@ arrive_keeps : (n : ℕ) (station : Station) (s t : Listed) (row : List (List �
 unfolding arrive_of
 arrive_keeps n station s t row f e =
     let m = moving_of station s.arrive row in
-    let p = pass_split n m.checks m.value (record s { arrive = s.arrive ++ m.value ∷ []; moving = true }) t e in
+    let p = alone n m (λ u. record s { arrive = s.arrive ++ u ∷ []; moving = true }) t e in
     let one = moving_adds n station s.arrive row m.value f.arrive.units p.0 in
     subst (IsListed station) p.1 (record {
       arrive = trains_push station s.arrive m.value f.arrive one.0;
       depart = f.depart;
       first = moves_last s.arrive m.value f.first one.1;
-      at_start = all_push (λ r. IsTrue (is_standing r) → r.minute ≡ 0) s.arrive m.value f.at_start (λ stands. absurd (true≢false (sym stands ∙ one.1)));
+      at_start = All-push (λ r. IsTrue (is_standing r) → r.minute ≡ 0) s.arrive m.value f.at_start (λ stands. absurd (true≢false (sym stands ∙ one.1)));
       from_platform = f.from_platform;
       still = λ e. absurd (true≢false e);
     })
@@ -279,41 +209,26 @@ depart_keeps : (n : ℕ) (station : Station) (s t : Listed) (row : List (List �
 unfolding depart_of
 depart_keeps n station s t row f e =
     let m = moving_of station s.depart row in
-    let p = pass_split n m.checks m.value (record s { depart = s.depart ++ m.value ∷ []; moving = true }) t e in
+    let p = alone n m (λ u. record s { depart = s.depart ++ u ∷ []; moving = true }) t e in
     let one = moving_adds n station s.depart row m.value f.depart.units p.0 in
     subst (IsListed station) p.1 (record {
       arrive = f.arrive;
       depart = trains_push station s.depart m.value f.depart one.0;
       first = f.first;
       at_start = f.at_start;
-      from_platform = all_push (λ r. is_standing r ≡ false) s.depart m.value f.from_platform one.1;
+      from_platform = All-push (λ r. is_standing r ≡ false) s.depart m.value f.from_platform one.1;
       still = λ e. absurd (true≢false e);
     })
-
-choose : {S : Type 0} (n : ℕ) (b : Bool) (m k : Judged S) (y : S) → answer n (if b then m else k) ≡ Ok y → ((b ≡ true) × (answer n m ≡ Ok y)) ⊎ (answer n k ≡ Ok y)
-choose n true m k y e = inl (refl, e)
-choose n false m k y e = inr e
-
-no_word_fails : (n : ℕ) (s t : Listed) → answer n (no_word s) ≡ Ok t → ⊥
-no_word_fails n s t e = cc
 
 pub later_keeps : (n : ℕ) (station : Station) (s t : Listed) (row : List (List ℕ)) → IsListed station s → answer n (later_of station s row) ≡ Ok t → IsListed station t
 unfolding later_of
 later_keeps n station s t row f e =
-    let may = may_stand s && is_word row (codes "stand") in
-    let third = if may then stand_of station s row else no_word s in
-    let second = if is_word row (codes "depart") then depart_of station s row else third in
-    ⊎_elim (λ a. arrive_keeps n station s t row f a.1)
-    (λ r. ⊎_elim (λ d. depart_keeps n station s t row f d.1)
-    (λ q. ⊎_elim (λ w. stand_keeps n station s t row f (negated _ (both _ _ (both _ _ w.0).0).1) w.1) (λ z. absurd (no_word_fails n s t z))
-    (choose n may (stand_of station s row) (no_word s) t q))
-    (choose n (is_word row (codes "depart")) (depart_of station s row) third t r))
-    (choose n (is_word row (codes "arrive")) (arrive_of station s row) second t e)
+    in_either n (is_word row (codes "arrive")) _ _ t (IsListed station t) (λ w. arrive_keeps n station s t row f)
+    (in_either n (is_word row (codes "depart")) _ _ t (IsListed station t) (λ w. depart_keeps n station s t row f)
+    (in_either n (may_stand s && is_word row (codes "stand")) _ _ t (IsListed station t) (λ w. stand_keeps n station s t row f (not-true _ (and_parts _ _ (and_parts _ _ w).0).1)) (λ e. absurd cc))) e
 
 pub all_formed : (station : Station) (s : Listed) → IsListed station s → IsTimetable station (timetable_of s)
 all_formed station s f = record { arrive = f.arrive; depart = f.depart; first = f.first; at_start = f.at_start; from_platform = f.from_platform }
 
 pub timetable_formed : (station : Station) (rows : List (List (List ℕ))) (t : Timetable) → reading (timetable_format station) rows ≡ Ok t → IsTimetable station t
-timetable_formed station rows t e =
-    let l = all_kept (timetable_format station) (IsListed station) (first_formed station) (λ n s u row f is. later_keeps n station s u row f is) rows t e in
-    subst (IsTimetable station) l.value (all_formed station l.state l.has)
+timetable_formed station = formed (timetable_format station) (IsListed station) (IsTimetable station) (first_formed station) (λ n s u row f is. later_keeps n station s u row f is) (all_formed station)

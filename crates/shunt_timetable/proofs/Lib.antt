@@ -1,6 +1,6 @@
 pub mod Formed
+pub mod Lengths
 pub mod Parts
-pub mod PlainRows
+pub mod Plain
 pub mod RoundTrip
 pub mod Tables
-pub mod TextLengths

@@ -1,25 +1,26 @@
 -- The rows of a timetable state it.
-use Rattle.std.proofs.Common.{◌≡◌, ℕ, zero, suc, ◌+◌, ◌-◌, ◌<◌, ◌≤◌, Bool, true, false, not, List, [], ◌∷◌, ◌++◌, length, length-append, map, filter, get_or, drop, refl, sym, ap, subst, ◌∙◌, arith, cond}
-use Rattle.std.specs.Prelude.{Result, Ok, Err, bytes_eq, All, Option, Some, None, position, nat_lt, if◌then◌else◌, codes, slice_index_or}
+use Rattle.std.proofs.Common.{◌≡◌, ℕ, zero, suc, ◌+◌, ◌-◌, ◌<◌, ◌≤◌, Bool, true, false, not, List, [], ◌∷◌, ◌++◌, length, length-append, map, filter, drop, refl, sym, ap, subst, ◌∙◌, arith, cond}
+use Rattle.std.specs.Prelude.{Ok, bytes_eq, All, Some, position, codes, slice_index_or}
 use Rattle.std.specs.Option.{is_some, unwrap_or}
 use Rattle.std.specs.List.{list_any}
-use Rattle.std.proofs.lemmas.List.{append-nil, append_assoc, length-map}
+use Rattle.std.proofs.lemmas.List.{append-nil, append_assoc, length-map, map-id}
 use Rattle.std.proofs.lemmas.List.Elements.{All-tail, All-cons}
 use Rattle.std.proofs.lemmas.Option.{slice_get-get_or}
-use Rattle.std.proofs.lemmas.Slice.Eq.{bytes_eq-Decides}
-use Rattle.std.proofs.lemmas.Bool.{true≢false, lt-ltb, le-leb, false_from_ne_true, or_from, and_from}
-use Rattle.std.proofs.lemmas.List.Sums.{list_all-from_AllPass, sum_by-append, sum_by-cons}
+use Rattle.std.proofs.lemmas.Bool.{true≢false, lt-ltb, not-true}
+use Rattle.std.proofs.lemmas.List.Sums.{sum_by-append, sum_by-cons}
 use Rattle.shunt_base.specs.declared.ids.TypeId.{TypeId}
 use Rattle.shunt_base.specs.declared.ids.PlatformId.{PlatformId}
 use Rattle.shunt_base.specs.declared.ids.TrackId.{TrackId}
-use Rattle.shunt_base.specs.defs.Spelling.{IsName, is_name_byte, is_name_text, minute_text, minute_of, decimal_of}
+use Rattle.shunt_base.specs.defs.Spelling.{minute_text, minute_of, decimal_of}
 use Rattle.shunt_base.proofs.Minutes.{read_again}
-use Rattle.shunt_rows.specs.declared.fault.RowFault.{RowFault}
 use Rattle.shunt_rows.specs.defs.Records.{at}
 use Rattle.shunt_rows.specs.defs.Checks.{answer}
 use Rattle.shunt_rows.specs.defs.Fields.{is_within}
-use Rattle.shunt_rows.specs.defs.Formats.{reads, reading, ends, ◌>>=◌}
-use Rattle.shunt_rows.proofs.Joins.{reading_is, reads_more}
+use Rattle.shunt_rows.specs.defs.Formats.{reads, reading}
+use Rattle.shunt_rows.proofs.Holding.{passes_on}
+use Rattle.shunt_rows.proofs.Named.{by_name, not_before, of_middle}
+use Rattle.shunt_rows.proofs.Sections.{section, section_then, all_read}
+use Rattle.shunt_rows.proofs.Spelled.{in_range, name_read}
 use Rattle.shunt_instance.specs.declared.records.Station.{Station}
 use Rattle.shunt_instance.specs.declared.records.Train.{Train}
 use Rattle.shunt_instance.specs.declared.records.Timetable.{Timetable}
@@ -30,24 +31,8 @@ use Rattle.shunt_instance.specs.defs.Wellformed.{IsStation, IsTrain, AreTrains, 
 use Rattle.shunt_instance.proofs.Found.{found_there}
 use Rattle.shunt_timetable.specs.defs.TimetableFormat.{Listed, first_of, has_train, unit_of, units_from, empty_train, standing_of, moving_of, later_of, timetable_format}
 use Rattle.shunt_timetable.specs.defs.WrittenRows.{type_names, unit_names, standing_row, moving_row, first_row, rows_of}
-use Rattle.shunt_timetable.proofs.Formed.{Adds, negated}
+use Rattle.shunt_timetable.proofs.Formed.{Adds}
 use Rattle.shunt_timetable.proofs.Parts.{stand_ok, arrive_ok, depart_ok}
-
--- a check that holds
-passed : {A : Type 0} (b : Bool) (r q : Result A RowFault) (e : RowFault) → b ≡ true → r ≡ q → (if b then r else Err e) ≡ q
-passed true r q e is same = same
-passed false r q e is same = absurd (true≢false (sym is))
-
-within_is : (least most x : ℕ) → least ≤ x → x ≤ most → is_within least most x ≡ true
-unfolding is_within
-within_is least most x p q = and_from _ _ (le-leb least x p) (le-leb x most q)
-
-is_there : (o : Option ℕ) (k : ℕ) → o ≡ Some k → is_some o ≡ true
-is_there (Some x) k e = refl
-is_there None k e = absurd cc
-
-name_is : (text : List ℕ) → IsName text → is_name_text text ≡ true
-name_is text h = and_from _ _ (and_from _ _ (lt-ltb _ _ h.0) (le-leb _ _ h.1)) (list_all-from_AllPass is_name_byte text h.2)
 
 -- the fields from one on
 field_of : (row : List (List ℕ)) (k : ℕ) (x : List ℕ) (rest : List (List ℕ)) → drop k row ≡ x ∷ rest → (slice_index_or row k [] ≡ x) × (drop (k + 1) row ≡ rest)
@@ -79,17 +64,13 @@ units_again n station before name minute o done (kind ∷ coming) row j h e kind
     let is : place ≡ Some kind.0 = found_named (λ x. x.name) station.types kind.0 (record { name = []; length = 0; turn = 0 }) (at row (j + 1)) h (kinds 0 kind (omega arith)) here in
     let value : unwrap_or place 0 ≡ kind.0 = ap (λ x. unwrap_or x 0) is in
     let more = units_again n station before name minute o (done ++ kind ∷ []) coming row (j + 1) h f.1 (All-tail (λ k. k.0 < length station.types) kind coming kinds) (omega (arith, room, length-append done (kind ∷ []))) in
-    passed (is_some place) _ _ _ (is_there place kind.0 is)
-    (passed (nat_lt (before + length done) 160) _ _ _ (lt-ltb _ _ (omega (arith, room)))
+    passes_on _ _ _ _ (ap is_some is)
+    (passes_on _ _ _ _ (lt-ltb _ _ (omega (arith, room)))
     (subst (λ k. answer n (units_from station before (of_parts name minute o (done ++ record { 0 = k } ∷ [])) row (j + 1 + 1) (length coming)) ≡ Ok (of_parts name minute o (done ++ kind ∷ coming))) (sym value)
     (more ∙ ap (λ u. Ok (of_parts name minute o u)) (append_assoc done (kind ∷ []) coming))))
 
 many_units : (station : Station) (t : Train) → length (unit_names station t) ≡ length t.units
 many_units station t = length-map t.units (λ k. slice_index_or (type_names station) k.0 [])
-
-map_same : (xs : List (List ℕ)) → map (λ x. x) xs ≡ xs
-map_same [] = refl
-map_same (x ∷ xs) = ap (λ ys. x ∷ ys) (map_same xs)
 
 moving_parts : (n : ℕ) (station : Station) (trains : List Train) (word name : List ℕ) (minute : ℕ) (p : PlatformId) (units : List TypeId) → IsStation station → Adds station trains (of_parts name minute (origin.Platform p) units)
     → answer n (moving_of station trains (moving_row station word (of_parts name minute (origin.Platform p) units))) ≡ Ok (of_parts name minute (origin.Platform p) units)
@@ -100,18 +81,18 @@ moving_parts n station trains word name minute p units s a =
     let place = position (λ x. bytes_eq x (at row 4)) station.platforms in
     let some = a.train.some in
     let few = a.train.few in
-    let is : place ≡ Some p.0 = found_named (λ x. x) station.platforms p.0 [] (at row 4) (subst AreDistinct (sym (map_same station.platforms)) s.platform_names) a.train.origin (ap (λ l. slice_index_or l p.0 []) (sym (map_same station.platforms))) in
+    let is : place ≡ Some p.0 = found_named (λ x. x) station.platforms p.0 [] (at row 4) (subst AreDistinct (sym (map-id station.platforms)) s.platform_names) a.train.origin (ap (λ l. slice_index_or l p.0 []) (sym (map-id station.platforms))) in
     let value : unwrap_or place 0 ≡ p.0 = ap (λ x. unwrap_or x 0) is in
     let time : minute_of (minute_text minute) ≡ Some minute = read_again minute a.train.minute in
     let now : unwrap_or (minute_of (minute_text minute)) 0 ≡ minute = ap (λ x. unwrap_or x 0) time in
     let all = units_again n station (unit_count trains) name minute (origin.Platform p) [] units row 4 s.type_names refl a.train.kinds (let u = a.units in omega (arith, u)) in
     let wide : length row - 4 ≡ length units = omega (arith, many) in
-    passed (is_within 5 12 (length row)) _ _ _ (within_is 5 12 (length row) (omega (arith, many, some)) (omega (arith, many, few)))
-    (passed (nat_lt (length trains) 100) _ _ _ (lt-ltb _ _ a.room)
-    (passed (is_name_text name) _ _ _ (name_is name a.train.name)
-    (passed (not (has_train trains name)) _ _ _ (ap not a.new)
-    (passed (is_some (minute_of (minute_text minute))) _ _ _ (is_there (minute_of (minute_text minute)) minute time)
-    (passed (is_some place) _ _ _ (is_there place p.0 is)
+    passes_on _ _ _ _ (in_range 5 12 (length row) (omega (arith, many, some)) (omega (arith, many, few)))
+    (passes_on _ _ _ _ (lt-ltb _ _ a.room)
+    (passes_on _ _ _ _ (name_read name a.train.name)
+    (passes_on _ _ _ _ (ap not a.new)
+    (passes_on _ _ _ _ (ap is_some time)
+    (passes_on _ _ _ _ (ap is_some is)
     (ap (λ m. answer n (units_from station (unit_count trains) (empty_train name m (origin.Platform (record { 0 = unwrap_or place 0 }))) row 5 (length row - 4))) now
     ∙ ap (λ k. answer n (units_from station (unit_count trains) (empty_train name minute (origin.Platform (record { 0 = k }))) row 5 (length row - 4))) value
     ∙ ap (λ w. answer n (units_from station (unit_count trains) (empty_train name minute (origin.Platform p)) row 5 w)) wide
@@ -130,11 +111,11 @@ standing_parts n station trains name k units s a =
     let value : unwrap_or place 0 ≡ k.0 = ap (λ x. unwrap_or x 0) is in
     let all = units_again n station (unit_count trains) name 0 (origin.Track k) [] units row 3 s.type_names refl a.train.kinds (let u = a.units in omega (arith, u)) in
     let wide : length row - 3 ≡ length units = omega (arith, many) in
-    passed (is_within 4 11 (length row)) _ _ _ (within_is 4 11 (length row) (omega (arith, many, some)) (omega (arith, many, few)))
-    (passed (nat_lt (length trains) 100) _ _ _ (lt-ltb _ _ a.room)
-    (passed (is_name_text name) _ _ _ (name_is name a.train.name)
-    (passed (not (has_train trains name)) _ _ _ (ap not a.new)
-    (passed (is_some place) _ _ _ (is_there place k.0 is)
+    passes_on _ _ _ _ (in_range 4 11 (length row) (omega (arith, many, some)) (omega (arith, many, few)))
+    (passes_on _ _ _ _ (lt-ltb _ _ a.room)
+    (passes_on _ _ _ _ (name_read name a.train.name)
+    (passes_on _ _ _ _ (ap not a.new)
+    (passes_on _ _ _ _ (ap is_some is)
     (ap (λ i. answer n (units_from station (unit_count trains) (empty_train name 0 (origin.Track (record { 0 = i }))) row 4 (length row - 3))) value
     ∙ ap (λ w. answer n (units_from station (unit_count trains) (empty_train name 0 (origin.Track k)) row 4 w)) wide
     ∙ all)))))
@@ -160,108 +141,61 @@ standing_again n station trains t s a stands start = by t.origin refl
         (subst (λ m. Adds station trains (of_parts t.name m (origin.Track k) t.units)) start (subst (λ o. Adds station trains (of_parts t.name t.minute o t.units)) is a))))
     by (origin.Platform p) is = absurd (true≢false (sym stands ∙ ap (λ o. is_standing (of_parts t.name t.minute o t.units)) is))
 
--- the first behind a list
-behind : {X : Type 0} (xs : List X) (y : X) (zs : List X) (d : X) → get_or (xs ++ y ∷ zs) (length xs) d ≡ y
-behind [] y zs d = refl
-behind (x ∷ xs) y zs d = behind xs y zs d
-
-behind_name : {X : Type 0} (name : X → List ℕ) (xs : List X) (y : X) (zs : List X) → get_or (map name (xs ++ y ∷ zs)) (length xs) [] ≡ name y
-behind_name name [] y zs = refl
-behind_name name (x ∷ xs) y zs = behind_name name xs y zs
-
-new_name : {X : Type 0} (name : X → List ℕ) (xs : List X) (y : X) (zs : List X) → AreDistinct (map name (xs ++ y ∷ zs)) → list_any (λ x. bytes_eq (name x) (name y)) xs ≡ false
-new_name name [] y zs h = refl
-new_name name (x ∷ xs) y zs h = or_from _ _
-    (false_from_ne_true (bytes_eq (name x) (name y)) (λ same. h 0 (suc (length xs)) [] (omega arith) (omega (arith, length-map (xs ++ y ∷ zs) name, length-append xs (y ∷ zs))) ((bytes_eq-Decides (name x) (name y)).0 same ∙ sym (behind_name name xs y zs))))
-    (new_name name xs y zs (λ i j d lt small. h (suc i) (suc j) d (omega arith) (omega arith)))
-
-adds : (station : Station) (done : List Train) (t : Train) (coming : List Train) → AreTrains station (done ++ t ∷ coming) → Adds station done t
-adds station done t coming h =
-    let few = h.few in
-    let units = h.units in
+-- what is read behind the trains before it
+adds : (station : Station) (all done : List Train) (t : Train) (coming : List Train) → AreTrains station all → all ≡ done ++ t ∷ coming → Adds station done t
+adds station all done t coming f e =
+    let few = f.few in
+    let units = f.units in
     record {
-      room = omega (arith, few, length-append done (t ∷ coming));
-      train = subst (IsTrain station) (behind done t coming t) (h.each (length done) t (omega (arith, length-append done (t ∷ coming))));
-      new = new_name (λ u. u.name) done t coming h.names;
-      units = omega (arith, units, sum_by-append (λ u. length u.units) done (t ∷ coming), sum_by-cons (λ u. length u.units) t coming);
+      room = omega (arith, few, ap length e, length-append done (t ∷ coming));
+      train = of_middle (IsTrain station) all done coming t f.each e;
+      new = not_before (λ u. u.name) (λ u. bytes_eq u.name t.name) done coming t (λ u. by_name t.name u.name) (subst (λ (l : List Train). AreDistinct (map (λ u. u.name) l)) e f.names);
+      units = omega (arith, units, ap unit_count e, sum_by-append (λ u. length u.units) done (t ∷ coming), sum_by-cons (λ u. length u.units) t coming);
     }
 
 abbrev listed : List Train → List Train → Bool → Listed
 listed arrive depart moving = record { version = 2; arrive = arrive; depart = depart; moving = moving }
 
-read_on : (station : Station) (s t : Listed) (n : ℕ) (row : List (List ℕ)) (rows : List (List (List ℕ))) (q : Result Listed RowFault) → answer n (later_of station s row) ≡ Ok t → reads (timetable_format station) t (n + 1) rows ≡ q → reads (timetable_format station) s n (row ∷ rows) ≡ q
-read_on station s t n row rows q is more = ap (λ r. r >>= (λ u. reads (timetable_format station) u (n + 1) rows)) is ∙ more
-
-standing_section : (station : Station) (n : ℕ) (done coming : List Train) → IsStation station → AreTrains station (done ++ coming) → All (λ r. is_standing r ≡ true) coming → All (λ r. r.minute ≡ 0) coming
-    → reads (timetable_format station) (listed done [] false) n (map (standing_row station) coming) ≡ Ok (listed (done ++ coming) [] false)
-unfolding later_of
-standing_section station n done [] s h stand start = ap (λ l. Ok (listed l [] false)) (sym (append-nil done))
-standing_section station n done (t ∷ coming) s h stand start =
-    let one = standing_again n station done t s (adds station done t coming h) (stand 0 t (omega arith)) (start 0 t (omega arith)) in
-    let more = standing_section station (n + 1) (done ++ t ∷ []) coming s (subst (AreTrains station) (sym (append_assoc done (t ∷ []) coming)) h) (All-tail (λ r. is_standing r ≡ true) t coming stand) (All-tail (λ r. r.minute ≡ 0) t coming start) in
-    read_on station (listed done [] false) (listed (done ++ t ∷ []) [] false) n (standing_row station t) (map (standing_row station) coming) _
-    (stand_ok n station (listed done [] false) (listed done [] false) (standing_row station t) t done (done ++ t ∷ []) refl refl refl one)
-    (more ∙ ap (λ l. Ok (listed l [] false)) (append_assoc done (t ∷ []) coming))
-
--- whether a train moves, behind these records
+-- whether a train moves, behind these
 abbrev moves_after : Bool → List Train → Bool
 moves_after b [] = b
 moves_after b (t ∷ coming) = true
 
-still_moves : (coming : List Train) → moves_after true coming ≡ true
-still_moves [] = refl
-still_moves (t ∷ coming) = refl
+moves_on : (b : Bool) (done : List Train) (t : Train) → moves_after b (done ++ t ∷ []) ≡ true
+moves_on b [] t = refl
+moves_on b (u ∷ done) t = refl
 
-arriving_section : (station : Station) (n : ℕ) (b : Bool) (done coming : List Train) → IsStation station → AreTrains station (done ++ coming) → All (λ r. is_standing r ≡ false) coming
-    → reads (timetable_format station) (listed done [] b) n (map (moving_row station (codes "arrive")) coming) ≡ Ok (listed (done ++ coming) [] (moves_after b coming))
+stand_next : (station : Station) (stand come : List Train) → IsStation station → AreTrains station (stand ++ come) → All (λ r. is_standing r ≡ true) stand → All (λ r. r.minute ≡ 0) stand
+    → (n : ℕ) (done : List Train) (t : Train) (coming : List Train) → stand ≡ done ++ t ∷ coming → answer n (later_of station (listed done [] false) (standing_row station t)) ≡ Ok (listed (done ++ t ∷ []) [] false)
 unfolding later_of
-arriving_section station n b done [] s h moves = ap (λ l. Ok (listed l [] b)) (sym (append-nil done))
-arriving_section station n b done (t ∷ coming) s h moves =
-    let one = moving_again n station done (codes "arrive") t s (adds station done t coming h) (moves 0 t (omega arith)) in
-    let more = arriving_section station (n + 1) true (done ++ t ∷ []) coming s (subst (AreTrains station) (sym (append_assoc done (t ∷ []) coming)) h) (All-tail (λ r. is_standing r ≡ false) t coming moves) in
-    read_on station (listed done [] b) (listed (done ++ t ∷ []) [] true) n (moving_row station (codes "arrive") t) (map (moving_row station (codes "arrive")) coming) _
-    (arrive_ok n station (listed done [] b) (listed done [] b) (moving_row station (codes "arrive") t) t done (done ++ t ∷ []) refl refl refl one)
-    (more ∙ ap (λ l. Ok (listed l [] (moves_after true coming))) (append_assoc done (t ∷ []) coming) ∙ ap (λ m. Ok (listed (done ++ t ∷ coming) [] m)) (still_moves coming))
+stand_next station stand come s f stands start n done t coming e =
+    let one = standing_again n station done t s (adds station (stand ++ come) done t (coming ++ come) f (ap (λ l. l ++ come) e ∙ append_assoc done (t ∷ coming) come)) (of_middle (λ r. is_standing r ≡ true) stand done coming t stands e) (of_middle (λ r. r.minute ≡ 0) stand done coming t start e) in
+    stand_ok n station (listed done [] false) (listed done [] false) (standing_row station t) t done (done ++ t ∷ []) refl refl refl one
 
-departing_section : (station : Station) (n : ℕ) (b : Bool) (arrive done coming : List Train) → IsStation station → AreTrains station (done ++ coming) → All (λ r. is_standing r ≡ false) coming
-    → reads (timetable_format station) (listed arrive done b) n (map (moving_row station (codes "depart")) coming) ≡ Ok (listed arrive (done ++ coming) (moves_after b coming))
+arrive_next : (station : Station) (stand come : List Train) → IsStation station → AreTrains station (stand ++ come) → All (λ r. is_standing r ≡ false) come
+    → (n : ℕ) (done : List Train) (t : Train) (coming : List Train) → come ≡ done ++ t ∷ coming → answer n (later_of station (listed (stand ++ done) [] (moves_after false done)) (moving_row station (codes "arrive") t)) ≡ Ok (listed (stand ++ (done ++ t ∷ [])) [] (moves_after false (done ++ t ∷ [])))
 unfolding later_of
-departing_section station n b arrive done [] s h moves = ap (λ l. Ok (listed arrive l b)) (sym (append-nil done))
-departing_section station n b arrive done (t ∷ coming) s h moves =
-    let one = moving_again n station done (codes "depart") t s (adds station done t coming h) (moves 0 t (omega arith)) in
-    let more = departing_section station (n + 1) true arrive (done ++ t ∷ []) coming s (subst (AreTrains station) (sym (append_assoc done (t ∷ []) coming)) h) (All-tail (λ r. is_standing r ≡ false) t coming moves) in
-    read_on station (listed arrive done b) (listed arrive (done ++ t ∷ []) true) n (moving_row station (codes "depart") t) (map (moving_row station (codes "depart")) coming) _
-    (depart_ok n station (listed arrive done b) (listed arrive done b) (moving_row station (codes "depart") t) t done (done ++ t ∷ []) refl refl refl one)
-    (more ∙ ap (λ l. Ok (listed arrive l (moves_after true coming))) (append_assoc done (t ∷ []) coming) ∙ ap (λ m. Ok (listed arrive (done ++ t ∷ coming) m)) (still_moves coming))
+arrive_next station stand come s f moves n done t coming e =
+    let before = listed (stand ++ done) [] (moves_after false done) in
+    let one = moving_again n station (stand ++ done) (codes "arrive") t s (adds station (stand ++ come) (stand ++ done) t coming f (ap (λ l. stand ++ l) e ∙ sym (append_assoc stand done (t ∷ coming)))) (of_middle (λ r. is_standing r ≡ false) come done coming t moves e) in
+    arrive_ok n station before before (moving_row station (codes "arrive") t) t (stand ++ done) (stand ++ (done ++ t ∷ [])) refl refl (sym (append_assoc stand done (t ∷ []))) one
+    ∙ ap (λ b. Ok (listed (stand ++ (done ++ t ∷ [])) [] b)) (sym (moves_on false done t))
+
+depart_next : (station : Station) (arrive depart : List Train) (b : Bool) → IsStation station → AreTrains station depart → All (λ r. is_standing r ≡ false) depart
+    → (n : ℕ) (done : List Train) (t : Train) (coming : List Train) → depart ≡ done ++ t ∷ coming → answer n (later_of station (listed arrive done (moves_after b done)) (moving_row station (codes "depart") t)) ≡ Ok (listed arrive (done ++ t ∷ []) (moves_after b (done ++ t ∷ [])))
+unfolding later_of
+depart_next station arrive depart b s f moves n done t coming e =
+    let before = listed arrive done (moves_after b done) in
+    let one = moving_again n station done (codes "depart") t s (adds station depart done t coming f e) (of_middle (λ r. is_standing r ≡ false) depart done coming t moves e) in
+    depart_ok n station before before (moving_row station (codes "depart") t) t done (done ++ t ∷ []) refl refl refl one
+    ∙ ap (λ m. Ok (listed arrive (done ++ t ∷ []) m)) (sym (moves_on b done t))
 
 first_again : answer 1 (first_of first_row) ≡ Ok (listed [] [] false)
 unfolding first_of decimal_of is_within
 first_again = refl
 
-all_front : {X : Type 0} (P : X → Type 0) (xs ys : List X) → All P (xs ++ ys) → All P xs
-all_front P [] ys h = λ k d lt. absurd (omega arith)
-all_front P (x ∷ xs) ys h = All-cons P x xs (h 0 x (omega arith)) (all_front P xs ys (All-tail P x (xs ++ ys) h))
-
-front_of : {X : Type 0} (name : X → List ℕ) (xs ys : List X) (k : ℕ) (d : List ℕ) → k < length (map name xs) → get_or (map name xs) k d ≡ get_or (map name (xs ++ ys)) k d
-front_of name [] ys k d lt = absurd (omega arith)
-front_of name (x ∷ xs) ys zero d lt = refl
-front_of name (x ∷ xs) ys (suc k) d lt = front_of name xs ys k d (omega arith)
-
-distinct_front : {X : Type 0} (name : X → List ℕ) (xs ys : List X) → AreDistinct (map name (xs ++ ys)) → AreDistinct (map name xs)
-distinct_front name xs ys h i j d lt small same =
-    h i j d lt (omega (arith, small, length-map xs name, length-map (xs ++ ys) name, length-append xs ys))
-    (sym (front_of name xs ys i d (omega arith)) ∙ same ∙ front_of name xs ys j d small)
-
 abbrev of_lists : List Train → List Train → Timetable
 of_lists arrive depart = record { arrive = arrive; depart = depart }
-
-front_trains : (station : Station) (xs ys : List Train) → AreTrains station (xs ++ ys) → AreTrains station xs
-front_trains station xs ys h = record {
-  few = let few = h.few in omega (arith, few, length-append xs ys);
-  units = let units = h.units in omega (arith, units, sum_by-append (λ u. length u.units) xs ys);
-  each = all_front (IsTrain station) xs ys h.each;
-  names = distinct_front (λ u. u.name) xs ys h.names;
-}
 
 -- what is true of each that passes a test is true of those that are kept
 kept_all : {X : Type 0} (p : X → Bool) (P : X → Type 0) (xs : List X) → All (λ x. p x ≡ true → P x) xs → All P (filter p xs)
@@ -280,15 +214,17 @@ timetable_again station t s h =
     let a = map (standing_row station) stand in
     let b = map (moving_row station (codes "arrive")) come in
     let c = map (moving_row station (codes "depart")) t.depart in
-    let both = subst (AreTrains station) h.first h.arrive in
-    let one = standing_section station 2 [] stand s (front_trains station stand come both)
-    (kept_all is_standing (λ r. is_standing r ≡ true) t.arrive (λ k d lt is. is))
-    (kept_all is_standing (λ r. r.minute ≡ 0) t.arrive h.at_start) in
-    let two = arriving_section station (2 + length a) false stand come s both (kept_all (λ r. not (is_standing r)) (λ r. is_standing r ≡ false) t.arrive (λ k d lt is. negated _ is)) in
-    let three = departing_section station (2 + length (a ++ b)) (moves_after false come) (stand ++ come) [] t.depart s h.depart h.from_platform in
-    let first_two = reads_more f (listed [] [] false) 2 a b ∙ ap (λ r. r >>= (λ u. reads f u (2 + length a) b)) one ∙ two in
-    let all = reads_more f (listed [] [] false) 2 (a ++ b) c ∙ ap (λ r. r >>= (λ u. reads f u (2 + length (a ++ b)) c)) first_two ∙ three in
-    reading_is f first_row (a ++ b ++ c)
-    ∙ ap (λ r. r >>= (λ u. reads f u 2 (a ++ b ++ c) >>= (λ v. ends f v (length (a ++ b ++ c) + 2)))) first_again
-    ∙ ap (λ r. r >>= (λ v. ends f v (length (a ++ b ++ c) + 2))) all
+    let all = subst (AreTrains station) h.first h.arrive in
+    let stands = kept_all is_standing (λ r. is_standing r ≡ true) t.arrive (λ k d lt is. is) in
+    let start = kept_all is_standing (λ r. r.minute ≡ 0) t.arrive h.at_start in
+    let moves = kept_all (λ r. not (is_standing r)) (λ r. is_standing r ≡ false) t.arrive (λ k d lt is. not-true _ is) in
+    let m = moves_after false come in
+    let end = listed (stand ++ come) t.depart (moves_after m t.depart) in
+    ap (λ l. reading f (first_row ∷ l)) (append_assoc a b c)
+    ∙ all_read f first_row (a ++ (b ++ c)) (listed [] [] false) end first_again
+    (section_then f (standing_row station) (λ l. listed l [] false) stand end _ (stand_next station stand come s all stands start)
+    (λ n. subst (λ l. reads f (listed l [] false) n (b ++ c) ≡ Ok end) (append-nil stand)
+    (section_then f (moving_row station (codes "arrive")) (λ l. listed (stand ++ l) [] (moves_after false l)) come end _ (arrive_next station stand come s all moves)
+    (λ k. section f (moving_row station (codes "depart")) (λ l. listed (stand ++ come) l (moves_after m l)) t.depart (depart_next station (stand ++ come) t.depart m s h.depart h.from_platform) k [] t.depart refl) n)) 2)
+    refl
     ∙ ap (λ l. Ok (of_lists l t.depart)) (sym h.first)

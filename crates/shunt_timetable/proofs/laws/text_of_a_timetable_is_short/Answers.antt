@@ -1,4 +1,4 @@
-use Rattle.shunt_timetable.proofs.TextLengths.{timetable_wide}
+use Rattle.shunt_timetable.proofs.Lengths.{timetable_wide}
 use Rattle.shunt_timetable.proofs.laws.text_of_a_timetable_is_short.Goals as goal
 
 pub returns : goal.returns

@@ -14,14 +14,16 @@ use Rattle.shunt_instance.specs.declared.records.Timetable.{Timetable}
 use Rattle.shunt_instance.specs.defs.Words.{is_standing, unit_count}
 use Rattle.shunt_instance.specs.defs.Wellformed.{IsStation, IsTrain, IsTimetable}
 use Rattle.shunt_timetable.specs.defs.WrittenRows.{type_names, standing_row, moving_row, first_row, rows_of}
-use Rattle.shunt_timetable.proofs.Formed.{name_from}
+use Rattle.shunt_timetable.proofs.Plain.{place_is_name, moving_plain, standing_plain}
+use Rattle.shunt_rows.proofs.Named.{name_at}
 use Rattle.shunt_rows.proofs.Plain.{plain_name}
-use Rattle.shunt_timetable.proofs.PlainRows.{named_plain, place_is_name, moving_plain, standing_plain}
+use Rattle.shunt_rows.proofs.Spelled.{name_from}
+use Rattle.shunt_rows.proofs.Texts.{texts_join}
 
 units_wide : (station : Station) (units : List TypeId) → IsStation station → All (λ k. k.0 < length station.types) units → width (map (λ k. slice_index_or (type_names station) k.0 []) units) ≤ 17 * length units
 units_wide station [] s h = omega arith
 units_wide station (k ∷ units) s h =
-    let name = named_plain (λ t. t.name) station.types k.0 (λ i d l. (s.types i d l).name) (h 0 k (omega arith)) in
+    let name = name_at (λ t. t.name) station.types k.0 (λ i d l. (s.types i d l).name) (h 0 k (omega arith)) in
     let more = units_wide station units s (All-tail (λ k. k.0 < length station.types) k units h) in
     omega (arith, more, name.1)
 
@@ -68,11 +70,10 @@ timetable_wide station t s h =
     let small = h.arrive.units in
     let few_go = h.depart.few in
     let small_go = h.depart.units in
-    let whole : length (text_of_rows (rows_of station t)) ≡ 12 + length (text_of_rows a) + length (text_of_rows b) + length (text_of_rows c) =
-    ap length (flat_map-append text_of_row (first_row ∷ (a ++ b)) c ∙ ap (λ q. q ++ text_of_rows c) (flat_map-append text_of_row (first_row ∷ a) b) ∙ ap (λ q. q ++ text_of_rows b ++ text_of_rows c) (flat_map-cons text_of_row first_row a))
-    ∙ length-append (text_of_row first_row ++ text_of_rows a ++ text_of_rows b) (text_of_rows c)
-    ∙ ap (λ n. n + length (text_of_rows c)) (length-append (text_of_row first_row ++ text_of_rows a) (text_of_rows b) ∙ ap (λ n. n + length (text_of_rows b)) (length-append (text_of_row first_row) (text_of_rows a) ∙ ap (λ n. n + length (text_of_rows a)) first_wide)) in
-    omega (arith, one, two, three, many, units, few, small, few_go, small_go, whole)
+    omega (arith, one, two, three, many, units, few, small, few_go, small_go, first_wide,
+    ap length (texts_join (first_row ∷ (a ++ b)) c), length-append (text_of_rows (first_row ∷ (a ++ b))) (text_of_rows c),
+    ap length (texts_join (first_row ∷ a) b), length-append (text_of_rows (first_row ∷ a)) (text_of_rows b),
+    ap length (flat_map-cons text_of_row first_row a), length-append (text_of_row first_row) (text_of_rows a))
 
 pub text_wide : (station : Station) (t : Timetable) (text : List ℕ) → IsStation station → IsTimetable station t → text ≡ text_of_rows (rows_of station t) → length text ≤ 14852
 text_wide station t text s h is = omega (arith, ap length is, timetable_wide station t s h)

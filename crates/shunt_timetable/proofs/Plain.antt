@@ -1,0 +1,81 @@
+-- The rows of a timetable are plain, and their text.
+use Rattle.std.proofs.Common.{◌≡◌, ℕ, ◌<◌, not, List, [], ◌∷◌, ◌++◌, length, map, filter, refl, sym, ap, ◌∙◌, arith}
+use Rattle.std.specs.Prelude.{All, slice_index_or, codes, Ok}
+use Rattle.std.specs.List.{AllByRecursion}
+use Rattle.std.proofs.lemmas.List.{append-nil, append_assoc}
+use Rattle.std.proofs.lemmas.List.Elements.{All-tail, All-filter}
+use Rattle.shunt_base.specs.declared.ids.TypeId.{TypeId}
+use Rattle.shunt_base.specs.defs.Spelling.{IsName}
+use Rattle.shunt_rows.specs.defs.Records.{IsPlainField, IsPlainRow, ArePlain, text_of_row, text_of_rows, records_of, ReadsBack}
+use Rattle.shunt_rows.specs.defs.Formats.{reading}
+use Rattle.shunt_rows.specs.defs.Written.{Written}
+use Rattle.shunt_rows.proofs.Named.{name_at}
+use Rattle.shunt_rows.proofs.Plain.{plain_name, plain_minute, plain_map, plain_more}
+use Rattle.shunt_rows.proofs.Spelled.{name_from}
+use Rattle.shunt_rows.proofs.Texts.{row_written, rows_written}
+use Rattle.shunt_instance.specs.declared.records.Station.{Station}
+use Rattle.shunt_instance.specs.declared.records.Train.{Train}
+use Rattle.shunt_instance.specs.declared.records.Timetable.{Timetable}
+use Rattle.shunt_instance.specs.declared.records.Origin.{Origin}
+use Rattle.shunt_instance.specs.declared.records.Origin.TheVariants as origin
+use Rattle.shunt_instance.specs.defs.Words.{is_standing}
+use Rattle.shunt_instance.specs.defs.Wellformed.{IsOrigin, IsStation, IsTrain, IsTimetable}
+use Rattle.shunt_timetable.specs.defs.TimetableFormat.{timetable_format}
+use Rattle.shunt_timetable.specs.defs.WrittenRows.{type_names, place_name, standing_row, moving_row, first_row, rows_of}
+use Rattle.shunt_timetable.proofs.Formed.{filter_whole}
+use Rattle.shunt_timetable.proofs.RoundTrip.{timetable_again}
+
+pub place_is_name : (station : Station) (o : Origin) → IsStation station → IsOrigin station o → IsName (place_name station o)
+place_is_name station (origin.Platform p) s lt = s.platforms p.0 [] lt
+place_is_name station (origin.Track k) s lt = name_at (λ t. t.name) station.tracks k.0 (λ i d l. (s.tracks i d l).name) lt
+
+units_plain : (station : Station) (units : List TypeId) → IsStation station → All (λ k. k.0 < length station.types) units → AllByRecursion IsPlainField (map (λ k. slice_index_or (type_names station) k.0 []) units)
+units_plain station [] s h = tt
+units_plain station (k ∷ units) s h = (
+  plain_name _ (name_at (λ t. t.name) station.types k.0 (λ i d l. (s.types i d l).name) (h 0 k (omega arith))),
+  units_plain station units s (All-tail (λ k. k.0 < length station.types) k units h),
+)
+
+pub moving_plain : (station : Station) (word : List ℕ) → IsStation station → IsName word → (t : Train) → IsTrain station t → IsPlainRow (moving_row station word t)
+moving_plain station word s w t h = (omega arith, (plain_name word w, (plain_name t.name h.name, (plain_minute t.minute h.minute, (plain_name (place_name station t.origin) (place_is_name station t.origin s h.origin), units_plain station t.units s h.kinds)))))
+
+pub standing_plain : (station : Station) → IsStation station → (t : Train) → IsTrain station t → IsPlainRow (standing_row station t)
+standing_plain station s t h = (omega arith, (plain_name (codes "stand") (name_from (codes "stand") refl), (plain_name t.name h.name, (plain_name (place_name station t.origin) (place_is_name station t.origin s h.origin), units_plain station t.units s h.kinds))))
+
+timetable_plain : (station : Station) (t : Timetable) → IsStation station → IsTimetable station t → ArePlain (rows_of station t)
+timetable_plain station t s h =
+    let a = plain_map (IsTrain station) (standing_row station) (filter is_standing t.arrive) (standing_plain station s) (All-filter is_standing (IsTrain station) t.arrive h.arrive.each) in
+    let b = plain_map (IsTrain station) (moving_row station (codes "arrive")) (filter (λ r. not (is_standing r)) t.arrive) (moving_plain station (codes "arrive") s (name_from (codes "arrive") refl)) (All-filter (λ r. not (is_standing r)) (IsTrain station) t.arrive h.arrive.each) in
+    let c = plain_map (IsTrain station) (moving_row station (codes "depart")) t.depart (moving_plain station (codes "depart") s (name_from (codes "depart") refl)) h.depart.each in
+    ((omega arith, (plain_name (codes "timetable") (name_from (codes "timetable") refl), (plain_name (codes "2") (name_from (codes "2") refl), tt))), plain_more _ _ (plain_more _ _ a b) c)
+
+abbrev wrote : List ℕ → Written
+wrote text = record { text = text; row = [] }
+
+-- all records of a timetable, one section after the other
+pub timetable_written : (station : Station) (t : Timetable) (x y z : List Train) (w a b c d : Written) → IsTimetable station t → x ≡ t.arrive → y ≡ t.arrive → z ≡ t.depart
+    → w ≡ record { text = []; row = [] }
+    → a ≡ record { text = w.text ++ text_of_row first_row; row = [] }
+    → b ≡ record { text = a.text ++ text_of_rows (map (standing_row station) (filter is_standing x)); row = [] }
+    → c ≡ record { text = b.text ++ text_of_rows (map (moving_row station (codes "arrive")) (filter (λ r. not (is_standing r)) y)); row = [] }
+    → d ≡ record { text = c.text ++ text_of_rows (map (moving_row station (codes "depart")) (filter (λ r. not (is_standing r)) z)); row = [] }
+    → d.text ≡ text_of_rows (rows_of station t)
+timetable_written station t x y z w a b c d h hx hy hz h0 h1 h2 h3 h4 =
+    let moves = λ (r : Train). not (is_standing r) in
+    let stand = map (standing_row station) (filter is_standing t.arrive) in
+    let come = map (moving_row station (codes "arrive")) (filter moves t.arrive) in
+    let go = map (moving_row station (codes "depart")) t.depart in
+    let all = text_of_rows (first_row ∷ (stand ++ (come ++ (go ++ [])))) in
+    let i2 = h2 ∙ ap (λ l. wrote (a.text ++ text_of_rows (map (standing_row station) (filter is_standing l)))) hx in
+    let i3 = h3 ∙ ap (λ l. wrote (b.text ++ text_of_rows (map (moving_row station (codes "arrive")) (filter moves l)))) hy in
+    let i4 = h4 ∙ ap (λ l. wrote (c.text ++ text_of_rows (map (moving_row station (codes "depart")) l))) (ap (filter moves) hz ∙ filter_whole moves t.depart (λ k e lt. ap not (h.from_platform k e lt))) in
+    sym (append-nil d.text)
+    ∙ rows_written c d go [] all i4 (rows_written b c come (go ++ []) all i3 (rows_written a b stand (come ++ (go ++ [])) all i2 (row_written w a first_row (stand ++ (come ++ (go ++ []))) all h1 (ap (λ (v : Written). v.text ++ all) h0))))
+    ∙ ap (λ l. text_of_rows (first_row ∷ (stand ++ (come ++ l)))) (append-nil go)
+    ∙ ap (λ l. text_of_rows (first_row ∷ l)) (sym (append_assoc stand come go))
+
+pub rows_read : (station : Station) (t : Timetable) (text bytes : List ℕ) → IsStation station → IsTimetable station t → text ≡ text_of_rows (rows_of station t) → ReadsBack text bytes → records_of bytes ≡ rows_of station t
+rows_read station t text bytes s h is back = back (rows_of station t) (timetable_plain station t s h) is
+
+pub timetable_read : (station : Station) (t : Timetable) (text bytes : List ℕ) → IsStation station → IsTimetable station t → text ≡ text_of_rows (rows_of station t) → ReadsBack text bytes → reading (timetable_format station) (records_of bytes) ≡ Ok t
+timetable_read station t text bytes s h is back = ap (reading (timetable_format station)) (rows_read station t text bytes s h is back) ∙ timetable_again station t s h

@@ -3,6 +3,10 @@ use Rattle.std.proofs.Common.{◌≡◌, ℕ, ◌+◌, Bool, true, false, not, c
 use Rattle.std.specs.Prelude.{bytes_eq, nat_eq, nat_lt, Some, None, position}
 use Rattle.std.specs.List.{list_any, position_or_len}
 use Rattle.std.specs.Cmp.Lexicographic.{pointwise}
+use Rattle.shunt_rows.specs.declared.fault.RowKind.TheVariants as kinds
+use Rattle.shunt_rows.specs.defs.Records.{at}
+use Rattle.shunt_rows.specs.defs.Checks.{answer, found}
+use Rattle.shunt_rows.specs.defs.Fields.{known_in, named_in}
 use Rattle.std.proofs.lemmas.List.{length-map, map-append}
 use Rattle.std.proofs.lemmas.Bool.{cond-false}
 use Rattle.std.proofs.lemmas.Bool.Decides.{Decides-eqb}
@@ -41,3 +45,31 @@ pub name_added : (k : Bor (List ℕ)) (keys new : List (Bor (List ℕ))) (names 
 name_added k keys new names is none e =
     let fresh = any_is k.now keys ∙ ap (list_any (λ n. bytes_eq n k.now)) is ∙ none in
     ap (map (λ k. k.now)) (e ∙ cond-false _ _ _ fresh) ∙ map-append (λ k. k.now) keys (k ∷ []) ∙ ap (λ l. l ++ k.now ∷ []) is
+
+-- a thing is found by its name
+pub any_named : {X : Type 0} (f : X → List ℕ) (p : List ℕ → Bool) (xs : List X) → list_any p (map f xs) ≡ list_any (λ x. p (f x)) xs
+any_named f p [] = refl
+any_named f p (x ∷ xs) = ap (λ b. p (f x) || b) (any_named f p xs)
+
+or_len_named : {X : Type 0} (f : X → List ℕ) (p : List ℕ → Bool) (xs : List X) → position_or_len p (map f xs) ≡ position_or_len (λ x. p (f x)) xs
+or_len_named f p [] = refl
+or_len_named f p (x ∷ xs) = ap (λ n. cond (not (p (f x))) (1 + n) 0) (or_len_named f p xs)
+
+pub place_named : {X : Type 0} (f : X → List ℕ) (p : List ℕ → Bool) (xs : List X) → position p (map f xs) ≡ position (λ x. p (f x)) xs
+place_named f p xs =
+    let place = position_or_len (λ x. p (f x)) xs in
+    ap (λ n. cond (nat_lt n (length (map f xs))) (Some n) None) (or_len_named f p xs) ∙ ap (λ m. cond (nat_lt place m) (Some place) None) (length-map xs f)
+
+pub has_named : {X : Type 0} (f : X → List ℕ) (q : List ℕ) (names : List (List ℕ)) (inside things : List X) → names ≡ map f inside → inside ≡ things → list_any (λ n. bytes_eq n q) names ≡ list_any (λ t. bytes_eq (f t) q) things
+has_named f q names inside things are is =
+    ap (list_any (λ n. bytes_eq n q)) are ∙ any_named f (λ n. bytes_eq n q) inside ∙ ap (list_any (λ t. bytes_eq (f t) q)) is
+
+pub known_named : {X : Type 0} (f : X → List ℕ) (n : ℕ) (row : List (List ℕ)) (k : ℕ) (names : List (List ℕ)) (inside things : List X) → names ≡ map f inside → inside ≡ things → answer n (known_in row k names) ≡ answer n (named_in f things row k)
+known_named f n row k names inside things are is =
+    ap (λ l. answer n (known_in row k l)) are
+    ∙ ap (λ o. answer n (found 0 o k kinds.Unknown)) (place_named f (λ m. bytes_eq m (at row k)) inside)
+    ∙ ap (λ l. answer n (named_in f l row k)) is
+
+pub number_named : {X : Type 0} (f : X → List ℕ) (q : List ℕ) (names : List (List ℕ)) (inside things : List X) → names ≡ map f inside → inside ≡ things → position (λ n. bytes_eq n q) names ≡ position (λ t. bytes_eq (f t) q) things
+number_named f q names inside things are is =
+    ap (position (λ n. bytes_eq n q)) are ∙ place_named f (λ n. bytes_eq n q) inside ∙ ap (position (λ t. bytes_eq (f t) q)) is

@@ -1,28 +1,65 @@
 // The station that the records so far state.
-ghost use Rattle.std.specs.Prelude.{◌≡◌, ◌&&◌, ◌==◌, position, bytes_eq};
+ghost use Rattle.std.specs.Prelude.{◌≡◌, ◌&&◌, ◌==◌};
 ghost use Rattle.std.specs.List.{list_any};
 ghost use Rattle.shunt_rows.specs.defs.Checks.{answer};
 ghost use Rattle.shunt_rows.specs.defs.Given.{Gives};
 ghost use Rattle.shunt_instance.specs.defs.Words.{is_open, joins, same_side};
-ghost use Rattle.shunt_station.specs.defs.Stating.{Draft, Ends, first_of, has_type, has_platform, has_track, type_of_name, platform_of_name, track_number, opens, stands, is_permitted, ends_of, type_of, platform_of, track_of, route_of, permit_of, cost_of, later_of, station_format};
+ghost use Rattle.shunt_station.specs.defs.Stating.{Draft, Ends, first_of, type_of_name, platform_of_name, track_number, opens, stands, is_permitted, ends_of, type_of, platform_of, track_of, route_of, permit_of, cost_of, later_of, station_format};
 
 use shunt_base::{Name, PlatformId, Side, TrackId, TypeId, is_name};
 use shunt_instance::{Permit, Route, Station, Track, UnitType};
 use shunt_lists::Items;
 use shunt_rows::{
-    FormatReader, ReadError, Row, RowKind, fields_in, found, must, number_in, side_in,
+    FormatReader, Naming, Numbered, ReadError, Row, RowKind, fields_in, found, must, number_in, side_in,
 };
 use std::alloc::Global;
 use std::marker::Model;
 
+// Types, platforms and tracks are known by their names.
+struct TypeNames;
+
+impl Naming for TypeNames {
+    type Thing = UnitType;
+
+    ghost name = { λ t. t.name };
+
+    fn name_of(kind: &UnitType) -> &[u8] {
+        kind.name.bytes()
+    }
+}
+
+struct PlatformNames;
+
+impl Naming for PlatformNames {
+    type Thing = Name;
+
+    ghost name = { λ p. p };
+
+    fn name_of(platform: &Name) -> &[u8] {
+        platform.bytes()
+    }
+}
+
+struct TrackNames;
+
+impl Naming for TrackNames {
+    type Thing = Track;
+
+    ghost name = { λ t. t.name };
+
+    fn name_of(track: &Track) -> &[u8] {
+        track.name.bytes()
+    }
+}
+
 /// What the records so far state.
-#[derive(Debug, Drop)]
-pub struct Draft {
+#[derive(Drop)]
+pub struct Draft<'r> {
     version: u64,
     name: Name,
-    types: Vec<UnitType>,
-    platforms: Vec<Name>,
-    tracks: Vec<Track>,
+    types: Numbered<'r, TypeNames>,
+    platforms: Numbered<'r, PlatformNames>,
+    tracks: Numbered<'r, TrackNames>,
     routes: Vec<Route>,
     permits: Vec<Permit>,
     split: u32,
@@ -31,15 +68,15 @@ pub struct Draft {
     is_costed: bool,
 }
 
-impl Model for Draft {
+impl<'r> Model for Draft<'r> {
     ghost use Rattle.std.specs.Prelude.{◌≤◌, length};
     ghost use Rattle.shunt_station.specs.defs.Stating.{Draft};
 
     ghost Value = { Draft };
 
-    ghost view = { λ d. record { version = d.version; station = record { name = d.name; types = d.types.items; platforms = d.platforms.items; tracks = d.tracks.items; routes = d.routes.items; permits = d.permits.items; split = d.split; couple = d.couple; unparked = d.unparked }; is_costed = d.is_costed } };
+    ghost view = { λ d. record { version = d.version; station = record { name = d.name; types = d.types; platforms = d.platforms; tracks = d.tracks; routes = d.routes.items; permits = d.permits.items; split = d.split; couple = d.couple; unparked = d.unparked }; is_costed = d.is_costed } };
 
-    ghost invariant = { λ d. (length d.types.items ≤ 40) × (length d.platforms.items ≤ 30) × (length d.tracks.items ≤ 60) };
+    ghost invariant = { λ d. (length d.types ≤ 40) × (length d.platforms ≤ 30) × (length d.tracks ≤ 60) };
 }
 
 // At which sides a track is open.
@@ -71,44 +108,6 @@ fn sides_named(text: &[u8]) -> Option<Sides>
         return Some(Sides { a: true, b: true });
     }
     None
-}
-
-fn has_type(types: &[UnitType], name: &[u8]) -> bool
-    ensures { result ≡ has_type types.now name.now }
-{
-    types.iter().any(|kind| kind.name.bytes() == name)
-}
-
-fn has_platform(platforms: &[Name], name: &[u8]) -> bool
-    ensures { result ≡ has_platform platforms.now name.now }
-{
-    platforms.iter().any(|platform| platform.bytes() == name)
-}
-
-fn has_track(tracks: &[Track], name: &[u8]) -> bool
-    ensures { result ≡ has_track tracks.now name.now }
-{
-    tracks.iter().any(|track| track.name.bytes() == name)
-}
-
-fn find_type(types: &[UnitType], name: &[u8]) -> Option<usize>
-    ensures { result ≡ position (λ t. bytes_eq t.name name.now) types.now }
-{
-    types.iter().position(|kind| kind.name.bytes() == name)
-}
-
-fn find_platform(platforms: &[Name], name: &[u8]) -> Option<usize>
-    ensures { result ≡ position (λ p. bytes_eq p name.now) platforms.now }
-{
-    platforms
-        .iter()
-        .position(|platform| platform.bytes() == name)
-}
-
-fn find_track(tracks: &[Track], name: &[u8]) -> Option<usize>
-    ensures { result ≡ position (λ t. bytes_eq t.name name.now) tracks.now }
-{
-    tracks.iter().position(|track| track.name.bytes() == name)
 }
 
 fn is_same_side(one: Side, other: Side) -> bool
@@ -150,59 +149,61 @@ fn is_open(track: &Track, side: Side) -> bool
     }
 }
 
-impl Draft {
+impl<'r> Draft<'r> {
     #[tactic(auto, unfolding(crate::specs::defs::Stating::type_of))]
-    fn read_type(&mut self, alloc: Global, n: u32, row: &Row) -> Result<(), ReadError>
+    fn read_type(&mut self, alloc: Global, n: u32, row: &'r Row) -> Result<(), ReadError>
         ensures { Gives (λ _. self.new) result (answer n (type_of self.old row.now)) }
     {
         fields_in(row, n, 4, 4)?;
         must(self.types.len() < 40, n, 1, RowKind::Limit)?;
         let name = row.field(2);
         must(is_name(name), n, 2, RowKind::Name)?;
-        let repeats = has_type(&self.types, name);
+        let repeats = self.types.has(name);
         must(!repeats, n, 2, RowKind::Repeat)?;
         let length = number_in(row, n, 3, 1, 5000)?;
         let turn = number_in(row, n, 4, 1, 1440)?;
-        self.types.push(UnitType {
+        let kind = UnitType {
             name: Name::new(alloc, name)?,
             length: length as u32,
             turn: turn as u16,
-        })?;
+        };
+        self.types.push(name, kind)?;
         Ok(())
     }
 
     #[tactic(auto, unfolding(crate::specs::defs::Stating::platform_of))]
-    fn read_platform(&mut self, alloc: Global, n: u32, row: &Row) -> Result<(), ReadError>
+    fn read_platform(&mut self, alloc: Global, n: u32, row: &'r Row) -> Result<(), ReadError>
         ensures { Gives (λ _. self.new) result (answer n (platform_of self.old row.now)) }
     {
         fields_in(row, n, 2, 2)?;
         must(self.platforms.len() < 30, n, 1, RowKind::Limit)?;
         let name = row.field(2);
         must(is_name(name), n, 2, RowKind::Name)?;
-        let repeats = has_platform(&self.platforms, name);
+        let repeats = self.platforms.has(name);
         must(!repeats, n, 2, RowKind::Repeat)?;
-        self.platforms.push(Name::new(alloc, name)?)?;
+        self.platforms.push(name, Name::new(alloc, name)?)?;
         Ok(())
     }
 
     #[tactic(auto, unfolding(crate::specs::defs::Stating::track_of))]
-    fn read_track(&mut self, alloc: Global, n: u32, row: &Row) -> Result<(), ReadError>
+    fn read_track(&mut self, alloc: Global, n: u32, row: &'r Row) -> Result<(), ReadError>
         ensures { Gives (λ _. self.new) result (answer n (track_of self.old row.now)) }
     {
         fields_in(row, n, 4, 4)?;
         must(self.tracks.len() < 60, n, 1, RowKind::Limit)?;
         let name = row.field(2);
         must(is_name(name), n, 2, RowKind::Name)?;
-        let repeats = has_track(&self.tracks, name);
+        let repeats = self.tracks.has(name);
         must(!repeats, n, 2, RowKind::Repeat)?;
         let length = number_in(row, n, 3, 1, 50_000)?;
         let sides = found(sides_named(row.field(4)), n, 4, RowKind::Kind)?;
-        self.tracks.push(Track {
+        let track = Track {
             name: Name::new(alloc, name)?,
             length: length as u32,
             side_a: sides.a,
             side_b: sides.b,
-        })?;
+        };
+        self.tracks.push(name, track)?;
         Ok(())
     }
 
@@ -211,7 +212,7 @@ impl Draft {
     fn type_named(&self, name: &[u8]) -> Option<TypeId>
         ensures { result ≡ type_of_name self.now.station name.now }
     {
-        match find_type(&self.types, name) {
+        match self.types.number_of(name) {
             Some(k) => Some(TypeId(k as u8)),
             None => None,
         }
@@ -222,7 +223,7 @@ impl Draft {
     fn platform_named(&self, name: &[u8]) -> Option<PlatformId>
         ensures { result ≡ platform_of_name self.now.station name.now }
     {
-        match find_platform(&self.platforms, name) {
+        match self.platforms.number_of(name) {
             Some(k) => Some(PlatformId(k as u8)),
             None => None,
         }
@@ -233,7 +234,7 @@ impl Draft {
     fn track_named(&self, name: &[u8]) -> Option<TrackId>
         ensures { result ≡ track_number self.now.station name.now }
     {
-        match find_track(&self.tracks, name) {
+        match self.tracks.number_of(name) {
             Some(k) => Some(TrackId(k as u8)),
             None => None,
         }
@@ -260,7 +261,7 @@ impl Draft {
     fn is_open_at(&self, track: TrackId, side: Side) -> bool
         ensures { result ≡ opens self.now.station track side }
     {
-        match self.tracks.get(track.0 as usize) {
+        match self.tracks.as_slice().get(track.0 as usize) {
             Some(track) => is_open(track, side),
             None => false,
         }
@@ -318,7 +319,7 @@ impl Draft {
     }
 }
 
-impl<'r> FormatReader<'r> for Draft {
+impl<'r> FormatReader<'r> for Draft<'r> {
     type Context = ();
 
     type Output = Station;
@@ -328,7 +329,7 @@ impl<'r> FormatReader<'r> for Draft {
     ghost suits = { λ _. Unit };
 
     #[tactic(auto, unfolding(crate::specs::defs::Stating::first_of))]
-    fn read_first(_: &'r (), alloc: Global, row: &'r Row) -> Result<Draft, ReadError> {
+    fn read_first(_: &'r (), alloc: Global, row: &'r Row) -> Result<Draft<'r>, ReadError> {
         must(row.word() == b"station".as_slice(), 1, 1, RowKind::Kind)?;
         fields_in(row, 1, 3, 3)?;
         let version = number_in(row, 1, 2, 1, 2)?;
@@ -337,9 +338,9 @@ impl<'r> FormatReader<'r> for Draft {
         Ok(Draft {
             version,
             name: Name::new(alloc, name)?,
-            types: Vec::new(alloc),
-            platforms: Vec::new(alloc),
-            tracks: Vec::new(alloc),
+            types: Numbered::new(alloc),
+            platforms: Numbered::new(alloc),
+            tracks: Numbered::new(alloc),
             routes: Vec::new(alloc),
             permits: Vec::new(alloc),
             split: 0,
@@ -387,9 +388,9 @@ impl<'r> FormatReader<'r> for Draft {
     fn into_output(self, _: &'r ()) -> Station {
         Station {
             name: self.name,
-            types: Items::from_vec(self.types),
-            platforms: Items::from_vec(self.platforms),
-            tracks: Items::from_vec(self.tracks),
+            types: self.types.into_items(),
+            platforms: self.platforms.into_items(),
+            tracks: self.tracks.into_items(),
             routes: Items::from_vec(self.routes),
             permits: Items::from_vec(self.permits),
             split: self.split,

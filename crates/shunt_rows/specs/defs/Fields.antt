@@ -43,6 +43,10 @@ side_of bytes = if bytes_eq bytes (codes "A") then Some sides.A else if bytes_eq
 abbrev pub side_in : List (List ℕ) → ℕ → Judged Side
 side_in row k = found sides.A (side_of (at row k)) k kinds.Kind
 
+-- the field names one of these things, and says the place of the first of them, from 0
+abbrev pub named_in : {X : Type 0} → (X → List ℕ) → List X → List (List ℕ) → ℕ → Judged ℕ
+named_in name things row k = found 0 (position (λ x. bytes_eq (name x) (at row k)) things) k kinds.Unknown
+
 -- the field is one of these names, and says its place among them, from 0
 abbrev pub known_in : List (List ℕ) → ℕ → List (List ℕ) → Judged ℕ
-known_in row k names = found 0 (position (λ n. bytes_eq n (at row k)) names) k kinds.Unknown
+known_in row k names = named_in (λ n. n) names row k

@@ -1,8 +1,9 @@
 // Reading a timetable.
-ghost use Rattle.std.specs.Prelude.{◌≡◌, ◌+◌, ◌-◌, ◌≤◌, ◌<◌, ◌^◌, [], length, position, bytes_eq, IfOk};
+ghost use Rattle.std.specs.Prelude.{◌≡◌, ◌+◌, ◌-◌, ◌≤◌, ◌<◌, ◌++◌, ◌∷◌, [], false, length, position, bytes_eq, IfOk, OnOk, OnErr};
+ghost use Rattle.shunt_rows.specs.defs.Records.{at};
 ghost use Rattle.shunt_rows.specs.declared.fault.RowKind.TheVariants as kinds;
 ghost use Rattle.shunt_rows.specs.defs.Checks.{answer};
-ghost use Rattle.shunt_rows.specs.defs.Formats.{in_state, reading};
+ghost use Rattle.shunt_rows.specs.defs.Formats.{reading};
 ghost use Rattle.shunt_rows.specs.defs.Given.{Gives};
 ghost use Rattle.shunt_instance.specs.defs.Words.{unit_count};
 ghost use Rattle.shunt_instance.specs.defs.Wellformed.{IsStation, IsTimetable};
@@ -12,33 +13,92 @@ use shunt_base::{Minute, Name, PlatformId, TrackId, TypeId, is_name};
 use shunt_instance::{Origin, Station, Timetable, Track, Train, UnitType};
 use shunt_lists::Items;
 use shunt_rows::{
-    ReadError, Row, RowFault, RowKind, fields_in, minute_in, must, number_in, record_number,
+    FormatReader, Naming, Numbered, ReadError, Row, RowFault, RowKind, fields_in, minute_in, must, number_in, read,
 };
-use std::alloc::Global;
+use std::alloc::{AllocError, Global};
 use std::marker::Model;
 
+// Trains are known by their names.
+struct TrainNames;
+
+impl Naming for TrainNames {
+    type Thing = Train;
+
+    ghost name = { λ t. t.name };
+
+    fn name_of(train: &Train) -> &[u8] {
+        train.name.bytes()
+    }
+}
+
+// The trains of one word, and how many units they have.
+#[derive(Drop)]
+struct Trains<'r> {
+    trains: Numbered<'r, TrainNames>,
+    units: usize,
+}
+
+impl<'r> Model for Trains<'r> {
+    ghost use Rattle.std.specs.Prelude.{◌≡◌, ◌≤◌, List};
+    ghost use Rattle.shunt_instance.specs.declared.records.Train.{Train};
+    ghost use Rattle.shunt_instance.specs.defs.Words.{unit_count};
+
+    ghost Value = { List Train };
+
+    ghost view = { λ t. t.trains };
+
+    ghost invariant = { λ t. (t.units ≡ unit_count t.trains) × (t.units ≤ 160) };
+}
+
+impl<'r> Trains<'r> {
+    fn new(alloc: Global) -> Trains<'r>
+        ensures { result ≡ [] }
+    {
+        Trains {
+            trains: Numbered::new(alloc),
+            units: 0,
+        }
+    }
+
+    // The number of units, at most 160.
+    fn units(&self) -> usize
+        ensures value { result ≡ unit_count self.now }
+        ensures few { unit_count self.now ≤ 160 }
+    {
+        self.units
+    }
+
+    // Adds a train with a new name.
+    fn push(&mut self, name: &'r [u8], train: Train) -> Result<(), AllocError>
+        requires own { train.name ≡ name.now }
+        requires fresh { has_train self.old name.now ≡ false }
+        requires room { unit_count self.old + length train.units ≤ 160 }
+        ensures added { OnOk result (self.new ≡ self.old ++ train ∷ []) }
+        ensures same { OnErr result (self.new ≡ self.old) }
+    {
+        let units = train.units.len();
+        self.trains.push(name, train)?;
+        self.units += units;
+        Ok(())
+    }
+}
+
 // The trains that the records so far state.
-#[derive(Debug, Drop)]
-struct Listed {
+#[derive(Drop)]
+struct Listed<'r> {
     version: u64,
-    arrive: Vec<Train>,
-    depart: Vec<Train>,
+    arrive: Trains<'r>,
+    depart: Trains<'r>,
     // An `arrive` or `depart` record was read.
     moving: bool,
 }
 
-impl Model for Listed {
+impl<'r> Model for Listed<'r> {
     ghost use Rattle.shunt_timetable.specs.defs.TimetableFormat.{Listed};
 
     ghost Value = { Listed };
 
-    ghost view = { λ s. record { version = s.version; arrive = s.arrive.items; depart = s.depart.items; moving = s.moving } };
-}
-
-fn has_train(trains: &[Train], name: &[u8]) -> bool
-    ensures { result ≡ has_train trains.now name.now }
-{
-    trains.iter().any(|train| train.name.bytes() == name)
+    ghost view = { λ s. record { version = s.version; arrive = s.arrive; depart = s.depart; moving = s.moving } };
 }
 
 fn find_type(types: &[UnitType], name: &[u8]) -> Option<usize>
@@ -59,30 +119,6 @@ fn find_platform(platforms: &[Name], name: &[u8]) -> Option<usize>
     platforms
         .iter()
         .position(|platform| platform.bytes() == name)
-}
-
-fn count_units(trains: &[Train]) -> usize
-    requires { unit_count trains.now < 2 ^ 32 }
-    ensures { result ≡ unit_count trains.now }
-{
-    trains.iter().map(|train| train.units.len()).sum()
-}
-
-impl Listed {
-    #[tactic(auto, unfolding(crate::specs::defs::TimetableFormat::first_of))]
-    fn read_first(alloc: Global, row: &Row) -> Result<Listed, ReadError>
-        ensures { Gives (λ x. x) result (answer 1 (first_of row.now)) }
-    {
-        must(row.word() == b"timetable".as_slice(), 1, 1, RowKind::Kind)?;
-        fields_in(row, 1, 2, 2)?;
-        let version = number_in(row, 1, 2, 1, 2)?;
-        Ok(Listed {
-            version,
-            arrive: Vec::new(alloc),
-            depart: Vec::new(alloc),
-            moving: false,
-        })
-    }
 }
 
 fn unknown(n: u32, k: u32) -> RowFault
@@ -116,7 +152,8 @@ fn read_unit(
     requires types { length types.now ≤ 40 }
     requires first { 1 ≤ k }
     requires last { k ≤ length row.now }
-    ensures { result ≡ answer n (kind_of types.now before row.now k) }
+    ensures answer { result ≡ answer n (kind_of types.now before row.now k) }
+    ensures room { OnOk result (before < 160) }
 {
     match find_type(types, row.field(k as usize)) {
         Some(kind) => {
@@ -167,7 +204,9 @@ fn read_units(
     requires first { 1 ≤ first }
     requires some { first ≤ length row.now }
     requires few { length row.now ≤ 12 }
-    ensures { Gives (λ t. t) result (answer n (units_from station.now before (empty_train name minute origin) row.now first (length row.now - (first - 1)))) }
+    ensures own { IfOk result (λ t. t.name ≡ name) }
+    ensures room { IfOk result (λ t. before + length t.units ≤ 160) }
+    ensures stated { Gives (λ t. t) result (answer n (units_from station.now before (empty_train name minute origin) row.now first (length row.now - (first - 1)))) }
 {
     let types = station.types.as_slice();
     let last = row.len() as u32;
@@ -185,14 +224,17 @@ fn read_units(
 }
 
 // The name at field 2 of a train behind these ones.
-fn read_name(alloc: Global, trains: &[Train], row: &Row, n: u32) -> Result<Name, ReadError>
+fn read_name(alloc: Global, trains: &Trains, row: &Row, n: u32) -> Result<Name, ReadError>
     requires { 2 ≤ length row.now }
-    ensures { Gives (λ x. x) result (answer n (name_of trains.now row.now)) }
+    ensures stated { Gives (λ x. x) result (answer n (name_of trains.now row.now)) }
+    ensures own { IfOk result (λ x. x ≡ at row.now 2) }
+    ensures fresh { OnOk result (has_train trains.now (at row.now 2) ≡ false) }
 {
-    must(trains.len() < 100, n, 1, RowKind::Limit)?;
+    must(trains.trains.len() < 100, n, 1, RowKind::Limit)?;
     let name = row.field(2);
     must(is_name(name), n, 2, RowKind::Name)?;
-    must(!has_train(trains, name), n, 2, RowKind::Repeat)?;
+    let repeats = trains.trains.has(name);
+    must(!repeats, n, 2, RowKind::Repeat)?;
     Ok(Name::new(alloc, name)?)
 }
 
@@ -200,18 +242,20 @@ fn read_name(alloc: Global, trains: &[Train], row: &Row, n: u32) -> Result<Name,
 fn read_standing(
     alloc: Global,
     station: &Station,
-    trains: &[Train],
+    trains: &Trains,
     row: &Row,
     n: u32,
 ) -> Result<Train, ReadError>
     requires station { IsStation station.now }
-    requires units { unit_count trains.now ≤ 160 }
-    ensures { Gives (λ t. t) result (answer n (standing_of station.now trains.now row.now)) }
+    ensures stated { Gives (λ t. t) result (answer n (standing_of station.now trains.now row.now)) }
+    ensures own { IfOk result (λ t. t.name ≡ at row.now 2) }
+    ensures fresh { OnOk result (has_train trains.now (at row.now 2) ≡ false) }
+    ensures room { IfOk result (λ t. unit_count trains.now + length t.units ≤ 160) }
 {
     fields_in(row, n, 4, 11)?;
     let name = read_name(alloc, trains, row, n)?;
     let track = read_track(station.tracks.as_slice(), row, n)?;
-    let before = count_units(trains);
+    let before = trains.units();
     read_units(alloc, station, before, name, midnight(), track, row, n, 4)
 }
 
@@ -219,37 +263,38 @@ fn read_standing(
 fn read_moving(
     alloc: Global,
     station: &Station,
-    trains: &[Train],
+    trains: &Trains,
     row: &Row,
     n: u32,
 ) -> Result<Train, ReadError>
     requires station { IsStation station.now }
-    requires units { unit_count trains.now ≤ 160 }
-    ensures { Gives (λ t. t) result (answer n (moving_of station.now trains.now row.now)) }
+    ensures stated { Gives (λ t. t) result (answer n (moving_of station.now trains.now row.now)) }
+    ensures own { IfOk result (λ t. t.name ≡ at row.now 2) }
+    ensures fresh { OnOk result (has_train trains.now (at row.now 2) ≡ false) }
+    ensures room { IfOk result (λ t. unit_count trains.now + length t.units ≤ 160) }
 {
     fields_in(row, n, 5, 12)?;
     let name = read_name(alloc, trains, row, n)?;
     let minute = minute_in(row, n, 3)?;
     let platform = read_platform(station.platforms.as_slice(), row, n)?;
-    let before = count_units(trains);
+    let before = trains.units();
     read_units(alloc, station, before, name, minute, platform, row, n, 5)
 }
 
-impl Listed {
+impl<'r> Listed<'r> {
     #[tactic(auto, unfolding(crate::specs::defs::TimetableFormat::stand_of))]
     fn read_stand(
         &mut self,
         alloc: Global,
         station: &Station,
         n: u32,
-        row: &Row,
+        row: &'r Row,
     ) -> Result<(), ReadError>
-        requires station { IsStation station.now }
-        requires units { unit_count self.old.arrive ≤ 160 }
+        requires { IsStation station.now }
         ensures { Gives (λ _. self.new) result (answer n (stand_of station.now self.old row.now)) }
     {
         let train = read_standing(alloc, station, &self.arrive, row, n)?;
-        self.arrive.push(train)?;
+        self.arrive.push(row.field(2), train)?;
         Ok(())
     }
 
@@ -259,14 +304,13 @@ impl Listed {
         alloc: Global,
         station: &Station,
         n: u32,
-        row: &Row,
+        row: &'r Row,
     ) -> Result<(), ReadError>
-        requires station { IsStation station.now }
-        requires units { unit_count self.old.arrive ≤ 160 }
+        requires { IsStation station.now }
         ensures { Gives (λ _. self.new) result (answer n (arrive_of station.now self.old row.now)) }
     {
         let train = read_moving(alloc, station, &self.arrive, row, n)?;
-        self.arrive.push(train)?;
+        self.arrive.push(row.field(2), train)?;
         self.moving = true;
         Ok(())
     }
@@ -277,31 +321,47 @@ impl Listed {
         alloc: Global,
         station: &Station,
         n: u32,
-        row: &Row,
+        row: &'r Row,
     ) -> Result<(), ReadError>
-        requires station { IsStation station.now }
-        requires units { unit_count self.old.depart ≤ 160 }
+        requires { IsStation station.now }
         ensures { Gives (λ _. self.new) result (answer n (depart_of station.now self.old row.now)) }
     {
         let train = read_moving(alloc, station, &self.depart, row, n)?;
-        self.depart.push(train)?;
+        self.depart.push(row.field(2), train)?;
         self.moving = true;
         Ok(())
+    }
+}
+
+impl<'r> FormatReader<'r> for Listed<'r> {
+    type Context = Station;
+    type Output = Timetable;
+
+    ghost format = { timetable_format };
+
+    ghost suits = { IsStation };
+
+    #[tactic(auto, unfolding(crate::specs::defs::TimetableFormat::first_of))]
+    fn read_first(_: &'r Station, alloc: Global, row: &'r Row) -> Result<Listed<'r>, ReadError> {
+        must(row.word() == b"timetable".as_slice(), 1, 1, RowKind::Kind)?;
+        fields_in(row, 1, 2, 2)?;
+        let version = number_in(row, 1, 2, 1, 2)?;
+        Ok(Listed {
+            version,
+            arrive: Trains::new(alloc),
+            depart: Trains::new(alloc),
+            moving: false,
+        })
     }
 
     #[tactic(auto, unfolding(crate::specs::defs::TimetableFormat::later_of))]
     fn read_later(
         &mut self,
+        station: &'r Station,
         alloc: Global,
-        station: &Station,
         n: u32,
-        row: &Row,
-    ) -> Result<(), ReadError>
-        requires station { IsStation station.now }
-        requires arrive { unit_count self.old.arrive ≤ 160 }
-        requires depart { unit_count self.old.depart ≤ 160 }
-        ensures { Gives (λ _. self.new) result (answer n (in_state (timetable_format station.now) self.old row.now)) }
-    {
+        row: &'r Row,
+    ) -> Result<(), ReadError> {
         let word = row.word();
         if word == b"arrive".as_slice() {
             return self.read_arrive(alloc, station, n, row);
@@ -316,23 +376,17 @@ impl Listed {
         must(false, n, 1, RowKind::Kind)?;
         Ok(())
     }
-}
 
-// The timetable that the records state over this station, or their first fault.
-fn timetable_in(alloc: Global, station: &Station, rows: &[Row]) -> Result<Timetable, ReadError>
-    requires { IsStation station.now }
-    ensures stated { Gives (λ t. t) result (reading (timetable_format station.now) rows.now) }
-    ensures formed { IfOk result (IsTimetable station.now) }
-{
-    must(!rows.is_empty(), 1, 0, RowKind::Missing)?;
-    let mut listed = Listed::read_first(alloc, &rows[0])?;
-    for i in 1..rows.len() {
-        listed.read_later(alloc, station, record_number(i)?, &rows[i])?;
+    fn is_whole(&self, _: &'r Station) -> bool {
+        true
     }
-    Ok(Timetable {
-        arrive: Items::from_vec(listed.arrive),
-        depart: Items::from_vec(listed.depart),
-    })
+
+    fn into_output(self, _: &'r Station) -> Timetable {
+        Timetable {
+            arrive: self.arrive.trains.into_items(),
+            depart: self.depart.trains.into_items(),
+        }
+    }
 }
 
 /// The timetable that the records state over this station, which is well formed, or exactly their first fault.
@@ -348,5 +402,5 @@ pub fn read_timetable(
     ensures stated { Gives (λ t. t) result (reading (timetable_format station.now) rows.now.items) }
     ensures formed { IfOk result (IsTimetable station.now) }
 {
-    timetable_in(alloc, station, rows)
+    read::<Listed>(station, alloc, rows)
 }

@@ -1,8 +1,9 @@
 -- Names that an index set numbers are found where they stand in their list.
-use Rattle.std.proofs.Common.{◌≡◌, ℕ, ◌+◌, Bool, true, false, not, cond, ◌||◌, ◌↔◌, List, [], ◌∷◌, ◌++◌, length, map, refl, sym, ap, ◌∙◌, Bor}
-use Rattle.std.specs.Prelude.{bytes_eq, nat_eq, nat_lt, Some, None, position}
+use Rattle.std.proofs.Common.{◌≡◌, ◌≢◌, ℕ, zero, suc, ◌<◌, take, drop, get_or, subst, arith, ◌+◌, Bool, true, false, not, cond, ◌||◌, ◌↔◌, List, [], ◌∷◌, ◌++◌, length, map, refl, sym, ap, ◌∙◌, Bor}
+use Rattle.std.specs.Prelude.{AllPairs, bytes_eq, nat_eq, nat_lt, Some, None, position}
 use Rattle.std.specs.List.{list_any, position_or_len}
 use Rattle.std.specs.Cmp.Lexicographic.{pointwise}
+use Rattle.shunt_rows.proofs.Named.{by_name, not_before}
 use Rattle.shunt_rows.specs.declared.fault.RowKind.TheVariants as kinds
 use Rattle.shunt_rows.specs.defs.Records.{at}
 use Rattle.shunt_rows.specs.defs.Checks.{answer, found}
@@ -73,3 +74,18 @@ known_named f n row k names inside things are is =
 pub number_named : {X : Type 0} (f : X → List ℕ) (q : List ℕ) (names : List (List ℕ)) (inside things : List X) → names ≡ map f inside → inside ≡ things → position (λ n. bytes_eq n q) names ≡ position (λ t. bytes_eq (f t) q) things
 number_named f q names inside things are is =
     ap (position (λ n. bytes_eq n q)) are ∙ place_named f (λ n. bytes_eq n q) inside ∙ ap (position (λ t. bytes_eq (f t) q)) is
+
+parted : {X : Type 0} (xs : List X) (i : ℕ) (d : X) → i < length xs → xs ≡ take i xs ++ get_or xs i d ∷ drop (suc i) xs
+parted [] i d lt = absurd (omega arith)
+parted (x ∷ xs) zero d lt = refl
+parted (x ∷ xs) (suc i) d lt = ap (λ l. x ∷ l) (parted xs i d (omega arith))
+
+-- of things with distinct names none before one has its name
+pub not_among : {X : Type 0} (f : X → List ℕ) (xs : List X) (i : ℕ) (y : X) (names : List (List ℕ)) (q : List ℕ) → AllPairs (λ m n. m ≢ n) (map f xs) → i < length xs → y ≡ get_or xs i y → q ≡ f y → names ≡ map f (take i xs)
+    → list_any (λ n. bytes_eq n q) names ≡ false
+not_among f xs i y names q apart lt at is are =
+    let split : xs ≡ take i xs ++ y ∷ drop (suc i) xs = parted xs i y lt ∙ ap (λ z. take i xs ++ z ∷ drop (suc i) xs) (sym at) in
+    ap (list_any (λ n. bytes_eq n q)) are
+    ∙ ap (λ r. list_any (λ n. bytes_eq n r) (map f (take i xs))) is
+    ∙ any_named f (λ n. bytes_eq n (f y)) (take i xs)
+    ∙ not_before f (λ x. bytes_eq (f x) (f y)) (take i xs) (drop (suc i) xs) y (λ x. by_name (f y) (f x)) (subst (λ l. AllPairs (λ m n. m ≢ n) (map f l)) split apart)

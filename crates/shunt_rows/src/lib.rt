@@ -17,7 +17,7 @@ pub use check::{found, must};
 pub use fault::{ReadError, RowFault, RowKind};
 pub use fields::{fields_in, is_within, minute_in, number_in, side_in};
 pub use names::Names;
-pub use numbered::{Naming, Numbered};
+pub use numbered::{Known, Naming, Numbered};
 pub use reading::{FormatReader, read};
 pub use row::{Row, record_number, records};
 pub use writer::RowWriter;

@@ -1,5 +1,5 @@
 // Things that are numbered by their names.
-ghost use Rattle.std.specs.Prelude.{◌≡◌, ◌++◌, ◌∷◌, ◌≤◌, ◌<◌, List, ℕ, [], false, IfOk, IfSome, OnOk, OnErr, bytes_eq, position, length};
+ghost use Rattle.std.specs.Prelude.{◌≡◌, ◌≢◌, ◌++◌, ◌∷◌, ◌≤◌, ◌<◌, List, ℕ, AllPairs, map, [], false, IfOk, IfSome, OnOk, OnErr, bytes_eq, position, length};
 ghost use Rattle.std.specs.List.{list_any};
 ghost use Rattle.shunt_rows.specs.defs.Checks.{answer};
 ghost use Rattle.shunt_rows.specs.defs.Fields.{named_in};
@@ -74,16 +74,6 @@ impl<'r, N: Naming> Numbered<'r, N> {
         self.names.number_of(name)
     }
 
-    /// The number of the thing with a name at field `k` of record `n`: else Unknown.
-    pub fn known_in(&self, row: &Row, n: u32, k: u32) -> Result<usize, RowFault>
-        requires first { 1 ≤ k }
-        requires last { k ≤ length row.now }
-        ensures answer { result ≡ answer n (named_in N.name self.now row.now k) }
-        ensures within { IfOk result (λ i. i < length self.now) }
-    {
-        self.names.known_in(row, n, k)
-    }
-
     /// Adds a thing with a new name.
     pub fn push(&mut self, name: &'r [u8], thing: N::Thing) -> Result<(), AllocError>
         requires own { N.name thing ≡ name.now }
@@ -111,5 +101,55 @@ impl<'r, N: Naming> Numbered<'r, N> {
         ensures { result ≡ self.entry }
     {
         Items::from_vec(self.things)
+    }
+}
+
+// The names of things, in their order.
+fn names_of<'r, N: Naming>(alloc: Global, things: &'r [N::Thing]) -> Result<Names<'r>, AllocError>
+    requires { AllPairs (λ x y. x ≢ y) (map N.name things.now) }
+    ensures { IfOk result (λ names. names ≡ map N.name things.now) }
+{
+    let mut names = Names::new(alloc);
+    'things: for thing in things {
+        names.add(N::name_of(thing))?;
+    }
+    Ok(names)
+}
+
+/// Things that are known already, each numbered by its place from 0 and found by its name; seen as the list of them.
+#[derive(Drop)]
+pub struct Known<'r, N: Naming> {
+    names: Names<'r>,
+    things: &'r [N::Thing],
+}
+
+impl<'r, N: Naming> Model for Known<'r, N> {
+    ghost use Rattle.std.specs.Prelude.{◌≡◌, List, map};
+
+    ghost Value = { List N.Thing };
+
+    ghost view = { λ k. k.things.now };
+
+    ghost invariant = { λ k. k.names ≡ map N.name k.things.now };
+}
+
+impl<'r, N: Naming> Known<'r, N> {
+    /// These things, whose names are distinct.
+    pub fn of(alloc: Global, things: &'r [N::Thing]) -> Result<Known<'r, N>, AllocError>
+        requires { AllPairs (λ x y. x ≢ y) (map N.name things.now) }
+        ensures { IfOk result (λ k. k ≡ things.now) }
+    {
+        let names = names_of::<N>(alloc, things)?;
+        Ok(Known { names, things })
+    }
+
+    /// The number of the thing with a name at field `k` of record `n`: else Unknown.
+    pub fn known_in(&self, row: &Row, n: u32, k: u32) -> Result<usize, RowFault>
+        requires first { 1 ≤ k }
+        requires last { k ≤ length row.now }
+        ensures answer { result ≡ answer n (named_in N.name self.now row.now k) }
+        ensures within { IfOk result (λ i. i < length self.now) }
+    {
+        self.names.known_in(row, n, k)
     }
 }

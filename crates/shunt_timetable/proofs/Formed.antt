@@ -1,6 +1,6 @@
 -- What is stated of a timetable is well formed.
 use Rattle.std.proofs.Common.{◌≡◌, ◌≢◌, ℕ, zero, suc, ◌+◌, ◌-◌, ◌<◌, ◌≤◌, Bool, true, false, not, ◌&&◌, List, [], ◌∷◌, ◌++◌, length, length-append, filter, refl, sym, ap, subst, ◌∙◌, arith, IsTrue, cond}
-use Rattle.std.specs.Prelude.{Ok, bytes_eq, All, position, nat_lt, codes}
+use Rattle.std.specs.Prelude.{Ok, bytes_eq, All, position, codes}
 use Rattle.std.specs.Option.{unwrap_or}
 use Rattle.std.proofs.lemmas.List.{append-nil, append_assoc}
 use Rattle.std.proofs.lemmas.List.Elements.{All-nil, All-push, All-tail, filter-append}

@@ -1,7 +1,7 @@
 -- How long the text of a timetable is.
 use Rattle.std.proofs.Common.{◌≡◌, ℕ, ◌+◌, ◌*◌, ◌<◌, ◌≤◌, not, List, [], ◌∷◌, ◌++◌, length, length-append, map, filter, refl, ap, ◌∙◌, arith}
 use Rattle.std.specs.Prelude.{All, codes, slice_index_or}
-use Rattle.std.proofs.lemmas.List.Concat.{flat_map-cons, flat_map-append}
+use Rattle.std.proofs.lemmas.List.Concat.{flat_map-cons}
 use Rattle.std.proofs.lemmas.List.Elements.{All-tail, All-filter}
 use Rattle.std.proofs.lemmas.List.Sums.{sum_by-append, sum_by-cons}
 use Rattle.shunt_base.specs.declared.ids.TypeId.{TypeId}
@@ -70,10 +70,25 @@ timetable_wide station t s h =
     let small = h.arrive.units in
     let few_go = h.depart.few in
     let small_go = h.depart.units in
-    omega (arith, one, two, three, many, units, few, small, few_go, small_go, first_wide,
-    ap length (texts_join (first_row ∷ (a ++ b)) c), length-append (text_of_rows (first_row ∷ (a ++ b))) (text_of_rows c),
-    ap length (texts_join (first_row ∷ a) b), length-append (text_of_rows (first_row ∷ a)) (text_of_rows b),
-    ap length (flat_map-cons text_of_row first_row a), length-append (text_of_row first_row) (text_of_rows a))
+    omega (
+      arith,
+      one,
+      two,
+      three,
+      many,
+      units,
+      few,
+      small,
+      few_go,
+      small_go,
+      first_wide,
+      ap length (texts_join (first_row ∷ (a ++ b)) c),
+      length-append (text_of_rows (first_row ∷ (a ++ b))) (text_of_rows c),
+      ap length (texts_join (first_row ∷ a) b),
+      length-append (text_of_rows (first_row ∷ a)) (text_of_rows b),
+      ap length (flat_map-cons text_of_row first_row a),
+      length-append (text_of_row first_row) (text_of_rows a),
+    )
 
 pub text_wide : (station : Station) (t : Timetable) (text : List ℕ) → IsStation station → IsTimetable station t → text ≡ text_of_rows (rows_of station t) → length text ≤ 14852
 text_wide station t text s h is = omega (arith, ap length is, timetable_wide station t s h)

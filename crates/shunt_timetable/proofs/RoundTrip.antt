@@ -2,7 +2,6 @@
 use Rattle.std.proofs.Common.{◌≡◌, ℕ, zero, suc, ◌+◌, ◌-◌, ◌<◌, ◌≤◌, Bool, true, false, not, List, [], ◌∷◌, ◌++◌, length, length-append, map, filter, drop, refl, sym, ap, subst, ◌∙◌, arith, cond}
 use Rattle.std.specs.Prelude.{Ok, bytes_eq, All, Some, position, codes, slice_index_or}
 use Rattle.std.specs.Option.{is_some, unwrap_or}
-use Rattle.std.specs.List.{list_any}
 use Rattle.std.proofs.lemmas.List.{append-nil, append_assoc, length-map, map-id}
 use Rattle.std.proofs.lemmas.List.Elements.{All-tail, All-cons}
 use Rattle.std.proofs.lemmas.Option.{slice_get-get_or}
@@ -29,7 +28,7 @@ use Rattle.shunt_instance.specs.declared.records.Origin.TheVariants as origin
 use Rattle.shunt_instance.specs.defs.Words.{AreDistinct, is_standing, unit_count}
 use Rattle.shunt_instance.specs.defs.Wellformed.{IsStation, IsTrain, AreTrains, IsTimetable}
 use Rattle.shunt_instance.proofs.Found.{found_there}
-use Rattle.shunt_timetable.specs.defs.TimetableFormat.{Listed, first_of, has_train, unit_of, units_from, empty_train, standing_of, moving_of, later_of, timetable_format}
+use Rattle.shunt_timetable.specs.defs.TimetableFormat.{Listed, first_of, unit_of, units_from, empty_train, standing_of, moving_of, later_of, timetable_format}
 use Rattle.shunt_timetable.specs.defs.WrittenRows.{type_names, unit_names, standing_row, moving_row, first_row, rows_of}
 use Rattle.shunt_timetable.proofs.Formed.{Adds}
 use Rattle.shunt_timetable.proofs.Parts.{stand_ok, arrive_ok, depart_ok}

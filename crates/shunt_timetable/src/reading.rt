@@ -1,7 +1,6 @@
 // Reading a timetable.
-ghost use Rattle.std.specs.Prelude.{◌≡◌, ◌+◌, ◌-◌, ◌≤◌, ◌<◌, ◌++◌, ◌∷◌, [], false, length, position, bytes_eq, IfOk, OnOk, OnErr};
+ghost use Rattle.std.specs.Prelude.{◌≡◌, ◌+◌, ◌-◌, ◌≤◌, ◌<◌, ◌++◌, ◌∷◌, [], false, length, IfOk, OnOk, OnErr};
 ghost use Rattle.shunt_rows.specs.defs.Records.{at};
-ghost use Rattle.shunt_rows.specs.declared.fault.RowKind.TheVariants as kinds;
 ghost use Rattle.shunt_rows.specs.defs.Checks.{answer};
 ghost use Rattle.shunt_rows.specs.defs.Formats.{reading};
 ghost use Rattle.shunt_rows.specs.defs.Given.{Gives};
@@ -13,10 +12,85 @@ use shunt_base::{Minute, Name, PlatformId, TrackId, TypeId, is_name};
 use shunt_instance::{Origin, Station, Timetable, Track, Train, UnitType};
 use shunt_lists::Items;
 use shunt_rows::{
-    FormatReader, Naming, Numbered, ReadError, Row, RowFault, RowKind, fields_in, minute_in, must, number_in, read,
+    FormatReader, Known, Naming, Numbered, ReadError, Row, RowFault, RowKind, fields_in, minute_in,
+    must, number_in, read,
 };
 use std::alloc::{AllocError, Global};
-use std::marker::Model;
+use std::marker::{Model, PhantomData};
+
+// Types, platforms and tracks are known by their names.
+struct TypeNames;
+
+impl Naming for TypeNames {
+    type Thing = UnitType;
+
+    ghost name = { λ t. t.name };
+
+    fn name_of(kind: &UnitType) -> &[u8] {
+        kind.name.bytes()
+    }
+}
+
+struct PlatformNames;
+
+impl Naming for PlatformNames {
+    type Thing = Name;
+
+    ghost name = { λ p. p };
+
+    fn name_of(platform: &Name) -> &[u8] {
+        platform.bytes()
+    }
+}
+
+struct TrackNames;
+
+impl Naming for TrackNames {
+    type Thing = Track;
+
+    ghost name = { λ t. t.name };
+
+    fn name_of(track: &Track) -> &[u8] {
+        track.name.bytes()
+    }
+}
+
+// A station whose names are numbered, seen as the station.
+#[derive(Drop)]
+struct KnownStation<'r> {
+    station: &'r Station,
+    types: Known<'r, TypeNames>,
+    platforms: Known<'r, PlatformNames>,
+    tracks: Known<'r, TrackNames>,
+}
+
+impl<'r> Model for KnownStation<'r> {
+    ghost use Rattle.std.specs.Prelude.{◌≡◌};
+    ghost use Rattle.shunt_instance.specs.declared.records.Station.{Station};
+
+    ghost Value = { Station };
+
+    ghost view = { λ k. k.station.now };
+
+    ghost invariant = { λ k. (k.types ≡ k.station.now.types) × (k.platforms ≡ k.station.now.platforms) × (k.tracks ≡ k.station.now.tracks) };
+}
+
+impl<'r> KnownStation<'r> {
+    fn of(alloc: Global, station: &'r Station) -> Result<KnownStation<'r>, AllocError>
+        requires { IsStation station.now }
+        ensures { IfOk result (λ k. k ≡ station.now) }
+    {
+        let types = Known::<TypeNames>::of(alloc, station.types.as_slice())?;
+        let platforms = Known::<PlatformNames>::of(alloc, station.platforms.as_slice())?;
+        let tracks = Known::<TrackNames>::of(alloc, station.tracks.as_slice())?;
+        Ok(KnownStation {
+            station,
+            types,
+            platforms,
+            tracks,
+        })
+    }
+}
 
 // Trains are known by their names.
 struct TrainNames;
@@ -85,50 +159,22 @@ impl<'r> Trains<'r> {
 
 // The trains that the records so far state.
 #[derive(Drop)]
-struct Listed<'r> {
+struct Listed<'r, 's> {
     version: u64,
     arrive: Trains<'r>,
     depart: Trains<'r>,
     // An `arrive` or `depart` record was read.
     moving: bool,
+    // The station outlives what is read over it.
+    over: PhantomData<&'s Station>,
 }
 
-impl<'r> Model for Listed<'r> {
+impl<'r, 's> Model for Listed<'r, 's> {
     ghost use Rattle.shunt_timetable.specs.defs.TimetableFormat.{Listed};
 
     ghost Value = { Listed };
 
     ghost view = { λ s. record { version = s.version; arrive = s.arrive; depart = s.depart; moving = s.moving } };
-}
-
-fn find_type(types: &[UnitType], name: &[u8]) -> Option<usize>
-    ensures { result ≡ position (λ t. bytes_eq t.name name.now) types.now }
-{
-    types.iter().position(|kind| kind.name.bytes() == name)
-}
-
-fn find_track(tracks: &[Track], name: &[u8]) -> Option<usize>
-    ensures { result ≡ position (λ t. bytes_eq t.name name.now) tracks.now }
-{
-    tracks.iter().position(|track| track.name.bytes() == name)
-}
-
-fn find_platform(platforms: &[Name], name: &[u8]) -> Option<usize>
-    ensures { result ≡ position (λ p. bytes_eq p name.now) platforms.now }
-{
-    platforms
-        .iter()
-        .position(|platform| platform.bytes() == name)
-}
-
-fn unknown(n: u32, k: u32) -> RowFault
-    ensures { result ≡ record { row = n; field = k; kind = kinds.Unknown } }
-{
-    RowFault {
-        row: n,
-        field: k,
-        kind: RowKind::Unknown,
-    }
 }
 
 // 00:00.
@@ -143,54 +189,46 @@ fn midnight() -> Minute
 
 // The type at field `k`, of one more unit behind so many.
 fn read_unit(
-    types: &[UnitType],
+    station: &KnownStation,
     before: usize,
     row: &Row,
     n: u32,
     k: u32,
 ) -> Result<TypeId, RowFault>
-    requires types { length types.now ≤ 40 }
+    requires station { IsStation station.now }
     requires first { 1 ≤ k }
     requires last { k ≤ length row.now }
-    ensures answer { result ≡ answer n (kind_of types.now before row.now k) }
+    ensures answer { result ≡ answer n (kind_of station.now.types before row.now k) }
     ensures room { OnOk result (before < 160) }
 {
-    match find_type(types, row.field(k as usize)) {
-        Some(kind) => {
-            must(before < 160, n, k, RowKind::Limit)?;
-            Ok(TypeId(kind as u8))
-        }
-        None => Err(unknown(n, k)),
-    }
+    let kind = station.types.known_in(row, n, k)?;
+    must(before < 160, n, k, RowKind::Limit)?;
+    Ok(TypeId(kind as u8))
 }
 
-fn read_track(tracks: &[Track], row: &Row, n: u32) -> Result<Origin, RowFault>
-    requires tracks { length tracks.now ≤ 60 }
+fn read_track(station: &KnownStation, row: &Row, n: u32) -> Result<Origin, RowFault>
+    requires station { IsStation station.now }
     requires last { 3 ≤ length row.now }
-    ensures { result ≡ answer n (track_in tracks.now row.now 3) }
+    ensures { result ≡ answer n (track_in station.now.tracks row.now 3) }
 {
-    match find_track(tracks, row.field(3)) {
-        Some(track) => Ok(Origin::Track(TrackId(track as u8))),
-        None => Err(unknown(n, 3)),
-    }
+    let track = station.tracks.known_in(row, n, 3)?;
+    Ok(Origin::Track(TrackId(track as u8)))
 }
 
-fn read_platform(platforms: &[Name], row: &Row, n: u32) -> Result<Origin, RowFault>
-    requires platforms { length platforms.now ≤ 30 }
+fn read_platform(station: &KnownStation, row: &Row, n: u32) -> Result<Origin, RowFault>
+    requires station { IsStation station.now }
     requires last { 4 ≤ length row.now }
-    ensures { result ≡ answer n (platform_in platforms.now row.now 4) }
+    ensures { result ≡ answer n (platform_in station.now.platforms row.now 4) }
 {
-    match find_platform(platforms, row.field(4)) {
-        Some(platform) => Ok(Origin::Platform(PlatformId(platform as u8))),
-        None => Err(unknown(n, 4)),
-    }
+    let platform = station.platforms.known_in(row, n, 4)?;
+    Ok(Origin::Platform(PlatformId(platform as u8)))
 }
 
 // The train with the types from field `first` on.
 #[tactic(auto, unfolding(crate::specs::defs::TimetableFormat::units_from))]
 fn read_units(
     alloc: Global,
-    station: &Station,
+    station: &KnownStation,
     before: usize,
     name: Name,
     minute: Minute,
@@ -208,11 +246,10 @@ fn read_units(
     ensures room { IfOk result (λ t. before + length t.units ≤ 160) }
     ensures stated { Gives (λ t. t) result (answer n (units_from station.now before (empty_train name minute origin) row.now first (length row.now - (first - 1)))) }
 {
-    let types = station.types.as_slice();
     let last = row.len() as u32;
     let mut units = Vec::new(alloc);
     for k in first..last + 1 {
-        let kind = read_unit(types, before + units.len(), row, n, k)?;
+        let kind = read_unit(station, before + units.len(), row, n, k)?;
         units.push(kind)?;
     }
     Ok(Train {
@@ -241,7 +278,7 @@ fn read_name(alloc: Global, trains: &Trains, row: &Row, n: u32) -> Result<Name, 
 #[tactic(auto, unfolding(crate::specs::defs::TimetableFormat::standing_of))]
 fn read_standing(
     alloc: Global,
-    station: &Station,
+    station: &KnownStation,
     trains: &Trains,
     row: &Row,
     n: u32,
@@ -254,7 +291,7 @@ fn read_standing(
 {
     fields_in(row, n, 4, 11)?;
     let name = read_name(alloc, trains, row, n)?;
-    let track = read_track(station.tracks.as_slice(), row, n)?;
+    let track = read_track(station, row, n)?;
     let before = trains.units();
     read_units(alloc, station, before, name, midnight(), track, row, n, 4)
 }
@@ -262,7 +299,7 @@ fn read_standing(
 #[tactic(auto, unfolding(crate::specs::defs::TimetableFormat::moving_of))]
 fn read_moving(
     alloc: Global,
-    station: &Station,
+    station: &KnownStation,
     trains: &Trains,
     row: &Row,
     n: u32,
@@ -276,17 +313,17 @@ fn read_moving(
     fields_in(row, n, 5, 12)?;
     let name = read_name(alloc, trains, row, n)?;
     let minute = minute_in(row, n, 3)?;
-    let platform = read_platform(station.platforms.as_slice(), row, n)?;
+    let platform = read_platform(station, row, n)?;
     let before = trains.units();
     read_units(alloc, station, before, name, minute, platform, row, n, 5)
 }
 
-impl<'r> Listed<'r> {
+impl<'r, 's> Listed<'r, 's> {
     #[tactic(auto, unfolding(crate::specs::defs::TimetableFormat::stand_of))]
     fn read_stand(
         &mut self,
         alloc: Global,
-        station: &Station,
+        station: &KnownStation,
         n: u32,
         row: &'r Row,
     ) -> Result<(), ReadError>
@@ -302,7 +339,7 @@ impl<'r> Listed<'r> {
     fn read_arrive(
         &mut self,
         alloc: Global,
-        station: &Station,
+        station: &KnownStation,
         n: u32,
         row: &'r Row,
     ) -> Result<(), ReadError>
@@ -319,7 +356,7 @@ impl<'r> Listed<'r> {
     fn read_depart(
         &mut self,
         alloc: Global,
-        station: &Station,
+        station: &KnownStation,
         n: u32,
         row: &'r Row,
     ) -> Result<(), ReadError>
@@ -333,8 +370,9 @@ impl<'r> Listed<'r> {
     }
 }
 
-impl<'r> FormatReader<'r> for Listed<'r> {
-    type Context = Station;
+impl<'r, 's> FormatReader<'r> for Listed<'r, 's> {
+    type Context = KnownStation<'s>;
+
     type Output = Timetable;
 
     ghost format = { timetable_format };
@@ -342,7 +380,11 @@ impl<'r> FormatReader<'r> for Listed<'r> {
     ghost suits = { IsStation };
 
     #[tactic(auto, unfolding(crate::specs::defs::TimetableFormat::first_of))]
-    fn read_first(_: &'r Station, alloc: Global, row: &'r Row) -> Result<Listed<'r>, ReadError> {
+    fn read_first(
+        _: &'r KnownStation<'s>,
+        alloc: Global,
+        row: &'r Row,
+    ) -> Result<Listed<'r, 's>, ReadError> {
         must(row.word() == b"timetable".as_slice(), 1, 1, RowKind::Kind)?;
         fields_in(row, 1, 2, 2)?;
         let version = number_in(row, 1, 2, 1, 2)?;
@@ -351,13 +393,14 @@ impl<'r> FormatReader<'r> for Listed<'r> {
             arrive: Trains::new(alloc),
             depart: Trains::new(alloc),
             moving: false,
+            over: PhantomData,
         })
     }
 
     #[tactic(auto, unfolding(crate::specs::defs::TimetableFormat::later_of))]
     fn read_later(
         &mut self,
-        station: &'r Station,
+        station: &'r KnownStation<'s>,
         alloc: Global,
         n: u32,
         row: &'r Row,
@@ -377,11 +420,11 @@ impl<'r> FormatReader<'r> for Listed<'r> {
         Ok(())
     }
 
-    fn is_whole(&self, _: &'r Station) -> bool {
+    fn is_whole(&self, _: &'r KnownStation<'s>) -> bool {
         true
     }
 
-    fn into_output(self, _: &'r Station) -> Timetable {
+    fn into_output(self, _: &'r KnownStation<'s>) -> Timetable {
         Timetable {
             arrive: self.arrive.trains.into_items(),
             depart: self.depart.trains.into_items(),
@@ -402,5 +445,6 @@ pub fn read_timetable(
     ensures stated { Gives (λ t. t) result (reading (timetable_format station.now) rows.now.items) }
     ensures formed { IfOk result (IsTimetable station.now) }
 {
-    read::<Listed>(station, alloc, rows)
+    let known = KnownStation::of(alloc, station)?;
+    read::<Listed>(&known, alloc, rows)
 }

@@ -1,12 +1,12 @@
 -- The format of a timetable over a station.
-use Rattle.std.specs.Prelude.{ℕ, zero, suc, ◌+◌, ◌-◌, ◌==◌, Bool, true, false, not, ◌&&◌, nat_lt, List, [], ◌∷◌, ◌++◌, length, position, if◌then◌else◌, codes, bytes_eq}
+use Rattle.std.specs.Prelude.{ℕ, zero, suc, ◌+◌, ◌-◌, ◌==◌, Bool, true, false, not, ◌&&◌, nat_lt, List, [], ◌∷◌, ◌++◌, length, if◌then◌else◌, codes, bytes_eq}
 use Rattle.std.specs.List.{list_any}
 use Rattle.shunt_base.specs.declared.ids.TypeId.{TypeId}
 use Rattle.shunt_base.specs.defs.Spelling.{is_name_text}
 use Rattle.shunt_rows.specs.declared.fault.RowKind.TheVariants as kinds
 use Rattle.shunt_rows.specs.defs.Records.{at}
-use Rattle.shunt_rows.specs.defs.Checks.{Judged, must, says, found, ◌>>=◌}
-use Rattle.shunt_rows.specs.defs.Fields.{is_word, no_word, fields_in, number_in, minute_in}
+use Rattle.shunt_rows.specs.defs.Checks.{Judged, must, says, ◌>>=◌}
+use Rattle.shunt_rows.specs.defs.Fields.{is_word, no_word, fields_in, number_in, minute_in, named_in}
 use Rattle.shunt_rows.specs.defs.Formats.{Format}
 use Rattle.shunt_instance.specs.declared.records.Station.{Station}
 use Rattle.shunt_instance.specs.declared.records.Track.{Track}
@@ -31,10 +31,6 @@ first_of row = do
   _ ← fields_in row 2 2
   version ← number_in row 2 1 2
   says record { version = version; arrive = []; depart = []; moving = false }
-
--- the field is the name of one of these things, and says the place of the first of them
-abbrev pub named_in : {X : Type 0} → (X → List ℕ) → List X → List (List ℕ) → ℕ → Judged ℕ
-named_in name things row k = found 0 (position (λ x. bytes_eq (name x) (at row k)) things) k kinds.Unknown
 
 -- the field is a track of these, or a platform
 abbrev pub track_in : List Track → List (List ℕ) → ℕ → Judged Origin

@@ -80,6 +80,11 @@ fn nights_are_matched(rt: HostRuntime) -> Result<(), Fail> {
             "no matching type K arrive 2 depart 1\n",
         ),
         (
+            "timetable,1\narrive,a1,22:00,P,K,K\n",
+            Status::NoMatching,
+            "no matching type K arrive 2 depart 0\n",
+        ),
+        (
             "timetable,1\ndepart,d1,30:00,P,K,X,K\narrive,a2,22:30,P,X,K\narrive,a1,22:00,P,K\n",
             Status::Done,
             "pair a1 1 d1 1\npair a2 1 d1 2\npair a2 2 d1 3\nmatched 3\n",

@@ -135,6 +135,7 @@ fn trains_have_a_value_or_a_first_fault(rt: HostRuntime) -> Result<(), Fail> {
             Some((3, 1, 2)),
         ),
         ("timetable,1\narrive,a1,22:00,P,K\ndep", Some((3, 1, 1))),
+        ("timetable,1\narrive,a1,22:00,P,K\n", None),
         ("timetable,1\narrive,a1,47:59,P,K\n", None),
         ("timetable,1\narrive,a1,48:00,Q,K\n", Some((2, 3, 5))),
         ("timetable,1\narrive,a b,48:00,Q,Z\n", Some((2, 2, 3))),

@@ -25,49 +25,17 @@ option_up s row = by (length row == 7)
     by true = record { up = refl }
     by false = record { up = refl }
 
-add_up : (night : Night) (before : ℕ) (row : List (List ℕ)) → AreInOrder (add_of night before row)
-unfolding add_of runs_in
-add_up night before row = record { up = (option_up night.station row).up }
-
-drop_up : (before : ℕ) (row : List (List ℕ)) → AreInOrder (drop_of before row)
-unfolding drop_of
-drop_up before row = record { up = refl }
-
-park_up : (night : Night) (before : ℕ) (row : List (List ℕ)) → AreInOrder (park_of night before row)
-unfolding park_of
-park_up night before row = record { up = refl }
-
-unpark_up : (before : ℕ) (row : List (List ℕ)) → AreInOrder (unpark_of before row)
-unfolding unpark_of
-unpark_up before row = record { up = refl }
-
-cut_up : (before : ℕ) (row : List (List ℕ)) → AreInOrder (cut_of before row)
-unfolding cut_of
-cut_up before row = record { up = refl }
-
-join_up : (before : ℕ) (row : List (List ℕ)) → AreInOrder (join_of before row)
-unfolding join_of
-join_up before row = record { up = refl }
-
-undo_up : (before : ℕ) (row : List (List ℕ)) → AreInOrder (undo_of before row)
-unfolding undo_of
-undo_up before row = record { up = refl }
-
-redo_up : (before : ℕ) (row : List (List ℕ)) → AreInOrder (redo_of before row)
-unfolding redo_of
-redo_up before row = record { up = refl }
-
 turn_up : (night : Night) (before : ℕ) (row : List (List ℕ)) → AreInOrder (turn_of night before row)
-unfolding turn_of
+unfolding turn_of add_of runs_in drop_of park_of unpark_of cut_of join_of undo_of redo_of
 turn_up night before row =
-    in_if (is_word row (codes "add")) (add_up night before row)
-    (in_if (is_word row (codes "drop")) (drop_up before row)
-    (in_if (is_word row (codes "park")) (park_up night before row)
-    (in_if (is_word row (codes "unpark")) (unpark_up before row)
-    (in_if (is_word row (codes "cut")) (cut_up before row)
-    (in_if (is_word row (codes "join")) (join_up before row)
-    (in_if (is_word row (codes "undo")) (undo_up before row)
-    (in_if (is_word row (codes "redo")) (redo_up before row) (no_word_up turns.Undo))))))))
+    in_if (is_word row (codes "add")) (record { up = (option_up night.station row).up })
+    (in_if (is_word row (codes "drop")) (record { up = refl })
+    (in_if (is_word row (codes "park")) (record { up = refl })
+    (in_if (is_word row (codes "unpark")) (record { up = refl })
+    (in_if (is_word row (codes "cut")) (record { up = refl })
+    (in_if (is_word row (codes "join")) (record { up = refl })
+    (in_if (is_word row (codes "undo")) (record { up = refl })
+    (in_if (is_word row (codes "redo")) (record { up = refl }) (no_word_up turns.Undo))))))))
 
 -- behind the checks of a turn there are no more
 later_up : (night : Night) (before : List Turn) (row : List (List ℕ)) → AreInOrder (edits_later night before row)

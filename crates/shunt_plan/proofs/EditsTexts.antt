@@ -1,15 +1,14 @@
 -- The text of turns: it is plain and short, and reads back.
 use Rattle.std.proofs.Common.{◌≡◌, ℕ, ◌<◌, ◌≤◌, List, [], ◌∷◌, length, length-append, map, refl, sym, ap, ◌∙◌, subst, arith}
-use Rattle.std.specs.Prelude.{All, Option, Some, None, codes, Result, Ok, Err, IfOk}
+use Rattle.std.specs.Prelude.{Option, codes, Ok}
 use Rattle.std.specs.List.{AllByRecursion}
 use Rattle.std.specs.Fmt.{decimal}
 use Rattle.std.proofs.lemmas.Fmt.{length-decimal-le}
 use Rattle.std.proofs.lemmas.List.Concat.{flat_map-cons}
-use Rattle.std.proofs.lemmas.List.Elements.{All-tail}
 use Rattle.shunt_rows.specs.defs.Records.{IsPlainField, IsPlainRow, ArePlain, records_of, text_of_row, text_of_rows, ReadsBack}
 use Rattle.shunt_rows.specs.defs.Formats.{reading}
 use Rattle.shunt_rows.proofs.Again.{again}
-use Rattle.shunt_rows.proofs.Plain.{plain_name, plain_number, plain_word, plain_side, side_short}
+use Rattle.shunt_rows.proofs.Plain.{plain_map, plain_name, plain_number, plain_word, plain_side, side_short}
 use Rattle.shunt_rows.proofs.Widths.{row_width, rows_width}
 use Rattle.shunt_instance.specs.declared.records.Station.{Station}
 use Rattle.shunt_instance.specs.defs.Wellformed.{IsStation}
@@ -23,8 +22,9 @@ use Rattle.shunt_plan.specs.declared.edits.Turn.{Turn}
 use Rattle.shunt_plan.specs.declared.edits.Turn.TheVariants as turns
 use Rattle.shunt_plan.specs.defs.Edits.{IsId, AreRunsStated, IsTurn, AreTurns, edits_format}
 use Rattle.shunt_plan.specs.defs.WrittenEdits.{park_fields, number_row, numbers_row, turn_row, edits_head, rows_of_edits, ReadsAsEdits}
+use Rattle.shunt_plan.proofs.Lengths.{option_short, place_short}
 use Rattle.shunt_plan.proofs.Plain.{arr_named, dep_named, track_named, plain_option}
-use Rattle.shunt_plan.proofs.EditsAgain.{turns_again}
+use Rattle.shunt_plan.proofs.EditsRoundTrip.{turns_again}
 
 plain_id : (id : ℕ) → IsId id → IsPlainField (decimal id)
 plain_id id is = let le = is.1 in plain_number id (omega arith)
@@ -53,32 +53,20 @@ head_plain : IsPlainRow edits_head
 head_plain = (omega arith, (plain_word (codes "edits") refl refl, (plain_count 1 (omega arith), tt)))
 
 edits_plain : (night : Night) → IsOrderedNight night → (all : List Turn) → AreTurns night all → ArePlain (rows_of_edits night all)
-edits_plain night f all are = (head_plain, rows_plain all are.each)
-  where
-    rows_plain : (ts : List Turn) → All (IsTurn night) ts → ArePlain (map (turn_row night) ts)
-    rows_plain [] each = tt
-    rows_plain (t ∷ ts) each = (turn_plain night f t (each 0 t (omega arith)), rows_plain ts (All-tail (IsTurn night) t ts each))
+edits_plain night f all are = (head_plain, plain_map (IsTurn night) (turn_row night) all (turn_plain night f) are.each)
 
 -- ---- short
 
 id_short : (id : ℕ) → IsId id → length (decimal id) ≤ 7
 id_short id is = let le = is.1 in length-decimal-le 7 id (omega arith) (omega arith) (omega arith)
 
-count_short : (k : ℕ) → k ≤ 8 → length (decimal k) ≤ 1
-count_short k le = length-decimal-le 1 k (omega arith) (omega arith) (omega arith)
-
 add_short : (night : Night) → IsOrderedNight night → (s : Shape) (park : Option Park) → AreRunsStated night s → IsOnTrack night.station park → length (text_of_row (turn_row night (turns.Edit (edits.Add s.arr s.p s.n s.dep s.q park)))) ≤ 70
-add_short night f s None r on =
-    let w = row_width (turn_row night (turns.Edit (edits.Add s.arr s.p s.n s.dep s.q None))) (turn_plain night f (turns.Edit (edits.Add s.arr s.p s.n s.dep s.q None)) (r, on)) in
+add_short night f s park r on =
+    let turn = turns.Edit (edits.Add s.arr s.p s.n s.dep s.q park) in
+    let w = row_width (turn_row night turn) (turn_plain night f turn (r, on)) in
     let a = (arr_named night s.arr f r.arr).1 in
     let d = (dep_named night s.dep f r.dep).1 in
-    omega (arith, w, a, d, count_short s.p r.p, count_short s.n r.n, count_short s.q r.q)
-add_short night f s (Some park) r on =
-    let w = row_width (turn_row night (turns.Edit (edits.Add s.arr s.p s.n s.dep s.q (Some park)))) (turn_plain night f (turns.Edit (edits.Add s.arr s.p s.n s.dep s.q (Some park))) (r, on)) in
-    let a = (arr_named night s.arr f r.arr).1 in
-    let d = (dep_named night s.dep f r.dep).1 in
-    let t = (track_named night.station park.track f.station on).1 in
-    omega (arith, w, a, d, t, count_short s.p r.p, count_short s.n r.n, count_short s.q r.q, side_short park.side_in, side_short park.side_out)
+    omega (arith, w, a, d, place_short s.p r.p, place_short s.n r.n, place_short s.q r.q, option_short night.station park f.station on)
 
 turn_short : (night : Night) → IsOrderedNight night → (t : Turn) → IsTurn night t → length (text_of_row (turn_row night t)) ≤ 70
 turn_short night f (turns.Edit (edits.Add arr p n dep q park)) is = add_short night f (record { arr = arr; p = p; n = n; dep = dep; q = q }) park is.0 is.1
@@ -94,7 +82,7 @@ turn_short night f (turns.Edit (edits.Unpark id)) is =
     omega (arith, w, id_short id is)
 turn_short night f (turns.Edit (edits.Cut id k)) is =
     let w = row_width (numbers_row (codes "cut") id k) (turn_plain night f (turns.Edit (edits.Cut id k)) is) in
-    omega (arith, w, id_short id is.0, count_short k is.1)
+    omega (arith, w, id_short id is.0, place_short k is.1)
 turn_short night f (turns.Edit (edits.Join a b)) is =
     let w = row_width (numbers_row (codes "join") a b) (turn_plain night f (turns.Edit (edits.Join a b)) is) in
     omega (arith, w, id_short a is.0, id_short b is.1)
@@ -108,7 +96,7 @@ edits_short night is all are =
     let few = are.few in
     let rest = rows_width (IsTurn night) (turn_row night) 70 all (turn_short night f) are.each in
     let head = row_width edits_head head_plain in
-    let one = count_short 1 (omega arith) in
+    let one = place_short 1 (omega arith) in
     omega (arith, few, rest, head, one, ap length (flat_map-cons text_of_row edits_head (map (turn_row night) all)), length-append (text_of_row edits_head) (text_of_rows (map (turn_row night) all)))
 
 -- ---- read back
@@ -127,7 +115,3 @@ text_back night is all are = back_from night is all are (text_of_rows (rows_of_e
 
 pub short_from : (night : Night) → IsInstance night → (all : List Turn) → AreTurns night all → (text bytes : List ℕ) → text ≡ text_of_rows (rows_of_edits night all) → bytes ≡ text → length bytes ≤ 700008
 short_from night is all are text bytes e same = subst (λ (t : List ℕ). length t ≤ 700008) (sym (same ∙ e)) (edits_short night is all are)
-
-pub if_ok : {X E : Type 0} (r : Result X E) (P Q : X → Type 0) → IfOk r P → ((v : X) → P v → Q v) → IfOk r Q
-if_ok (Ok v) P Q p h = h v p
-if_ok (Err e) P Q p h = tt

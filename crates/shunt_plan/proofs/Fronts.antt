@@ -1,24 +1,19 @@
 -- Fronts of lists of blocks, as loops go through them.
-use Rattle.std.proofs.Common.{◌≡◌, ◌≢◌, ◌⊎◌, ℕ, zero, suc, ◌+◌, ◌<◌, ◌≤◌, Bool, true, false, ◌||◌, List, [], ◌∷◌, ◌++◌, length, map, get_or, take, drop, refl, sym, ap, subst, ◌∙◌, arith, inl, inr, ⊎_elim, IsTrue}
+use Rattle.std.proofs.Common.{◌≡◌, ◌⊎◌, ℕ, zero, suc, ◌+◌, ◌<◌, ◌≤◌, true, false, List, [], ◌∷◌, ◌++◌, length, map, get_or, take, drop, refl, sym, ap, subst, ◌∙◌, arith, inl, inr, ⊎_elim, IsTrue}
 use Rattle.std.specs.Prelude.{All, ◌==◌}
 use Rattle.std.specs.List.{list_any}
-use Rattle.std.proofs.lemmas.Bool.{true≢false}
-use Rattle.std.proofs.lemmas.Bool.Decides.{nat_tests}
-use Rattle.std.proofs.lemmas.List.{take_all, take_more, drop_more, take-append-drop, map-append, length-map}
-use Rattle.std.proofs.lemmas.List.Elements.{All-push}
-use Rattle.std.proofs.lemmas.List.Quantifiers.{all_pairs_push}
+use Rattle.std.proofs.lemmas.Bool.{true≢false, eqb-true, eq-eqb, or_cases}
+use Rattle.std.proofs.lemmas.List.{take_all, take_more, drop_more, take-append-drop, length-map}
+use Rattle.std.proofs.lemmas.List.Elements.{All-more}
+use Rattle.shunt_rows.proofs.Named.{distinct_push}
 use Rattle.shunt_stays.specs.defs.Members.{In}
 use Rattle.shunt_instance.specs.defs.Words.{AreDistinct}
 use Rattle.shunt_blocks.specs.declared.records.Block.{Block}
 use Rattle.shunt_blocks.specs.defs.Pins.{IsKept, Keeps, without_id}
 use Rattle.shunt_plan.specs.defs.BlockRecords.{has_id}
 use Rattle.shunt_plan.specs.defs.Plans.{IsFirstLost}
-use Rattle.shunt_plan.proofs.Formed.{none_has}
 
 -- ---- what holds of each
-
-pub each_more : {X : Type 0} (P : X → Type 0) (xs : List X) (i : ℕ) (d : X) → i < length xs → All P (take i xs) → P (get_or xs i d) → All P (take (i + 1) xs)
-each_more P xs i d lt all p = subst (All P) (sym (take_more xs i d lt)) (All-push P (take i xs) (get_or xs i d) all p)
 
 pub each_whole : {X : Type 0} (P : X → Type 0) (xs : List X) (i : ℕ) → length xs ≤ i → All P (take i xs) → All P xs
 each_whole P xs i le all = subst (All P) (take_all i xs le) all
@@ -27,13 +22,6 @@ each_whole P xs i le all = subst (All P) (take_all i xs le) all
 
 abbrev ids : List Block → List ℕ
 ids blocks = map (λ b. b.id) blocks
-
-is_equal : (a b : ℕ) → (a == b) ≡ true → a ≡ b
-is_equal a b e = grind (arith, nat_tests)
-
-either : (a b : Bool) → (a || b) ≡ true → (a ≡ true) ⊎ (b ≡ true)
-either true b e = inl refl
-either false b e = inr e
 
 id_at : (blocks : List Block) (i : ℕ) (d : Block) (e : ℕ) → i < length blocks → get_or (ids blocks) i e ≡ (get_or blocks i d).id
 id_at [] i d e lt = absurd (omega arith)
@@ -45,9 +33,9 @@ clash : (blocks : List Block) (i : ℕ) (d : Block) → i < length blocks → li
 clash [] i d lt e all = omega arith
 clash (b ∷ blocks) zero d lt e all = true≢false (sym e)
 clash (b ∷ blocks) (suc i) d lt e all = ⊎_elim
-    (λ t. all 0 (suc i) 0 (omega arith) (omega (arith, length-map blocks (λ (b : Block). b.id))) (is_equal b.id (get_or blocks i d).id t ∙ sym (id_at blocks i d 0 (omega arith))))
+    (λ t. all 0 (suc i) 0 (omega arith) (omega (arith, length-map blocks (λ (b : Block). b.id))) (eqb-true b.id (get_or blocks i d).id t ∙ sym (id_at blocks i d 0 (omega arith))))
     (λ t. clash blocks i d (omega arith) t (λ j k e lt small. all (suc j) (suc k) e (omega arith) (omega arith)))
-    (either (b.id == (get_or blocks i d).id) (list_any (λ b. b.id == (get_or blocks i d).id) (take i blocks)) e)
+    (or_cases (b.id == (get_or blocks i d).id) (list_any (λ b. b.id == (get_or blocks i d).id) (take i blocks)) e)
 
 pub own_ids_not : (blocks : List Block) (i : ℕ) (d : Block) → i < length blocks → true ≡ has_id (take i blocks) (get_or blocks i d).id → (IsTrue false → AreDistinct (ids blocks)) × (AreDistinct (ids blocks) → IsTrue false)
 unfolding has_id
@@ -58,7 +46,7 @@ unfolding has_id
 own_ids_more blocks i d lt e all =
     let b = get_or blocks i d in
     subst (λ (l : List Block). AreDistinct (ids l)) (sym (take_more blocks i d lt))
-    (subst AreDistinct (sym (map-append (λ (b : Block). b.id) (take i blocks) (b ∷ []))) (all_pairs_push (λ m n. m ≢ n) (ids (take i blocks)) b.id all (none_has (take i blocks) b.id (sym e))))
+    (distinct_push (λ (c : Block). c.id) (λ c. c.id == b.id) (take i blocks) b (λ c same. eq-eqb c.id b.id same) all (sym e))
 
 pub own_ids_whole : (blocks : List Block) (i : ℕ) → length blocks ≤ i → AreDistinct (ids (take i blocks)) → (IsTrue true → AreDistinct (ids blocks)) × (AreDistinct (ids blocks) → IsTrue true)
 own_ids_whole blocks i le all = (λ t. subst (λ (l : List Block). AreDistinct (ids l)) (take_all i blocks le) all, λ _. refl)
@@ -98,4 +86,4 @@ first_lost blocks seen pins i d same lt kept lost = record {
 }
 
 pub keeps_more : (blocks seen pins : List Block) (i : ℕ) (d : Block) → seen ≡ blocks → i < length pins → Keeps blocks (take i pins) → IsKept seen (get_or pins i d) → Keeps blocks (take (i + 1) pins)
-keeps_more blocks seen pins i d same lt kept is = each_more (IsKept blocks) pins i d lt kept (subst (λ (l : List Block). IsKept l (get_or pins i d)) same is)
+keeps_more blocks seen pins i d same lt kept is = All-more (IsKept blocks) pins i d lt kept (subst (λ (l : List Block). IsKept l (get_or pins i d)) same is)

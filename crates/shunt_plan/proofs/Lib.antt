@@ -1,13 +1,13 @@
-pub mod Back
+pub mod RoundTrip
 pub mod Formed
 pub mod Fronts
 pub mod Parts
 pub mod Plain
-pub mod Short
+pub mod Lengths
 pub mod Tables
 pub mod Texts
 pub mod EditsFormed
 pub mod EditsParts
 pub mod EditsTables
-pub mod EditsAgain
+pub mod EditsRoundTrip
 pub mod EditsTexts

@@ -1,13 +1,14 @@
 -- The records of a plan have plain fields.
-use Rattle.std.proofs.Common.{ℕ, zero, suc, ◌+◌, ◌<◌, ◌≤◌, List, [], ◌∷◌, ◌++◌, length, map, get_or, refl, arith}
-use Rattle.std.specs.Prelude.{All, codes, Option, Some, None}
+use Rattle.std.proofs.Common.{ℕ, ◌+◌, ◌<◌, ◌≤◌, length, map, refl, arith}
+use Rattle.std.specs.Prelude.{codes, Option, Some, None}
 use Rattle.std.specs.List.{AllByRecursion}
+use Rattle.shunt_rows.proofs.Named.{name_at}
 use Rattle.shunt_base.specs.declared.ids.ArrId.{ArrId}
 use Rattle.shunt_base.specs.declared.ids.DepId.{DepId}
 use Rattle.shunt_base.specs.declared.ids.TrackId.{TrackId}
 use Rattle.shunt_base.specs.defs.Spelling.{IsName}
 use Rattle.shunt_rows.specs.defs.Records.{IsPlainField, IsPlainRow, ArePlain}
-use Rattle.shunt_rows.proofs.Plain.{plain_name, plain_number, plain_word, plain_side}
+use Rattle.shunt_rows.proofs.Plain.{plain_name, plain_number, plain_word, plain_side, plain_more, plain_map}
 use Rattle.shunt_instance.specs.declared.records.Station.{Station}
 use Rattle.shunt_instance.specs.declared.records.Track.{Track}
 use Rattle.shunt_instance.specs.declared.records.Train.{Train}
@@ -19,11 +20,6 @@ use Rattle.shunt_blocks.specs.defs.Shapes.{IsOnTrack, IsInRange}
 use Rattle.shunt_plan.specs.declared.records.Plan.{Plan}
 use Rattle.shunt_plan.specs.defs.Plans.{IsPlanInRange}
 use Rattle.shunt_plan.specs.defs.PlanRows.{arr_name, dep_name, track_name, option_fields, head_row, block_row, cost_row, rows_of}
-
-name_at : {X : Type 0} (name : X → List ℕ) (xs : List X) (k : ℕ) → All (λ x. IsName (name x)) xs → k < length xs → IsName (get_or (map name xs) k [])
-name_at name [] k all lt = absurd (omega arith)
-name_at name (x ∷ xs) zero all lt = all 0 x (omega arith)
-name_at name (x ∷ xs) (suc k) all lt = name_at name xs k (λ j d le. all (suc j) d (omega arith)) (omega arith)
 
 pub arr_named : (night : Night) (a : ArrId) → IsOrderedNight night → a.0 < length night.arrive → IsName (arr_name night a)
 arr_named night a h lt = name_at (λ (t : Train). t.name) night.arrive a.0 (λ k d le. (h.timetable.arrive.each k d le).name) lt
@@ -37,14 +33,6 @@ track_named s t f lt = name_at (λ (t : Track). t.name) s.tracks t.0 (λ k d le.
 pub plain_option : (s : Station) (park : Option Park) → IsStation s → IsOnTrack s park → AllByRecursion IsPlainField (option_fields s park)
 plain_option s None f on = (plain_word (codes "unparked") refl refl, tt)
 plain_option s (Some k) f on = (plain_word (codes "park") refl refl, (plain_name _ (track_named s k.track f on), (plain_side k.side_in, (plain_side k.side_out, tt))))
-
-plain_more : (rows more : List (List (List ℕ))) → ArePlain rows → ArePlain more → ArePlain (rows ++ more)
-plain_more [] more p q = q
-plain_more (row ∷ rows) more p q = (p.0, plain_more rows more p.1 q)
-
-plain_map : {X : Type 0} (P : X → Type 0) (row : X → List (List ℕ)) (xs : List X) → ((x : X) → P x → IsPlainRow (row x)) → All P xs → ArePlain (map row xs)
-plain_map P row [] h all = tt
-plain_map P row (x ∷ xs) h all = (h x (all 0 x (omega arith)), plain_map P row xs h (λ k d lt. all (suc k) d (omega arith)))
 
 pub plain_head : IsPlainRow head_row
 plain_head = (omega arith, (plain_word (codes "plan") refl refl, (plain_number 1 (omega arith), tt)))

@@ -39,17 +39,13 @@ more_up : (night : Night) (d : Draft) (row : List (List ℕ)) → AreInOrder (pl
 unfolding plan.more_of
 more_up night d row = record { up = (whole_up 13 (blocks_of night d.blocks row).checks (record { up = (blocks_up night d.blocks row).up })).up }
 
-cost_up : (d : Draft) (row : List (List ℕ)) → AreInOrder (plan.cost_of d row)
-unfolding plan.cost_of
-cost_up d row = record { up = refl }
-
 first_up : (row : List (List ℕ)) → AreInOrder (plan.first_of row)
 unfolding plan.first_of
 first_up row = record { up = refl }
 
 later_up : (night : Night) (d : Draft) (row : List (List ℕ)) → AreInOrder (plan.later_of night d row)
-unfolding plan.later_of
-later_up night d row = in_if (is_word row (codes "block")) (more_up night d row) (in_if (is_word row (codes "cost")) (cost_up d row) (no_word_up d))
+unfolding plan.later_of plan.cost_of
+later_up night d row = in_if (is_word row (codes "block")) (more_up night d row) (in_if (is_word row (codes "cost")) (record { up = refl }) (no_word_up d))
 
 pins_first_up : (row : List (List ℕ)) → AreInOrder (pins_first row)
 unfolding pins_first

@@ -1,6 +1,5 @@
 -- The text of a plan, one part after the other.
 use Rattle.std.proofs.Common.{◌≡◌, ℕ, List, [], ◌∷◌, ◌++◌, map, sym, ap, ◌∙◌}
-use Rattle.std.specs.Prelude.{Result, Ok, Err, IfOk}
 use Rattle.std.proofs.lemmas.List.{append_assoc, append-nil}
 use Rattle.std.proofs.lemmas.List.Concat.{flat_map-cons, flat_map-append}
 use Rattle.shunt_rows.specs.defs.Records.{text_of_row, text_of_rows}
@@ -36,7 +35,3 @@ plan_written night plan blocks w a b c same start first more last =
     ∙ ap (λ l. head ++ rest l ++ cost) same
     ∙ append_assoc head (rest plan.blocks) cost
     ∙ sym (whole_text night plan)
-
-pub if_ok : {X E : Type 0} (r : Result X E) (P Q : X → Type 0) → IfOk r P → ((v : X) → P v → Q v) → IfOk r Q
-if_ok (Ok v) P Q p h = h v p
-if_ok (Err e) P Q p h = tt

@@ -3,16 +3,18 @@ ghost use Rattle.std.specs.Prelude.{◌≡◌, ◌≤◌, ◌<◌, ◌==◌, ◌
 ghost use Rattle.shunt_rows.specs.defs.Checks.{answer};
 ghost use Rattle.shunt_rows.specs.defs.Formats.{in_state, reading};
 ghost use Rattle.shunt_rows.specs.defs.Given.{Gives};
-ghost use Rattle.shunt_plan.specs.defs.Edits.{AreTurns, edits_first, edits_format, count_in, block_id_in, room_in, runs_in, add_of, drop_of, park_of, unpark_of, cut_of, join_of, undo_of, redo_of, turn_of};
+ghost use Rattle.shunt_plan.specs.defs.Edits.{AreTurns, edits_format, count_in, block_id_in, room_in, runs_in, add_of, drop_of, park_of, unpark_of, cut_of, join_of, undo_of, redo_of, turn_of};
 
 use crate::block_records::{read_arr, read_dep, read_first, read_option, read_track};
 use shunt_base::{ArrId, DepId};
 use shunt_blocks::{Park, Shape};
 use shunt_instance::Instance;
+use shunt_lists::Items;
 use shunt_rows::{
-    ReadError, Row, RowFault, RowKind, fields_in, must, number_in, record_number, side_in,
+    FormatReader, ReadError, Row, RowFault, RowKind, fields_in, must, number_in, read, side_in,
 };
 use std::alloc::Global;
+use std::marker::Model;
 
 /// A change of a plan's blocks. Whether it can be made is judged where it is made.
 #[derive(Clone, Copy, Debug, PartialEq, Eq, Drop)]
@@ -221,15 +223,6 @@ fn read_turn(instance: &Instance, before: usize, row: &Row, n: u32) -> Result<Tu
     })
 }
 
-// No turns behind the first record.
-#[tactic(auto, unfolding(crate::specs::defs::Edits::edits_first))]
-fn first_edits(alloc: Global, row: &Row) -> Result<Vec<Turn>, ReadError>
-    ensures { Gives (λ v. v.items) result (answer 1 (edits_first row.now)) }
-{
-    read_first(row, b"edits")?;
-    Ok(Vec::new(alloc))
-}
-
 // Adds the turn of a later record.
 fn read_more(instance: &Instance, turns: &mut Vec<Turn>, n: u32, row: &Row) -> Result<(), ReadError>
     ensures { Gives (λ _. turns.new.items) result (answer n (in_state (edits_format instance.now) turns.old.items row.now)) }
@@ -239,16 +232,55 @@ fn read_more(instance: &Instance, turns: &mut Vec<Turn>, n: u32, row: &Row) -> R
     Ok(())
 }
 
-// The turns that the records state, or their first fault.
-fn edits_in(alloc: Global, instance: &Instance, rows: &[Row]) -> Result<Vec<Turn>, ReadError>
-    ensures { Gives (λ v. v.items) result (reading (edits_format instance.now) rows.now) }
-{
-    must(!rows.is_empty(), 1, 0, RowKind::Missing)?;
-    let mut turns = first_edits(alloc, &rows[0])?;
-    for i in 1..rows.len() {
-        read_more(instance, &mut turns, record_number(i)?, &rows[i])?;
+// The turns that the records so far state.
+#[derive(Debug, Drop)]
+struct Turns {
+    turns: Vec<Turn>,
+}
+
+impl Model for Turns {
+    ghost use Rattle.std.specs.Prelude.{List};
+    ghost use Rattle.shunt_plan.specs.declared.edits.Turn.{Turn};
+
+    ghost Value = { List Turn };
+
+    ghost view = { λ t. t.turns.items };
+}
+
+impl<'r> FormatReader<'r> for Turns {
+    type Context = Instance;
+
+    type Output = Items<Turn>;
+
+    ghost format = { λ night. edits_format night };
+
+    ghost suits = { λ _. Unit };
+
+    #[tactic(auto, unfolding(crate::specs::defs::Edits::edits_first))]
+    fn read_first(_: &'r Instance, alloc: Global, row: &'r Row) -> Result<Turns, ReadError> {
+        read_first(row, b"edits")?;
+        Ok(Turns {
+            turns: Vec::new(alloc),
+        })
     }
-    Ok(turns)
+
+    fn read_later(
+        &mut self,
+        instance: &'r Instance,
+        _: Global,
+        n: u32,
+        row: &'r Row,
+    ) -> Result<(), ReadError> {
+        read_more(instance, &mut self.turns, n, row)
+    }
+
+    fn is_whole(&self, _: &'r Instance) -> bool {
+        true
+    }
+
+    fn into_output(self, _: &'r Instance) -> Items<Turn> {
+        Items::from_vec(self.turns)
+    }
 }
 
 /// The turns that the records state, in their order, or exactly their first fault.
@@ -264,5 +296,5 @@ pub fn read_edits(
     ensures stated { Gives (λ v. v.items) result (reading (edits_format instance.now) rows.now.items) }
     ensures formed { IfOk result (λ v. AreTurns instance.now v.items) }
 {
-    edits_in(alloc, instance, rows)
+    Ok(read::<Turns>(instance, alloc, rows)?.into_vec())
 }

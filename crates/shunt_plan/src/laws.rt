@@ -44,7 +44,6 @@ pub fn edits_or_first_fault()
 {}
 
 /// The turns that records state have trains and tracks of the night and numbers in range, and are at most 10,000.
-#[tactic(auto, using(crate::proofs::EditsFormed::turns_formed))]
 pub fn stated_turns_are_in_range()
     ensures { (night : Night) (rows : List (List (List ℕ))) (turns : List Turn) → reading (edits_format night) rows ≡ Ok turns → AreTurns night turns }
 {}

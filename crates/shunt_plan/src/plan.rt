@@ -1,9 +1,9 @@
 // From records to a plan.
 ghost use Rattle.std.specs.Prelude.{IfOk};
 ghost use Rattle.shunt_rows.specs.defs.Checks.{answer};
-ghost use Rattle.shunt_rows.specs.defs.Formats.{in_state, reading};
+ghost use Rattle.shunt_rows.specs.defs.Formats.{reading};
 ghost use Rattle.shunt_rows.specs.defs.Given.{Gives};
-ghost use Rattle.shunt_plan.specs.defs.PlanFormat.{Draft, first_of, more_of, cost_of, plan_format};
+ghost use Rattle.shunt_plan.specs.defs.PlanFormat.{Draft, more_of, cost_of, plan_format};
 ghost use Rattle.shunt_plan.specs.defs.Plans.{IsPlanInRange};
 
 use crate::block_records::{read_first, read_more};
@@ -11,7 +11,7 @@ use crate::records::Plan;
 use shunt_blocks::Block;
 use shunt_instance::Instance;
 use shunt_lists::Items;
-use shunt_rows::{ReadError, Row, RowKind, fields_in, must, number_in, record_number};
+use shunt_rows::{FormatReader, ReadError, Row, RowKind, fields_in, must, number_in, read};
 use std::alloc::Global;
 use std::marker::Model;
 
@@ -31,17 +31,6 @@ impl Model for Draft {
 }
 
 impl Draft {
-    #[tactic(auto, unfolding(crate::specs::defs::PlanFormat::first_of))]
-    fn read_first(alloc: Global, row: &Row) -> Result<Draft, ReadError>
-        ensures { Gives (λ d. d) result (answer 1 (first_of row.now)) }
-    {
-        read_first(row, b"plan")?;
-        Ok(Draft {
-            blocks: Vec::new(alloc),
-            cost: None,
-        })
-    }
-
     fn read_more(&mut self, instance: &Instance, n: u32, row: &Row) -> Result<(), ReadError>
         ensures { Gives (λ _. self.new) result (answer n (more_of instance.now self.old row.now)) }
     {
@@ -57,11 +46,34 @@ impl Draft {
         self.cost = Some(stated);
         Ok(())
     }
+}
+
+impl<'r> FormatReader<'r> for Draft {
+    type Context = Instance;
+
+    type Output = Plan;
+
+    ghost format = { λ night. plan_format night };
+
+    ghost suits = { λ _. Unit };
+
+    #[tactic(auto, unfolding(crate::specs::defs::PlanFormat::first_of))]
+    fn read_first(_: &'r Instance, alloc: Global, row: &'r Row) -> Result<Draft, ReadError> {
+        read_first(row, b"plan")?;
+        Ok(Draft {
+            blocks: Vec::new(alloc),
+            cost: None,
+        })
+    }
 
     #[tactic(auto, unfolding(crate::specs::defs::PlanFormat::later_of))]
-    fn read_later(&mut self, instance: &Instance, n: u32, row: &Row) -> Result<(), ReadError>
-        ensures { Gives (λ _. self.new) result (answer n (in_state (plan_format instance.now) self.old row.now)) }
-    {
+    fn read_later(
+        &mut self,
+        instance: &'r Instance,
+        _: Global,
+        n: u32,
+        row: &'r Row,
+    ) -> Result<(), ReadError> {
         must(self.cost.is_none(), n, 1, RowKind::Tail)?;
         let word = row.word();
         if word == b"block".as_slice() {
@@ -73,25 +85,17 @@ impl Draft {
         must(false, n, 1, RowKind::Kind)?;
         Ok(())
     }
-}
 
-// The plan that the records state, or their first fault.
-fn plan_in(alloc: Global, instance: &Instance, rows: &[Row]) -> Result<Plan, ReadError>
-    ensures { Gives (λ p. p) result (reading (plan_format instance.now) rows.now) }
-{
-    must(!rows.is_empty(), 1, 0, RowKind::Missing)?;
-    let mut draft = Draft::read_first(alloc, &rows[0])?;
-    for i in 1..rows.len() {
-        draft.read_later(instance, record_number(i)?, &rows[i])?;
+    fn is_whole(&self, _: &'r Instance) -> bool {
+        self.cost.is_some()
     }
-    let Some(cost) = draft.cost else {
-        must(false, record_number(rows.len())?, 0, RowKind::Missing)?;
-        unreachable!();
-    };
-    Ok(Plan {
-        blocks: Items::from_vec(draft.blocks),
-        cost,
-    })
+
+    fn into_output(self, _: &'r Instance) -> Plan {
+        Plan {
+            blocks: Items::from_vec(self.blocks),
+            cost: self.cost.unwrap_or(0),
+        }
+    }
 }
 
 /// The plan that the records state, which is in range, or exactly their first fault.
@@ -101,5 +105,5 @@ pub fn read_plan(alloc: Global, instance: &Instance, rows: &Vec<Row>) -> Result<
     ensures stated { Gives (λ p. p) result (reading (plan_format instance.now) rows.now.items) }
     ensures in_range { IfOk result (IsPlanInRange instance.now) }
 {
-    plan_in(alloc, instance, rows)
+    read::<Draft>(instance, alloc, rows)
 }

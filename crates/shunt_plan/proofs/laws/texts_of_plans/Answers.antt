@@ -1,5 +1,5 @@
-use Rattle.shunt_plan.proofs.Back.{records_back, text_back}
-use Rattle.shunt_plan.proofs.Short.{plan_short}
+use Rattle.shunt_plan.proofs.RoundTrip.{records_back, text_back}
+use Rattle.shunt_plan.proofs.Lengths.{plan_short}
 use Rattle.shunt_plan.proofs.laws.texts_of_plans.Goals as goal
 
 pub returns-clause-rows : goal.returns-clause-rows

@@ -1,9 +1,10 @@
 use Rattle.std.proofs.Common.{◌≡◌, ◌≤◌, ◌∙◌, ℕ, List, length, sym, subst}
+use Rattle.shunt_rows.proofs.Texts.{if_ok}
 use Rattle.shunt_rows.specs.defs.Records.{text_of_rows}
 use Rattle.shunt_plan.specs.defs.PlanRows.{rows_of}
-use Rattle.shunt_plan.proofs.Back.{back_from}
-use Rattle.shunt_plan.proofs.Short.{plan_short}
-use Rattle.shunt_plan.proofs.Texts.{plan_written, if_ok}
+use Rattle.shunt_plan.proofs.RoundTrip.{back_from}
+use Rattle.shunt_plan.proofs.Lengths.{plan_short}
+use Rattle.shunt_plan.proofs.Texts.{plan_written}
 use Rattle.shunt_plan.proofs.writing.write_plan.Goals as goal
 
 whole : (c : goal.After-finish) → c.write_cost.new.writer.text ≡ text_of_rows (rows_of c.args.instance.now c.args.plan.now)

@@ -1,7 +1,8 @@
 use Rattle.std.proofs.Common.{◌≡◌, ap, ◌∙◌}
+use Rattle.shunt_rows.proofs.Texts.{if_ok}
 use Rattle.shunt_rows.specs.defs.Records.{text_of_rows}
 use Rattle.shunt_plan.specs.defs.WrittenEdits.{rows_of_edits}
-use Rattle.shunt_plan.proofs.EditsTexts.{back_from, short_from, if_ok}
+use Rattle.shunt_plan.proofs.EditsTexts.{back_from, short_from}
 use Rattle.shunt_plan.proofs.writing_edits.write_edits.Goals as goal
 
 whole : (c : goal.After-finish) → c.in_ok-written.field-0.text ≡ text_of_rows (rows_of_edits c.args.instance.now c.args.turns.now.items)

@@ -27,7 +27,7 @@ option_short s (Some k) f on =
     let b = side_short k.side_out in
     omega (arith, n, a, b)
 
-place_short : (p : ℕ) → p ≤ 8 → length (decimal p) ≤ 1
+pub place_short : (p : ℕ) → p ≤ 8 → length (decimal p) ≤ 1
 place_short p le = length-decimal-le 1 p (omega arith) (omega (arith, le)) (omega (arith, le))
 
 block_short : (night : Night) → IsOrderedNight night → (b : Block) → IsInRange night b → length (text_of_row (block_row night b)) ≤ 80

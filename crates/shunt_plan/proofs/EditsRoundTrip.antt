@@ -1,23 +1,23 @@
 -- The records of turns state them.
-use Rattle.std.proofs.Common.{◌≡◌, ℕ, ◌+◌, ◌^◌, ◌<◌, ◌≤◌, Bool, true, false, ◌||◌, List, [], ◌∷◌, ◌++◌, length, length-append, map, refl, sym, ap, ◌∙◌, arith}
-use Rattle.std.specs.Prelude.{Ok, Err, All, ◌==◌, Option, Some, None, if◌then◌else◌, codes}
+use Rattle.std.proofs.Common.{◌≡◌, ℕ, ◌<◌, ◌≤◌, true, ◌||◌, List, [], ◌∷◌, ◌++◌, length, length-append, map, refl, sym, ap, ◌∙◌, arith}
+use Rattle.std.specs.Prelude.{Ok, ◌==◌, Option, Some, None, codes}
 use Rattle.std.specs.Option.{is_some, unwrap_or}
 use Rattle.std.specs.Fmt.{decimal}
-use Rattle.std.proofs.lemmas.List.{append-nil, append_assoc}
-use Rattle.std.proofs.lemmas.List.Elements.{All-tail}
 use Rattle.std.proofs.lemmas.Bool.{lt-ltb}
+use Rattle.shunt_rows.proofs.Holding.{holding}
+use Rattle.shunt_rows.proofs.Spelled.{IsRead, number_read}
+use Rattle.shunt_rows.proofs.Named.{of_middle}
+use Rattle.shunt_rows.proofs.Sections.{section, all_read}
 use Rattle.shunt_base.specs.declared.ids.ArrId.{ArrId}
 use Rattle.shunt_base.specs.declared.ids.DepId.{DepId}
 use Rattle.shunt_base.specs.declared.ids.TrackId.{TrackId}
 use Rattle.shunt_base.specs.declared.ids.Side.{Side}
 use Rattle.shunt_base.specs.declared.ids.Side.TheVariants as sides
 use Rattle.shunt_base.specs.defs.Spelling.{decimal_of}
-use Rattle.shunt_rows.specs.defs.Checks.{Check, passes, answer}
+use Rattle.shunt_rows.specs.defs.Checks.{answer}
 use Rattle.shunt_rows.specs.defs.Fields.{is_within, side_of}
-use Rattle.shunt_rows.specs.defs.Formats as formats
-use Rattle.shunt_rows.specs.defs.Formats.{ends, reads, reading}
+use Rattle.shunt_rows.specs.defs.Formats.{IsReadByEach, reading}
 use Rattle.shunt_rows.specs.defs.Written.{side_text}
-use Rattle.shunt_rows.proofs.Joins.{reading_is}
 use Rattle.shunt_rows.proofs.Plain.{side_read}
 use Rattle.shunt_instance.specs.declared.records.Station.{Station}
 use Rattle.shunt_instance.specs.defs.Wellformed.{IsStation}
@@ -32,33 +32,8 @@ use Rattle.shunt_plan.specs.defs.BlockRecords.{arr_number, dep_number, track_num
 use Rattle.shunt_plan.specs.defs.PlanRows.{arr_name, dep_name, track_name}
 use Rattle.shunt_plan.specs.defs.Edits.{IsId, AreRunsStated, IsTurn, AreTurns, runs_in, drop_of, park_of, unpark_of, cut_of, join_of, undo_of, redo_of, turn_of, edits_first, edits_format}
 use Rattle.shunt_plan.specs.defs.WrittenEdits.{edit_row, turn_row, edits_head, rows_of_edits}
-use Rattle.shunt_plan.proofs.Back.{number_again, in_limits, arr_there, dep_there, track_there}
+use Rattle.shunt_plan.proofs.RoundTrip.{arr_there, dep_there, track_there}
 use Rattle.shunt_plan.proofs.EditsParts.{add_is, one_turn}
-
--- all of these checks hold
-abbrev AllHold : List Check → Type 0
-AllHold [] = Unit {0}
-AllHold (c ∷ checks) = (c.holds ≡ true) × AllHold checks
-
-yes_is : {X : Type 0} (b : Bool) (r s : X) → b ≡ true → (if b then r else s) ≡ r
-yes_is true r s e = refl
-yes_is false r s e = absurd cc
-
-holding : {X : Type 0} (n : ℕ) (checks : List Check) (x : X) → AllHold checks → passes n checks x ≡ Ok x
-holding n [] x all = refl
-holding n (c ∷ checks) x all = yes_is c.holds (passes n checks x) (Err record { row = n; field = c.field; kind = c.kind }) all.0 ∙ holding n checks x all.1
-
--- a number from the one to the other is read from what is printed of it
-record IsRead (least most x : ℕ) : Type 0 where
-  there : is_some (decimal_of (decimal x)) ≡ true
-  value : unwrap_or (decimal_of (decimal x)) 0 ≡ x
-  range : is_within least most (unwrap_or (decimal_of (decimal x)) 0) ≡ true
-
-number_read : (least most x : ℕ) → least ≤ x → x ≤ most → most < 10 ^ 18 → IsRead least most x
-number_read least most x le ge small =
-    let again = number_again x (omega (arith, ge, small)) in
-    let same = ap (λ o. unwrap_or o 0) again in
-    record { there = ap is_some again; value = same; range = ap (is_within least most) same ∙ in_limits least most x le ge }
 
 id_read : (id : ℕ) → IsId id → IsRead 1 1000000 id
 id_read id is = number_read 1 1000000 id is.0 is.1 (omega arith)
@@ -203,13 +178,11 @@ turn_read night f n before room turns.Undo is = undo_read night n before room
 turn_read night f n before room turns.Redo is = redo_read night n before room
 
 -- so are turns, one after the other
-turns_read : (night : Night) → IsOrderedNight night → (n : ℕ) (before coming : List Turn) → length before + length coming ≤ 10000 → All (IsTurn night) coming → reads (edits_format night) before n (map (turn_row night) coming) ≡ Ok (before ++ coming)
-turns_read night f n before [] few all = ap (λ l. Ok l) (sym (append-nil before))
-turns_read night f n before (t ∷ coming) few all =
-    let one = one_turn n night before (before ++ t ∷ []) (length before) (turn_row night t) t refl (sym (turn_read night f n (length before) (omega (arith, few)) t (all 0 t (omega arith)))) refl in
-    ap (λ r. formats.◌>>=◌ r (λ v. reads (edits_format night) v (n + 1) (map (turn_row night) coming))) one
-    ∙ turns_read night f (n + 1) (before ++ t ∷ []) coming (omega (arith, few, length-append before (t ∷ []))) (All-tail (IsTurn night) t coming all)
-    ∙ ap (λ l. Ok l) (append_assoc before (t ∷ []) coming)
+turns_read : (night : Night) → IsOrderedNight night → (all : List Turn) → AreTurns night all → IsReadByEach (edits_format night) (turn_row night) (λ turns. turns) all
+turns_read night f all are n before t coming e =
+    let few = are.few in
+    let room : length before < 10000 = omega (arith, few, ap length e, length-append before (t ∷ coming)) in
+    one_turn n night before (before ++ t ∷ []) (length before) (turn_row night t) t refl (sym (turn_read night f n (length before) room t (of_middle (IsTurn night) all before coming t are.each e))) refl
 
 head_read : answer 1 (edits_first edits_head) ≡ Ok []
 unfolding edits_first is_within
@@ -221,7 +194,5 @@ head_read =
 -- the records of turns state them
 pub turns_again : (night : Night) → IsOrderedNight night → (all : List Turn) → AreTurns night all → reading (edits_format night) (rows_of_edits night all) ≡ Ok all
 turns_again night f all are =
-    let rest = map (turn_row night) all in
-    reading_is (edits_format night) edits_head rest
-    ∙ ap (λ r. formats.◌>>=◌ r (λ d. formats.◌>>=◌ (reads (edits_format night) d 2 rest) (λ t. ends (edits_format night) t (length rest + 2)))) head_read
-    ∙ ap (λ r. formats.◌>>=◌ r (λ t. ends (edits_format night) t (length rest + 2))) (turns_read night f 2 [] all (let few = are.few in omega arith) are.each)
+    let g = edits_format night in
+    all_read g edits_head (map (turn_row night) all) [] all head_read (section g (turn_row night) (λ turns. turns) all (turns_read night f all are) 2 [] all refl) refl

@@ -2,11 +2,12 @@
 ghost use Rattle.std.specs.Prelude.{◌≡◌, ◌≢◌, ◌⊎◌, ◌+◌, ◌-◌, ◌<◌, ◌≤◌, ◌↔◌, [], ◌∷◌, ◌++◌, min, length, take, IsTrue, IfOk, IfErr, OnOk, OnErr, IsErrOf, Some, None, option_map, Contains, if◌then◌else◌};
 ghost use Rattle.std.specs.Bool.{OnTrue};
 ghost use Rattle.std.specs.FinMap as map;
-ghost use Rattle.shunt_store.specs.defs.Causes.{one_more, Rose, HasCause};
+ghost use Rattle.shunt_store.specs.defs.Causes.{one_more, IsOneMore, Rose, Counts, HasCause};
 ghost use Rattle.shunt_store.specs.defs.Files.{Closed, Reading, Writing, IsReading, IsWriting, name_of, content, HandsOut};
 ghost use Rattle.shunt_store.specs.defs.Held.{Held, IsToFail, called, refused};
 ghost use Rattle.shunt_store.specs.defs.Pieces.{bounded};
 
+use crate::counting::one_fault_more;
 use crate::errors::StoreError;
 use crate::moving::{hand_out, in_one_call};
 use crate::table::{File, append, bytes_at, bytes_of, place_of, put};
@@ -108,13 +109,14 @@ impl MemStore {
     fn call_fails(&mut self) -> bool
         ensures later { self.old.faults ≤ self.new.faults }
         ensures rose { OnTrue result (Rose self.old.faults self.new.faults) }
+        ensures counted { OnTrue result (IsOneMore self.old.faults self.new.faults) }
         ensures fails { IsTrue result ↔ IsToFail self.old }
         ensures new { self.new ≡ record self.old { calls = one_more self.old.calls; faults = if result then one_more self.old.faults else self.old.faults } }
     {
         self.calls = self.calls.saturating_add(1);
         let fails = self.failing.contains(&self.calls);
         if fails {
-            self.faults = self.faults.saturating_add(1);
+            self.faults = one_fault_more(self.faults);
         }
         fails
     }
@@ -137,13 +139,14 @@ impl Store for MemStore {
         ensures exact { IsErrOf result StoreError.Fault ↔ (IsToFail self.old ⊎ (map.get self.old.files name.now ≡ None)) }
         ensures no_memory { IsErrOf result StoreError.Memory → ⊥ }
         ensures files { self.new.files ≡ self.old.files }
+        ensures counts { Counts StoreError.Fault self.old.faults self.new.faults result }
         ensures cause { HasCause StoreError.Fault self.old.faults self.new.faults result }
     {
         if self.call_fails() {
             return Err(StoreError::Fault);
         }
         let Some(place) = place_of(&self.files, name.as_bytes()) else {
-            self.faults = self.faults.saturating_add(1);
+            self.faults = one_fault_more(self.faults);
             return Err(StoreError::Fault);
         };
         self.doing = Doing::Reading(place);
@@ -162,6 +165,7 @@ impl Store for MemStore {
         ensures no_memory { IsErrOf result StoreError.Memory → ⊥ }
         ensures stage { self.new.stage ≡ self.old.stage }
         ensures files { self.new.files ≡ self.old.files }
+        ensures counts { Counts StoreError.Fault self.old.faults self.new.faults result }
         ensures cause { HasCause StoreError.Fault self.old.faults self.new.faults result }
     {
         if self.call_fails() {
@@ -181,6 +185,7 @@ impl Store for MemStore {
         ensures err { IfErr result (λ e. self.new ≡ refused e self.old) }
         ensures exact { IsErrOf result StoreError.Fault ↔ IsToFail self.old }
         ensures taken { self.new.taken ≡ self.old.taken }
+        ensures counts { Counts StoreError.Fault self.old.faults self.new.faults result }
         ensures cause { HasCause StoreError.Fault self.old.faults self.new.faults result }
     {
         if self.call_fails() {
@@ -203,6 +208,7 @@ impl Store for MemStore {
         ensures exact { IsErrOf result StoreError.Fault ↔ IsToFail self.old }
         ensures stage { self.new.stage ≡ self.old.stage }
         ensures taken { self.new.taken ≡ self.old.taken }
+        ensures counts { Counts StoreError.Fault self.old.faults self.new.faults result }
         ensures cause { HasCause StoreError.Fault self.old.faults self.new.faults result }
     {
         if self.call_fails() {
@@ -224,6 +230,7 @@ impl Store for MemStore {
         ensures no_memory { IsErrOf result StoreError.Memory → ⊥ }
         ensures files { self.new.files ≡ self.old.files }
         ensures taken { self.new.taken ≡ self.old.taken }
+        ensures counts { Counts StoreError.Fault self.old.faults self.new.faults result }
         ensures cause { HasCause StoreError.Fault self.old.faults self.new.faults result }
     {
         if self.call_fails() {

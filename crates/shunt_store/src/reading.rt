@@ -40,7 +40,8 @@ fn read_open<S: Store>(alloc: Global, store: &mut S, limit: u64) -> Result<Vec<u
 
 /// Reads a file to its end, and closes it: all of its bytes, of which there are at most `limit`.
 /// TooLong says that it has more, a Fault that the store failed, at the closing too. At most
-/// `limit + 1` bytes are taken, and no file is changed, whatever the answer.
+/// `limit + 1` bytes are taken of the file that was last opened, and no file is changed, whatever
+/// the answer.
 pub fn read_all<S: Store>(
     alloc: Global,
     store: &mut S,
@@ -55,7 +56,7 @@ pub fn read_all<S: Store>(
     ensures bytes { IfOk result (λ v. IfSome (S.told store.old) (λ files. v.items ≡ content files name.now)) }
     ensures fits { OnOk result (IfSome (S.told store.old) (λ files. length (content files name.now) ≤ limit)) }
 
-    // the file was opened, and more was taken than it may have
+    // more was taken of the file that was last opened than it may have
     ensures long { IsErrOf result ReadAllError.TooLong → S.taken store.new ≡ limit + 1 }
     ensures longer { IsErrOf result ReadAllError.TooLong → IfSome (S.told store.old) (λ files. limit < length (content files name.now)) }
 

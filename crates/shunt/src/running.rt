@@ -1,7 +1,7 @@
 // The whole run.
 ghost use Rattle.std.specs.Prelude.{◌≡◌, ◌↔◌};
 ghost use Rattle.shunt_store.specs.defs.Files.{Closed};
-ghost use Rattle.shunt.specs.defs.Words.{Call, Spells, texts, call_of};
+ghost use Rattle.shunt.specs.defs.Words.{Call, IsUsable, Spells, texts, call_of};
 ghost use Rattle.shunt.specs.defs.Ends.{Ends, seen};
 ghost use Rattle.shunt.specs.defs.Replies.{reply_of, refusal};
 
@@ -68,7 +68,8 @@ fn carry_out<S: Store, O: Sink>(
     store: &mut S,
     out: &mut O,
 ) -> Status
-    requires { S.stage store.old ≡ Closed }
+    requires closed { S.stage store.old ≡ Closed }
+    requires names { IsUsable (call_of command) }
     ensures not_words { result ≡ Status.Words → ⊥ }
     ensures ends { Ends (call_of command.entry)
         (seen S.told S.faults O.told O.faults store.old out.old)

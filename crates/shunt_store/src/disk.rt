@@ -26,6 +26,7 @@ pub struct DiskStore<'r, R: FileSystem + Alloc> {
     rt: &'r R,
     doing: Doing<R::File, R::A>,
     taken: u64,
+    handed: u64,
     faults: u64,
 }
 
@@ -34,12 +35,14 @@ impl<'r, R: FileSystem + Alloc> DiskStore<'r, R> {
     pub fn new(rt: &'r R) -> DiskStore<'r, R>
         ensures stage { stage_of_file result.doing ≡ Closed }
         ensures taken { result.taken ≡ 0 }
+        ensures handed { result.handed ≡ 0 }
         ensures faults { result.faults ≡ 0 }
     {
         DiskStore {
             rt,
             doing: Doing::Closed,
             taken: 0,
+            handed: 0,
             faults: 0,
         }
     }
@@ -51,6 +54,8 @@ impl<R: FileSystem + Alloc> Store for DiskStore<'_, R> {
     ghost stage = { λ s. stage_of_file s.doing };
 
     ghost taken = { λ s. s.taken };
+
+    ghost handed = { λ s. s.handed };
 
     ghost faults = { λ s. s.faults };
 
@@ -78,6 +83,7 @@ impl<R: FileSystem + Alloc> Store for DiskStore<'_, R> {
         if buf.len() as u64 <= room {
             if let Ok(n) = file.read(buf) {
                 self.taken += n as u64;
+                self.handed = self.handed.saturating_add(n as u64);
                 return Ok(n);
             }
         }
@@ -109,6 +115,7 @@ impl<R: FileSystem + Alloc> Store for DiskStore<'_, R> {
         ensures no_memory { IsErrOf result StoreError.Memory → ⊥ }
         ensures stage { stage_of_file self.new.doing ≡ stage_of_file self.old.doing }
         ensures taken { self.new.taken ≡ self.old.taken }
+        ensures handed { self.new.handed ≡ self.old.handed }
         ensures counts { Counts StoreError.Fault self.old.faults self.new.faults result }
         ensures cause { HasCause StoreError.Fault self.old.faults self.new.faults result }
     {

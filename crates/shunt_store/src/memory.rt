@@ -2,7 +2,7 @@
 ghost use Rattle.std.specs.Prelude.{◌≡◌, ◌≢◌, ◌⊎◌, ◌+◌, ◌-◌, ◌<◌, ◌≤◌, ◌↔◌, [], ◌∷◌, ◌++◌, min, length, take, IsTrue, IfOk, IfErr, OnOk, OnErr, IsErrOf, Some, None, option_map, Contains, if◌then◌else◌};
 ghost use Rattle.std.specs.Bool.{OnTrue};
 ghost use Rattle.std.specs.FinMap as map;
-ghost use Rattle.shunt_store.specs.defs.Causes.{one_more, IsOneMore, Rose, Counts, HasCause};
+ghost use Rattle.shunt_store.specs.defs.Causes.{one_more, counted_on, IsOneMore, Rose, Counts, HasCause};
 ghost use Rattle.shunt_store.specs.defs.Files.{Closed, Reading, Writing, IsReading, IsWriting, name_of, content, HandsOut};
 ghost use Rattle.shunt_store.specs.defs.Held.{Held, IsToFail, called, refused};
 ghost use Rattle.shunt_store.specs.defs.Pieces.{bounded};
@@ -34,6 +34,7 @@ pub struct MemStore {
     faults: u64,
     doing: Doing,
     taken: usize,
+    handed: u64,
     piece: Option<usize>,
 }
 
@@ -54,7 +55,7 @@ impl Model for MemStore {
 impl MemStore {
     /// No files, no calls that are to fail, and no bound on what a call moves.
     pub fn new(alloc: Global) -> MemStore
-        ensures { result ≡ record { files = map.empty; failing = []; calls = 0; faults = 0; stage = Closed; taken = 0; piece = None } }
+        ensures { result ≡ record { files = map.empty; failing = []; calls = 0; faults = 0; stage = Closed; taken = 0; handed = 0; piece = None } }
     {
         MemStore {
             alloc,
@@ -64,6 +65,7 @@ impl MemStore {
             faults: 0,
             doing: Doing::Closed,
             taken: 0,
+            handed: 0,
             piece: None,
         }
     }
@@ -129,6 +131,8 @@ impl Store for MemStore {
 
     ghost taken = { λ s. s.taken };
 
+    ghost handed = { λ s. s.handed };
+
     ghost faults = { λ s. s.faults };
 
     /// A Fault also where there is no file of the name.
@@ -136,6 +140,7 @@ impl Store for MemStore {
         requires { self.old.stage ≡ Closed }
         ensures ok { OnOk result (self.new ≡ record (called self.old) { stage = Reading name.now; taken = 0 }) }
         ensures err { IfErr result (λ e. self.new ≡ refused e self.old) }
+        ensures handed { self.new.handed ≡ self.old.handed }
         ensures exact { IsErrOf result StoreError.Fault ↔ (IsToFail self.old ⊎ (map.get self.old.files name.now ≡ None)) }
         ensures no_memory { IsErrOf result StoreError.Memory → ⊥ }
         ensures files { self.new.files ≡ self.old.files }
@@ -159,7 +164,7 @@ impl Store for MemStore {
         ensures bytes { IfOk result (λ n. HandsOut (content self.old.files (name_of self.old.stage)) self.old.taken n buf.new) }
         ensures amount { IfOk result (λ n. n ≡ bounded self.old.piece (min (length (content self.old.files (name_of self.old.stage)) - self.old.taken) (length buf.new))) }
         ensures bound { IfOk result (λ n. n ≤ length buf.new) }
-        ensures ok { IfOk result (λ n. self.new ≡ record (called self.old) { taken = self.old.taken + n }) }
+        ensures ok { IfOk result (λ n. self.new ≡ record (called self.old) { taken = self.old.taken + n; handed = counted_on self.old.handed n }) }
         ensures err { IfErr result (λ e. self.new ≡ refused e self.old) }
         ensures exact { IsErrOf result StoreError.Fault ↔ IsToFail self.old }
         ensures no_memory { IsErrOf result StoreError.Memory → ⊥ }
@@ -176,6 +181,7 @@ impl Store for MemStore {
         };
         let n = hand_out(bytes_of(&self.files, place), self.taken, self.piece, buf);
         self.taken += n;
+        self.handed = self.handed.saturating_add(n as u64);
         Ok(n)
     }
 
@@ -185,6 +191,7 @@ impl Store for MemStore {
         ensures err { IfErr result (λ e. self.new ≡ refused e self.old) }
         ensures exact { IsErrOf result StoreError.Fault ↔ IsToFail self.old }
         ensures taken { self.new.taken ≡ self.old.taken }
+        ensures handed { self.new.handed ≡ self.old.handed }
         ensures counts { Counts StoreError.Fault self.old.faults self.new.faults result }
         ensures cause { HasCause StoreError.Fault self.old.faults self.new.faults result }
     {
@@ -208,6 +215,7 @@ impl Store for MemStore {
         ensures exact { IsErrOf result StoreError.Fault ↔ IsToFail self.old }
         ensures stage { self.new.stage ≡ self.old.stage }
         ensures taken { self.new.taken ≡ self.old.taken }
+        ensures handed { self.new.handed ≡ self.old.handed }
         ensures counts { Counts StoreError.Fault self.old.faults self.new.faults result }
         ensures cause { HasCause StoreError.Fault self.old.faults self.new.faults result }
     {
@@ -230,6 +238,7 @@ impl Store for MemStore {
         ensures no_memory { IsErrOf result StoreError.Memory → ⊥ }
         ensures files { self.new.files ≡ self.old.files }
         ensures taken { self.new.taken ≡ self.old.taken }
+        ensures handed { self.new.handed ≡ self.old.handed }
         ensures counts { Counts StoreError.Fault self.old.faults self.new.faults result }
         ensures cause { HasCause StoreError.Fault self.old.faults self.new.faults result }
     {

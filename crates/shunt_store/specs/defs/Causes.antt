@@ -5,6 +5,14 @@ use Rattle.std.specs.Prelude.{◌≡◌, ◌⊎◌, ℕ, ◌+◌, ◌-◌, ◌^�
 abbrev pub one_more : ℕ → ℕ
 one_more count = min (count + 1) (2 ^ 64 - 1)
 
+-- a count and so many more, but never past the last value that a count can have
+abbrev pub counted_on : ℕ → ℕ → ℕ
+counted_on count more = min (count + more) (2 ^ 64 - 1)
+
+-- a count rose by so many at least, or stands at the last value that it can have
+abbrev pub RoseBy : ℕ → ℕ → ℕ → Type 0
+RoseBy more before now = (before + more ≤ now) ⊎ (now ≡ 2 ^ 64 - 1)
+
 -- a count is greater than it was, or stands at the last value that it can have
 abbrev pub Rose : ℕ → ℕ → Type 0
 Rose before now = (before < now) ⊎ (now ≡ 2 ^ 64 - 1)

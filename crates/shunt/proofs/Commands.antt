@@ -28,6 +28,5 @@ audit_answered told c s t p r is usable h =
 -- the words of a command are those of no other
 pub same_call : (c d : Call) → words_of c ≡ words_of d → c ≡ d
 same_call (Match s t) (Match ss uu) e = cc
-same_call (Match s t) (Audit ss uu pp) e = absurd (let h : words_of (Match s t) ≡ words_of (Audit ss uu pp) = e in cc)
-same_call (Audit s t p) (Match ss uu) e = absurd (let h : words_of (Audit s t p) ≡ words_of (Match ss uu) = e in cc)
 same_call (Audit s t p) (Audit ss uu pp) e = cc
+same_call c d e = absurd (let h : words_of c ≡ words_of d = e in cc)

@@ -1,13 +1,12 @@
 -- A delivered reply ends a run.
-use Rattle.std.proofs.Common.{refl, ◌≡◌, ◌∙◌, ℕ, ◌≤◌, List, Option, subst, sym, arith, inl, inr}
+use Rattle.std.proofs.Common.{◌≡◌, ◌∙◌, ℕ, ◌≤◌, List, Option, subst, sym, arith, inl, inr}
 use Rattle.std.specs.Prelude.{Err, Vec}
 use Rattle.std.specs.Global.{Global}
-use Rattle.shunt_store.specs.defs.Files.{Files, BothTold}
+use Rattle.shunt_store.specs.defs.Files.{Files}
 use Rattle.shunt_store.specs.defs.Causes.{Rose}
-use Rattle.shunt_store.proofs.Texts.{both_same}
-use Rattle.shunt.specs.defs.Words.{Call, Match, Audit, Spells}
+use Rattle.shunt.specs.defs.Words.{Call, Spells}
 use Rattle.shunt.specs.defs.Replies.{Reply, IsReplyOver, refusal}
-use Rattle.shunt.specs.defs.Ends.{Seen, CutInFiles, CutInText, IsWhole, Delivers, Ends, MayBegin}
+use Rattle.shunt.specs.defs.Ends.{Seen, CutInFiles, CutInText, IsWhole, Delivers, Ends}
 use Rattle.shunt.specs.declared.loading.Halt.{Halt}
 use Rattle.shunt.specs.declared.loading.Halt.TheVariants as halt
 use Rattle.shunt.specs.declared.running.Status.{Status}
@@ -51,14 +50,6 @@ refused_is c f h text e told = subst (λ (x : Halt). IsAnswered f (Err x) c) e t
 
 pub ends_as : (c : Call) (r rr : Reply) (f ff : Option Files) (k kk : ℕ) (o : Option (List ℕ)) (n : ℕ) (new : Seen) (s : Status) → rr ≡ r → ff ≡ f → k ≤ kk → IsReplyOver c f r → Delivers rr (at_start ff kk o n) new s → Ends c (at_start f k o n) new s
 ends_as c r rr f ff k kk o n new s e same le is h = ends c r f ff k kk o n new s same le is (subst (λ x. Delivers x (at_start ff kk o n) new s) e h)
-
--- nothing was done to the files
-pub early_same : (c : Call) (f ff : Option Files) → ff ≡ f → BothTold f ff (MayBegin c)
-early_same c f ff same = both_same (MayBegin c) f ff same (nothing c)
-  where
-    nothing : (c : Call) (a : Files) → MayBegin c a a
-    nothing (Match s t) a = refl
-    nothing (Audit s t p) a = refl
 
 -- the command that the words spell is the one that ended
 pub ends_of : (words seen : List (List ℕ)) (d c : Call) (old new : Seen) (s : Status) → seen ≡ words → Spells seen d → Ends d old new s → Spells words c → Ends c old new s

@@ -161,8 +161,7 @@ own_writes (Audit s t p) x r name text is w = subst (λ (q : Reply). In (name, t
 
 -- before its reply is known a command writes no file but its own
 own_begins : (c : Call) (a b : Files) (name : List ℕ) → (In name (outputs_of c) → ⊥) → MayBegin c a b → map.get b name ≡ map.get a name
-own_begins (Match s t) a b name other e = ap (λ f. map.get f name) e
-own_begins (Audit s t p) a b name other e = ap (λ f. map.get f name) e
+own_begins c a b name other e = ap (λ f. map.get f name) e
 
 -- ---- the first input that isn't accepted
 

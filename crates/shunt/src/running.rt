@@ -42,6 +42,7 @@ pub enum Status {
 /// where the files have names that differ and aren't empty, or the answer is `Words` and nothing is read, written or printed.
 /// `Store` comes only where the store failed in this call and `Sink` only where the sink did; `Memory` may come in place
 /// of any answer but `Words`. Each other status is that of the defined answer, all of which then was written and printed.
+/// Where the store doesn't tell what its files hold, that is the defined answer over some contents of them.
 pub fn run<S: Store, O: Sink>(
     alloc: Global,
     words: &Vec<String>,

@@ -7,7 +7,7 @@ use Rattle.shunt.specs.declared.delivering.Outcome.{Outcome}
 use Rattle.shunt.specs.declared.delivering.Outcome.TheVariants as outcome
 use Rattle.shunt.specs.declared.running.Status.{Status}
 use Rattle.shunt.specs.declared.running.Status.TheVariants as status
-use Rattle.shunt.specs.defs.Words.{Call, Match, Audit}
+use Rattle.shunt.specs.defs.Words.{Call}
 use Rattle.shunt.specs.defs.Replies.{Reply, IsReplyOver}
 
 -- what can be known of the store and the sink at a moment
@@ -68,10 +68,9 @@ Delivers r old new status.Memory = CutInFiles r old new ⊎ CutInText r old new
 Delivers r old new status.Sink = Rose old.sink_faults new.sink_faults × CutInText r old new
 Delivers r old new s = (s ≡ the_status r.outcome) × IsWhole r old new
 
--- what a command may have done to the files before its reply is known
+-- what a command may have done to the files before its reply is known: nothing
 abbrev pub MayBegin : Call → Files → Files → Type 0
-MayBegin (Match s t) old new = new ≡ old
-MayBegin (Audit s t p) old new = new ≡ old
+MayBegin c old new = new ≡ old
 
 -- the run stopped before there was a reply, and nothing was printed
 abbrev pub StopsEarly : Call → Seen → Seen → Status → Type 0

@@ -1,6 +1,6 @@
 -- When each status of `audit` comes.
 use Rattle.std.proofs.Common.{◌≡◌, Some, None, sym, subst, ap, inl, inr, refl, ⊎_elim, Bool, true, false, Result, Ok, Err, List, [], ◌∷◌, length, ◌∙◌, ℕ}
-use Rattle.std.specs.Prelude.{◌↔◌, IfSome, ◌⊎◌, IsErr, nat_le, if◌then◌else◌}
+use Rattle.std.specs.Prelude.{◌↔◌, ◌⊎◌, nat_le, if◌then◌else◌}
 use Rattle.shunt_store.specs.defs.Files.{Files, content}
 use Rattle.shunt_store.specs.defs.Causes.{Rose}
 use Rattle.shunt_rows.specs.declared.fault.RowFault.{RowFault}
@@ -27,15 +27,12 @@ use Rattle.shunt.specs.declared.delivering.Outcome.TheVariants as outcome
 use Rattle.shunt.specs.declared.running.Status.{Status}
 use Rattle.shunt.specs.declared.running.Status.TheVariants as status
 use Rattle.shunt.specs.defs.Words.{Audit}
-use Rattle.shunt.specs.defs.Replies.{Reply, IsReply, IsAudited, Judged, IsSound, audit_outcome, most_bytes, value_or, stated, then_stated, stated_station, stated_timetable, stated_night, stated_plan, stated_plans, plans_in}
-use Rattle.shunt.specs.defs.Ends.{Seen, Ends, Yields}
-use Rattle.shunt.proofs.Exactly.{decides, HasReply, done_reply, findings_reply, input_reply, no_matching_reply, unfinished_reply, on_told, store_rose, sink_rose, never_words}
+use Rattle.shunt.specs.defs.Inputs.{Agrees, most_bytes_of, value_or, stated, then_stated, stated_station, stated_timetable, stated_night, stated_plan, stated_plans, plans_in}
+use Rattle.shunt.specs.defs.Replies.{Reply, IsAudited, Judged, IsSound, audit_outcome}
+use Rattle.shunt.specs.defs.Ends.{Seen, Ends, Yields, the_status}
+use Rattle.shunt.proofs.Exactly.{decides, has_reply, completes, reply_at, EndsAs}
 
 -- ---- the outcome of a reply, by what the files state
-
-refused_reply : (x : Result (Night × Plan) (List ℕ)) (r : Reply) → IsErr x → Judged x IsAudited r → r.outcome ≡ outcome.Input
-refused_reply (Ok y) r err is = cc
-refused_reply (Err text) r err is = ap (λ (r : Reply). r.outcome) is
 
 audited : (x : Result (Night × Plan) (List ℕ)) (y : Night × Plan) (r : Reply) → x ≡ Ok y → Judged x IsAudited r → IsAudited y r
 audited x y r e is = subst (λ x. Judged x IsAudited r) e is
@@ -47,7 +44,7 @@ ok_value file (Ok y) v e = cc
 ok_value file (Err fault) v e = absurd (let h : Err (input_of file (Some fault)) ≡ Ok v = e in cc)
 
 stated_value : {S X : Type 0} (file : FileWord) (format : Format S X) (bytes : List ℕ) (v : X) → stated file format bytes ≡ Ok v → reading format (records_of bytes) ≡ Ok v
-stated_value file format bytes v e = at (nat_le (length bytes) most_bytes) e
+stated_value file format bytes v e = at (nat_le (length bytes) (most_bytes_of file)) e
   where
     at : (short : Bool) → (if short then value_or file (reading format (records_of bytes)) else Err (input_of file None)) ≡ Ok v → reading format (records_of bytes) ≡ Ok v
     at true h = ok_value file (reading format (records_of bytes)) v h
@@ -98,31 +95,19 @@ found_some : (fs : List Finding) → audit_outcome fs ≡ outcome.Findings → f
 found_some [] e nil = absurd (let h : outcome.Done ≡ outcome.Findings = e in cc)
 found_some (f ∷ fs) e nil = absurd (let h : (f ∷ fs) ≡ [] = nil in cc)
 
-pub input_there : (s t p : List ℕ) (old new : Seen) (x : Status) (files : Files) → old.files ≡ Some files → IsErr (plans_in s t p files) → Ends (Audit s t p) old new x → (x ≡ status.Input) ⊎ Yields x
-input_there s t p old new x files told err e = decides (Audit s t p) files outcome.Input old new x told (λ r. refused_reply (plans_in s t p files) r err) e
-
 pub done_there : (s t p : List ℕ) (old new : Seen) (x : Status) (files : Files) (y : Night × Plan) → old.files ≡ Some files → plans_in s t p files ≡ Ok y → IsSound y → Ends (Audit s t p) old new x → (x ≡ status.Done) ⊎ Yields x
 done_there s t p old new x files y told ok sound e =
     let none = (sound_where (content files s) (content files t) (content files p) y ok).1 sound in
-    decides (Audit s t p) files outcome.Done old new x told (λ r is.
+    decides (Audit s t p) outcome.Done old new x files told (λ r is.
     let a = audited (plans_in s t p files) y r ok is in
     told_outcome y r a ∙ ap audit_outcome (told_is (content files s) (content files t) (content files p) y a.findings ok a.told ∙ none)) e
 
 pub findings_there : (s t p : List ℕ) (old new : Seen) (x : Status) (files : Files) (y : Night × Plan) → old.files ≡ Some files → plans_in s t p files ≡ Ok y → (IsSound y → ⊥) → Ends (Audit s t p) old new x → (x ≡ status.Findings) ⊎ Yields x
 findings_there s t p old new x files y told ok unsound e =
-    decides (Audit s t p) files outcome.Findings old new x told (λ r is.
+    decides (Audit s t p) outcome.Findings old new x files told (λ r is.
     let a = audited (plans_in s t p files) y r ok is in
     let same = told_is (content files s) (content files t) (content files p) y a.findings ok a.told in
     told_outcome y r a ∙ some_found a.findings (λ nil. unsound ((sound_where (content files s) (content files t) (content files p) y ok).0 (sym same ∙ nil)))) e
-
--- what each outcome tells of the files
-input_tells : (x : Result (Night × Plan) (List ℕ)) (r : Reply) → Judged x IsAudited r → r.outcome ≡ outcome.Input → IsErr x
-input_tells (Err text) r is o = refl
-input_tells (Ok y) r is o = absurd (no_input is.findings (sym (told_outcome y r is) ∙ o))
-  where
-    no_input : (fs : List Finding) → audit_outcome fs ≡ outcome.Input → ⊥
-    no_input [] e = let h : outcome.Done ≡ outcome.Input = e in cc
-    no_input (f ∷ fs) e = let h : outcome.Findings ≡ outcome.Input = e in cc
 
 -- an outcome of an accepted plan is that of its findings
 record Tells (x : Result (Night × Plan) (List ℕ)) (o : Outcome) : Type 0 where
@@ -136,55 +121,52 @@ tells : (x : Result (Night × Plan) (List ℕ)) (r : Reply) (o : Outcome) → (o
 tells (Err text) r o other is e = absurd (other (sym e ∙ ap (λ (r : Reply). r.outcome) is))
 tells (Ok y) r o other is e = record { plan = y; ok = refl; findings = is.findings; told = is.told; outcome = sym (told_outcome y r is) ∙ e }
 
-pub input_only : (s t p : List ℕ) (old new : Seen) → Ends (Audit s t p) old new status.Input → IfSome old.files (λ files. IsErr (plans_in s t p files))
-input_only s t p old new e = let h = input_reply (Audit s t p) old new e in
-    on_told old.files _ _ (λ files is. input_tells (plans_in s t p files) h.0 is h.2) h.1
-
-pub done_only : (s t p : List ℕ) (old new : Seen) → Ends (Audit s t p) old new status.Done → IfSome old.files (λ files. (y : Night × Plan) × (plans_in s t p files ≡ Ok y) × IsSound y)
-done_only s t p old new e = let h = done_reply (Audit s t p) old new e in
-    on_told old.files _ _ (λ files is.
-    let at = tells (plans_in s t p files) h.0 outcome.Done (λ e. cc) is h.2 in
+pub done_only : (s t p : List ℕ) (old new : Seen) → Ends (Audit s t p) old new status.Done → (files : Files) × Agrees old.files files × ((y : Night × Plan) × (plans_in s t p files ≡ Ok y) × IsSound y)
+done_only s t p old new e =
+    let h = has_reply (Audit s t p) outcome.Done old new e in
+    let files = h.1.0 in
+    let at = tells (plans_in s t p files) h.0 outcome.Done (λ e. cc) h.1.2 h.2 in
     let same = told_is (content files s) (content files t) (content files p) at.plan at.findings at.ok at.told in
-    (at.plan, at.ok, (sound_where (content files s) (content files t) (content files p) at.plan at.ok).0 (sym same ∙ none_found at.findings at.outcome))) h.1
+    (files, h.1.1, (at.plan, at.ok, (sound_where (content files s) (content files t) (content files p) at.plan at.ok).0 (sym same ∙ none_found at.findings at.outcome)))
 
-pub findings_only : (s t p : List ℕ) (old new : Seen) → Ends (Audit s t p) old new status.Findings → IfSome old.files (λ files. (y : Night × Plan) × (plans_in s t p files ≡ Ok y) × (IsSound y → ⊥))
-findings_only s t p old new e = let h = findings_reply (Audit s t p) old new e in
-    on_told old.files _ _ (λ files is.
-    let at = tells (plans_in s t p files) h.0 outcome.Findings (λ e. cc) is h.2 in
+pub findings_only : (s t p : List ℕ) (old new : Seen) → Ends (Audit s t p) old new status.Findings → (files : Files) × Agrees old.files files × ((y : Night × Plan) × (plans_in s t p files ≡ Ok y) × (IsSound y → ⊥))
+findings_only s t p old new e =
+    let h = has_reply (Audit s t p) outcome.Findings old new e in
+    let files = h.1.0 in
+    let at = tells (plans_in s t p files) h.0 outcome.Findings (λ e. cc) h.1.2 h.2 in
     let same = told_is (content files s) (content files t) (content files p) at.plan at.findings at.ok at.told in
-    (at.plan, at.ok, λ sound. found_some at.findings at.outcome (same ∙ (sound_where (content files s) (content files t) (content files p) at.plan at.ok).1 sound))) h.1
+    (files, h.1.1, (at.plan, at.ok, λ sound. found_some at.findings at.outcome (same ∙ (sound_where (content files s) (content files t) (content files p) at.plan at.ok).1 sound)))
 
 neither : (fs : List Finding) (o : Outcome) → audit_outcome fs ≡ o → (o ≡ outcome.Done) ⊎ (o ≡ outcome.Findings)
 neither [] o e = inl (sym e)
 neither (f ∷ fs) o e = inr (sym e)
 
-never : (s t p : List ℕ) (o : Outcome) (old : Seen) (files : Files) → (o ≡ outcome.Done → ⊥) → (o ≡ outcome.Findings → ⊥) → (o ≡ outcome.Input → ⊥) → old.files ≡ Some files → HasReply (Audit s t p) o old → ⊥
-never s t p o old files a b c told h =
-    let at = tells (plans_in s t p files) h.0 o c (subst (λ f. IfSome f (λ files. IsReply (Audit s t p) files h.0)) told h.1) h.2 in
+never : (s t p : List ℕ) (o : Outcome) (old new : Seen) → (o ≡ outcome.Done → ⊥) → (o ≡ outcome.Findings → ⊥) → (o ≡ outcome.Input → ⊥) → Ends (Audit s t p) old new (the_status o) → ⊥
+never s t p o old new a b d e =
+    let h = has_reply (Audit s t p) o old new e in
+    let at = tells (plans_in s t p h.1.0) h.0 o d h.1.2 h.2 in
     ⊎_elim a b (neither at.findings o at.outcome)
 
-pub no_matching : (s t p : List ℕ) (old new : Seen) (files : Files) → old.files ≡ Some files → Ends (Audit s t p) old new status.NoMatching → ⊥
-no_matching s t p old new files told e = never s t p outcome.NoMatching old files (λ e. cc) (λ e. cc) (λ e. cc) told (no_matching_reply (Audit s t p) old new e)
+pub no_matching : (s t p : List ℕ) (old new : Seen) → Ends (Audit s t p) old new status.NoMatching → ⊥
+no_matching s t p old new e = never s t p outcome.NoMatching old new (λ e. cc) (λ e. cc) (λ e. cc) e
 
-pub no_unfinished : (s t p : List ℕ) (old new : Seen) (files : Files) → old.files ≡ Some files → Ends (Audit s t p) old new status.Unfinished → ⊥
-no_unfinished s t p old new files told e = never s t p outcome.Unfinished old files (λ e. cc) (λ e. cc) (λ e. cc) told (unfinished_reply (Audit s t p) old new e)
+pub no_unfinished : (s t p : List ℕ) (old new : Seen) → Ends (Audit s t p) old new status.Unfinished → ⊥
+no_unfinished s t p old new e = never s t p outcome.Unfinished old new (λ e. cc) (λ e. cc) (λ e. cc) e
 
 -- ---- completeness
 
 abbrev EndsWell : Status → Type 0
 EndsWell x = (x ≡ status.Done) ⊎ ((x ≡ status.Findings) ⊎ (x ≡ status.Memory))
 
-accepted : (x : Result (Night × Plan) (List ℕ)) (y : Night × Plan) → x ≡ Ok y → IsErr x → ⊥
-accepted (Ok z) y e err = cc
-accepted (Err text) y e err = let h : Err text ≡ Ok y = e in cc
+well : (x : Status) (fs : List Finding) → x ≡ the_status (audit_outcome fs) → EndsWell x
+well x [] e = inl e
+well x (f ∷ fs) e = inr (inl e)
 
 pub ends_well : (s t p : List ℕ) (old new : Seen) (x : Status) (files : Files) (y : Night × Plan) → old.files ≡ Some files → plans_in s t p files ≡ Ok y → (Rose old.store_faults new.store_faults → ⊥) → (Rose old.sink_faults new.sink_faults → ⊥) → Ends (Audit s t p) old new x → EndsWell x
-ends_well s t p old new status.Done files y told ok ns nk e = inl refl
-ends_well s t p old new status.Findings files y told ok ns nk e = inr (inl refl)
-ends_well s t p old new status.Words files y told ok ns nk e = absurd (never_words (Audit s t p) old new e)
-ends_well s t p old new status.Input files y told ok ns nk e = absurd (accepted (plans_in s t p files) y ok (subst (λ f. IfSome f (λ files. IsErr (plans_in s t p files))) told (input_only s t p old new e)))
-ends_well s t p old new status.Store files y told ok ns nk e = absurd (ns (store_rose (Audit s t p) old new e))
-ends_well s t p old new status.Memory files y told ok ns nk e = inr (inr refl)
-ends_well s t p old new status.NoMatching files y told ok ns nk e = absurd (no_matching s t p old new files told e)
-ends_well s t p old new status.Unfinished files y told ok ns nk e = absurd (no_unfinished s t p old new files told e)
-ends_well s t p old new status.Sink files y told ok ns nk e = absurd (nk (sink_rose (Audit s t p) old new e))
+ends_well s t p old new x files y told ok ns nk e = at (completes (Audit s t p) old new x ns nk e)
+  where
+    at : EndsAs (Audit s t p) old x → EndsWell x
+    at (inl m) = inr (inr m)
+    at (inr h) =
+        let a = audited (plans_in s t p files) y h.0 ok (reply_at (Audit s t p) old.files files h.0 told h.1) in
+        well x a.findings (h.2 ∙ ap the_status (told_outcome y h.0 a))

@@ -1,28 +1,53 @@
--- When each status comes.
-use Rattle.std.proofs.Common.{◌≡◌, Some, None, sym, subst, ap, inl, inr, refl, Result, Ok, Err, List, ◌∙◌, Option, ℕ, arith}
-use Rattle.std.specs.Prelude.{IfSome, ◌⊎◌, IsErr}
-use Rattle.shunt_store.specs.defs.Files.{Files, content}
+-- When each status comes, and what then stands, of every command.
+use Rattle.std.proofs.Common.{◌≡◌, Some, None, sym, subst, ap, inl, inr, refl, Result, Ok, Err, List, [], ◌∷◌, ◌∙◌, Option, ℕ, arith}
+use Rattle.std.specs.Prelude.{IfSome, ◌⊎◌}
+use Rattle.std.specs.Result.{result_err}
+use Rattle.std.specs.FinMap as map
+use Rattle.shunt_store.specs.defs.Files.{Files, BothTold}
 use Rattle.shunt_store.specs.defs.Causes.{Rose}
+use Rattle.shunt_store.proofs.Texts.{both_map}
+use Rattle.shunt_store.proofs.TableLaws.{same_elsewhere}
+use Rattle.shunt_audit.specs.declared.types.Finding.{Finding}
 use Rattle.shunt_instance.specs.defs.Instance.{Night}
-use Rattle.shunt_matching.specs.defs.Nights.{Matches}
 use Rattle.shunt.specs.declared.delivering.Outcome.{Outcome}
 use Rattle.shunt.specs.declared.delivering.Outcome.TheVariants as outcome
 use Rattle.shunt.specs.declared.running.Status.{Status}
 use Rattle.shunt.specs.declared.running.Status.TheVariants as status
-use Rattle.shunt.specs.defs.Words.{Call, Match}
-use Rattle.shunt.specs.defs.Replies.{Reply, IsReply, IsMatched, IsPaired, IsShort, Judged, stated_night}
-use Rattle.shunt.specs.defs.Ends.{Seen, Delivers, StopsEarly, Ends, Yields, the_status}
+use Rattle.shunt.specs.defs.Words.{Call, Match, Audit, outputs_of}
+use Rattle.shunt.specs.defs.Inputs.{Agrees, Value, stated_in, refused}
+use Rattle.shunt.specs.defs.Replies.{Reply, IsReply, IsReplyOver, IsAnswer, IsPaired, IsShort, Judged, audit_outcome, refusal}
+use Rattle.shunt.specs.defs.Ends.{Seen, CutInText, Delivers, StopsEarly, Ends, In, IsWhole, MayBegin, MayHold, MayWrite, Yields, the_status, written}
 
--- a delivered reply has its own status, or yields
-its_own : (r : Reply) (old new : Seen) (s : Status) → Delivers r old new s → (s ≡ the_status r.outcome) ⊎ Yields s
-its_own r old new status.Done h = inl (ap the_status h.outcome)
-its_own r old new status.Findings h = inl (ap the_status h.outcome)
-its_own r old new status.Words h = absurd h
-its_own r old new status.Input h = inl (ap the_status h.outcome)
+-- ---- the status of a delivery
+
+outcome_of : Status → Outcome
+outcome_of status.Done = outcome.Done
+outcome_of status.Findings = outcome.Findings
+outcome_of status.NoMatching = outcome.NoMatching
+outcome_of status.Unfinished = outcome.Unfinished
+outcome_of s = outcome.Input
+
+back : (o : Outcome) → outcome_of (the_status o) ≡ o
+unfolding outcome_of
+back outcome.Done = refl
+back outcome.Findings = refl
+back outcome.Input = refl
+back outcome.NoMatching = refl
+back outcome.Unfinished = refl
+
+same_outcome : (o p : Outcome) → the_status o ≡ the_status p → o ≡ p
+same_outcome o p e = sym (back o) ∙ ap outcome_of e ∙ back p
+
+-- a delivered reply has its own status and is whole, or yields
+pub its_own : (r : Reply) (old new : Seen) (s : Status) → Delivers r old new s → ((s ≡ the_status r.outcome) × IsWhole r old new) ⊎ Yields s
+its_own r old new status.Done h = inl h
+its_own r old new status.Findings h = inl h
+its_own r old new status.Words h = inl h
+its_own r old new status.Input h = inl h
 its_own r old new status.Store h = inr (inl refl)
 its_own r old new status.Memory h = inr (inr (inl refl))
-its_own r old new status.NoMatching h = inl (ap the_status h.outcome)
-its_own r old new status.Unfinished h = inl (ap the_status h.outcome)
+its_own r old new status.NoMatching h = inl h
+its_own r old new status.Unfinished h = inl h
 its_own r old new status.Sink h = inr (inr (inr refl))
 
 early : (c : Call) (old new : Seen) (s : Status) → StopsEarly c old new s → Yields s
@@ -36,41 +61,50 @@ early c old new status.NoMatching h = absurd h
 early c old new status.Unfinished h = absurd h
 early c old new status.Sink h = absurd h
 
--- what all defined replies have decides the status
-pub decides : (c : Call) (files : Files) (o : Outcome) (old new : Seen) (s : Status) → old.files ≡ Some files → ((r : Reply) → IsReply c files r → r.outcome ≡ o) → Ends c old new s → (s ≡ the_status o) ⊎ Yields s
-decides c files o old new s told all (inl e) = inr (early c old new s e)
-decides c files o old new s told all (inr h) = at (its_own h.0 old new s h.2)
-  where
-    is : IsReply c files h.0
-    is = subst (λ f. IfSome f (λ files. IsReply c files h.0)) told h.1
+-- where the files are told, the reply is the defined answer over them
+pub reply_at : (c : Call) (told : Option Files) (files : Files) (r : Reply) → told ≡ Some files → IsReplyOver c told r → IsReply c files r
+reply_at c told files r known h =
+    let same : files ≡ h.0 = subst (λ t. IfSome t (λ k. k ≡ h.0)) known h.1 in
+    subst (λ f. IsReply c f r) (sym same) h.2
 
-    at : (s ≡ the_status h.0.outcome) ⊎ Yields s → (s ≡ the_status o) ⊎ Yields s
-    at (inl e) = inl (e ∙ ap the_status (all h.0 is))
+-- what all defined replies have decides the status
+pub decides : (c : Call) (o : Outcome) (old new : Seen) (s : Status) (files : Files) → old.files ≡ Some files → ((r : Reply) → IsReply c files r → r.outcome ≡ o) → Ends c old new s → (s ≡ the_status o) ⊎ Yields s
+decides c o old new s files told all (inl e) = inr (early c old new s e)
+decides c o old new s files told all (inr h) = at (its_own h.0 old new s h.2)
+  where
+    at : ((s ≡ the_status h.0.outcome) × IsWhole h.0 old new) ⊎ Yields s → (s ≡ the_status o) ⊎ Yields s
+    at (inl e) = inl (e.0 ∙ ap the_status (all h.0 (reply_at c old.files files h.0 told h.1)))
     at (inr y) = inr y
 
--- a status that doesn't yield is that of a defined reply
-abbrev pub HasReply : Call → Outcome → Seen → Type 0
-HasReply c o old = (r : Reply) × IfSome old.files (λ files. IsReply c files r) × (r.outcome ≡ o)
+-- a status that doesn't yield is that of a defined reply, which is whole
+abbrev pub HasReply : Call → Outcome → Seen → Seen → Type 0
+HasReply c o old new = (r : Reply) × IsReplyOver c old.files r × (r.outcome ≡ o) × IsWhole r old new
 
-pub done_reply : (c : Call) (old new : Seen) → Ends c old new status.Done → HasReply c outcome.Done old
-done_reply c old new (inl e) = absurd e
-done_reply c old new (inr h) = (h.0, h.1, sym h.2.outcome)
+pub has_reply : (c : Call) (o : Outcome) (old new : Seen) → Ends c old new (the_status o) → HasReply c o old new
+has_reply c outcome.Done old new (inl e) = absurd e
+has_reply c outcome.Done old new (inr h) = (h.0, h.1, sym (same_outcome outcome.Done h.0.outcome h.2.0), h.2.1)
+has_reply c outcome.Findings old new (inl e) = absurd e
+has_reply c outcome.Findings old new (inr h) = (h.0, h.1, sym (same_outcome outcome.Findings h.0.outcome h.2.0), h.2.1)
+has_reply c outcome.Input old new (inl e) = absurd e
+has_reply c outcome.Input old new (inr h) = (h.0, h.1, sym (same_outcome outcome.Input h.0.outcome h.2.0), h.2.1)
+has_reply c outcome.NoMatching old new (inl e) = absurd e
+has_reply c outcome.NoMatching old new (inr h) = (h.0, h.1, sym (same_outcome outcome.NoMatching h.0.outcome h.2.0), h.2.1)
+has_reply c outcome.Unfinished old new (inl e) = absurd e
+has_reply c outcome.Unfinished old new (inr h) = (h.0, h.1, sym (same_outcome outcome.Unfinished h.0.outcome h.2.0), h.2.1)
 
-pub findings_reply : (c : Call) (old new : Seen) → Ends c old new status.Findings → HasReply c outcome.Findings old
-findings_reply c old new (inl e) = absurd e
-findings_reply c old new (inr h) = (h.0, h.1, sym h.2.outcome)
+abbrev pub EndsAs : Call → Seen → Status → Type 0
+EndsAs c old s = (s ≡ status.Memory) ⊎ ((r : Reply) × IsReplyOver c old.files r × (s ≡ the_status r.outcome))
 
-pub input_reply : (c : Call) (old new : Seen) → Ends c old new status.Input → HasReply c outcome.Input old
-input_reply c old new (inl e) = absurd e
-input_reply c old new (inr h) = (h.0, h.1, sym h.2.outcome)
+pub completes : (c : Call) (old new : Seen) (s : Status) → (Rose old.store_faults new.store_faults → ⊥) → (Rose old.sink_faults new.sink_faults → ⊥) → Ends c old new s → EndsAs c old s
+completes c old new status.Store ns nk (inl e) = absurd (ns e.0)
+completes c old new status.Store ns nk (inr h) = absurd (ns h.2.0)
+completes c old new status.Memory ns nk e = inl refl
+completes c old new status.Sink ns nk (inl e) = absurd e
+completes c old new status.Sink ns nk (inr h) = absurd (nk h.2.0)
+completes c old new s ns nk (inl e) = absurd e
+completes c old new s ns nk (inr h) = inr (h.0, h.1, h.2.0)
 
-pub no_matching_reply : (c : Call) (old new : Seen) → Ends c old new status.NoMatching → HasReply c outcome.NoMatching old
-no_matching_reply c old new (inl e) = absurd e
-no_matching_reply c old new (inr h) = (h.0, h.1, sym h.2.outcome)
-
-pub unfinished_reply : (c : Call) (old new : Seen) → Ends c old new status.Unfinished → HasReply c outcome.Unfinished old
-unfinished_reply c old new (inl e) = absurd e
-unfinished_reply c old new (inr h) = (h.0, h.1, sym h.2.outcome)
+-- ---- the causes
 
 pub store_rose : (c : Call) (old new : Seen) → Ends c old new status.Store → Rose old.store_faults new.store_faults
 store_rose c old new (inl e) = e.0
@@ -80,139 +114,152 @@ pub sink_rose : (c : Call) (old new : Seen) → Ends c old new status.Sink → R
 sink_rose c old new (inl e) = absurd e
 sink_rose c old new (inr h) = h.2.0
 
+no_words : (o : Outcome) → status.Words ≡ the_status o → ⊥
+no_words outcome.Done e = cc
+no_words outcome.Findings e = cc
+no_words outcome.Input e = cc
+no_words outcome.NoMatching e = cc
+no_words outcome.Unfinished e = cc
+
 pub never_words : (c : Call) (old new : Seen) → Ends c old new status.Words → ⊥
 never_words c old new (inl e) = e
-never_words c old new (inr h) = h.2
-
--- the replies of `match`, by what its files state
-refused_reply : (x : Result Night (List ℕ)) (r : Reply) → IsErr x → Judged x IsMatched r → r.outcome ≡ outcome.Input
-refused_reply (Ok night) r err is = cc
-refused_reply (Err text) r err is = ap (λ (r : Reply). r.outcome) is
-
-judged_at : (x : Result Night (List ℕ)) (night : Night) (r : Reply) → x ≡ Ok night → Judged x IsMatched r → IsMatched night r
-judged_at x night r e is = subst (λ x. Judged x IsMatched r) e is
-
-paired_outcome : (night : Night) (r : Reply) → IsPaired night r → r.outcome ≡ outcome.Done
-paired_outcome night r p = ap (λ (r : Reply). r.outcome) p.reply
-
-short_outcome : (night : Night) (r : Reply) → IsShort night r → r.outcome ≡ outcome.NoMatching
-short_outcome night r p = ap (λ (r : Reply). r.outcome) p.reply.2
-
-none_outcome : (night : Night) (r : Reply) → ((place : List ℕ) → Matches night place → ⊥) → IsMatched night r → r.outcome ≡ outcome.NoMatching
-none_outcome night r none (inl p) = absurd (none _ p.matches)
-none_outcome night r none (inr p) = short_outcome night r p
-
-some_outcome : (night : Night) (r : Reply) (place : List ℕ) → Matches night place → IsMatched night r → r.outcome ≡ outcome.Done
-some_outcome night r place m (inl p) = paired_outcome night r p
-some_outcome night r place m (inr p) = absurd (p.none place m)
-
-pub input_there : (s t : List ℕ) (old new : Seen) (x : Status) (files : Files) → old.files ≡ Some files → IsErr (stated_night (content files s) (content files t)) → Ends (Match s t) old new x → (x ≡ status.Input) ⊎ Yields x
-input_there s t old new x files told err e = decides (Match s t) files outcome.Input old new x told (λ r. refused_reply (stated_night (content files s) (content files t)) r err) e
-
-pub no_matching_there : (s t : List ℕ) (old new : Seen) (x : Status) (files : Files) (night : Night) → old.files ≡ Some files → stated_night (content files s) (content files t) ≡ Ok night → ((place : List ℕ) → Matches night place → ⊥) → Ends (Match s t) old new x → (x ≡ status.NoMatching) ⊎ Yields x
-no_matching_there s t old new x files night told ok none e = decides (Match s t) files outcome.NoMatching old new x told (λ r is. none_outcome night r none (judged_at (stated_night (content files s) (content files t)) night r ok is)) e
-
-pub done_there : (s t : List ℕ) (old new : Seen) (x : Status) (files : Files) (night : Night) → old.files ≡ Some files → stated_night (content files s) (content files t) ≡ Ok night → ((place : List ℕ) × Matches night place) → Ends (Match s t) old new x → (x ≡ status.Done) ⊎ Yields x
-done_there s t old new x files night told ok some e = decides (Match s t) files outcome.Done old new x told (λ r is. some_outcome night r some.0 some.1 (judged_at (stated_night (content files s) (content files t)) night r ok is)) e
-
--- what each outcome tells of the files
-input_tells : (x : Result Night (List ℕ)) (r : Reply) → Judged x IsMatched r → r.outcome ≡ outcome.Input → IsErr x
-input_tells (Err text) r is o = refl
-input_tells (Ok night) r (inl p) o = absurd (let e : outcome.Done ≡ outcome.Input = sym (paired_outcome night r p) ∙ o in cc)
-input_tells (Ok night) r (inr p) o = absurd (let e : outcome.NoMatching ≡ outcome.Input = sym (short_outcome night r p) ∙ o in cc)
-
-none_tells : (x : Result Night (List ℕ)) (r : Reply) → Judged x IsMatched r → r.outcome ≡ outcome.NoMatching → (night : Night) × (x ≡ Ok night) × ((place : List ℕ) → Matches night place → ⊥)
-none_tells (Err text) r is o = absurd (let e : outcome.Input ≡ outcome.NoMatching = sym (ap (λ (r : Reply). r.outcome) is) ∙ o in cc)
-none_tells (Ok night) r (inl p) o = absurd (let e : outcome.Done ≡ outcome.NoMatching = sym (paired_outcome night r p) ∙ o in cc)
-none_tells (Ok night) r (inr p) o = (night, refl, p.none)
-
-done_tells : (x : Result Night (List ℕ)) (r : Reply) → Judged x IsMatched r → r.outcome ≡ outcome.Done → (night : Night) × (x ≡ Ok night) × ((place : List ℕ) × Matches night place)
-done_tells (Err text) r is o = absurd (let e : outcome.Input ≡ outcome.Done = sym (ap (λ (r : Reply). r.outcome) is) ∙ o in cc)
-done_tells (Ok night) r (inl p) o = (night, refl, (_, p.matches))
-done_tells (Ok night) r (inr p) o = absurd (let e : outcome.NoMatching ≡ outcome.Done = sym (short_outcome night r p) ∙ o in cc)
-
-other_tells : (x : Result Night (List ℕ)) (r : Reply) (o : Outcome) → Judged x IsMatched r → r.outcome ≡ o → (o ≡ outcome.Done) ⊎ ((o ≡ outcome.NoMatching) ⊎ (o ≡ outcome.Input))
-other_tells (Err text) r o is e = inr (inr (sym e ∙ ap (λ (r : Reply). r.outcome) is))
-other_tells (Ok night) r o (inl p) e = inl (sym e ∙ paired_outcome night r p)
-other_tells (Ok night) r o (inr p) e = inr (inl (sym e ∙ short_outcome night r p))
-
-pub on_told : (f : Option Files) (P Q : Files → Type 0) → ((files : Files) → P files → Q files) → IfSome f P → IfSome f Q
-on_told None P Q h p = tt
-on_told (Some files) P Q h p = h files p
-
-pub input_only : (s t : List ℕ) (old new : Seen) → Ends (Match s t) old new status.Input → IfSome old.files (λ files. IsErr (stated_night (content files s) (content files t)))
-input_only s t old new e = let h = input_reply (Match s t) old new e in
-    on_told old.files _ _ (λ files is. input_tells (stated_night (content files s) (content files t)) h.0 is h.2) h.1
-
-pub no_matching_only : (s t : List ℕ) (old new : Seen) → Ends (Match s t) old new status.NoMatching → IfSome old.files (λ files. (night : Night) × (stated_night (content files s) (content files t) ≡ Ok night) × ((place : List ℕ) → Matches night place → ⊥))
-no_matching_only s t old new e = let h = no_matching_reply (Match s t) old new e in
-    on_told old.files _ _ (λ files is. none_tells (stated_night (content files s) (content files t)) h.0 is h.2) h.1
-
-pub done_only : (s t : List ℕ) (old new : Seen) → Ends (Match s t) old new status.Done → IfSome old.files (λ files. (night : Night) × (stated_night (content files s) (content files t) ≡ Ok night) × ((place : List ℕ) × Matches night place))
-done_only s t old new e = let h = done_reply (Match s t) old new e in
-    on_told old.files _ _ (λ files is. done_tells (stated_night (content files s) (content files t)) h.0 is h.2) h.1
-
-never : (s t : List ℕ) (o : Outcome) (old : Seen) (files : Files) → (o ≡ outcome.Done → ⊥) → (o ≡ outcome.NoMatching → ⊥) → (o ≡ outcome.Input → ⊥) → old.files ≡ Some files → HasReply (Match s t) o old → ⊥
-never s t o old files a b c told h = at (other_tells (stated_night (content files s) (content files t)) h.0 o (subst (λ f. IfSome f (λ files. IsReply (Match s t) files h.0)) told h.1) h.2)
-  where
-    at : (o ≡ outcome.Done) ⊎ ((o ≡ outcome.NoMatching) ⊎ (o ≡ outcome.Input)) → ⊥
-    at (inl e) = a e
-    at (inr (inl e)) = b e
-    at (inr (inr e)) = c e
-
-pub no_findings : (s t : List ℕ) (old new : Seen) (files : Files) → old.files ≡ Some files → Ends (Match s t) old new status.Findings → ⊥
-no_findings s t old new files told e = never s t outcome.Findings old files (λ e. cc) (λ e. cc) (λ e. cc) told (findings_reply (Match s t) old new e)
-
-pub no_unfinished : (s t : List ℕ) (old new : Seen) (files : Files) → old.files ≡ Some files → Ends (Match s t) old new status.Unfinished → ⊥
-no_unfinished s t old new files told e = never s t outcome.Unfinished old files (λ e. cc) (λ e. cc) (λ e. cc) told (unfinished_reply (Match s t) old new e)
-
--- ---- completeness, over stores and sinks that don't fail
-
-reply_at : (s t : List ℕ) (old : Seen) (files : Files) (night : Night) (r : Reply) → old.files ≡ Some files → stated_night (content files s) (content files t) ≡ Ok night → IfSome old.files (λ files. IsReply (Match s t) files r) → IsMatched night r
-reply_at s t old files night r told ok is = judged_at (stated_night (content files s) (content files t)) night r ok (subst (λ f. IfSome f (λ files. IsReply (Match s t) files r)) told is)
-
-matched_outcome : (night : Night) (r : Reply) → IsMatched night r → (r.outcome ≡ outcome.Done) ⊎ (r.outcome ≡ outcome.NoMatching)
-matched_outcome night r (inl p) = inl (paired_outcome night r p)
-matched_outcome night r (inr p) = inr (short_outcome night r p)
-
-not_other : (o : Outcome) (r : Reply) → o ≡ r.outcome → (o ≡ outcome.Done → ⊥) → (o ≡ outcome.NoMatching → ⊥) → (r.outcome ≡ outcome.Done) ⊎ (r.outcome ≡ outcome.NoMatching) → ⊥
-not_other o r e a b (inl d) = a (e ∙ d)
-not_other o r e a b (inr d) = b (e ∙ d)
-
-abbrev EndsWell : Status → Type 0
-EndsWell x = (x ≡ status.Done) ⊎ ((x ≡ status.NoMatching) ⊎ (x ≡ status.Memory))
-
-early_well : (c : Call) (old new : Seen) (x : Status) → (Rose old.store_faults new.store_faults → ⊥) → StopsEarly c old new x → EndsWell x
-early_well c old new status.Done ns e = absurd e
-early_well c old new status.Findings ns e = absurd e
-early_well c old new status.Words ns e = absurd e
-early_well c old new status.Input ns e = absurd e
-early_well c old new status.Store ns e = absurd (ns e.0)
-early_well c old new status.Memory ns e = inr (inr refl)
-early_well c old new status.NoMatching ns e = absurd e
-early_well c old new status.Unfinished ns e = absurd e
-early_well c old new status.Sink ns e = absurd e
-
-delivered_well : (night : Night) (r : Reply) (old new : Seen) (x : Status) → IsMatched night r → (Rose old.store_faults new.store_faults → ⊥) → (Rose old.sink_faults new.sink_faults → ⊥) → Delivers r old new x → EndsWell x
-delivered_well night r old new status.Done m ns nk h = inl refl
-delivered_well night r old new status.Findings m ns nk h = absurd (not_other outcome.Findings r h.outcome (λ e. cc) (λ e. cc) (matched_outcome night r m))
-delivered_well night r old new status.Words m ns nk h = absurd h
-delivered_well night r old new status.Input m ns nk h = absurd (not_other outcome.Input r h.outcome (λ e. cc) (λ e. cc) (matched_outcome night r m))
-delivered_well night r old new status.Store m ns nk h = absurd (ns h.0)
-delivered_well night r old new status.Memory m ns nk h = inr (inr refl)
-delivered_well night r old new status.NoMatching m ns nk h = inr (inl refl)
-delivered_well night r old new status.Unfinished m ns nk h = absurd (not_other outcome.Unfinished r h.outcome (λ e. cc) (λ e. cc) (matched_outcome night r m))
-delivered_well night r old new status.Sink m ns nk h = absurd (nk h.0)
-
-pub ends_well : (s t : List ℕ) (old new : Seen) (x : Status) (files : Files) (night : Night) → old.files ≡ Some files → stated_night (content files s) (content files t) ≡ Ok night → (Rose old.store_faults new.store_faults → ⊥) → (Rose old.sink_faults new.sink_faults → ⊥) → Ends (Match s t) old new x → EndsWell x
-ends_well s t old new x files night told ok ns nk (inl e) = early_well (Match s t) old new x ns e
-ends_well s t old new x files night told ok ns nk (inr h) = delivered_well night h.0 old new x (reply_at s t old files night h.0 told ok h.1) ns nk h.2
+never_words c old new (inr h) = no_words h.0.outcome h.2.0
 
 never_rose : (before now : ℕ) → now ≡ 0 → Rose before now → ⊥
-never_rose before now e rose = omega (arith, rose)
+never_rose before now e (inl h) = omega (arith, e, h)
+never_rose before now e (inr h) = omega (arith, e, h)
 
 pub store_never : (c : Call) (old new : Seen) → new.store_faults ≡ 0 → Ends c old new status.Store → ⊥
 store_never c old new e h = never_rose _ _ e (store_rose c old new h)
 
 pub sink_never : (c : Call) (old new : Seen) → new.sink_faults ≡ 0 → Ends c old new status.Sink → ⊥
 sink_never c old new e h = never_rose _ _ e (sink_rose c old new h)
+
+-- ---- what each command's answers have
+
+pub paired_outcome : (night : Night) (r : Reply) → IsPaired night r → r.outcome ≡ outcome.Done
+paired_outcome night r p = ap (λ (r : Reply). r.outcome) p.reply
+
+pub short_outcome : (night : Night) (r : Reply) → IsShort night r → r.outcome ≡ outcome.NoMatching
+short_outcome night r p = ap (λ (r : Reply). r.outcome) p.reply.2
+
+no_input_found : (fs : List Finding) → audit_outcome fs ≡ outcome.Input → ⊥
+no_input_found [] e = let h : outcome.Done ≡ outcome.Input = e in cc
+no_input_found (f ∷ fs) e = let h : outcome.Findings ≡ outcome.Input = e in cc
+
+-- an answer is never that an input isn't accepted
+no_input : (c : Call) (v : Value c) (r : Reply) → IsAnswer c v r → r.outcome ≡ outcome.Input → ⊥
+no_input (Match s t) night r (inl p) o = let e : outcome.Done ≡ outcome.Input = sym (paired_outcome night r p) ∙ o in cc
+no_input (Match s t) night r (inr p) o = let e : outcome.NoMatching ≡ outcome.Input = sym (short_outcome night r p) ∙ o in cc
+no_input (Audit s t p) x r is o = no_input_found is.findings (sym (ap (λ (r : Reply). r.outcome) is.reply) ∙ o)
+
+-- an answer writes no file but the command's own
+own_writes : (c : Call) (v : Value c) (r : Reply) (name text : List ℕ) → IsAnswer c v r → In (name, text) r.writes → In name (outputs_of c)
+own_writes (Match s t) night r name text (inl p) w = subst (λ (q : Reply). In (name, text) q.writes) p.reply w
+own_writes (Match s t) night r name text (inr p) w = subst (λ (q : Reply). In (name, text) q.writes) p.reply.2 w
+own_writes (Audit s t p) x r name text is w = subst (λ (q : Reply). In (name, text) q.writes) is.reply w
+
+-- before its reply is known a command writes no file but its own
+own_begins : (c : Call) (a b : Files) (name : List ℕ) → (In name (outputs_of c) → ⊥) → MayBegin c a b → map.get b name ≡ map.get a name
+own_begins c a b name other e = ap (λ f. map.get f name) e
+
+-- ---- the first input that isn't accepted
+
+refused_reply : {X : Type 0} (x : Result X (List ℕ)) (P : X → Reply → Type 0) (text : List ℕ) (r : Reply) → result_err x ≡ Some text → Judged x P r → r ≡ refusal text
+refused_reply (Ok y) P text r e is = absurd (let h : None ≡ Some text = e in cc)
+refused_reply (Err line) P text r e is = is ∙ ap refusal (let h : Some line ≡ Some text = e in cc)
+
+pub input_there : (c : Call) (old new : Seen) (s : Status) (files : Files) (text : List ℕ) → old.files ≡ Some files → refused c files ≡ Some text → Ends c old new s → ((s ≡ status.Input) × IsWhole (refusal text) old new) ⊎ Yields s
+input_there c old new s files text told e (inl h) = inr (early c old new s h)
+input_there c old new s files text told e (inr h) = at (its_own h.0 old new s h.2)
+  where
+    is : h.0 ≡ refusal text
+    is = refused_reply (stated_in c files) (IsAnswer c) text h.0 e (reply_at c old.files files h.0 told h.1)
+
+    at : ((s ≡ the_status h.0.outcome) × IsWhole h.0 old new) ⊎ Yields s → ((s ≡ status.Input) × IsWhole (refusal text) old new) ⊎ Yields s
+    at (inl w) = inl (w.0 ∙ ap (λ (r : Reply). the_status r.outcome) is, subst (λ r. IsWhole r old new) is w.1)
+    at (inr y) = inr y
+
+Refused : {X : Type 0} → Result X (List ℕ) → Reply → Type 0
+Refused x r = (text : List ℕ) × (result_err x ≡ Some text) × (r ≡ refusal text)
+
+input_tells : (c : Call) (x : Result (Value c) (List ℕ)) (r : Reply) → Judged x (IsAnswer c) r → r.outcome ≡ outcome.Input → Refused x r
+unfolding Refused
+input_tells c (Err text) r is o = (text, refl, is)
+input_tells c (Ok v) r is o = absurd (no_input c v r is o)
+
+pub input_only : (c : Call) (old new : Seen) → Ends c old new status.Input → (files : Files) × Agrees old.files files × ((text : List ℕ) × (refused c files ≡ Some text) × IsWhole (refusal text) old new)
+unfolding Refused
+input_only c old new e =
+    let h = has_reply c outcome.Input old new e in
+    let told = input_tells c (stated_in c h.1.0) h.0 h.1.2 h.2 in
+    (h.1.0, h.1.1, (told.0, told.1, subst (λ r. IsWhole r old new) told.2 h.3))
+
+-- ---- what stands
+
+written_same : (ws : List (List ℕ × List ℕ)) (a : Files) (name : List ℕ) → ((text : List ℕ) → In (name, text) ws → ⊥) → map.get (written ws a) name ≡ map.get a name
+written_same [] a name other = refl
+written_same (w ∷ ws) a name other =
+    written_same ws (map.insert a w.0 w.1) name (λ text is. other text (inr is))
+    ∙ same_elsewhere a w.0 w.1 name (λ e. other w.1 (inl (ap (λ n. (n, w.1)) e)))
+
+reply_writes : (c : Call) (x : Result (Value c) (List ℕ)) (r : Reply) (name text : List ℕ) → Judged x (IsAnswer c) r → In (name, text) r.writes → In name (outputs_of c)
+reply_writes c (Ok v) r name text is w = own_writes c v r name text is w
+reply_writes c (Err line) r name text is w = absurd (subst (λ (q : Reply). In (name, text) q.writes) is w)
+
+module _ (c : Call) (old new : Seen) (r : Reply) (name : List ℕ) (is : IsReplyOver c old.files r) (other : In name (outputs_of c) → ⊥) where
+  not_written : (text : List ℕ) → In (name, text) r.writes → ⊥
+  not_written text w = other (reply_writes c (stated_in c is.0) r name text is.2 w)
+
+  abbrev Kept : Files → Files → Type 0
+  Kept a b = map.get b name ≡ map.get a name
+
+  after_whole : BothTold old.files new.files (λ a b. b ≡ written r.writes a) → BothTold old.files new.files Kept
+  after_whole h = both_map _ Kept old.files new.files h (λ a b e. ap (λ f. map.get f name) e ∙ written_same r.writes a name not_written)
+
+  after_cut : BothTold old.files new.files (MayWrite r.writes) → BothTold old.files new.files Kept
+  after_cut h = both_map _ Kept old.files new.files h (λ a b may. at a b (may name))
+    where
+      at : (a b : Files) → MayHold r.writes a b name → Kept a b
+      at a b (inl e) = e
+      at a b (inr w) = absurd (not_written w.0 w.1)
+
+  after_delivery : (s : Status) → Delivers r old new s → BothTold old.files new.files Kept
+  after_delivery status.Store h = after_cut h.1.files
+  after_delivery status.Memory (inl h) = after_cut h.files
+  after_delivery status.Memory (inr h) = after_whole h.files
+  after_delivery status.Sink h = after_whole h.1.files
+  after_delivery status.Done h = after_whole h.1.files
+  after_delivery status.Findings h = after_whole h.1.files
+  after_delivery status.Words h = after_whole h.1.files
+  after_delivery status.Input h = after_whole h.1.files
+  after_delivery status.NoMatching h = after_whole h.1.files
+  after_delivery status.Unfinished h = after_whole h.1.files
+
+after_early : (c : Call) (old new : Seen) (s : Status) (name : List ℕ) → (In name (outputs_of c) → ⊥) → StopsEarly c old new s → BothTold old.files new.files (λ a b. map.get b name ≡ map.get a name)
+after_early c old new status.Store name other h = both_map _ _ old.files new.files h.2 (λ a b begun. own_begins c a b name other begun)
+after_early c old new status.Memory name other h = both_map _ _ old.files new.files h.1 (λ a b begun. own_begins c a b name other begun)
+after_early c old new status.Done name other h = absurd h
+after_early c old new status.Findings name other h = absurd h
+after_early c old new status.Words name other h = absurd h
+after_early c old new status.Input name other h = absurd h
+after_early c old new status.NoMatching name other h = absurd h
+after_early c old new status.Unfinished name other h = absurd h
+after_early c old new status.Sink name other h = absurd h
+
+pub others : (c : Call) (old new : Seen) (s : Status) (name : List ℕ) → (In name (outputs_of c) → ⊥) → Ends c old new s → BothTold old.files new.files (λ a b. map.get b name ≡ map.get a name)
+others c old new s name other (inl h) = after_early c old new s name other h
+others c old new s name other (inr h) = after_delivery c old new h.0 name h.1 other s h.2
+
+pub after_store : (c : Call) (old new : Seen) → Ends c old new status.Store → new.output ≡ old.output
+after_store c old new (inl h) = h.1
+after_store c old new (inr h) = h.2.1.output
+
+pub after_memory : (c : Call) (old new : Seen) → Ends c old new status.Memory → (new.output ≡ old.output) ⊎ ((r : Reply) × IsReplyOver c old.files r × CutInText r old new)
+after_memory c old new (inl h) = inl h.0
+after_memory c old new (inr (r, is, inl h)) = inl h.output
+after_memory c old new (inr (r, is, inr h)) = inr (r, is, h)
+
+pub after_sink : (c : Call) (old new : Seen) → Ends c old new status.Sink → (r : Reply) × IsReplyOver c old.files r × CutInText r old new
+after_sink c old new (inl h) = absurd h
+after_sink c old new (inr h) = (h.0, h.1, h.2.1)

@@ -1,5 +1,6 @@
 -- The definitions of this crate.
 pub mod Words
+pub mod Inputs
 pub mod Replies
 pub mod Halts
 pub mod Ends

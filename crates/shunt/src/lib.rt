@@ -2,6 +2,7 @@
 #![tactic(auto)]
 
 mod delivering;
+mod inputs;
 pub mod laws;
 mod loading;
 mod replying;

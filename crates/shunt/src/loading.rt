@@ -1,21 +1,19 @@
 // Reading an input file and judging it.
-ghost use Rattle.std.specs.Prelude.{◌≡◌, ◌≤◌, length, IfOk, IfSome, IsErrOf, option_map};
-ghost use Rattle.shunt_store.specs.defs.Files.{Closed, content};
+ghost use Rattle.std.specs.Prelude.{◌≡◌, ◌-◌, ◌^◌, ◌<◌, ◌≤◌, length, IfOk, IsErrOf, option_map};
+ghost use Rattle.shunt_store.specs.defs.Files.{Closed};
 ghost use Rattle.shunt_store.specs.defs.Causes.{HasCause};
-ghost use Rattle.shunt_instance.specs.defs.Wellformed.{IsStation, IsTimetable};
 ghost use Rattle.shunt_plan.specs.defs.Plans.{IsPlanInRange};
 ghost use Rattle.shunt_report.specs.defs.Texts.{input_of};
 ghost use Rattle.shunt.specs.declared.loading.Halt.TheVariants as halt;
 ghost use Rattle.shunt.specs.defs.Halts.{IfInput, Loads, LoadsBytes};
-ghost use Rattle.shunt.specs.defs.Replies.{stated_station, stated_timetable, stated_night, stated_plan};
+ghost use Rattle.shunt.specs.defs.Inputs.{Holding, most_bytes_of, stated_by, stated_night, stated_plan};
 
-use shunt_instance::{Instance, Station, Timetable};
-use shunt_plan::{Plan, read_plan};
+use crate::inputs::{InputFile, PlanFile, StationFile, TimetableFile};
+use shunt_instance::Instance;
+use shunt_plan::Plan;
 use shunt_report::{FileWord, input_text};
 use shunt_rows::{ReadError, RowFault, records};
-use shunt_station::read_station;
 use shunt_store::{ReadAllError, Store, read_all};
-use shunt_timetable::read_timetable;
 use std::alloc::{AllocError, Global};
 
 /// Why a command has no answer, or the text of the input that isn't accepted.
@@ -34,8 +32,24 @@ impl From<AllocError> for Halt {
     }
 }
 
-/// How many bytes may stand in an input file.
-const MOST_BYTES: u64 = 4_194_304;
+// How many bytes may stand in an input file.
+fn most_bytes(file: FileWord) -> u64
+    ensures value { result ≡ most_bytes_of file }
+    ensures below { result < 2 ^ 64 - 1 }
+{
+    match file {
+        FileWord::Certificate => 67_108_864,
+        FileWord::Station
+        | FileWord::Timetable
+        | FileWord::Plan
+        | FileWord::Edits
+        | FileWord::Pins
+        | FileWord::Zones
+        | FileWord::Crew
+        | FileWord::Roster
+        | FileWord::Sheet => 4_194_304,
+    }
+}
 
 // The halt at an input file that isn't accepted, with its first fault, or none where it is too long.
 fn refuse(alloc: Global, file: FileWord, fault: Option<&RowFault>) -> Halt
@@ -51,13 +65,13 @@ fn refuse(alloc: Global, file: FileWord, fault: Option<&RowFault>) -> Halt
 // Reads a file whole.
 fn load<S: Store>(alloc: Global, store: &mut S, name: &str, file: FileWord) -> Result<Vec<u8>, Halt>
     requires { S.stage store.old ≡ Closed }
-    ensures told { IfSome (S.told store.old) (λ files. LoadsBytes file (content files name.now) result) }
-    ensures short { IfOk result (λ bytes. length bytes.items ≤ 4194304) }
+    ensures told { Holding (S.told store.old) name.now (λ bytes. LoadsBytes file bytes result) }
+    ensures short { IfOk result (λ bytes. length bytes.items ≤ most_bytes_of file) }
     ensures files { S.told store.new ≡ S.told store.old }
     ensures closed { (IsErrOf result Halt.Fault → ⊥) → S.stage store.new ≡ Closed }
     ensures cause { HasCause Halt.Fault (S.faults store.old) (S.faults store.new) result }
 {
-    match read_all(alloc, store, name, MOST_BYTES) {
+    match read_all(alloc, store, name, most_bytes(file)) {
         Ok(bytes) => Ok(bytes),
         Err(ReadAllError::TooLong) => Err(refuse(alloc, file, None)),
         Err(ReadAllError::Fault) => Err(Halt::Fault),
@@ -65,67 +79,39 @@ fn load<S: Store>(alloc: Global, store: &mut S, name: &str, file: FileWord) -> R
     }
 }
 
-// The station that the bytes of a file state.
-fn judge_station(alloc: Global, bytes: &[u8]) -> Result<Station, Halt>
-    requires { length bytes.now ≤ 4194304 }
-    ensures stated { Loads result (stated_station bytes.now) }
-    ensures formed { IfOk result IsStation }
+// What the bytes of an input file state.
+fn judge<I: InputFile>(alloc: Global, input: &I, bytes: &[u8]) -> Result<I::Value, Halt>
+    requires ready { I.ready input.now }
+    requires short { length bytes.now ≤ most_bytes_of I.word }
+    ensures stated { Loads result (stated_by I.word (I.states input.now) bytes.now) }
+    ensures formed { IfOk result (I.formed input.now) }
     ensures no_fault { IsErrOf result Halt.Fault → ⊥ }
 {
     let rows = records(alloc, bytes)?;
-    match read_station(alloc, &rows) {
-        Ok(station) => Ok(station),
-        Err(ReadError::Fault(fault)) => Err(refuse(alloc, FileWord::Station, Some(&fault))),
+    match input.read(alloc, &rows) {
+        Ok(value) => Ok(value),
+        Err(ReadError::Fault(fault)) => Err(refuse(alloc, input.word(), Some(&fault))),
         Err(ReadError::Memory) => Err(Halt::Memory),
     }
 }
 
-// Reads and judges the station file.
-fn load_station<S: Store>(alloc: Global, store: &mut S, name: &str) -> Result<Station, Halt>
-    requires { S.stage store.old ≡ Closed }
-    ensures told { IfSome (S.told store.old) (λ files. Loads result (stated_station (content files name.now))) }
-    ensures formed { IfOk result IsStation }
-    ensures files { S.told store.new ≡ S.told store.old }
-    ensures closed { (IsErrOf result Halt.Fault → ⊥) → S.stage store.new ≡ Closed }
-    ensures cause { HasCause Halt.Fault (S.faults store.old) (S.faults store.new) result }
-{
-    let bytes = load(alloc, store, name, FileWord::Station)?;
-    judge_station(alloc, &bytes)
-}
-
-// The timetable that the bytes of a file state over a station.
-fn judge_timetable(alloc: Global, station: &Station, bytes: &[u8]) -> Result<Timetable, Halt>
-    requires station { IsStation station.now }
-    requires short { length bytes.now ≤ 4194304 }
-    ensures stated { Loads result (stated_timetable station.now bytes.now) }
-    ensures formed { IfOk result (IsTimetable station.now) }
-    ensures no_fault { IsErrOf result Halt.Fault → ⊥ }
-{
-    let rows = records(alloc, bytes)?;
-    match read_timetable(alloc, station, &rows) {
-        Ok(timetable) => Ok(timetable),
-        Err(ReadError::Fault(fault)) => Err(refuse(alloc, FileWord::Timetable, Some(&fault))),
-        Err(ReadError::Memory) => Err(Halt::Memory),
-    }
-}
-
-// Reads and judges the timetable file, over a station.
-fn load_timetable<S: Store>(
+/// Reads an input file whole, and judges it.
+pub fn load_input<S: Store, I: InputFile>(
     alloc: Global,
     store: &mut S,
-    station: &Station,
     name: &str,
-) -> Result<Timetable, Halt>
+    input: &I,
+) -> Result<I::Value, Halt>
     requires closed { S.stage store.old ≡ Closed }
-    requires station { IsStation station.now }
-    ensures told { IfSome (S.told store.old) (λ files. Loads result (stated_timetable station.now (content files name.now))) }
-    ensures formed { IfOk result (IsTimetable station.now) }
+    requires ready { I.ready input.now }
+    ensures told { Holding (S.told store.old) name.now (λ bytes. Loads result (stated_by I.word (I.states input.now) bytes)) }
+    ensures formed { IfOk result (I.formed input.now) }
     ensures files { S.told store.new ≡ S.told store.old }
     ensures closed { (IsErrOf result Halt.Fault → ⊥) → S.stage store.new ≡ Closed }
     ensures cause { HasCause Halt.Fault (S.faults store.old) (S.faults store.new) result }
 {
-    let bytes = load(alloc, store, name, FileWord::Timetable)?;
-    judge_timetable(alloc, station, &bytes)
+    let bytes = load(alloc, store, name, input.word())?;
+    judge(alloc, input, &bytes)
 }
 
 /// Reads and judges the station file, and then the timetable file over it.
@@ -136,29 +122,15 @@ pub fn load_instance<S: Store>(
     timetable: &str,
 ) -> Result<Instance, Halt>
     requires { S.stage store.old ≡ Closed }
-    ensures told { IfSome (S.told store.old) (λ files. Loads result (stated_night (content files station.now) (content files timetable.now))) }
+    ensures told { Holding (S.told store.old) station.now (λ s. Holding (S.told store.old) timetable.now (λ t. Loads result (stated_night s t))) }
     ensures files { S.told store.new ≡ S.told store.old }
     ensures closed { (IsErrOf result Halt.Fault → ⊥) → S.stage store.new ≡ Closed }
     ensures cause { HasCause Halt.Fault (S.faults store.old) (S.faults store.new) result }
 {
-    let station = load_station(alloc, store, station)?;
-    let timetable = load_timetable(alloc, store, &station, timetable)?;
+    let station = load_input(alloc, store, station, &StationFile)?;
+    let over = TimetableFile { station: &station };
+    let timetable = load_input(alloc, store, timetable, &over)?;
     Ok(Instance::join(alloc, station, timetable)?)
-}
-
-// The plan that the bytes of a file state over an instance.
-fn judge_plan(alloc: Global, instance: &Instance, bytes: &[u8]) -> Result<Plan, Halt>
-    requires { length bytes.now ≤ 4194304 }
-    ensures stated { Loads result (stated_plan instance.now bytes.now) }
-    ensures in_range { IfOk result (IsPlanInRange instance.now) }
-    ensures no_fault { IsErrOf result Halt.Fault → ⊥ }
-{
-    let rows = records(alloc, bytes)?;
-    match read_plan(alloc, instance, &rows) {
-        Ok(plan) => Ok(plan),
-        Err(ReadError::Fault(fault)) => Err(refuse(alloc, FileWord::Plan, Some(&fault))),
-        Err(ReadError::Memory) => Err(Halt::Memory),
-    }
 }
 
 /// Reads and judges the plan file, over an instance.
@@ -169,12 +141,11 @@ pub fn load_plan<S: Store>(
     name: &str,
 ) -> Result<Plan, Halt>
     requires { S.stage store.old ≡ Closed }
-    ensures told { IfSome (S.told store.old) (λ files. Loads result (stated_plan instance.now (content files name.now))) }
+    ensures told { Holding (S.told store.old) name.now (λ p. Loads result (stated_plan instance.now p)) }
     ensures in_range { IfOk result (IsPlanInRange instance.now) }
     ensures files { S.told store.new ≡ S.told store.old }
     ensures closed { (IsErrOf result Halt.Fault → ⊥) → S.stage store.new ≡ Closed }
     ensures cause { HasCause Halt.Fault (S.faults store.old) (S.faults store.new) result }
 {
-    let bytes = load(alloc, store, name, FileWord::Plan)?;
-    judge_plan(alloc, instance, &bytes)
+    load_input(alloc, store, name, &PlanFile { instance })
 }

@@ -1,10 +1,11 @@
 // From the files to the answer.
-ghost use Rattle.std.specs.Prelude.{◌≡◌, IfOk, IfSome, IsErrOf};
-ghost use Rattle.shunt_store.specs.defs.Files.{Closed};
+ghost use Rattle.std.specs.Prelude.{◌≡◌, IfOk, IsErrOf};
+ghost use Rattle.shunt_store.specs.defs.Files.{Files, Closed};
 ghost use Rattle.shunt_store.specs.defs.Causes.{HasCause};
 ghost use Rattle.shunt_plan.specs.defs.Plans.{IsPlanInRange};
-ghost use Rattle.shunt.specs.defs.Words.{call_of};
-ghost use Rattle.shunt.specs.defs.Replies.{IsMatched, IsAudited, IsReply, reply_of};
+ghost use Rattle.shunt.specs.defs.Words.{call_of, IsUsable};
+ghost use Rattle.shunt.specs.defs.Inputs.{Agrees, Holding, stated_night, stated_plans};
+ghost use Rattle.shunt.specs.defs.Replies.{IsMatched, IsAudited, IsReply, Judged, reply_of};
 ghost use Rattle.shunt.specs.defs.Halts.{Replies};
 
 use crate::delivering::{Answer, Outcome};
@@ -24,23 +25,51 @@ pub fn answer_to<S: Store>(
     store: &mut S,
     command: Command<'_>,
 ) -> Result<Answer, Halt>
-    requires { S.stage store.old ≡ Closed }
-    ensures told { IfSome (S.told store.old) (λ files. Replies reply_of result (IsReply (call_of command.entry) files)) }
+    requires closed { S.stage store.old ≡ Closed }
+    requires names { IsUsable (call_of command) }
+    ensures told { (files : Files) × Agrees (S.told store.old) files × Replies reply_of result (IsReply (call_of command.entry) files) }
     ensures files { S.told store.new ≡ S.told store.old }
     ensures closed { (IsErrOf result Halt.Fault → ⊥) → S.stage store.new ≡ Closed }
     ensures cause { HasCause Halt.Fault (S.faults store.old) (S.faults store.new) result }
 {
     match command {
-        Command::Match(first, second) => {
-            let instance = load_instance(alloc, store, first, second)?;
-            Ok(match_answer(alloc, &instance)?)
-        }
-        Command::Audit(first, second, third) => {
-            let instance = load_instance(alloc, store, first, second)?;
-            let plan = load_plan(alloc, store, &instance, third)?;
-            Ok(audit_answer(alloc, &instance, &plan)?)
-        }
+        Command::Match(first, second) => reply_to_match(alloc, store, first, second),
+        Command::Audit(first, second, third) => reply_to_audit(alloc, store, first, second, third),
     }
+}
+
+fn reply_to_match<S: Store>(
+    alloc: Global,
+    store: &mut S,
+    station: &str,
+    timetable: &str,
+) -> Result<Answer, Halt>
+    requires { S.stage store.old ≡ Closed }
+    ensures told { Holding (S.told store.old) station.now (λ s. Holding (S.told store.old) timetable.now (λ t. Replies reply_of result (Judged (stated_night s t) IsMatched))) }
+    ensures files { S.told store.new ≡ S.told store.old }
+    ensures closed { (IsErrOf result Halt.Fault → ⊥) → S.stage store.new ≡ Closed }
+    ensures cause { HasCause Halt.Fault (S.faults store.old) (S.faults store.new) result }
+{
+    let instance = load_instance(alloc, store, station, timetable)?;
+    Ok(match_answer(alloc, &instance)?)
+}
+
+fn reply_to_audit<S: Store>(
+    alloc: Global,
+    store: &mut S,
+    station: &str,
+    timetable: &str,
+    plan: &str,
+) -> Result<Answer, Halt>
+    requires { S.stage store.old ≡ Closed }
+    ensures told { Holding (S.told store.old) station.now (λ s. Holding (S.told store.old) timetable.now (λ t. Holding (S.told store.old) plan.now (λ p. Replies reply_of result (Judged (stated_plans s t p) IsAudited)))) }
+    ensures files { S.told store.new ≡ S.told store.old }
+    ensures closed { (IsErrOf result Halt.Fault → ⊥) → S.stage store.new ≡ Closed }
+    ensures cause { HasCause Halt.Fault (S.faults store.old) (S.faults store.new) result }
+{
+    let instance = load_instance(alloc, store, station, timetable)?;
+    let plan = load_plan(alloc, store, &instance, plan)?;
+    Ok(audit_answer(alloc, &instance, &plan)?)
 }
 
 // Which unit becomes which position, or why none can.

@@ -1,7 +1,7 @@
 // The whole run.
 ghost use Rattle.std.specs.Prelude.{◌≡◌, ◌↔◌};
 ghost use Rattle.shunt_store.specs.defs.Files.{Closed};
-ghost use Rattle.shunt.specs.defs.Words.{Call, Spells, texts, call_of};
+ghost use Rattle.shunt.specs.defs.Words.{Call, IsUsable, Spells, texts, call_of};
 ghost use Rattle.shunt.specs.defs.Ends.{Ends, seen};
 ghost use Rattle.shunt.specs.defs.Replies.{reply_of, refusal};
 
@@ -42,6 +42,7 @@ pub enum Status {
 /// where the files have names that differ and aren't empty, or the answer is `Words` and nothing is read, written or printed.
 /// `Store` comes only where the store failed in this call and `Sink` only where the sink did; `Memory` may come in place
 /// of any answer but `Words`. Each other status is that of the defined answer, all of which then was written and printed.
+/// Where the store doesn't tell what its files hold, that is the defined answer over some contents of them.
 pub fn run<S: Store, O: Sink>(
     alloc: Global,
     words: &Vec<String>,
@@ -68,7 +69,8 @@ fn carry_out<S: Store, O: Sink>(
     store: &mut S,
     out: &mut O,
 ) -> Status
-    requires { S.stage store.old ≡ Closed }
+    requires closed { S.stage store.old ≡ Closed }
+    requires names { IsUsable (call_of command) }
     ensures not_words { result ≡ Status.Words → ⊥ }
     ensures ends { Ends (call_of command.entry)
         (seen S.told S.faults O.told O.faults store.old out.old)

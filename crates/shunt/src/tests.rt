@@ -10,6 +10,12 @@ use std::test::Fail;
 const STATION: &str =
     "station,1,Demo\ntype,K,500,10\ntype,X,500,10\ntype,Y,500,10\nplatform,P\ntrack,T,1000,A\nroute,P,T,A,3\ncost,5,4,100\n";
 
+const SHORT_TRACK: &str =
+    "station,1,Demo\ntype,K,500,10\ntype,X,500,10\ntype,Y,500,10\nplatform,P\ntrack,T,999,A\nroute,P,T,A,3\ncost,5,4,100\n";
+
+const WITHOUT_TRACK: &str =
+    "station,1,Demo\ntype,K,500,10\ntype,X,500,10\ntype,Y,500,10\nplatform,P\ncost,5,4,100\n";
+
 const NIGHT: &str = "timetable,1\narrive,a1,22:00,P,K,K\ndepart,d1,30:00,P,K,K\n";
 
 const PAIRS: &str = "pair a1 1 d1 1\npair a1 2 d1 2\nmatched 2\n";
@@ -97,6 +103,32 @@ fn nights_are_matched(rt: HostRuntime) -> Result<(), Fail> {
     ] {
         assert!(rt;
             ends_with(rt.alloc(), STATION, timetable, status, printed)?,
+            "{timetable}"
+        );
+    }
+    Ok(())
+}
+
+#[test]
+fn a_match_asks_for_no_track(rt: HostRuntime) -> Result<(), Fail> {
+    let short = ends_with(rt.alloc(), SHORT_TRACK, NIGHT, Status::Done, PAIRS)?;
+    assert!(rt; short);
+    for (timetable, status, printed) in [
+        ("timetable,1\n", Status::Done, "matched 0\n"),
+        (NIGHT, Status::Done, PAIRS),
+        (
+            "timetable,1\narrive,a1,22:00,P,K,K\ndepart,d1,22:09,P,K,K\n",
+            Status::NoMatching,
+            "no matching type K by 22:09 need 2 have 0\n",
+        ),
+        (
+            "timetable,1\narrive,a1,22:00,P,K,K\ndepart,d1,30:00,P,K\n",
+            Status::NoMatching,
+            "no matching type K arrive 2 depart 1\n",
+        ),
+    ] {
+        assert!(rt;
+            ends_with(rt.alloc(), WITHOUT_TRACK, timetable, status, printed)?,
             "{timetable}"
         );
     }
@@ -196,13 +228,14 @@ fn words_spell_a_command(rt: HostRuntime) -> Result<(), Fail> {
 // Whether `match S T` on the night of two units ends so where these calls of the store and the sink fail.
 fn fails_so(
     alloc: Global,
+    station: &str,
     store_call: u64,
     sink_call: u64,
     status: Status,
     printed: &str,
 ) -> Result<bool, Fail> {
     let words = words_of(alloc, &["match", "S", "T"])?;
-    let mut store = store_of(alloc, STATION, NIGHT)?;
+    let mut store = store_of(alloc, station, NIGHT)?;
     store.fail_at(store_call)?;
     let mut out = MemSink::new(alloc);
     out.fail_at(sink_call)?;
@@ -213,11 +246,13 @@ fn fails_so(
 #[test]
 fn failing_calls_have_their_statuses(rt: HostRuntime) -> Result<(), Fail> {
     let alloc = rt.alloc();
-    assert!(rt; fails_so(alloc, 1, 9, Status::Store, "")?);
-    assert!(rt; fails_so(alloc, 3, 9, Status::Store, "")?);
-    assert!(rt; fails_so(alloc, 8, 9, Status::Store, "")?);
-    assert!(rt; fails_so(alloc, 9, 1, Status::Sink, "")?);
-    assert!(rt; fails_so(alloc, 9, 2, Status::Done, PAIRS)?);
+    for station in [STATION, WITHOUT_TRACK] {
+        assert!(rt; fails_so(alloc, station, 1, 9, Status::Store, "")?);
+        assert!(rt; fails_so(alloc, station, 3, 9, Status::Store, "")?);
+        assert!(rt; fails_so(alloc, station, 8, 9, Status::Store, "")?);
+        assert!(rt; fails_so(alloc, station, 9, 1, Status::Sink, "")?);
+        assert!(rt; fails_so(alloc, station, 9, 2, Status::Done, PAIRS)?);
+    }
     Ok(())
 }
 
@@ -318,6 +353,7 @@ fn four_hundred_blocks_are_audited(rt: HostRuntime) -> Result<(), Fail> {
 fn the_station_is_judged_first(rt: HostRuntime) -> Result<(), Fail> {
     let alloc = rt.alloc();
     assert!(rt; lacks_timetable(alloc, STATION, Status::Store, "")?);
+    assert!(rt; lacks_timetable(alloc, WITHOUT_TRACK, Status::Store, "")?);
     assert!(rt;
         lacks_timetable(
             alloc,
@@ -326,5 +362,36 @@ fn the_station_is_judged_first(rt: HostRuntime) -> Result<(), Fail> {
             "input station record 1 field 1 kind 2\n"
         )?
     );
+    Ok(())
+}
+
+// How `audit S T P` ends on these files, of which there is no plan, where this call of the store is to fail.
+fn ends_without_plan(
+    alloc: Global,
+    station: &str,
+    timetable: &str,
+    failing: u64,
+) -> Result<Status, Fail> {
+    let words = words_of(alloc, &["audit", "S", "T", "P"])?;
+    let mut store = store_of(alloc, station, timetable)?;
+    store.fail_at(failing)?;
+    let mut out = MemSink::new(alloc);
+    Ok(run(alloc, &words, &mut store, &mut out))
+}
+
+// A file of one read is opened, read twice and closed: four calls. So the fifth opens the timetable, and the ninth the plan.
+#[test]
+fn a_file_is_opened_after_those_before_it_are_judged(rt: HostRuntime) -> Result<(), Fail> {
+    let alloc = rt.alloc();
+    for (station, timetable, failing, status) in [
+        ("station,1\n", NIGHT, 4, Status::Store),
+        ("station,1\n", NIGHT, 5, Status::Input),
+        (STATION, "no timetable", 8, Status::Store),
+        (STATION, "no timetable", 9, Status::Input),
+        (STATION, NIGHT, 99, Status::Store),
+    ] {
+        let ended = ends_without_plan(alloc, station, timetable, failing)?;
+        assert!(rt; ended == status, "{station}{timetable}{failing}");
+    }
     Ok(())
 }

@@ -1,6 +1,6 @@
 // The words of the command line.
-ghost use Rattle.std.specs.Prelude.{◌≡◌, ◌∷◌, [], IfSome, IsSome};
-ghost use Rattle.shunt.specs.defs.Words.{Call, Spells, texts, call_of};
+ghost use Rattle.std.specs.Prelude.{◌≡◌, ◌↔◌, ◌∷◌, [], IfSome, IsSome, IsTrue};
+ghost use Rattle.shunt.specs.defs.Words.{AreNames, Call, Spells, texts, call_of};
 
 /// What is asked for, by the names of the files.
 #[derive(Clone, Copy, Drop)]
@@ -23,22 +23,44 @@ pub fn command_of(words: &[String]) -> Option<Command<'_>>
     }
 }
 
+// Whether these names can be used for the files of one command.
+fn are_two_names(first: &str, second: &str) -> bool
+    ensures { IsTrue result ↔ AreNames (first.now ∷ second.now ∷ []) }
+{
+    if first.is_empty() {
+        return false;
+    }
+    if second.is_empty() {
+        return false;
+    }
+    first != second
+}
+
+fn are_three_names(first: &str, second: &str, third: &str) -> bool
+    ensures { IsTrue result ↔ AreNames (first.now ∷ second.now ∷ third.now ∷ []) }
+{
+    if first.is_empty() {
+        return false;
+    }
+    if first == second {
+        return false;
+    }
+    if first == third {
+        return false;
+    }
+    are_two_names(second, third)
+}
+
 // The command that a word and the names of two files spell.
 fn of_two_files<'w>(word: &'w String, first: &'w String, second: &'w String) -> Option<Command<'w>>
     ensures some { IfSome result (λ c. Spells (texts (word.now ∷ first.now ∷ second.now ∷ [])) (call_of c)) }
     ensures only { (c : Call) → Spells (texts (word.now ∷ first.now ∷ second.now ∷ [])) c → IsSome result }
 {
     let (first, second) = (first.as_str(), second.as_str());
-    if word.as_str() != "match" {
-        return None;
+    match word.as_str() {
+        "match" if are_two_names(first, second) => Some(Command::Match(first, second)),
+        _ => None,
     }
-    if first.is_empty() || second.is_empty() {
-        return None;
-    }
-    if first == second {
-        return None;
-    }
-    Some(Command::Match(first, second))
 }
 
 // The command that a word and the names of three files spell.
@@ -52,14 +74,10 @@ fn of_three_files<'w>(
     ensures only { (c : Call) → Spells (texts (word.now ∷ first.now ∷ second.now ∷ third.now ∷ [])) c → IsSome result }
 {
     let (first, second, third) = (first.as_str(), second.as_str(), third.as_str());
-    if word.as_str() != "audit" {
-        return None;
+    match word.as_str() {
+        "audit" if are_three_names(first, second, third) => {
+            Some(Command::Audit(first, second, third))
+        }
+        _ => None,
     }
-    if first.is_empty() || second.is_empty() || third.is_empty() {
-        return None;
-    }
-    if first == second || first == third || second == third {
-        return None;
-    }
-    Some(Command::Audit(first, second, third))
 }

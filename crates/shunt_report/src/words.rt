@@ -12,6 +12,13 @@ pub enum FileWord {
     Station,
     Timetable,
     Plan,
+    Edits,
+    Certificate,
+    Pins,
+    Zones,
+    Crew,
+    Roster,
+    Sheet,
 }
 
 fn word_of(file: FileWord) -> &'static [u8]
@@ -21,6 +28,13 @@ fn word_of(file: FileWord) -> &'static [u8]
         FileWord::Station => b"station",
         FileWord::Timetable => b"timetable",
         FileWord::Plan => b"plan",
+        FileWord::Edits => b"edits",
+        FileWord::Certificate => b"certificate",
+        FileWord::Pins => b"pins",
+        FileWord::Zones => b"zones",
+        FileWord::Crew => b"crew",
+        FileWord::Roster => b"roster",
+        FileWord::Sheet => b"sheet",
     }
 }
 

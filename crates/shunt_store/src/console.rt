@@ -1,6 +1,9 @@
 // A sink over the standard output.
-ghost use Rattle.std.specs.Prelude.{◌≡◌, None};
+ghost use Rattle.std.specs.Prelude.{◌≡◌, ◌<◌, ◌≤◌, ◌++◌, ℕ, List, None, IfOk, OnErr, IsErrOf, length, take};
+ghost use Rattle.shunt_store.specs.defs.Files.{BothTold, AddsFront};
+ghost use Rattle.shunt_store.specs.defs.Causes.{Counts, HasCause};
 
+use crate::counting::one_fault_more;
 use crate::errors::SinkError;
 use crate::traits::Sink;
 use std::io;
@@ -28,14 +31,22 @@ impl<R: Print> Sink for ConsoleSink<'_, R> {
     ghost faults = { λ s. s.faults };
 
     /// A Fault also where the output takes nothing of the piece.
-    fn write(&mut self, piece: &[u8]) -> Result<usize, SinkError> {
+    fn write(&mut self, piece: &[u8]) -> Result<usize, SinkError>
+        ensures bound { IfOk result (λ n. n ≤ length piece.now) }
+        ensures some { IfOk result (λ n. 0 < length piece.now → 0 < n) }
+        ensures bytes { IfOk result (λ n. BothTold None None (λ (old new : List ℕ). new ≡ old ++ take n piece.now)) }
+        ensures err { OnErr result (BothTold None None (AddsFront piece.now)) }
+        ensures no_memory { IsErrOf result SinkError.Memory → ⊥ }
+        ensures counts { Counts SinkError.Fault self.old.faults self.new.faults result }
+        ensures cause { HasCause SinkError.Fault self.old.faults self.new.faults result }
+    {
         let mut writer = io::writer(self.rt);
         if let Ok(n) = writer.write(piece) {
             if n > 0 || piece.is_empty() {
                 return Ok(n);
             }
         }
-        self.faults = self.faults.saturating_add(1);
+        self.faults = one_fault_more(self.faults);
         Err(SinkError::Fault)
     }
 }

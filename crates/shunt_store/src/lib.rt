@@ -2,6 +2,7 @@
 #![tactic(auto)]
 
 mod console;
+mod counting;
 mod disk;
 mod errors;
 mod memory;

@@ -2,11 +2,12 @@
 ghost use Rattle.std.specs.Prelude.{◌≡◌, ◌≢◌, ◌⊎◌, ◌+◌, ◌-◌, ◌<◌, ◌≤◌, ◌↔◌, [], ◌∷◌, ◌++◌, min, length, take, IsTrue, IfOk, IfErr, OnOk, OnErr, IsErrOf, Some, None, option_map, Contains, if◌then◌else◌};
 ghost use Rattle.std.specs.Bool.{OnTrue};
 ghost use Rattle.std.specs.FinMap as map;
-ghost use Rattle.shunt_store.specs.defs.Causes.{one_more, Rose, HasCause};
+ghost use Rattle.shunt_store.specs.defs.Causes.{one_more, counted_on, IsOneMore, Rose, Counts, HasCause};
 ghost use Rattle.shunt_store.specs.defs.Files.{Closed, Reading, Writing, IsReading, IsWriting, name_of, content, HandsOut};
 ghost use Rattle.shunt_store.specs.defs.Held.{Held, IsToFail, called, refused};
 ghost use Rattle.shunt_store.specs.defs.Pieces.{bounded};
 
+use crate::counting::one_fault_more;
 use crate::errors::StoreError;
 use crate::moving::{hand_out, in_one_call};
 use crate::table::{File, append, bytes_at, bytes_of, place_of, put};
@@ -33,6 +34,7 @@ pub struct MemStore {
     faults: u64,
     doing: Doing,
     taken: usize,
+    handed: u64,
     piece: Option<usize>,
 }
 
@@ -53,7 +55,7 @@ impl Model for MemStore {
 impl MemStore {
     /// No files, no calls that are to fail, and no bound on what a call moves.
     pub fn new(alloc: Global) -> MemStore
-        ensures { result ≡ record { files = map.empty; failing = []; calls = 0; faults = 0; stage = Closed; taken = 0; piece = None } }
+        ensures { result ≡ record { files = map.empty; failing = []; calls = 0; faults = 0; stage = Closed; taken = 0; handed = 0; piece = None } }
     {
         MemStore {
             alloc,
@@ -63,6 +65,7 @@ impl MemStore {
             faults: 0,
             doing: Doing::Closed,
             taken: 0,
+            handed: 0,
             piece: None,
         }
     }
@@ -108,13 +111,14 @@ impl MemStore {
     fn call_fails(&mut self) -> bool
         ensures later { self.old.faults ≤ self.new.faults }
         ensures rose { OnTrue result (Rose self.old.faults self.new.faults) }
+        ensures counted { OnTrue result (IsOneMore self.old.faults self.new.faults) }
         ensures fails { IsTrue result ↔ IsToFail self.old }
         ensures new { self.new ≡ record self.old { calls = one_more self.old.calls; faults = if result then one_more self.old.faults else self.old.faults } }
     {
         self.calls = self.calls.saturating_add(1);
         let fails = self.failing.contains(&self.calls);
         if fails {
-            self.faults = self.faults.saturating_add(1);
+            self.faults = one_fault_more(self.faults);
         }
         fails
     }
@@ -127,6 +131,8 @@ impl Store for MemStore {
 
     ghost taken = { λ s. s.taken };
 
+    ghost handed = { λ s. s.handed };
+
     ghost faults = { λ s. s.faults };
 
     /// A Fault also where there is no file of the name.
@@ -134,16 +140,18 @@ impl Store for MemStore {
         requires { self.old.stage ≡ Closed }
         ensures ok { OnOk result (self.new ≡ record (called self.old) { stage = Reading name.now; taken = 0 }) }
         ensures err { IfErr result (λ e. self.new ≡ refused e self.old) }
+        ensures handed { self.new.handed ≡ self.old.handed }
         ensures exact { IsErrOf result StoreError.Fault ↔ (IsToFail self.old ⊎ (map.get self.old.files name.now ≡ None)) }
         ensures no_memory { IsErrOf result StoreError.Memory → ⊥ }
         ensures files { self.new.files ≡ self.old.files }
+        ensures counts { Counts StoreError.Fault self.old.faults self.new.faults result }
         ensures cause { HasCause StoreError.Fault self.old.faults self.new.faults result }
     {
         if self.call_fails() {
             return Err(StoreError::Fault);
         }
         let Some(place) = place_of(&self.files, name.as_bytes()) else {
-            self.faults = self.faults.saturating_add(1);
+            self.faults = one_fault_more(self.faults);
             return Err(StoreError::Fault);
         };
         self.doing = Doing::Reading(place);
@@ -156,12 +164,13 @@ impl Store for MemStore {
         ensures bytes { IfOk result (λ n. HandsOut (content self.old.files (name_of self.old.stage)) self.old.taken n buf.new) }
         ensures amount { IfOk result (λ n. n ≡ bounded self.old.piece (min (length (content self.old.files (name_of self.old.stage)) - self.old.taken) (length buf.new))) }
         ensures bound { IfOk result (λ n. n ≤ length buf.new) }
-        ensures ok { IfOk result (λ n. self.new ≡ record (called self.old) { taken = self.old.taken + n }) }
+        ensures ok { IfOk result (λ n. self.new ≡ record (called self.old) { taken = self.old.taken + n; handed = counted_on self.old.handed n }) }
         ensures err { IfErr result (λ e. self.new ≡ refused e self.old) }
         ensures exact { IsErrOf result StoreError.Fault ↔ IsToFail self.old }
         ensures no_memory { IsErrOf result StoreError.Memory → ⊥ }
         ensures stage { self.new.stage ≡ self.old.stage }
         ensures files { self.new.files ≡ self.old.files }
+        ensures counts { Counts StoreError.Fault self.old.faults self.new.faults result }
         ensures cause { HasCause StoreError.Fault self.old.faults self.new.faults result }
     {
         if self.call_fails() {
@@ -172,6 +181,7 @@ impl Store for MemStore {
         };
         let n = hand_out(bytes_of(&self.files, place), self.taken, self.piece, buf);
         self.taken += n;
+        self.handed = self.handed.saturating_add(n as u64);
         Ok(n)
     }
 
@@ -181,6 +191,8 @@ impl Store for MemStore {
         ensures err { IfErr result (λ e. self.new ≡ refused e self.old) }
         ensures exact { IsErrOf result StoreError.Fault ↔ IsToFail self.old }
         ensures taken { self.new.taken ≡ self.old.taken }
+        ensures handed { self.new.handed ≡ self.old.handed }
+        ensures counts { Counts StoreError.Fault self.old.faults self.new.faults result }
         ensures cause { HasCause StoreError.Fault self.old.faults self.new.faults result }
     {
         if self.call_fails() {
@@ -203,6 +215,8 @@ impl Store for MemStore {
         ensures exact { IsErrOf result StoreError.Fault ↔ IsToFail self.old }
         ensures stage { self.new.stage ≡ self.old.stage }
         ensures taken { self.new.taken ≡ self.old.taken }
+        ensures handed { self.new.handed ≡ self.old.handed }
+        ensures counts { Counts StoreError.Fault self.old.faults self.new.faults result }
         ensures cause { HasCause StoreError.Fault self.old.faults self.new.faults result }
     {
         if self.call_fails() {
@@ -224,6 +238,8 @@ impl Store for MemStore {
         ensures no_memory { IsErrOf result StoreError.Memory → ⊥ }
         ensures files { self.new.files ≡ self.old.files }
         ensures taken { self.new.taken ≡ self.old.taken }
+        ensures handed { self.new.handed ≡ self.old.handed }
+        ensures counts { Counts StoreError.Fault self.old.faults self.new.faults result }
         ensures cause { HasCause StoreError.Fault self.old.faults self.new.faults result }
     {
         if self.call_fails() {

@@ -1,9 +1,10 @@
 // A sink in memory, in which chosen calls fail.
 ghost use Rattle.std.specs.Prelude.{◌≡◌, ◌<◌, ◌≤◌, ◌↔◌, [], ◌∷◌, ◌++◌, length, take, IsTrue, IfOk, IfErr, OnOk, OnErr, IsErrOf, Some, if◌then◌else◌};
 ghost use Rattle.std.specs.Bool.{OnTrue};
-ghost use Rattle.shunt_store.specs.defs.Causes.{one_more, Rose, HasCause};
+ghost use Rattle.shunt_store.specs.defs.Causes.{one_more, IsOneMore, Rose, Counts, HasCause};
 ghost use Rattle.shunt_store.specs.defs.Shown.{IsToFail, called, refused};
 
+use crate::counting::one_fault_more;
 use crate::errors::SinkError;
 use crate::traits::Sink;
 use std::alloc::{AllocError, Global};
@@ -72,13 +73,14 @@ impl MemSink {
     fn call_fails(&mut self) -> bool
         ensures later { self.old.faults ≤ self.new.faults }
         ensures rose { OnTrue result (Rose self.old.faults self.new.faults) }
+        ensures counted { OnTrue result (IsOneMore self.old.faults self.new.faults) }
         ensures fails { IsTrue result ↔ IsToFail self.old }
         ensures new { self.new ≡ record self.old { calls = one_more self.old.calls; faults = if result then one_more self.old.faults else self.old.faults } }
     {
         self.calls = self.calls.saturating_add(1);
         let fails = self.failing.contains(&self.calls);
         if fails {
-            self.faults = self.faults.saturating_add(1);
+            self.faults = one_fault_more(self.faults);
         }
         fails
     }
@@ -95,6 +97,7 @@ impl Sink for MemSink {
         ensures ok { OnOk result (self.new ≡ record (called self.old) { bytes = self.old.bytes ++ piece.now }) }
         ensures err { IfErr result (λ e. self.new ≡ refused e self.old) }
         ensures exact { IsErrOf result SinkError.Fault ↔ IsToFail self.old }
+        ensures counts { Counts SinkError.Fault self.old.faults self.new.faults result }
         ensures cause { HasCause SinkError.Fault self.old.faults self.new.faults result }
     {
         if self.call_fails() {

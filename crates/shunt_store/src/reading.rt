@@ -1,7 +1,7 @@
 // Reading a file whole.
 ghost use Rattle.std.specs.Prelude.{◌≡◌, ◌≢◌, ◌⊎◌, ◌+◌, ◌-◌, ◌^◌, ◌<◌, ◌≤◌, [], length, take, IfOk, OnOk, OnErr, IfSome, IsErrOf, Err};
 ghost use Rattle.shunt_store.specs.defs.Files.{Files, Closed, Reading, IsReading, content, name_of};
-ghost use Rattle.shunt_store.specs.defs.Causes.{Rose};
+ghost use Rattle.shunt_store.specs.defs.Causes.{Rose, RoseBy};
 
 use crate::errors::{ReadAllError, StoreError};
 use crate::traits::Store;
@@ -19,7 +19,9 @@ fn read_open<S: Store>(alloc: Global, store: &mut S, limit: u64) -> Result<Vec<u
     ensures bytes { IfOk result (λ v. IfSome (S.told store.old) (λ files. v.items ≡ content files (name_of (S.stage store.old)))) }
     ensures long { IsErrOf result ReadAllError.TooLong → S.taken store.new ≡ limit + 1 }
     ensures longer { IsErrOf result ReadAllError.TooLong → IfSome (S.told store.old) (λ files. limit < length (content files (name_of (S.stage store.old)))) }
+    ensures long_here { IsErrOf result ReadAllError.TooLong → RoseBy (limit + 1) (S.handed store.old) (S.handed store.new) }
     ensures most { S.taken store.new ≤ limit + 1 }
+    ensures most_here { S.handed store.new ≤ S.handed store.old + (limit + 1) }
     ensures stage { S.stage store.new ≡ S.stage store.old }
     ensures files { S.told store.new ≡ S.told store.old }
     ensures later { S.faults store.old ≤ S.faults store.new }
@@ -40,7 +42,7 @@ fn read_open<S: Store>(alloc: Global, store: &mut S, limit: u64) -> Result<Vec<u
 
 /// Reads a file to its end, and closes it: all of its bytes, of which there are at most `limit`.
 /// TooLong says that it has more, a Fault that the store failed, at the closing too. At most
-/// `limit + 1` bytes are taken, and no file is changed, whatever the answer.
+/// `limit + 1` bytes are taken in this call, and no file is changed, whatever the answer.
 pub fn read_all<S: Store>(
     alloc: Global,
     store: &mut S,
@@ -55,9 +57,12 @@ pub fn read_all<S: Store>(
     ensures bytes { IfOk result (λ v. IfSome (S.told store.old) (λ files. v.items ≡ content files name.now)) }
     ensures fits { OnOk result (IfSome (S.told store.old) (λ files. length (content files name.now) ≤ limit)) }
 
-    // the file was opened, and more was taken than it may have
+    // the file was opened, and more was taken than it may have, in this call
+    ensures long_here { IsErrOf result ReadAllError.TooLong → RoseBy (limit + 1) (S.handed store.old) (S.handed store.new) }
     ensures long { IsErrOf result ReadAllError.TooLong → S.taken store.new ≡ limit + 1 }
     ensures longer { IsErrOf result ReadAllError.TooLong → IfSome (S.told store.old) (λ files. limit < length (content files name.now)) }
+
+    ensures most_here { S.handed store.new ≤ S.handed store.old + (limit + 1) }
 
     // where the second holds, the file may not have been opened
     ensures most { (S.taken store.new ≤ limit + 1) ⊎ ((S.stage store.new ≡ Closed) × (S.taken store.new ≡ S.taken store.old)) }

@@ -1,6 +1,7 @@
 // A store and a sink in memory that never fault.
 ghost use Rattle.std.specs.Prelude.{◌≡◌, ◌≢◌, ◌+◌, ◌<◌, ◌≤◌, [], ◌++◌, length, take, IfOk, IsOk, OnOk, OnErr, IsErrOf, Some, option_map};
 ghost use Rattle.std.specs.FinMap as map;
+ghost use Rattle.shunt_store.specs.defs.Causes.{counted_on};
 ghost use Rattle.shunt_store.specs.defs.Files.{Closed, Reading, Writing, IsReading, IsWriting, name_of, content, HandsOut};
 
 use crate::errors::{SinkError, StoreError};
@@ -25,6 +26,7 @@ pub struct SureStore {
     files: Vec<File>,
     doing: Doing,
     taken: usize,
+    handed: u64,
 }
 
 impl Model for SureStore {
@@ -44,13 +46,14 @@ impl Model for SureStore {
 impl SureStore {
     /// No files.
     pub fn new(alloc: Global) -> SureStore
-        ensures { result ≡ record { files = map.empty; stage = Closed; taken = 0 } }
+        ensures { result ≡ record { files = map.empty; stage = Closed; taken = 0; handed = 0 } }
     {
         SureStore {
             alloc,
             files: Vec::new(alloc),
             doing: Doing::Closed,
             taken: 0,
+            handed: 0,
         }
     }
 
@@ -82,11 +85,14 @@ impl Store for SureStore {
 
     ghost taken = { λ s. s.taken };
 
+    ghost handed = { λ s. s.handed };
+
     ghost faults = { λ s. 0 };
 
     fn open_file(&mut self, name: &str) -> Result<(), StoreError>
         requires { self.old.stage ≡ Closed }
         ensures ok { OnOk result (self.new ≡ record self.old { stage = Reading name.now; taken = 0 }) }
+        ensures handed { self.new.handed ≡ self.old.handed }
         ensures err { OnErr result (self.new ≡ self.old) }
         ensures never { IsErrOf result StoreError.Fault → ⊥ }
         ensures files { self.new.files ≡ self.old.files }
@@ -100,7 +106,7 @@ impl Store for SureStore {
         requires { IsReading self.old.stage }
         ensures bytes { IfOk result (λ n. HandsOut (content self.old.files (name_of self.old.stage)) self.old.taken n buf.new) }
         ensures bound { IfOk result (λ n. n ≤ length buf.new) }
-        ensures ok { IfOk result (λ n. self.new ≡ record self.old { taken = self.old.taken + n }) }
+        ensures ok { IfOk result (λ n. self.new ≡ record self.old { taken = self.old.taken + n; handed = counted_on self.old.handed n }) }
         ensures always { IsOk result }
         ensures stage { self.new.stage ≡ self.old.stage }
         ensures files { self.new.files ≡ self.old.files }
@@ -111,6 +117,7 @@ impl Store for SureStore {
         let bytes = bytes_at(&self.files, name).unwrap_or(&[]);
         let n = hand_out(bytes, self.taken, None, buf);
         self.taken += n;
+        self.handed = self.handed.saturating_add(n as u64);
         Ok(n)
     }
 
@@ -120,6 +127,7 @@ impl Store for SureStore {
         ensures err { OnErr result (self.new ≡ self.old) }
         ensures never { IsErrOf result StoreError.Fault → ⊥ }
         ensures taken { self.new.taken ≡ self.old.taken }
+        ensures handed { self.new.handed ≡ self.old.handed }
     {
         let place = put(self.alloc, &mut self.files, name.as_bytes(), &[])?;
         self.doing = Doing::Writing(place);
@@ -136,6 +144,7 @@ impl Store for SureStore {
         ensures never { IsErrOf result StoreError.Fault → ⊥ }
         ensures stage { self.new.stage ≡ self.old.stage }
         ensures taken { self.new.taken ≡ self.old.taken }
+        ensures handed { self.new.handed ≡ self.old.handed }
     {
         let Doing::Writing(place) = self.doing else {
             unreachable!();

@@ -2,7 +2,7 @@
 ghost use Rattle.std.specs.Prelude.{◌≡◌, ◌≢◌, ◌⊎◌, ℕ, ◌+◌, ◌<◌, ◌≤◌, ◌++◌, [], List, Option, length, take, IfOk, OnOk, OnErr, IfSome, IsErrOf};
 ghost use Rattle.std.specs.FinMap as map;
 ghost use Rattle.shunt_store.specs.defs.Files.{Files, Stage, Closed, Reading, Writing, IsReading, IsWriting, name_of, content, HandsOut, BothTold, MayCreate, AppendsSome, AddsFront};
-ghost use Rattle.shunt_store.specs.defs.Causes.{HasCause};
+ghost use Rattle.shunt_store.specs.defs.Causes.{counted_on, Counts, HasCause};
 
 use crate::errors::{SinkError, StoreError};
 
@@ -18,6 +18,9 @@ pub trait Store {
     /// How many bytes were handed out since a file was last opened.
     ghost taken: { Self → ℕ };
 
+    /// How many bytes were handed out in all, as far as a count goes.
+    ghost handed: { Self → ℕ };
+
     /// How often the store failed.
     ghost faults: { Self → ℕ };
 
@@ -26,8 +29,10 @@ pub trait Store {
         requires { stage self.old ≡ Closed }
         ensures ok { OnOk result ((stage self.new ≡ Reading name.now) × (taken self.new ≡ 0)) }
         ensures err { OnErr result (stage self.new ≡ Closed) }
+        ensures handed { handed self.new ≡ handed self.old }
         ensures none_taken { OnErr result ((taken self.new ≡ taken self.old) ⊎ (taken self.new ≡ 0)) }
         ensures files { told self.new ≡ told self.old }
+        ensures counts { Counts StoreError.Fault (faults self.old) (faults self.new) result }
         ensures cause { HasCause StoreError.Fault (faults self.old) (faults self.new) result };
 
     /// Hands out the next bytes of the file, as many as it answers, at the front of the buffer:
@@ -38,8 +43,12 @@ pub trait Store {
         ensures bytes { IfOk result (λ n. IfSome (told self.old) (λ files. HandsOut (content files (name_of (stage self.old))) (taken self.old) n buf.new)) }
         ensures taken { IfOk result (λ n. taken self.new ≡ taken self.old + n) }
         ensures err { OnErr result (taken self.new ≡ taken self.old) }
+        ensures handed { IfOk result (λ n. handed self.new ≡ counted_on (handed self.old) n) }
+        ensures none_handed { OnErr result (handed self.new ≡ handed self.old) }
+        ensures no_memory { IsErrOf result StoreError.Memory → ⊥ }
         ensures stage { stage self.new ≡ stage self.old }
         ensures files { told self.new ≡ told self.old }
+        ensures counts { Counts StoreError.Fault (faults self.old) (faults self.new) result }
         ensures cause { HasCause StoreError.Fault (faults self.old) (faults self.new) result };
 
     /// Makes the named file empty, to be written from then on. No other file is changed.
@@ -50,6 +59,8 @@ pub trait Store {
         ensures err { OnErr result (stage self.new ≡ Closed) }
         ensures not_made { OnErr result (BothTold (told self.old) (told self.new) (MayCreate name.now)) }
         ensures taken { taken self.new ≡ taken self.old }
+        ensures handed { handed self.new ≡ handed self.old }
+        ensures counts { Counts StoreError.Fault (faults self.old) (faults self.new) result }
         ensures cause { HasCause StoreError.Fault (faults self.old) (faults self.new) result };
 
     /// Appends the front of the piece to the file, as many bytes as it answers: at least one, if
@@ -63,6 +74,8 @@ pub trait Store {
         ensures err { OnErr result (BothTold (told self.old) (told self.new) (AppendsSome (name_of (stage self.old)) piece.now)) }
         ensures stage { stage self.new ≡ stage self.old }
         ensures taken { taken self.new ≡ taken self.old }
+        ensures handed { handed self.new ≡ handed self.old }
+        ensures counts { Counts StoreError.Fault (faults self.old) (faults self.new) result }
         ensures cause { HasCause StoreError.Fault (faults self.old) (faults self.new) result };
 
     /// Closes the file. No file is changed.
@@ -73,10 +86,12 @@ pub trait Store {
         ensures no_memory { IsErrOf result StoreError.Memory → ⊥ }
         ensures files { told self.new ≡ told self.old }
         ensures taken { taken self.new ≡ taken self.old }
+        ensures handed { handed self.new ≡ handed self.old }
+        ensures counts { Counts StoreError.Fault (faults self.old) (faults self.new) result }
         ensures cause { HasCause StoreError.Fault (faults self.old) (faults self.new) result };
 }
 
-/// Where output goes. A Fault comes only where the count of faults rose in that call.
+/// Where output goes. A Fault adds one to the count of faults, which stays at its last value, and nothing else changes it.
 pub trait Sink {
     /// The bytes written so far, where the sink tells them. What doesn't tell them never does,
     /// and what does always will.
@@ -91,5 +106,6 @@ pub trait Sink {
         ensures some { IfOk result (λ n. 0 < length piece.now → 0 < n) }
         ensures bytes { IfOk result (λ n. BothTold (told self.old) (told self.new) (λ old new. new ≡ old ++ take n piece.now)) }
         ensures err { OnErr result (BothTold (told self.old) (told self.new) (AddsFront piece.now)) }
+        ensures counts { Counts SinkError.Fault (faults self.old) (faults self.new) result }
         ensures cause { HasCause SinkError.Fault (faults self.old) (faults self.new) result };
 }

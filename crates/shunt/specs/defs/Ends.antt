@@ -1,5 +1,5 @@
 -- How a run ends.
-use Rattle.std.specs.Prelude.{◌≡◌, ◌⊎◌, ℕ, ◌≤◌, List, [], ◌∷◌, ◌++◌, length, take, Option, None, Some, IfSome}
+use Rattle.std.specs.Prelude.{◌≡◌, ◌⊎◌, ℕ, ◌≤◌, List, [], ◌∷◌, ◌++◌, length, take, Option, None, Some}
 use Rattle.std.specs.FinMap as map
 use Rattle.shunt_store.specs.defs.Files.{Files, BothTold, AddsFront}
 use Rattle.shunt_store.specs.defs.Causes.{Rose}
@@ -7,8 +7,8 @@ use Rattle.shunt.specs.declared.delivering.Outcome.{Outcome}
 use Rattle.shunt.specs.declared.delivering.Outcome.TheVariants as outcome
 use Rattle.shunt.specs.declared.running.Status.{Status}
 use Rattle.shunt.specs.declared.running.Status.TheVariants as status
-use Rattle.shunt.specs.defs.Words.{Call, Match, Audit}
-use Rattle.shunt.specs.defs.Replies.{Reply, IsReply}
+use Rattle.shunt.specs.defs.Words.{Call}
+use Rattle.shunt.specs.defs.Replies.{Reply, IsReplyOver}
 
 -- what can be known of the store and the sink at a moment
 pub record Seen : Type 0 where
@@ -48,28 +48,29 @@ pub record CutInText (r : Reply) (old new : Seen) : Type 0 where
   pub files : BothTold old.files new.files (λ a b. b ≡ written r.writes a)
   pub output : BothTold old.output new.output (AddsFront r.text)
 
--- all files were written, all was printed, and the reply has this outcome
-pub record IsWhole (r : Reply) (o : Outcome) (old new : Seen) : Type 0 where
-  pub outcome : o ≡ r.outcome
+-- all files were written, and all was printed
+pub record IsWhole (r : Reply) (old new : Seen) : Type 0 where
   pub files : BothTold old.files new.files (λ a b. b ≡ written r.writes a)
   pub output : BothTold old.output new.output (λ a b. b ≡ a ++ r.text)
 
--- what a status says of the delivery of a reply
+-- the status of a reply that was delivered whole
+abbrev pub the_status : Outcome → Status
+the_status outcome.Done = status.Done
+the_status outcome.Findings = status.Findings
+the_status outcome.Input = status.Input
+the_status outcome.NoMatching = status.NoMatching
+the_status outcome.Unfinished = status.Unfinished
+
+-- what a status says of the delivery of a reply: where nothing failed, it is the reply's own
 abbrev pub Delivers : Reply → Seen → Seen → Status → Type 0
-Delivers r old new status.Done = IsWhole r outcome.Done old new
-Delivers r old new status.Findings = IsWhole r outcome.Findings old new
-Delivers r old new status.Words = ⊥
-Delivers r old new status.Input = IsWhole r outcome.Input old new
 Delivers r old new status.Store = Rose old.store_faults new.store_faults × CutInFiles r old new
 Delivers r old new status.Memory = CutInFiles r old new ⊎ CutInText r old new
-Delivers r old new status.NoMatching = IsWhole r outcome.NoMatching old new
-Delivers r old new status.Unfinished = IsWhole r outcome.Unfinished old new
 Delivers r old new status.Sink = Rose old.sink_faults new.sink_faults × CutInText r old new
+Delivers r old new s = (s ≡ the_status r.outcome) × IsWhole r old new
 
--- what a command may have done to the files before its reply is known
+-- what a command may have done to the files before its reply is known: nothing
 abbrev pub MayBegin : Call → Files → Files → Type 0
-MayBegin (Match s t) old new = new ≡ old
-MayBegin (Audit s t p) old new = new ≡ old
+MayBegin c old new = new ≡ old
 
 -- the run stopped before there was a reply, and nothing was printed
 abbrev pub StopsEarly : Call → Seen → Seen → Status → Type 0
@@ -79,15 +80,7 @@ StopsEarly c old new s = ⊥
 
 -- a defined reply was delivered as the status says, or the run stopped before there was one
 abbrev pub Ends : Call → Seen → Seen → Status → Type 0
-Ends c old new s = StopsEarly c old new s ⊎ ((r : Reply) × IfSome old.files (λ files. IsReply c files r) × Delivers r old new s)
-
--- the status of a reply that was delivered whole
-abbrev pub the_status : Outcome → Status
-the_status outcome.Done = status.Done
-the_status outcome.Findings = status.Findings
-the_status outcome.Input = status.Input
-the_status outcome.NoMatching = status.NoMatching
-the_status outcome.Unfinished = status.Unfinished
+Ends c old new s = StopsEarly c old new s ⊎ ((r : Reply) × IsReplyOver c old.files r × Delivers r old new s)
 
 -- the store, memory or the sink came first
 abbrev pub Yields : Status → Type 0

@@ -4,7 +4,8 @@ use Rattle.shunt_report.specs.declared.words.FileWord.{FileWord}
 use Rattle.shunt_report.specs.defs.Texts.{input_of}
 use Rattle.shunt.specs.declared.loading.Halt.{Halt}
 use Rattle.shunt.specs.declared.loading.Halt.TheVariants as halt
-use Rattle.shunt.specs.defs.Replies.{Reply, refusal, most_bytes}
+use Rattle.shunt.specs.defs.Inputs.{most_bytes_of}
+use Rattle.shunt.specs.defs.Replies.{Reply, refusal}
 
 -- the fact holds of the text, where an input isn't accepted
 abbrev pub IfInput : Halt → (List ℕ → Type 0) → Type 0
@@ -14,8 +15,8 @@ IfInput halt.Memory P = Unit {0}
 
 -- the bytes of a file that isn't too long, or the line for one that is
 abbrev pub LoadsBytes : {A : Type 0} → FileWord → List ℕ → Result (Vec ℕ A) Halt → Type 0
-LoadsBytes file content (Ok v) = (v.items ≡ content) × (length v.items ≤ most_bytes)
-LoadsBytes file content (Err h) = IfInput h (λ text. (text ≡ input_of file None) × (most_bytes < length content))
+LoadsBytes file content (Ok v) = (v.items ≡ content) × (length v.items ≤ most_bytes_of file)
+LoadsBytes file content (Err h) = IfInput h (λ text. (text ≡ input_of file None) × (most_bytes_of file < length content))
 
 -- the value is the one that is stated, or the text is the one that is stated in its place, unless the step halted for another cause
 abbrev pub Loads : {X : Type 0} → Result X Halt → Result X (List ℕ) → Type 0

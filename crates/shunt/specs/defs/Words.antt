@@ -1,5 +1,5 @@
 -- What the words of the command line ask for.
-use Rattle.std.specs.Prelude.{◌≡◌, ◌≢◌, ℕ, List, [], ◌∷◌, map, codes, String, string_bytes}
+use Rattle.std.specs.Prelude.{◌≡◌, ◌≢◌, ℕ, List, [], ◌∷◌, ◌++◌, map, codes, String, string_bytes}
 use Rattle.std.specs.List.{AllByRecursion}
 use Rattle.shunt.specs.declared.words.Command.{Command}
 use Rattle.shunt.specs.declared.words.Command.TheVariants as command
@@ -22,6 +22,16 @@ abbrev pub words_of : Call → List (List ℕ)
 words_of (Match s t) = codes "match" ∷ s ∷ t ∷ []
 words_of (Audit s t p) = codes "audit" ∷ s ∷ t ∷ p ∷ []
 
+-- the files that are read, in the order of the words
+abbrev pub inputs_of : Call → List (List ℕ)
+inputs_of (Match s t) = s ∷ t ∷ []
+inputs_of (Audit s t p) = s ∷ t ∷ p ∷ []
+
+-- the files that are written, in the order of the words
+abbrev pub outputs_of : Call → List (List ℕ)
+outputs_of (Match s t) = []
+outputs_of (Audit s t p) = []
+
 -- no name is empty, and no two are the same
 abbrev pub AreNames : List (List ℕ) → Type 0
 AreNames [] = Unit {0}
@@ -29,8 +39,7 @@ AreNames (n ∷ ns) = (n ≢ []) × AllByRecursion (λ m. n ≢ m) ns × AreName
 
 -- its files have names that can be used
 abbrev pub IsUsable : Call → Type 0
-IsUsable (Match s t) = AreNames (s ∷ t ∷ [])
-IsUsable (Audit s t p) = AreNames (s ∷ t ∷ p ∷ [])
+IsUsable c = AreNames (inputs_of c ++ outputs_of c)
 
 -- the words are those of this command, and its files have names that can be used
 abbrev pub Spells : List (List ℕ) → Call → Type 0

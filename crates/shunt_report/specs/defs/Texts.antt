@@ -51,6 +51,13 @@ abbrev pub file_word : FileWord → List ℕ
 file_word word.Station = codes "station"
 file_word word.Timetable = codes "timetable"
 file_word word.Plan = codes "plan"
+file_word word.Edits = codes "edits"
+file_word word.Certificate = codes "certificate"
+file_word word.Pins = codes "pins"
+file_word word.Zones = codes "zones"
+file_word word.Crew = codes "crew"
+file_word word.Roster = codes "roster"
+file_word word.Sheet = codes "sheet"
 
 -- `input FILE record R field F kind K` at a first fault, or `input FILE too long`
 unfoldable pub input_of : FileWord → Option RowFault → List ℕ

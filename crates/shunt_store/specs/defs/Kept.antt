@@ -16,7 +16,7 @@ stage_of files (doing.Writing place) = Writing (name_at files place)
 
 -- its fields as what they stand for
 abbrev pub kept : Inside → Sure
-kept s = record { files = files_of s.files.items; stage = stage_of s.files.items s.doing; taken = s.taken }
+kept s = record { files = files_of s.files.items; stage = stage_of s.files.items s.doing; taken = s.taken; handed = s.handed }
 
 -- no more was taken than what is read has, and the file that is written is the first of its name
 abbrev pub StandsWell : List File → Doing → ℕ → Type 0

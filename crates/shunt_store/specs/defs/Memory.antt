@@ -17,7 +17,7 @@ stage_of files (doing.Writing place) = Writing (name_at files place)
 
 -- its fields as what they stand for
 abbrev pub held : Inside → Held
-held s = record { files = files_of s.files.items; failing = s.failing.items; calls = s.calls; faults = s.faults; stage = stage_of s.files.items s.doing; taken = s.taken; piece = s.piece }
+held s = record { files = files_of s.files.items; failing = s.failing.items; calls = s.calls; faults = s.faults; stage = stage_of s.files.items s.doing; taken = s.taken; handed = s.handed; piece = s.piece }
 
 -- the open file is the first of its name, and no more was taken of it than it has
 abbrev pub StandsWell : List File → Doing → ℕ → Type 0

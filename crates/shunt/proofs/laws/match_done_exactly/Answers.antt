@@ -1,4 +1,4 @@
-use Rattle.shunt.proofs.Exactly.{done_there, done_only, no_findings, no_unfinished}
+use Rattle.shunt.proofs.Matched.{done_there, done_only, no_findings, no_unfinished}
 use Rattle.shunt.proofs.laws.match_done_exactly.Goals as goal
 
 pub returns-clause-there : goal.returns-clause-there

@@ -1,4 +1,4 @@
-use Rattle.shunt.proofs.Exactly.{no_matching_there, no_matching_only}
+use Rattle.shunt.proofs.Matched.{no_matching_there, no_matching_only}
 use Rattle.shunt.proofs.laws.match_no_matching_exactly.Goals as goal
 
 pub returns-clause-there : goal.returns-clause-there

@@ -1,5 +1,6 @@
 use Rattle.std.proofs.Common.{◌≡◌, ◌+◌, ◌-◌, ◌≤◌, length, take, vec_len}
 use Rattle.std.specs.Prelude.{IfSome}
+use Rattle.shunt_store.specs.defs.Causes.{RoseBy}
 use Rattle.shunt_store.specs.defs.Files.{content, name_of}
 use Rattle.shunt_store.proofs.reading.read_open.Given as goal
 
@@ -9,6 +10,8 @@ invariant-pieces g l =
     record {
       few : length l.bytes.items ≤ l.limit + 1;
       taken : S.taken l.store ≡ length l.bytes.items;
+      most : S.handed l.store ≤ S.handed l.fn.store + length l.bytes.items;
+      least : RoseBy (length l.bytes.items) (S.handed l.fn.store) (S.handed l.store);
       told : IfSome (S.told l.fn.store) (λ files. (l.bytes.items ≡ take (length l.bytes.items) (content files (name_of (S.stage l.fn.store)))) × (length l.bytes.items ≤ length (content files (name_of (S.stage l.fn.store)))));
       stage : S.stage l.store ≡ S.stage l.fn.store;
       files : S.told l.store ≡ S.told l.fn.store;

@@ -1,5 +1,5 @@
 use Rattle.shunt.proofs.Exactly.{input_there, input_only}
-use Rattle.shunt.proofs.laws.match_input_exactly.Goals as goal
+use Rattle.shunt.proofs.laws.input_exactly.Goals as goal
 
 pub returns-clause-there : goal.returns-clause-there
 returns-clause-there c = input_there

@@ -1,0 +1,10 @@
+use Rattle.std.proofs.Common.{ap}
+use Rattle.shunt.specs.defs.Words.{call_of}
+use Rattle.shunt.proofs.Commands.{match_answered, audit_answered}
+use Rattle.shunt.proofs.replying.answer_to.Goals as goal
+
+pub returns-in-Match-clause-told : goal.returns-in-Match-clause-told
+returns-in-Match-clause-told g c = match_answered _ _ _ _ _ (ap call_of c.in-Match.is) c.requires.names c.reply_to_match.ensures.told
+
+pub returns-in-Audit-clause-told : goal.returns-in-Audit-clause-told
+returns-in-Audit-clause-told g c = audit_answered _ _ _ _ _ _ (ap call_of c.in-Audit.is) c.requires.names c.reply_to_audit.ensures.told

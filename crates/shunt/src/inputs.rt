@@ -1,0 +1,122 @@
+// The input files of the commands.
+ghost use Rattle.std.specs.Prelude.{◌≡◌, ℕ, List, Result, IfOk};
+ghost use Rattle.shunt_instance.specs.defs.Wellformed.{IsStation, IsTimetable};
+ghost use Rattle.shunt_plan.specs.defs.PlanFormat.{plan_format};
+ghost use Rattle.shunt_plan.specs.defs.Plans.{IsPlanInRange};
+ghost use Rattle.shunt_report.specs.declared.words.FileWord.{FileWord};
+ghost use Rattle.shunt_report.specs.declared.words.FileWord.TheVariants as words;
+ghost use Rattle.shunt_rows.specs.declared.fault.RowFault.{RowFault};
+ghost use Rattle.shunt_rows.specs.defs.Formats.{reading};
+ghost use Rattle.shunt_rows.specs.defs.Given.{Gives};
+ghost use Rattle.shunt_station.specs.defs.Stating.{station_format};
+ghost use Rattle.shunt_timetable.specs.defs.TimetableFormat.{timetable_format};
+
+use shunt_instance::{Instance, Station, Timetable};
+use shunt_plan::{Plan, read_plan};
+use shunt_report::FileWord;
+use shunt_rows::{ReadError, Row};
+use shunt_station::read_station;
+use shunt_timetable::read_timetable;
+use std::alloc::Global;
+
+/// An input file, over what was read before it.
+pub trait InputFile {
+    type Value;
+
+    /// Which of the files it is.
+    ghost word: { FileWord };
+
+    /// What records state in its format, or their first fault.
+    ghost states: { Self → List (List (List ℕ)) → Result Self.Value RowFault };
+
+    /// What was read before is well formed.
+    ghost ready: { Self → Type 0 };
+
+    /// What is read is well formed.
+    ghost formed: { Self → Self.Value → Type 0 };
+
+    fn word(&self) -> FileWord
+        ensures { result ≡ word };
+
+    /// Reads the value of the records.
+    fn read(&self, alloc: Global, rows: &Vec<Row>) -> Result<Self::Value, ReadError>
+        requires { ready self.now }
+        ensures stated { Gives (λ x. x) result (states self.now rows.now.items) }
+        ensures formed { IfOk result (formed self.now) };
+}
+
+/// A station file.
+#[derive(Clone, Copy, Drop)]
+pub struct StationFile;
+
+impl InputFile for StationFile {
+    type Value = Station;
+
+    ghost word = { words.Station };
+
+    ghost states = { λ _ rows. reading station_format rows };
+
+    ghost ready = { λ _. Unit {0} };
+
+    ghost formed = { λ _ s. IsStation s };
+
+    fn word(&self) -> FileWord {
+        FileWord::Station
+    }
+
+    fn read(&self, alloc: Global, rows: &Vec<Row>) -> Result<Station, ReadError> {
+        read_station(alloc, rows)
+    }
+}
+
+/// A timetable file over a station.
+#[derive(Clone, Copy, Drop)]
+pub struct TimetableFile<'s> {
+    pub station: &'s Station,
+}
+
+impl InputFile for TimetableFile<'_> {
+    type Value = Timetable;
+
+    ghost word = { words.Timetable };
+
+    ghost states = { λ f rows. reading (timetable_format f.station.now) rows };
+
+    ghost ready = { λ f. IsStation f.station.now };
+
+    ghost formed = { λ f t. IsTimetable f.station.now t };
+
+    fn word(&self) -> FileWord {
+        FileWord::Timetable
+    }
+
+    fn read(&self, alloc: Global, rows: &Vec<Row>) -> Result<Timetable, ReadError> {
+        read_timetable(alloc, self.station, rows)
+    }
+}
+
+/// A plan file over an instance.
+#[derive(Clone, Copy, Drop)]
+pub struct PlanFile<'i> {
+    pub instance: &'i Instance,
+}
+
+impl InputFile for PlanFile<'_> {
+    type Value = Plan;
+
+    ghost word = { words.Plan };
+
+    ghost states = { λ f rows. reading (plan_format f.instance.now) rows };
+
+    ghost ready = { λ _. Unit {0} };
+
+    ghost formed = { λ f p. IsPlanInRange f.instance.now p };
+
+    fn word(&self) -> FileWord {
+        FileWord::Plan
+    }
+
+    fn read(&self, alloc: Global, rows: &Vec<Row>) -> Result<Plan, ReadError> {
+        read_plan(alloc, self.instance, rows)
+    }
+}

@@ -12,8 +12,7 @@ use Rattle.shunt_instance.specs.defs.Matching.{is_in_rest, count_below, place_of
 use Rattle.shunt_blocks.specs.declared.records.Block.{Block}
 use Rattle.shunt_blocks.specs.defs.Below.{sum_below}
 use Rattle.shunt_blocks.specs.defs.Costs.{block_cost}
-use Rattle.shunt_blocks.specs.defs.Lists.{times_unit, times_position, total_cost}
-use Rattle.shunt_blocks.specs.defs.Paths.{masks_of}
+use Rattle.shunt_blocks.specs.defs.Lists.{times_unit, times_position, total_cost, units_taken, positions_taken}
 use Rattle.shunt_blocks.specs.defs.Pins.{unit_price, position_price, opening_cost, single, singles_below, singles}
 
 -- ---- sums of numbers below one
@@ -114,14 +113,14 @@ parted n test f g = same_sums n _ _ (λ u lt. each (test u) (f u) (g u)) ∙ sum
     each false x y = refl
 
 -- the numbers that the masks leave are those that no pin has
-rest_units : (night : Night) (pins : List Block) (u : ℕ) → u < unit_total night → is_in_rest (masks_of night pins).units u ≡ (times_unit night pins u == 0)
+rest_units : (night : Night) (pins : List Block) (u : ℕ) → u < unit_total night → is_in_rest (units_taken night pins) u ≡ (times_unit night pins u == 0)
 rest_units night pins u lt = ap not (get_or-map-range_with_len (λ k. not (times_unit night pins k == 0)) 0 (unit_total night) u u false lt (omega arith)) ∙ twice (times_unit night pins u == 0)
   where
     twice : (b : Bool) → not (not b) ≡ b
     twice true = refl
     twice false = refl
 
-rest_positions : (night : Night) (pins : List Block) (v : ℕ) → v < position_total night → is_in_rest (masks_of night pins).places v ≡ (times_position night pins v == 0)
+rest_positions : (night : Night) (pins : List Block) (v : ℕ) → v < position_total night → is_in_rest (positions_taken night pins) v ≡ (times_position night pins v == 0)
 rest_positions night pins v lt = ap not (get_or-map-range_with_len (λ k. not (times_position night pins k == 0)) 0 (position_total night) v v false lt (omega arith)) ∙ twice (times_position night pins v == 0)
   where
     twice : (b : Bool) → not (not b) ≡ b
@@ -132,7 +131,7 @@ same_counts : (n : ℕ) (f g : ℕ → Bool) → ((i : ℕ) → i < n → f i �
 same_counts zero f g h = refl
 same_counts (suc n) f g h = omega (arith, same_counts n f g (λ i lt. h i (omega (arith, lt))), ap {B = ℕ} (λ t. cond t 1 0) (h n (omega arith)))
 
-pub one_cost : (night : Night) (pins : List Block) (place : List ℕ) → IsMatchingOfRest (unit_entries night) (position_entries night) (masks_of night pins).units (masks_of night pins).places place → total_cost night (pins ++ singles night pins place) ≡ opening_cost night pins
+pub one_cost : (night : Night) (pins : List Block) (place : List ℕ) → IsMatchingOfRest (unit_entries night) (position_entries night) (units_taken night pins) (positions_taken night pins) place → total_cost night (pins ++ singles night pins place) ≡ opening_cost night pins
 one_cost night pins place m =
     omega (
       arith,
@@ -163,5 +162,5 @@ one_cost night pins place m =
     once : (v : ℕ) → v < position_total night → free_position v ≡ true → count_below (unit_total night) (λ u. free_unit u && (place_of place u == v)) ≡ 1
     once v lt free =
         same_counts (unit_total night) _ _ (λ u in_night. ap (λ t. t && (place_of place u == v)) (sym (rest_units night pins u in_night)))
-        ∙ ap (λ n. count_below n (λ u. is_in_rest (masks_of night pins).units u && (place_of place u == v))) (sym units)
+        ∙ ap (λ n. count_below n (λ u. is_in_rest (units_taken night pins) u && (place_of place u == v))) (sym units)
         ∙ m.once v (record { there = omega (arith, lt, positions); left = rest_positions night pins v lt ∙ free })

@@ -21,13 +21,12 @@ use Rattle.shunt_instance.proofs.Orders.{opened}
 use Rattle.shunt_instance.proofs.Looked.{units_few}
 use Rattle.shunt_blocks.specs.declared.records.Block.{Block}
 use Rattle.shunt_blocks.specs.declared.records.Park.{Park}
-use Rattle.shunt_blocks.specs.defs.Shapes.{shape_of, position_from, IsOnTrack, IsWithinTrains, IsInRange}
+use Rattle.shunt_blocks.specs.defs.Shapes.{shape_of, position_from, IsOnTrack, IsWithinTrains, IsInRange, begins_at}
 use Rattle.shunt_blocks.specs.defs.Standing.{is_too_soon, parked_stay, stay_with, stay_of}
-use Rattle.shunt_blocks.specs.defs.Lists.{has_unit, has_position, times_unit, times_position, ShareNothing, track_lengths, stays_of, CanStand, AreInRange, RunsThrough}
+use Rattle.shunt_blocks.specs.defs.Lists.{has_unit, has_position, times_unit, times_position, ShareNothing, track_lengths, stays_of, CanStand, AreInRange, RunsThrough, placed_from, placed}
 use Rattle.shunt_blocks.specs.defs.Pins.{without_id}
-use Rattle.shunt_blocks.specs.defs.Paths.{begins_at, placed_from, placed}
 use Rattle.shunt_blocks.proofs.Times.{stay_formed, departure}
-use Rattle.shunt_blocks.proofs.Trails.{one_more, begins_itself, few_blocks}
+use Rattle.shunt_blocks.proofs.Few.{one_more, begins_itself, few_blocks}
 
 -- ---- one stay
 

@@ -14,11 +14,9 @@ ghost use Rattle.shunt_blocks.specs.declared.records.Park.{Park};
 ghost use Rattle.shunt_blocks.specs.defs.Below.{all_below};
 ghost use Rattle.shunt_blocks.specs.defs.Shapes.{AreRunsWithin, IsWithinTrains, IsInRange, IsShape, HasUnit, HasPosition, unit_from, position_from};
 ghost use Rattle.shunt_blocks.specs.defs.Blocks.{IsBlock, IsOption, have_one_type};
-ghost use Rattle.shunt_blocks.specs.defs.Choices.{IsFreeShape, ShapeBefore, OptionBefore, Choice, IsChoice, ChoiceBefore, shapes_of, options_of, choices_of, choices_at, IsChoiceAt};
 ghost use Rattle.shunt_blocks.specs.defs.Standing.{is_too_soon, stay_of, IsSound};
-ghost use Rattle.shunt_blocks.specs.defs.Lists.{ShareNothing, AreInRange, CanStand, track_lengths, stays_of, RunsThrough, total_cost};
+ghost use Rattle.shunt_blocks.specs.defs.Lists.{ShareNothing, AreInRange, CanStand, track_lengths, stays_of, RunsThrough, total_cost, placed, units_taken, positions_taken};
 ghost use Rattle.shunt_blocks.specs.defs.Pins.{without_id, opening_cost, singles};
-ghost use Rattle.shunt_blocks.specs.defs.Paths.{Masks, masks_of, placed};
 
 /// All numbers below one pass a test exactly where each does.
 pub fn all_numbers()
@@ -85,27 +83,6 @@ pub fn ids_do_not_matter()
 /// rest.
 pub fn one_opening_cost()
     ensures { (night : Night) (pins : List Block) (place : List ℕ) →
-        IsMatchingOfRest (unit_entries night) (position_entries night) (masks_of night pins).units (masks_of night pins).places place →
+        IsMatchingOfRest (unit_entries night) (position_entries night) (units_taken night pins) (positions_taken night pins) place →
         total_cost night (pins ++ singles night pins place) ≡ opening_cost night pins }
-{}
-
-/// The shapes that `shapes_from` gives are those of uncovered units and positions that begin at the unit, in the order of
-/// choices.
-pub fn free_shapes()
-    ensures members { (night : Night) (covered : Masks) (u : ℕ) (s : Shape) → IsInstance night → u < unit_total night → In s (shapes_of night covered u) ↔ IsFreeShape night covered u s }
-    ensures rise { (night : Night) (covered : Masks) (u : ℕ) → IsInstance night → AllPairs ShapeBefore (shapes_of night covered u) }
-{}
-
-/// What `options` gives are the options of the shape, in the order of choices.
-pub fn shape_options()
-    ensures members { (night : Night) (s : Shape) (o : Option Park) → In o (options_of night s) ↔ IsOption night s o }
-    ensures rise { (night : Night) (s : Shape) → AllPairs OptionBefore (options_of night s) }
-{}
-
-/// The shapes that begin at a unit, each with its options, are the choices there, in their order and each once.
-pub fn choices()
-    ensures members { (night : Night) (covered : Masks) (u : ℕ) (c : Choice) → IsInstance night → u < unit_total night → In c (choices_of night covered u) ↔ IsChoice night covered u c }
-    ensures rise { (night : Night) (covered : Masks) (u : ℕ) → IsInstance night → AllPairs ChoiceBefore (choices_of night covered u) }
-    ensures once { (night : Night) (covered : Masks) (u : ℕ) → IsInstance night → AreDistinct (choices_of night covered u) }
-    ensures at_path { (night : Night) (blocks : List Block) (c : Choice) → IsInstance night → In c (choices_at night blocks) ↔ IsChoiceAt night blocks c }
 {}

@@ -1,9 +1,11 @@
 pub mod Passing
 pub mod Places
+pub mod Held
 pub mod Few
 pub mod Times
 pub mod Sound
 pub mod StaysOf
+pub mod Feasible
 pub mod Opening
 pub mod Leasts
 pub mod Small

@@ -1,5 +1,5 @@
 //! What follows from the definitions of this crate.
-ghost use Rattle.std.specs.Prelude.{◌≡◌, ◌+◌, ◌<◌, ◌↔◌, ◌^◌, ℕ, Bool, true, false, IsTrue, Some, IfSome, All, AllPairs, Option, List, ◌++◌, map};
+ghost use Rattle.std.specs.Prelude.{◌≡◌, ◌+◌, ◌<◌, ◌≤◌, ◌↔◌, length, ◌^◌, ℕ, Bool, true, false, IsTrue, Some, IfSome, All, AllPairs, Option, List, ◌++◌, map};
 ghost use Rattle.shunt_base.specs.declared.keys.Stay.{Stay};
 ghost use Rattle.shunt_base.specs.defs.Keys.{IsWellFormed, AreStays};
 ghost use Rattle.shunt_stays.specs.defs.Members.{In};
@@ -13,9 +13,9 @@ ghost use Rattle.shunt_blocks.specs.declared.records.Block.{Block};
 ghost use Rattle.shunt_blocks.specs.declared.records.Park.{Park};
 ghost use Rattle.shunt_blocks.specs.defs.Below.{all_below};
 ghost use Rattle.shunt_blocks.specs.defs.Shapes.{AreRunsWithin, IsWithinTrains, IsInRange, IsShape, HasUnit, HasPosition, unit_from, position_from};
-ghost use Rattle.shunt_blocks.specs.defs.Blocks.{IsBlock, IsOption, have_one_type};
+ghost use Rattle.shunt_blocks.specs.defs.Blocks.{IsBlock, IsBlockButId, have_one_type};
 ghost use Rattle.shunt_blocks.specs.defs.Standing.{is_too_soon, stay_of, IsSound};
-ghost use Rattle.shunt_blocks.specs.defs.Lists.{ShareNothing, AreInRange, CanStand, track_lengths, stays_of, RunsThrough, total_cost, placed, units_taken, positions_taken};
+ghost use Rattle.shunt_blocks.specs.defs.Lists.{times_unit, Covers, IsFeasible, ShareNothing, AreInRange, CanStand, track_lengths, stays_of, RunsThrough, total_cost, placed, units_taken, positions_taken};
 ghost use Rattle.shunt_blocks.specs.defs.Pins.{without_id, opening_cost, singles};
 
 /// All numbers below one pass a test exactly where each does.
@@ -51,14 +51,14 @@ pub fn blocks()
 {}
 
 /// The stays of blocks that can stand are stays with distinct ids on tracks of the night. Where the blocks share nothing,
-/// the keys of these stays differ before the ids. Blocks in range with distinct ids can stand, and so can blocks in range that
-/// share nothing, with their places as ids.
+/// the keys of these stays differ before the ids. Blocks in range with distinct ids can stand, and so can blocks that
+/// share nothing, with their places as ids, whatever their own ids.
 pub fn stays_of_blocks()
     ensures stays { (night : Night) (blocks : List Block) → IsInstance night → CanStand night blocks → AreStays (stays_of night blocks) }
     ensures tracks { (night : Night) (blocks : List Block) → CanStand night blocks → AreOnTracks (track_lengths night.station) (stays_of night blocks) }
     ensures differ { (night : Night) (blocks : List Block) → IsInstance night → CanStand night blocks → ShareNothing night blocks → AllDifferBeforeId (stays_of night blocks) }
     ensures in_range { (night : Night) (blocks : List Block) → AreInRange night blocks → CanStand night blocks }
-    ensures placed { (night : Night) (blocks : List Block) → IsInstance night → All (IsInRange night) blocks → ShareNothing night blocks → CanStand night (placed blocks) }
+    ensures placed { (night : Night) (blocks : List Block) → IsInstance night → All (IsWithinTrains night) blocks → ShareNothing night blocks → CanStand night (placed blocks) }
     ensures from { (night : Night) (blocks : List Block) (s : Stay) → In s (stays_of night blocks) → (b : Block) × In b blocks × (stay_of night b ≡ Some s) }
     ensures to { (night : Night) (blocks : List Block) (b : Block) (s : Stay) → In b blocks → stay_of night b ≡ Some s → In s (stays_of night blocks) }
 {}
@@ -71,12 +71,33 @@ pub fn ids_do_not_matter()
         RunsThrough night blocks → RunsThrough night others }
     ensures same { (night : Night) (blocks others : List Block) → IsInstance night → CanStand night blocks → CanStand night others → ShareNothing night blocks →
         map without_id blocks ≡ map without_id others → RunsThrough night blocks ↔ RunsThrough night others }
-    ensures placed_part { (night : Night) (blocks others : List Block) → IsInstance night → All (IsInRange night) blocks → ShareNothing night blocks →
-        All (IsInRange night) others → ShareNothing night others →
+    ensures placed_part { (night : Night) (blocks others : List Block) → IsInstance night → All (IsWithinTrains night) blocks → ShareNothing night blocks →
+        All (IsWithinTrains night) others → ShareNothing night others →
         ((c : Block) → In c others → (b : Block) × In b blocks × (without_id b ≡ without_id c)) →
         RunsThrough night (placed blocks) → RunsThrough night (placed others) }
     ensures placed { (night : Night) (blocks : List Block) → IsInstance night → AreInRange night blocks → ShareNothing night blocks →
         RunsThrough night blocks ↔ RunsThrough night (placed blocks) }
+{}
+
+/// Blocks that share nothing are at most as many as there are units, and fewer where a unit is in none of them.
+pub fn few_blocks()
+    ensures most { (night : Night) (blocks : List Block) → All (IsWithinTrains night) blocks → ShareNothing night blocks → length blocks ≤ unit_total night }
+    ensures fewer { (night : Night) (blocks : List Block) (u : ℕ) → All (IsWithinTrains night) blocks → ShareNothing night blocks →
+        u < unit_total night → times_unit night blocks u ≡ 0 → length blocks < unit_total night }
+{}
+
+/// Feasible lists are in range, with at most 160 blocks that share nothing. Numbered by their places they are feasible at the
+/// same cost, and so are blocks that cover the night, whatever their ids, where their run goes through.
+pub fn feasible_lists()
+    ensures few { (night : Night) (blocks : List Block) → IsInstance night → IsFeasible night blocks → length blocks ≤ 160 }
+    ensures in_range { (night : Night) (blocks : List Block) → IsInstance night → IsFeasible night blocks → AreInRange night blocks }
+    ensures apart { (night : Night) (blocks : List Block) → IsFeasible night blocks → ShareNothing night blocks }
+    ensures placed { (night : Night) (blocks : List Block) → IsInstance night → IsFeasible night blocks → IsFeasible night (placed blocks) }
+    ensures cost { (night : Night) (blocks : List Block) → total_cost night (placed blocks) ≡ total_cost night blocks }
+    ensures any_ids { (night : Night) (blocks : List Block) → IsInstance night → CanStand night blocks → All (IsBlockButId night) blocks →
+        Covers night blocks → RunsThrough night blocks → IsFeasible night (placed blocks) }
+    ensures no_ids { (night : Night) (blocks : List Block) → IsInstance night → All (IsBlockButId night) blocks →
+        Covers night blocks → RunsThrough night (placed blocks) → IsFeasible night (placed blocks) }
 {}
 
 /// The opening cost is what the pins cost with the other units as unparked blocks of their own, by every matching of the

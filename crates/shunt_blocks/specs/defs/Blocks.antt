@@ -29,6 +29,11 @@ unfoldable pub is_option : Night → Shape → Option Park → Bool
 is_option night s None = true
 is_option night s (Some k) = can_park night s k
 
+-- a shape with one of its options, whatever the id
+pub record IsBlockButId (night : Night) (b : Block) : Type 0 where
+  pub shape : IsShape night (shape_of b)
+  pub option : IsOption night (shape_of b) b.park
+
 -- a shape with one of its options and an id
 pub record IsBlock (night : Night) (b : Block) : Type 0 where
   pub in_range : IsInRange night b

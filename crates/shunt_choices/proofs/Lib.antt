@@ -8,4 +8,8 @@ mod Ordered
 mod Chosen
 mod Offered
 pub mod AtPaths
+pub mod Grown
+pub mod Partial
+pub mod Counted
+pub mod Begins
 mod TwoTracks

@@ -51,7 +51,7 @@ in_order night blocks all apart sorted i j d before within =
     let size = length-map blocks (begins_at night) in
     let read = λ (k : ℕ). get_or-map (begins_at night) blocks k d in
     let numbers : IsNonDecreasing (map (begins_at night) blocks) = λ k l e le lt. omega (arith, get_or_default (map (begins_at night) blocks) k e (begins_at night d) (omega (arith, le, lt)), get_or_default (map (begins_at night) blocks) l e (begins_at night d) lt, read k, read l, rises k l d le (omega (arith, size, lt))) in
-    let pairs = AllPairs-from_increasing _ (IsStrictlyIncreasing-from_distinct (map (begins_at night) blocks) numbers (firsts_differ night blocks all apart.units)) in
+    let pairs = AllPairs-from_increasing _ (IsStrictlyIncreasing-from_distinct (map (begins_at night) blocks) numbers (firsts_differ night blocks (λ k e lt. (all k e lt).within) apart.units)) in
     omega (arith, pairs i j (begins_at night d) before (omega (arith, size, within)), read i, read j)
 
 pub share_nothing : (night : Night) (blocks others : List Block) → IsPermutation blocks others → ShareNothing night blocks → ShareNothing night others

@@ -21,16 +21,16 @@ use Rattle.shunt_choices.proofs.Masks.{unit_more, position_more, units_pushed, p
 
 -- ---- tests of units and positions
 
-has_from : (night : Night) (b : Block) (u : ℕ) → has_unit night (shape_of b) u ≡ true → HasUnit night (shape_of b) u
+pub has_from : (night : Night) (b : Block) (u : ℕ) → has_unit night (shape_of b) u ≡ true → HasUnit night (shape_of b) u
 has_from night b u e = record { from = grind (arith, nat_tests); to = grind (arith, nat_tests) }
 
-has_position_from : (night : Night) (b : Block) (v : ℕ) → has_position night (shape_of b) v ≡ true → HasPosition night (shape_of b) v
+pub has_position_from : (night : Night) (b : Block) (v : ℕ) → has_position night (shape_of b) v ≡ true → HasPosition night (shape_of b) v
 has_position_from night b v e = record { from = grind (arith, nat_tests); to = grind (arith, nat_tests) }
 
 -- ---- a block more
 
 -- a list of counts has false only where the count is 0
-not_taken : (count : ℕ → ℕ) (total i : ℕ) (d : Bool) → i < total → slice_index_or (map (λ k. not (count k == 0)) (range_with_len 0 total)) i d ≡ false → count i ≡ 0
+pub not_taken : (count : ℕ → ℕ) (total i : ℕ) (d : Bool) → i < total → slice_index_or (map (λ k. not (count k == 0)) (range_with_len 0 total)) i d ≡ false → count i ≡ 0
 not_taken count total i d lt e =
     let at = get_or-map-range_with_len (λ k. not (count k == 0)) 0 total i i d lt (omega arith) in
     none (count i) (sym at ∙ e)
@@ -38,7 +38,7 @@ not_taken count total i d lt e =
     none : (n : ℕ) → not (n == 0) ≡ false → n ≡ 0
     none n h = grind (arith, nat_tests)
 
-few_more : (times now : ℕ) (has : Bool) → now ≡ times + cond has 1 0 → times ≤ 1 → (has ≡ true → times ≡ 0) → now ≤ 1
+pub few_more : (times now : ℕ) (has : Bool) → now ≡ times + cond has 1 0 → times ≤ 1 → (has ≡ true → times ≡ 0) → now ≤ 1
 few_more times now true e few free = omega (arith, e, free refl)
 few_more times now false e few free = omega (arith, e, few)
 
@@ -81,7 +81,7 @@ pub room : (night : Night) (t : Trail) (u : ℕ) → IsTrailOf night t → next_
 room night t u is next =
     let found = position-Some (λ c. not c) (masks_of night t.blocks).units u false (subst (λ m. next_of m ≡ Some u) is.covered next) in
     let lt : u < unit_total night = omega (arith, found.0, length_units night t.blocks) in
-    fewer_blocks night t.blocks u is.each is.apart lt (not_taken (times_unit night t.blocks) (unit_total night) u false lt (off _ found.1))
+    fewer_blocks night t.blocks u (λ k d below. (is.each k d below).within) is.apart lt (not_taken (times_unit night t.blocks) (unit_total night) u false lt (off _ found.1))
   where
     off : (b : Bool) → not b ≡ true → b ≡ false
     off true e = absurd (true≢false (sym e))
@@ -89,10 +89,10 @@ room night t u is next =
 
 -- ---- the masks that the code makes
 
-unit_end : (night : Night) (b : Block) → IsInRange night b → unit_from night (shape_of b) + b.n ≤ unit_total night
+pub unit_end : (night : Night) (b : Block) → IsInRange night b → unit_from night (shape_of b) + b.n ≤ unit_total night
 unit_end night b is = let r = is.within.runs in omega (arith, unit_in night (shape_of b) (unit_from night (shape_of b) + (b.n - 1)) r (record { from = omega arith; to = omega (arith, r.n) }), r.n)
 
-position_end : (night : Night) (b : Block) → IsInRange night b → position_from night (shape_of b) + b.n ≤ position_total night
+pub position_end : (night : Night) (b : Block) → IsInRange night b → position_from night (shape_of b) + b.n ≤ position_total night
 position_end night b is = let r = is.within.runs in omega (arith, position_in night (shape_of b) (position_from night (shape_of b) + (b.n - 1)) r (record { from = omega arith; to = omega (arith, r.n) }), r.n)
 
 both_masks : (m : Masks) (units places : List Bool) → m.units ≡ units → m.places ≡ places → m ≡ record { units = units; places = places }

@@ -3,7 +3,7 @@ use Rattle.std.specs.Prelude.{◌≡◌, ◌↔◌, ◌⊎◌, ℕ, ◌<◌, ◌
 use Rattle.shunt_instance.specs.defs.Instance.{Night, unit_total}
 use Rattle.shunt_blocks.specs.declared.records.Block.{Block}
 use Rattle.shunt_blocks.specs.defs.Shapes.{begins_at, IsInRange}
-use Rattle.shunt_blocks.specs.defs.Blocks.{IsBlock}
+use Rattle.shunt_blocks.specs.defs.Blocks.{IsBlockButId}
 use Rattle.shunt_blocks.specs.defs.Lists.{times_unit, units_taken, positions_taken, ShareNothing, RunsThrough, placed}
 
 -- for each unit and each position whether it is covered
@@ -35,8 +35,8 @@ next_of covered = position (λ c. not c) covered.units
 abbrev pub AreInOrder : Night → List Block → Type 0
 AreInOrder night blocks = AllPairs (λ b c. begins_at night b < begins_at night c) blocks
 
--- the pins in the order of their first units, then further blocks in that order; they cover exactly the pins' units and those below
--- a number, share nothing, and their run goes through with their places as ids
+-- the pins in the order of their first units, then further blocks in that order: each is a block, whatever its id; they have exactly
+-- the pins' units and those below a number, share nothing, and their run goes through with their places as ids
 pub record IsPartialPlan (night : Night) (pins blocks : List Block) : Type 0 where
   pub start : List Block
   pub found : List Block
@@ -45,7 +45,7 @@ pub record IsPartialPlan (night : Night) (pins blocks : List Block) : Type 0 whe
   pub pinned : IsPermutation pins start
   pub pins_rise : AreInOrder night start
   pub found_rise : AreInOrder night found
-  pub each : All (IsBlock night) (placed blocks)
+  pub each : All (IsBlockButId night) blocks
   pub exactly : (u : ℕ) → u < unit_total night → (1 ≤ times_unit night blocks u) ↔ ((1 ≤ times_unit night pins u) ⊎ (u < below))
   pub apart : ShareNothing night blocks
   pub through : RunsThrough night (placed blocks)

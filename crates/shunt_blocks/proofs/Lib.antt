@@ -7,5 +7,6 @@ pub mod Sound
 pub mod StaysOf
 pub mod Feasible
 pub mod Opening
+pub mod Singles
 pub mod Leasts
 pub mod Small

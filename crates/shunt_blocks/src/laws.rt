@@ -16,7 +16,7 @@ ghost use Rattle.shunt_blocks.specs.defs.Shapes.{AreRunsWithin, IsWithinTrains, 
 ghost use Rattle.shunt_blocks.specs.defs.Blocks.{IsBlock, IsBlockButId, have_one_type};
 ghost use Rattle.shunt_blocks.specs.defs.Standing.{is_too_soon, stay_of, IsSound};
 ghost use Rattle.shunt_blocks.specs.defs.Lists.{times_unit, Covers, IsFeasible, ShareNothing, AreInRange, CanStand, track_lengths, stays_of, RunsThrough, total_cost, placed, units_taken, positions_taken};
-ghost use Rattle.shunt_blocks.specs.defs.Pins.{without_id, opening_cost, singles};
+ghost use Rattle.shunt_blocks.specs.defs.Pins.{without_id, IsSingle, opening_cost, singles};
 
 /// All numbers below one pass a test exactly where each does.
 pub fn all_numbers()
@@ -101,9 +101,11 @@ pub fn feasible_lists()
 {}
 
 /// The opening cost is what the pins cost with the other units as unparked blocks of their own, by every matching of the
-/// rest.
+/// rest; and with any unparked one-unit blocks that with the pins cover the night.
 pub fn one_opening_cost()
-    ensures { (night : Night) (pins : List Block) (place : List ℕ) →
+    ensures matched { (night : Night) (pins : List Block) (place : List ℕ) →
         IsMatchingOfRest (unit_entries night) (position_entries night) (units_taken night pins) (positions_taken night pins) place →
         total_cost night (pins ++ singles night pins place) ≡ opening_cost night pins }
+    ensures any { (night : Night) (pins others : List Block) → All (IsWithinTrains night) others → All IsSingle others → Covers night (pins ++ others) →
+        total_cost night (pins ++ others) ≡ opening_cost night pins }
 {}

@@ -8,5 +8,7 @@ pub mod StaysOf
 pub mod Feasible
 pub mod Opening
 pub mod Singles
+pub mod Started
+pub mod Tests
 pub mod Leasts
 pub mod Small

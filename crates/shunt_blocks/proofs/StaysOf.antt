@@ -325,7 +325,7 @@ apart_stand night blocks is each apart = record {
   ids = subst AreDistinct (sym (placed_ids 1 blocks)) (rising 1 (length blocks));
 }
 
-in_placed : (k : ℕ) (blocks : List Block) (b : Block) → In b blocks → (c : Block) × In c (placed_from k blocks) × (without_id c ≡ without_id b)
+pub in_placed : (k : ℕ) (blocks : List Block) (b : Block) → In b blocks → (c : Block) × In c (placed_from k blocks) × (without_id c ≡ without_id b)
 in_placed k [] b there = absurd there
 in_placed k (x ∷ blocks) b there = ⊎_elim
     (λ same. (record x { id = k }, inl refl, ap without_id (sym same)))

@@ -12,11 +12,11 @@ ghost use Rattle.shunt_blocks.specs.declared.records.Shape.{Shape};
 ghost use Rattle.shunt_blocks.specs.declared.records.Block.{Block};
 ghost use Rattle.shunt_blocks.specs.declared.records.Park.{Park};
 ghost use Rattle.shunt_blocks.specs.defs.Below.{all_below};
-ghost use Rattle.shunt_blocks.specs.defs.Shapes.{AreRunsWithin, IsWithinTrains, IsInRange, IsShape, HasUnit, HasPosition, unit_from, position_from};
-ghost use Rattle.shunt_blocks.specs.defs.Blocks.{IsBlock, IsBlockButId, have_one_type};
+ghost use Rattle.shunt_blocks.specs.defs.Shapes.{AreRunsWithin, IsWithinTrains, IsInRange, IsShape, IsPair, IsOnTrack, HasUnit, HasPosition, is_pair, unit_from, position_from};
+ghost use Rattle.shunt_blocks.specs.defs.Blocks.{IsBlock, IsBlockButId, IsOption, is_option, have_one_type};
 ghost use Rattle.shunt_blocks.specs.defs.Standing.{is_too_soon, stay_of, IsSound};
-ghost use Rattle.shunt_blocks.specs.defs.Lists.{times_unit, Covers, IsFeasible, ShareNothing, AreInRange, CanStand, track_lengths, stays_of, RunsThrough, total_cost, placed, units_taken, positions_taken};
-ghost use Rattle.shunt_blocks.specs.defs.Pins.{without_id, IsSingle, opening_cost, singles};
+ghost use Rattle.shunt_blocks.specs.defs.Lists.{has_unit, has_position, times_unit, Covers, IsFeasible, ShareNothing, AreInRange, CanStand, track_lengths, stays_of, RunsThrough, total_cost, placed, units_taken, positions_taken};
+ghost use Rattle.shunt_blocks.specs.defs.Pins.{AreUsable, Keeps, without_id, IsSingle, opening_cost, singles};
 
 /// All numbers below one pass a test exactly where each does.
 pub fn all_numbers()
@@ -108,4 +108,21 @@ pub fn one_opening_cost()
         total_cost night (pins ++ singles night pins place) ≡ opening_cost night pins }
     ensures any { (night : Night) (pins others : List Block) → All (IsWithinTrains night) others → All IsSingle others → Covers night (pins ++ others) →
         total_cost night (pins ++ others) ≡ opening_cost night pins }
+{}
+
+/// Usable pins and the other units as unparked blocks of their own, by a matching of the rest, are a feasible plan with their
+/// places as ids, and it keeps the pins.
+pub fn opening_plans()
+    ensures feasible { (night : Night) (pins : List Block) (place : List ℕ) → IsInstance night → AreUsable night pins →
+        IsMatchingOfRest (unit_entries night) (position_entries night) (units_taken night pins) (positions_taken night pins) place →
+        IsFeasible night (placed (pins ++ singles night pins place)) }
+    ensures keeps { (pins others : List Block) → Keeps (placed (pins ++ others)) pins }
+{}
+
+/// The tests of units, positions and pairs hold exactly where their facts do.
+pub fn tests()
+    ensures unit { (night : Night) (s : Shape) (u : ℕ) → IsTrue (has_unit night s u) ↔ HasUnit night s u }
+    ensures position { (night : Night) (s : Shape) (v : ℕ) → IsTrue (has_position night s v) ↔ HasPosition night s v }
+    ensures pair { (night : Night) (u v : ℕ) → IsTrue (is_pair night u v) ↔ IsPair night u v }
+    ensures option { (night : Night) (s : Shape) (o : Option Park) → IsOnTrack night.station o → IsTrue (is_option night s o) ↔ IsOption night s o }
 {}

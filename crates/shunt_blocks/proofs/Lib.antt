@@ -10,5 +10,6 @@ pub mod Opening
 pub mod Singles
 pub mod Started
 pub mod Tests
+pub mod Upgrade
 pub mod Leasts
 pub mod Small

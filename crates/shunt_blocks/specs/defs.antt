@@ -9,3 +9,4 @@ pub mod Standing
 pub mod Lists
 pub mod Pins
 pub mod Polished
+pub mod v1

@@ -14,6 +14,8 @@ ghost use Rattle.shunt_blocks.specs.declared.records.Park.{Park};
 ghost use Rattle.shunt_blocks.specs.defs.Below.{all_below};
 ghost use Rattle.shunt_blocks.specs.defs.Shapes.{AreRunsWithin, IsWithinTrains, IsInRange, IsShape, IsPair, IsOnTrack, HasUnit, HasPosition, is_pair, unit_from, position_from};
 ghost use Rattle.shunt_blocks.specs.defs.Blocks.{IsBlock, IsBlockButId, IsOption, is_option, have_one_type};
+ghost use Rattle.shunt_blocks.specs.defs.Costs.{block_cost};
+ghost use Rattle.shunt_blocks.specs.defs.v1.{IsPlain, IsBlock as IsFirstBlock, IsFeasible as IsFirstFeasible, block_cost as first_block_cost, total_cost as first_total_cost};
 ghost use Rattle.shunt_blocks.specs.defs.Standing.{is_too_soon, stay_of, IsSound};
 ghost use Rattle.shunt_blocks.specs.defs.Lists.{has_unit, has_position, times_unit, Covers, IsFeasible, ShareNothing, AreInRange, CanStand, track_lengths, stays_of, RunsThrough, total_cost, placed, units_taken, positions_taken};
 ghost use Rattle.shunt_blocks.specs.defs.Pins.{AreUsable, Keeps, without_id, IsSingle, opening_cost, singles};
@@ -125,4 +127,13 @@ pub fn tests()
     ensures position { (night : Night) (s : Shape) (v : ℕ) → IsTrue (has_position night s v) ↔ HasPosition night s v }
     ensures pair { (night : Night) (u v : ℕ) → IsTrue (is_pair night u v) ↔ IsPair night u v }
     ensures option { (night : Night) (s : Shape) (o : Option Park) → IsOnTrack night.station o → IsTrue (is_option night s o) ↔ IsOption night s o }
+{}
+
+/// Over a night without standing trains and permits, a block is one exactly by version 1 of the files, and so is a list of
+/// blocks feasible; and what blocks cost is what they cost by version 1.
+pub fn upgrade()
+    ensures block { (night : Night) (b : Block) → IsPlain night → IsFirstBlock night b ↔ IsBlock night b }
+    ensures feasible { (night : Night) (blocks : List Block) → IsPlain night → IsFirstFeasible night blocks ↔ IsFeasible night blocks }
+    ensures cost { (night : Night) (b : Block) → IsPlain night → IsWithinTrains night b → first_block_cost night b ≡ block_cost night b }
+    ensures total { (night : Night) (blocks : List Block) → IsPlain night → All (IsWithinTrains night) blocks → first_total_cost night blocks ≡ total_cost night blocks }
 {}

@@ -38,10 +38,10 @@ but_ids night blocks all k d lt = let h = all k d lt in record { shape = h.shape
 
 -- ---- what covers the night shares nothing
 
-has_from : (night : Night) (b : Block) (u : ℕ) → has_unit night (shape_of b) u ≡ true → HasUnit night (shape_of b) u
+pub has_from : (night : Night) (b : Block) (u : ℕ) → has_unit night (shape_of b) u ≡ true → HasUnit night (shape_of b) u
 has_from night b u e = record { from = grind (arith, nat_tests); to = grind (arith, nat_tests) }
 
-has_position_from : (night : Night) (b : Block) (v : ℕ) → has_position night (shape_of b) v ≡ true → HasPosition night (shape_of b) v
+pub has_position_from : (night : Night) (b : Block) (v : ℕ) → has_position night (shape_of b) v ≡ true → HasPosition night (shape_of b) v
 has_position_from night b v e = record { from = grind (arith, nat_tests); to = grind (arith, nat_tests) }
 
 pub covers_apart : (night : Night) (blocks : List Block) → All (IsWithinTrains night) blocks → Covers night blocks → ShareNothing night blocks

@@ -9,6 +9,7 @@ pub mod Feasible
 pub mod Opening
 pub mod Singles
 pub mod Started
+pub mod Matched
 pub mod Tests
 pub mod Upgrade
 pub mod Leasts

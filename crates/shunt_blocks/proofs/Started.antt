@@ -26,12 +26,12 @@ use Rattle.shunt_blocks.proofs.Opening.{rest_units, rest_positions, same_counts}
 
 -- ---- a matching of what the pins leave
 
-record IsRestMatched (night : Night) (pins : List Block) (place : List ℕ) : Type 0 where
+pub record IsRestMatched (night : Night) (pins : List Block) (place : List ℕ) : Type 0 where
   given : (u : ℕ) → u < unit_total night → (times_unit night pins u == 0) ≡ true → (place_of place u < position_total night) × ((times_position night pins (place_of place u) == 0) ≡ true)
   pair : (u : ℕ) → u < unit_total night → (times_unit night pins u == 0) ≡ true → IsPair night u (place_of place u)
   once : (v : ℕ) → v < position_total night → (times_position night pins v == 0) ≡ true → count_below (unit_total night) (λ u. (times_unit night pins u == 0) && (place_of place u == v)) ≡ 1
 
-rest_matched : (night : Night) (pins : List Block) (place : List ℕ) → IsMatchingOfRest (unit_entries night) (position_entries night) (units_taken night pins) (positions_taken night pins) place → IsRestMatched night pins place
+pub rest_matched : (night : Night) (pins : List Block) (place : List ℕ) → IsMatchingOfRest (unit_entries night) (position_entries night) (units_taken night pins) (positions_taken night pins) place → IsRestMatched night pins place
 rest_matched night pins place m = record { given = given; pair = pair; once = once }
   where
     units : length (unit_entries night) ≡ unit_total night
@@ -93,7 +93,7 @@ single_goes night u v w h lt = let at = single_to night u v h lt in grind (arith
 abbrev last : Night → List Block → List ℕ → ℕ → List Block
 last night pins place n = cond (times_unit night pins n == 0) (single night n (place_of place n) ∷ []) []
 
-singles_fit : (night : Night) (pins : List Block) (place : List ℕ) (n : ℕ) → IsOrderedNight night → IsRestMatched night pins place → n ≤ unit_total night → All (IsBlockButId night) (singles_below night pins place n)
+pub singles_fit : (night : Night) (pins : List Block) (place : List ℕ) (n : ℕ) → IsOrderedNight night → IsRestMatched night pins place → n ≤ unit_total night → All (IsBlockButId night) (singles_below night pins place n)
 singles_fit night pins place zero h m le = All-nil (IsBlockButId night)
 singles_fit night pins place (suc n) h m le = All-append (IsBlockButId night) (singles_below night pins place n) (last night pins place n) (singles_fit night pins place n h m (omega (arith, le))) (at (times_unit night pins n == 0) refl)
   where
@@ -131,7 +131,7 @@ unequal true k w ne = at (k == w) refl
     at false e = e
 unequal false k w ne = refl
 
-one_counted : (n w : ℕ) (test : ℕ → Bool) → w < n → count_below n (λ k. test k && (k == w)) ≡ cond (test w) 1 0
+pub one_counted : (n w : ℕ) (test : ℕ → Bool) → w < n → count_below n (λ k. test k && (k == w)) ≡ cond (test w) 1 0
 one_counted zero w test lt = absurd (omega (arith, lt))
 one_counted (suc n) w test lt = ⊎_elim
     (λ less.
@@ -171,7 +171,7 @@ singles_unparked night pins place (suc n) b there = ⊎_elim
     at true (inr never) = elim never [ ]
     at false never = absurd never
 
-covered : (night : Night) (pins : List Block) (place : List ℕ) → IsOrderedNight night → AreUsable night pins → IsRestMatched night pins place → Covers night (pins ++ singles night pins place)
+pub covered : (night : Night) (pins : List Block) (place : List ℕ) → IsOrderedNight night → AreUsable night pins → IsRestMatched night pins place → Covers night (pins ++ singles night pins place)
 covered night pins place h usable m = record { units = units; positions = positions }
   where
     free_unit : ℕ → Bool

@@ -7,7 +7,7 @@ ghost use Rattle.shunt_stays.specs.defs.Events.{AllDifferBeforeId};
 ghost use Rattle.shunt_stays.specs.defs.Run.{AreOnTracks};
 ghost use Rattle.shunt_instance.specs.defs.Words.{train_at, kind_at, AreDistinct};
 ghost use Rattle.shunt_instance.specs.defs.Instance.{Night, IsInstance, make_unit, make_position, unit_at, position_at, unit_total, position_total};
-ghost use Rattle.shunt_instance.specs.defs.Matching.{IsMatchingOfRest, unit_entries, position_entries};
+ghost use Rattle.shunt_instance.specs.defs.Matching.{IsMatching, IsMatchingOfRest, unit_entries, position_entries};
 ghost use Rattle.shunt_blocks.specs.declared.records.Shape.{Shape};
 ghost use Rattle.shunt_blocks.specs.declared.records.Block.{Block};
 ghost use Rattle.shunt_blocks.specs.declared.records.Park.{Park};
@@ -119,6 +119,15 @@ pub fn opening_plans()
         IsMatchingOfRest (unit_entries night) (position_entries night) (units_taken night pins) (positions_taken night pins) place →
         IsFeasible night (placed (pins ++ singles night pins place)) }
     ensures keeps { (pins others : List Block) → Keeps (placed (pins ++ others)) pins }
+{}
+
+/// Where there is a feasible list, there is a matching of all units; and so where usable pins leave a rest that has one.
+pub fn matchings()
+    ensures of_plan { (night : Night) (blocks : List Block) → IsFeasible night blocks →
+        (place : List ℕ) × IsMatching (unit_entries night) (position_entries night) place }
+    ensures of_rest { (night : Night) (pins : List Block) (place : List ℕ) → IsInstance night → AreUsable night pins →
+        IsMatchingOfRest (unit_entries night) (position_entries night) (units_taken night pins) (positions_taken night pins) place →
+        (whole : List ℕ) × IsMatching (unit_entries night) (position_entries night) whole }
 {}
 
 /// The tests of units, positions and pairs hold exactly where their facts do.

@@ -1,8 +1,10 @@
 -- Without standing trains and permits, blocks and their costs are those of version 1.
 use Rattle.std.specs.Prelude.{◌↔◌, All, ◌==◌, ◌&&◌, ◌||◌, not, unwrap_or, IsSome, Option, Some, None}
 use Rattle.std.specs.List.{list_any}
-use Rattle.std.proofs.Common.{◌≡◌, ℕ, ◌+◌, ◌<◌, true, false, List, [], ◌∷◌, length, get_or, refl, sym, ap, subst, ◌∙◌, arith}
+use Rattle.std.proofs.Common.{◌≡◌, ℕ, ◌+◌, ◌<◌, true, false, List, [], ◌∷◌, length, get_or, refl, sym, ap, subst, ◌∙◌, arith, Bool, IsTrue, ◌≢◌, zero, suc}
 use Rattle.std.proofs.lemmas.Bool.{true≢false}
+use Rattle.std.proofs.lemmas.Bool.Decides.{nat_tests}
+use Rattle.std.proofs.lemmas.Option.{none-some}
 use Rattle.std.proofs.lemmas.List.Sums.{sum_by-cons}
 use Rattle.std.proofs.lemmas.List.Elements.{All-tail}
 use Rattle.shunt_base.specs.declared.ids.TypeId.{TypeId}
@@ -20,13 +22,14 @@ use Rattle.shunt_instance.specs.defs.Instance.{Night, unit_at, position_at}
 use Rattle.shunt_blocks.specs.declared.records.Shape.{Shape}
 use Rattle.shunt_blocks.specs.declared.records.Block.{Block}
 use Rattle.shunt_blocks.specs.declared.records.Park.{Park}
+use Rattle.shunt_blocks.specs.defs.Below.{all_below}
 use Rattle.shunt_blocks.specs.defs.Shapes.{shape_of, AreRunsWithin, IsOnTrack, IsWithinTrains, IsShape, unit_from, position_from}
-use Rattle.shunt_blocks.specs.defs.Ways.{way_from, way_to, park_way_in, park_way_out}
-use Rattle.shunt_blocks.specs.defs.Blocks.{IsOption, IsBlock}
+use Rattle.shunt_blocks.specs.defs.Ways.{option_way_in, option_way_out, way_in, way_out, way_from, way_to, park_way_in, park_way_out}
+use Rattle.shunt_blocks.specs.defs.Blocks.{IsOption, IsBlock, have_one_type, is_forbidden, type_fault}
 use Rattle.shunt_blocks.specs.defs.Costs.{option_cost, block_cost}
 use Rattle.shunt_blocks.specs.defs.Lists.{IsFeasible, total_cost}
-use Rattle.shunt_blocks.specs.defs.v1.{IsPlain, HasShape, route, route_in, route_out, HasOption, IsBlock as IsFirstBlock, option_cost as first_option_cost, block_cost as first_block_cost, total_cost as first_total_cost, IsFeasible as IsFirstFeasible}
-use Rattle.shunt_blocks.proofs.Passing.{all_pass}
+use Rattle.shunt_blocks.specs.defs.v1.{HasTwoTypes, LacksRouteIn, LacksRouteOut, IsPlain, HasShape, route, route_in, route_out, HasOption, IsBlock as IsFirstBlock, option_cost as first_option_cost, block_cost as first_block_cost, total_cost as first_total_cost, IsFeasible as IsFirstFeasible}
+use Rattle.shunt_blocks.proofs.Passing.{all_pass, each_passes}
 use Rattle.shunt_blocks.proofs.Times.{unit_is, position_is, leaves_is, ready_is}
 
 -- ---- shapes
@@ -152,3 +155,69 @@ same_feasible night blocks plain = (
   λ h. record { ids = h.ids; each = λ k d lt. block_to night (get_or blocks k d) plain (h.each k d lt); covers = h.covers; through = h.through },
   λ h. record { ids = h.ids; each = λ k d lt. block_from night (get_or blocks k d) plain (h.each k d lt); covers = h.covers; through = h.through },
 )
+
+-- ---- faults
+
+fails_somewhere : (n : ℕ) (test : ℕ → Bool) → not (all_below n test) ≡ true → (k : ℕ) × (k < n) × (test k ≡ false)
+fails_somewhere zero test e = absurd (true≢false (sym e))
+fails_somewhere (suc n) test e = at (test n) refl (λ rest. fails_somewhere n test rest) e
+  where
+    at : (t : Bool) → test n ≡ t → (not (all_below n test) ≡ true → (k : ℕ) × (k < n) × (test k ≡ false)) → not (all_below n test && test n) ≡ true → (k : ℕ) × (k < suc n) × (test k ≡ false)
+    at false e before fails = (n, omega arith, e)
+    at true e before fails = let rest = before (front (all_below n test) (test n) e fails) in (rest.0, omega (arith, rest.1), rest.2)
+      where
+        front : (a b : Bool) → b ≡ true → not (a && b) ≡ true → not a ≡ true
+        front true b e fails = absurd (true≢false (sym fails ∙ ap not e))
+        front false b e fails = refl
+
+unforbidden : (night : Night) (s : Shape) (o : Option Park) → IsPlain night → is_forbidden night s o ≡ false
+unforbidden night s None plain = refl
+unforbidden night s (Some k) plain = ap not (all_pass s.n _ (λ i below. permitted night.station k.track (unit_at night (unit_from night s + i)).kind plain.permits))
+
+only_types : (night : Night) (b : Block) → IsPlain night → type_fault night b ≡ not (have_one_type night (shape_of b))
+only_types night b plain = at (not (have_one_type night (shape_of b))) (is_forbidden night (shape_of b) b.park) (unforbidden night (shape_of b) b.park plain)
+  where
+    at : (s t : Bool) → t ≡ false → (s || t) ≡ s
+    at true t e = refl
+    at false t e = e
+
+unequal : (a b : ℕ) → (a == b) ≡ false → a ≢ b
+unequal a b e same = let is : (a == b) ≡ true = grind (arith, nat_tests, same) in true≢false (sym is ∙ e)
+
+pub two_types : (night : Night) (b : Block) → IsPlain night → AreRunsWithin night (shape_of b) → IsTrue (type_fault night b) ↔ HasTwoTypes night b
+two_types night b plain r = (
+  λ t.
+      let some = fails_somewhere b.n _ (sym (only_types night b plain) ∙ t) in
+      record { at = some.0; within = some.1; differ = λ same. unequal _ _ some.2 (unit_type night b some.0 r some.1 ∙ same ∙ sym (position_type night b some.0 r some.1)) },
+  λ h. only_types night b plain ∙ at (have_one_type night (shape_of b)) refl h,
+)
+  where
+    at : (t : Bool) → have_one_type night (shape_of b) ≡ t → HasTwoTypes night b → not (have_one_type night (shape_of b)) ≡ true
+    at false e h = ap not e
+    at true e h =
+        let test = each_passes b.n (λ k. (unit_at night (unit_from night (shape_of b) + k)).kind.0 == (position_at night (position_from night (shape_of b) + k)).kind.0) e h.at h.within in
+        let same : (unit_at night (unit_from night (shape_of b) + h.at)).kind.0 ≡ (position_at night (position_from night (shape_of b) + h.at)).kind.0 = grind (arith, nat_tests, test) in
+        absurd (h.differ (sym (unit_type night b h.at r h.within) ∙ same ∙ position_type night b h.at r h.within))
+
+one_park : (k l : Park) → Some k ≡ Some l → k ≡ l
+one_park k l e = cc
+
+pub lacks_in : (night : Night) (b : Block) → IsPlain night → b.arr.0 < length night.arrive → (IsSome b.park × (way_in night b ≡ None)) ↔ LacksRouteIn night b
+lacks_in night b plain lt = at b.park refl
+  where
+    at : (o : Option Park) → b.park ≡ o → (IsSome o × (option_way_in night b.arr o ≡ None)) ↔ LacksRouteIn night b
+    at None e = (λ h. absurd (true≢false (sym h.0)), λ h. absurd (none-some h.park (sym e ∙ h.parked)))
+    at (Some k) e = (
+      λ h. record { park = k; parked = e; absent = sym (ways_in night b k plain lt) ∙ h.1 },
+      λ h. (refl, ways_in night b k plain lt ∙ ap (route_in night b) (one_park k h.park (sym e ∙ h.parked)) ∙ h.absent),
+    )
+
+pub lacks_out : (night : Night) (b : Block) → (IsSome b.park × (way_out night b ≡ None)) ↔ LacksRouteOut night b
+lacks_out night b = at b.park refl
+  where
+    at : (o : Option Park) → b.park ≡ o → (IsSome o × (option_way_out night b.dep o ≡ None)) ↔ LacksRouteOut night b
+    at None e = (λ h. absurd (true≢false (sym h.0)), λ h. absurd (none-some h.park (sym e ∙ h.parked)))
+    at (Some k) e = (
+      λ h. record { park = k; parked = e; absent = sym (ways_out night b k) ∙ h.1 },
+      λ h. (refl, ways_out night b k ∙ ap (route_out night b) (one_park k h.park (sym e ∙ h.parked)) ∙ h.absent),
+    )

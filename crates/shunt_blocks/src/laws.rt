@@ -1,5 +1,5 @@
 //! What follows from the definitions of this crate.
-ghost use Rattle.std.specs.Prelude.{◌≡◌, ◌+◌, ◌<◌, ◌≤◌, ◌↔◌, length, ◌^◌, ℕ, Bool, true, false, IsTrue, Some, IfSome, All, AllPairs, Option, List, ◌++◌, map};
+ghost use Rattle.std.specs.Prelude.{◌≡◌, ◌+◌, ◌<◌, ◌≤◌, ◌↔◌, length, ◌^◌, ℕ, Bool, true, false, IsTrue, IsSome, Some, None, IfSome, All, AllPairs, Option, List, ◌++◌, map};
 ghost use Rattle.shunt_base.specs.declared.keys.Stay.{Stay};
 ghost use Rattle.shunt_base.specs.defs.Keys.{IsWellFormed, AreStays};
 ghost use Rattle.shunt_stays.specs.defs.Members.{In};
@@ -13,9 +13,10 @@ ghost use Rattle.shunt_blocks.specs.declared.records.Block.{Block};
 ghost use Rattle.shunt_blocks.specs.declared.records.Park.{Park};
 ghost use Rattle.shunt_blocks.specs.defs.Below.{all_below};
 ghost use Rattle.shunt_blocks.specs.defs.Shapes.{AreRunsWithin, IsWithinTrains, IsInRange, IsShape, IsPair, IsOnTrack, HasUnit, HasPosition, is_pair, unit_from, position_from};
-ghost use Rattle.shunt_blocks.specs.defs.Blocks.{IsBlock, IsBlockButId, IsOption, is_option, have_one_type};
+ghost use Rattle.shunt_blocks.specs.defs.Ways.{way_in, way_out};
+ghost use Rattle.shunt_blocks.specs.defs.Blocks.{IsBlock, IsBlockButId, IsOption, is_option, have_one_type, type_fault};
 ghost use Rattle.shunt_blocks.specs.defs.Costs.{block_cost};
-ghost use Rattle.shunt_blocks.specs.defs.v1.{IsPlain, IsBlock as IsFirstBlock, IsFeasible as IsFirstFeasible, block_cost as first_block_cost, total_cost as first_total_cost};
+ghost use Rattle.shunt_blocks.specs.defs.v1.{HasTwoTypes, LacksRouteIn, LacksRouteOut, IsPlain, IsBlock as IsFirstBlock, IsFeasible as IsFirstFeasible, block_cost as first_block_cost, total_cost as first_total_cost};
 ghost use Rattle.shunt_blocks.specs.defs.Standing.{is_too_soon, stay_of, IsSound};
 ghost use Rattle.shunt_blocks.specs.defs.Lists.{has_unit, has_position, times_unit, Covers, IsFeasible, ShareNothing, AreInRange, CanStand, track_lengths, stays_of, RunsThrough, total_cost, placed, units_taken, positions_taken};
 ghost use Rattle.shunt_blocks.specs.defs.Pins.{AreUsable, Keeps, without_id, IsSingle, opening_cost, singles};
@@ -139,10 +140,13 @@ pub fn tests()
 {}
 
 /// Over a night without standing trains and permits, a block is one exactly by version 1 of the files, and so is a list of
-/// blocks feasible; and what blocks cost is what they cost by version 1.
+/// blocks feasible; what blocks cost is what they cost by version 1, and wrong types and absent ways are those of version 1.
 pub fn upgrade()
     ensures block { (night : Night) (b : Block) → IsPlain night → IsFirstBlock night b ↔ IsBlock night b }
     ensures feasible { (night : Night) (blocks : List Block) → IsPlain night → IsFirstFeasible night blocks ↔ IsFeasible night blocks }
     ensures cost { (night : Night) (b : Block) → IsPlain night → IsWithinTrains night b → first_block_cost night b ≡ block_cost night b }
     ensures total { (night : Night) (blocks : List Block) → IsPlain night → All (IsWithinTrains night) blocks → first_total_cost night blocks ≡ total_cost night blocks }
+    ensures types { (night : Night) (b : Block) → IsPlain night → IsWithinTrains night b → IsTrue (type_fault night b) ↔ HasTwoTypes night b }
+    ensures route_in { (night : Night) (b : Block) → IsPlain night → IsWithinTrains night b → (IsSome b.park × (way_in night b ≡ None)) ↔ LacksRouteIn night b }
+    ensures route_out { (night : Night) (b : Block) → (IsSome b.park × (way_out night b ≡ None)) ↔ LacksRouteOut night b }
 {}

@@ -1,5 +1,5 @@
 -- Blocks, their costs and feasible lists by version 1 of the files, over instances without standing trains and permits.
-use Rattle.std.specs.Prelude.{◌≡◌, ℕ, ◌+◌, ◌<◌, ◌≤◌, ◌==◌, false, cond, unwrap_or, All, List, [], map, sum_by, length, IsSome, Option, Some, None}
+use Rattle.std.specs.Prelude.{◌≡◌, ◌≢◌, ℕ, ◌+◌, ◌<◌, ◌≤◌, ◌==◌, false, cond, unwrap_or, All, List, [], map, sum_by, length, IsSome, Option, Some, None}
 use Rattle.shunt_base.specs.declared.ids.TypeId.{TypeId}
 use Rattle.shunt_base.specs.declared.ids.TrackId.{TrackId}
 use Rattle.shunt_base.specs.declared.ids.Side.{Side}
@@ -93,3 +93,21 @@ pub record IsFeasible (night : Night) (blocks : List Block) : Type 0 where
   pub each : All (IsBlock night) blocks
   pub covers : Covers night blocks
   pub through : RunsThrough night blocks
+
+-- a pair of the block has two types
+pub record HasTwoTypes (night : Night) (b : Block) : Type 0 where
+  pub at : ℕ
+  pub within : at < b.n
+  pub differ : (unit_kind night b at).0 ≢ (position_kind night b at).0
+
+-- the block is parked and its route in is absent
+pub record LacksRouteIn (night : Night) (b : Block) : Type 0 where
+  pub park : Park
+  pub parked : b.park ≡ Some park
+  pub absent : route_in night b park ≡ None
+
+-- the block is parked and its route out is absent
+pub record LacksRouteOut (night : Night) (b : Block) : Type 0 where
+  pub park : Park
+  pub parked : b.park ≡ Some park
+  pub absent : route_out night b park ≡ None

@@ -4,6 +4,7 @@ use Rattle.std.specs.List.{AllByRecursion, cons_option, range_with_len}
 use Rattle.std.proofs.Common.{inl, inr, ◌≡◌, ◌≢◌, ⊎_elim, ℕ, suc, ◌+◌, ◌-◌, ◌^◌, ◌<◌, ◌≤◌, Bool, true, false, List, [], ◌∷◌, length, get_or, refl, sym, ap, subst, ◌∙◌, arith}
 use Rattle.std.proofs.lemmas.Option.{none-some}
 use Rattle.std.proofs.lemmas.List.{length-map, get_or-map}
+use Rattle.std.proofs.lemmas.List.Kept.{AllPairs-cons}
 use Rattle.std.proofs.lemmas.List.Elements.{All-tail, All-cons, All-nil}
 use Rattle.std.proofs.lemmas.List.FromFn.{get_or-range_with_len, length-range_with_len}
 use Rattle.std.proofs.lemmas.List.Sums.{sum_by-cons}
@@ -188,6 +189,16 @@ rest_apart night b blocks apart = record {
   units = λ u. omega (arith, one_more night b blocks u, apart.units u);
   positions = λ v. omega (arith, one_position_more night b blocks v, apart.positions v);
 }
+
+-- the first units of blocks that share nothing differ
+pub firsts_apart : (night : Night) (blocks : List Block) → All (IsWithinTrains night) blocks → ShareNothing night blocks → AreDistinct (map (begins_at night) blocks)
+firsts_apart night [] within apart = λ i j d before lt. absurd (omega (arith, lt))
+firsts_apart night (b ∷ blocks) within apart =
+    AllPairs-cons (λ x y. x ≢ y) (begins_at night b) (map (begins_at night) blocks)
+    (λ k d lt same.
+    let below : k < length blocks = omega (arith, lt, length-map blocks (begins_at night)) in
+    other_unit night b (get_or blocks k b) blocks apart (within 0 b (omega arith)).runs.n (All-tail (IsWithinTrains night) b blocks within k b below).runs.n (in_place blocks k b below) (same ∙ get_or-map (begins_at night) blocks k b d below))
+    (firsts_apart night blocks (All-tail (IsWithinTrains night) b blocks within) (rest_apart night b blocks apart))
 
 pub all_differ : (night : Night) (blocks : List Block) → IsInstance night → All (IsWithinTrains night) blocks → ShareNothing night blocks → AllDifferBeforeId (stays_of night blocks)
 all_differ night [] h within apart = tt

@@ -12,7 +12,7 @@ ghost use Rattle.shunt_blocks.specs.declared.records.Shape.{Shape};
 ghost use Rattle.shunt_blocks.specs.declared.records.Block.{Block};
 ghost use Rattle.shunt_blocks.specs.declared.records.Park.{Park};
 ghost use Rattle.shunt_blocks.specs.defs.Below.{all_below};
-ghost use Rattle.shunt_blocks.specs.defs.Shapes.{AreRunsWithin, IsWithinTrains, IsInRange, IsShape, IsPair, IsOnTrack, HasUnit, HasPosition, is_pair, unit_from, position_from};
+ghost use Rattle.shunt_blocks.specs.defs.Shapes.{AreRunsWithin, IsWithinTrains, IsInRange, IsShape, IsPair, IsOnTrack, HasUnit, HasPosition, is_pair, begins_at, unit_from, position_from};
 ghost use Rattle.shunt_blocks.specs.defs.Ways.{way_in, way_out};
 ghost use Rattle.shunt_blocks.specs.defs.Blocks.{IsBlock, IsBlockButId, IsOption, is_option, have_one_type, type_fault};
 ghost use Rattle.shunt_blocks.specs.defs.Costs.{block_cost};
@@ -82,11 +82,13 @@ pub fn ids_do_not_matter()
         RunsThrough night blocks ↔ RunsThrough night (placed blocks) }
 {}
 
-/// Blocks that share nothing are at most as many as there are units, and fewer where a unit is in none of them.
+/// Blocks that share nothing are at most as many as there are units, and fewer where a unit is in none of them. Their first
+/// units differ.
 pub fn few_blocks()
     ensures most { (night : Night) (blocks : List Block) → All (IsWithinTrains night) blocks → ShareNothing night blocks → length blocks ≤ unit_total night }
     ensures fewer { (night : Night) (blocks : List Block) (u : ℕ) → All (IsWithinTrains night) blocks → ShareNothing night blocks →
         u < unit_total night → times_unit night blocks u ≡ 0 → length blocks < unit_total night }
+    ensures firsts { (night : Night) (blocks : List Block) → All (IsWithinTrains night) blocks → ShareNothing night blocks → AreDistinct (map (begins_at night) blocks) }
 {}
 
 /// Feasible lists are in range, with at most 160 blocks that share nothing. Numbered by their places they are feasible at the

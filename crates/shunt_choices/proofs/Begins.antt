@@ -11,11 +11,8 @@ use Rattle.shunt_blocks.specs.defs.Shapes.{shape_of, begins_at, AreRunsWithin, I
 use Rattle.shunt_blocks.specs.defs.Blocks.{IsBlockButId}
 use Rattle.shunt_blocks.specs.defs.Lists.{has_unit, has_position, times_unit, times_position, ShareNothing, RunsThrough, IsFeasible, placed}
 use Rattle.shunt_blocks.specs.defs.Pins.{IsKept, Keeps}
-use Rattle.shunt_blocks.proofs.Places.{unit_in, position_in}
 use Rattle.shunt_blocks.proofs.Held.{held, holder, one_holder}
-use Rattle.shunt_blocks.proofs.Few.{begins_itself}
-use Rattle.shunt_blocks.proofs.StaysOf.{each_one, placed_part}
-use Rattle.shunt_blocks.proofs.Feasible.{all_within, but_ids, feasible_apart, feasible_placed}
+use Rattle.shunt_choices.proofs.Given.{BlockLaws, all_within, but_ids, begins_itself, each_one}
 use Rattle.shunt_choices.specs.defs.Paths.{masks_of, next_of}
 use Rattle.shunt_choices.specs.defs.Choices.{Choice, IsChoice, IsChoiceAt, chosen, longer_by}
 use Rattle.shunt_choices.proofs.Trails.{has_from, has_position_from}
@@ -36,8 +33,8 @@ record IsThere (night : Night) (plan path : List Block) (u : ℕ) (b : Block) : 
   begins : begins_at night b ≡ u
   free : IsFreeBlock night path b
 
-found : (night : Night) (plan path : List Block) (u : ℕ) → IsFeasible night plan → Keeps plan path → IsNext night path u → (b : Block) × IsThere night plan path u b
-found night plan path u h keeps next = (b, record { there = of.1; has = of.2; fits = fits; begins = begins; free = free })
+found : (laws : BlockLaws) (night : Night) (plan path : List Block) (u : ℕ) → IsFeasible night plan → Keeps plan path → IsNext night path u → (b : Block) × IsThere night plan path u b
+found laws night plan path u h keeps next = (b, record { there = of.1; has = of.2; fits = fits; begins = begins; free = free })
   where
     of : (x : Block) × In x plan × (has_unit night (shape_of x) u ≡ true)
     of = holder (λ x. has_unit night (shape_of x) u) plan (omega (arith, h.covers.units u next.there))
@@ -61,7 +58,7 @@ found night plan path u h keeps next = (b, record { there = of.1; has = of.2; fi
         let other = holder (λ x. has_unit night (shape_of x) w) path some in
         let k = each_one (IsKept plan) path other.0 keeps other.1 in
         let has_too : has_unit night (shape_of k.block) w ≡ true = subst (λ s. has_unit night s w ≡ true) (sym (ap shape_of k.same)) other.2 in
-        let lt = unit_in night (shape_of b) w fits.shape.within (has_from night b w has) in
+        let lt = laws.places.unit_in night (shape_of b) w fits.shape.within (has_from night b w has) in
         absurd (another other.0 other.1 k (one_holder (λ x. has_unit night (shape_of x) w) plan k.block b (omega (arith, h.covers.units w lt)) k.there of.1 has_too has)))
         (cases_lt (times_unit night path w) 1)
 
@@ -72,7 +69,7 @@ found night plan path u h keeps next = (b, record { there = of.1; has = of.2; fi
         let other = holder (λ x. has_position night (shape_of x) v) path some in
         let k = each_one (IsKept plan) path other.0 keeps other.1 in
         let has_too : has_position night (shape_of k.block) v ≡ true = subst (λ s. has_position night s v ≡ true) (sym (ap shape_of k.same)) other.2 in
-        let lt = position_in night (shape_of b) v fits.shape.within (has_position_from night b v has) in
+        let lt = laws.places.position_in night (shape_of b) v fits.shape.within (has_position_from night b v has) in
         absurd (another other.0 other.1 k (one_holder (λ x. has_position night (shape_of x) v) plan k.block b (omega (arith, h.covers.positions v lt)) k.there of.1 has_too has)))
         (cases_lt (times_position night path v) 1)
 
@@ -94,11 +91,11 @@ pub record IsHeldChoice (night : Night) (plan path : List Block) (c : Choice) : 
   pub keeps : Keeps plan (longer_by path c)
   pub through : RunsThrough night (placed (longer_by path c))
 
-pub held_choice : (night : Night) (plan path : List Block) (u : ℕ) → IsInstance night → IsFeasible night plan → ShareNothing night path → Keeps plan path → next_of (masks_of night path) ≡ Some u
+pub held_choice : (laws : BlockLaws) (night : Night) (plan path : List Block) (u : ℕ) → IsInstance night → IsFeasible night plan → ShareNothing night path → Keeps plan path → next_of (masks_of night path) ≡ Some u
     → (c : Choice) × IsHeldChoice night plan path c
-held_choice night plan path u is h apart keeps e =
+held_choice laws night plan path u is h apart keeps e =
     let next = next_is night path u e in
-    let x = found night plan path u h keeps next in
+    let x = found laws night plan path u h keeps next in
     let b = x.0 in
     let at = x.1 in
     let c = choice_of b in
@@ -107,12 +104,12 @@ held_choice night plan path u is h apart keeps e =
     let longer = All-push (IsKept plan) path last keeps (record { block = b; there = at.there; same = refl }) in (
       c,
       record {
-        choice = choice_there night path c u e (subst (λ w. IsChoice night (masks_of night path) w c) at.begins (free_choice night path b at.fits at.free));
+        choice = choice_there night path c u e (subst (λ w. IsChoice night (masks_of night path) w c) at.begins (free_choice laws.places night path b at.fits at.free));
         keeps = longer;
-        through = placed_part night plan (longer_by path c) is plan_within (feasible_apart night plan h)
+        through = laws.part night plan (longer_by path c) is plan_within (laws.feasible_apart night plan h)
             (λ k d lt. kept_within night plan (get_or (longer_by path c) k d) plan_within (longer k d lt))
             (grown_apart night path last apart (record { units = at.free.units; positions = at.free.positions }))
             (λ p there. let k = each_one (IsKept plan) (longer_by path c) p longer there in (k.block, k.there, k.same))
-            (feasible_placed night plan is h).through;
+            (laws.feasible_placed night plan is h).through;
       },
     )

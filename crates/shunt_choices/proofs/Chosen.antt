@@ -9,6 +9,7 @@ use Rattle.shunt_stays.proofs.Members.{in_map, of_map, filter_from, filter_to}
 use Rattle.shunt_instance.specs.declared.records.Unit.{Unit as TrainUnit}
 use Rattle.shunt_instance.specs.declared.records.Position.{Position}
 use Rattle.shunt_instance.specs.defs.Words.{train_at, kind_at}
+use Rattle.shunt_instance.specs.defs.Wellformed.{IsTrain}
 use Rattle.shunt_instance.specs.defs.Instance.{Night, IsOrderedNight, IsInstance, make_unit, make_position, unit_at, position_at, ready, leaves, unit_total, position_total, first_position}
 use Rattle.shunt_instance.proofs.Facts.{unit_at_is, position_at_is, unit_there, position_there}
 use Rattle.shunt_instance.proofs.Numbers.{counts_more}
@@ -18,8 +19,7 @@ use Rattle.shunt_blocks.specs.defs.Shapes.{AreRunsWithin, IsPair, unit_from, pos
 use Rattle.shunt_choices.specs.defs.Free.{is_bare, is_free_pair, is_free_run, has_units, has_positions}
 use Rattle.shunt_choices.specs.defs.Choices.{IsFreeShape, ShapeBefore, shape_at, shapes_of_length, shapes_of}
 use Rattle.shunt_blocks.proofs.Passing.{each_passes, all_pass}
-use Rattle.shunt_blocks.proofs.Places.{position_in}
-use Rattle.shunt_blocks.proofs.Times.{arrival}
+use Rattle.shunt_choices.proofs.Given.{PlaceLaws}
 use Rattle.shunt_choices.proofs.Ordered.{Follows, follows_map, follows_filter, follows_flat, follows_range, of_flat, in_flat, range_in, in_range}
 
 -- ---- tests and what they tell
@@ -154,17 +154,20 @@ free_run night covered u s h =
       pair = h.shape.pairs k lt;
     })))
 
+arrival : (night : Night) (a : ℕ) → IsOrderedNight night → a < length night.arrive → IsTrain night.station (train_at night.arrive a)
+arrival night a h lt = h.timetable.arrive.each a _ lt
+
 at_most_eight : (night : Night) (s : Shape) → IsOrderedNight night → AreRunsWithin night s → s.n ≤ 8
 at_most_eight night s h w = omega (arith, w.units, w.p, (arrival night s.arr.0 h w.arr).few)
 
 -- ---- exactly the free shapes
 
-in_shapes : (night : Night) (covered : Masks) (u : ℕ) (s : Shape) → IsOrderedNight night → IsFreeShape night covered u s → In s (shapes_of night covered u)
+in_shapes : (places : PlaceLaws) (night : Night) (covered : Masks) (u : ℕ) (s : Shape) → IsOrderedNight night → IsFreeShape night covered u s → In s (shapes_of night covered u)
 unfolding shapes_of
-in_shapes night covered u s h f =
+in_shapes places night covered u s h f =
     let w = f.shape.within in
     let v = position_from night s in
-    let low : v < position_total night = position_in night s v w (record { from = omega arith; to = omega (arith, w.n) }) in
+    let low : v < position_total night = places.position_in night s v w (record { from = omega arith; to = omega (arith, w.n) }) in
     let here : In s (shapes_of_length night covered (unit_from night s) s.n) =
     subst (λ (t : Shape). In t (shapes_of_length night covered (unit_from night s) s.n)) (sym (is_shape_at night s w))
     (in_map (shape_at night (unit_from night s) s.n) _ v (filter_to (is_free_run night covered (unit_from night s) s.n) (range_with_len 0 (position_total night)) v (in_range 0 (position_total night) v (omega arith) (omega arith)) (free_run night covered u s f))) in
@@ -179,9 +182,9 @@ of_shapes night covered u s h lu i =
     let low = range_in 0 (position_total night) cell.0 passed.0 in
     subst (IsFreeShape night covered u) (sym cell.2) (run_free night covered u row.0 cell.0 h lu (omega (arith, low.1)) (range_in 1 8 row.0 row.1).0 passed.1)
 
-pub shapes_are : (night : Night) (covered : Masks) (u : ℕ) (s : Shape) → IsInstance night → u < unit_total night → In s (shapes_of night covered u) ↔ IsFreeShape night covered u s
+pub shapes_are : (places : PlaceLaws) (night : Night) (covered : Masks) (u : ℕ) (s : Shape) → IsInstance night → u < unit_total night → In s (shapes_of night covered u) ↔ IsFreeShape night covered u s
 unfolding IsInstance
-shapes_are night covered u s h lu = (of_shapes night covered u s h lu, in_shapes night covered u s h)
+shapes_are places night covered u s h lu = (of_shapes night covered u s h lu, in_shapes places night covered u s h)
 
 -- ---- in their order
 

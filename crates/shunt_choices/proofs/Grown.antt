@@ -14,7 +14,7 @@ use Rattle.shunt_blocks.specs.declared.records.Block.{Block}
 use Rattle.shunt_blocks.specs.defs.Shapes.{shape_of, begins_at, HasUnit, HasPosition}
 use Rattle.shunt_blocks.specs.defs.Blocks.{IsBlockButId}
 use Rattle.shunt_blocks.specs.defs.Lists.{has_unit, has_position, times_unit, times_position, ShareNothing}
-use Rattle.shunt_blocks.proofs.Places.{unit_in, position_in}
+use Rattle.shunt_choices.proofs.Given.{PlaceLaws}
 use Rattle.shunt_choices.specs.defs.Paths.{masks_of, next_of}
 use Rattle.shunt_choices.specs.defs.Choices.{Choice, IsChoice, chosen}
 use Rattle.shunt_choices.proofs.Masks.{unit_more, position_more}
@@ -97,10 +97,10 @@ grown_apart night blocks b apart free = record {
 }
 
 -- the block of a choice is such a block
-pub choice_free : (night : Night) (blocks : List Block) (u id : ℕ) (c : Choice) → IsChoice night (masks_of night blocks) u c → IsFreeBlock night blocks (chosen id c)
-choice_free night blocks u id c h = record {
-  units = λ w has. not_taken (times_unit night blocks) (unit_total night) w true (unit_in night c.shape w h.shape.shape.within has) (h.shape.units w has);
-  positions = λ v has. not_taken (times_position night blocks) (position_total night) v true (position_in night c.shape v h.shape.shape.within has) (h.shape.positions v has);
+pub choice_free : (places : PlaceLaws) (night : Night) (blocks : List Block) (u id : ℕ) (c : Choice) → IsChoice night (masks_of night blocks) u c → IsFreeBlock night blocks (chosen id c)
+choice_free places night blocks u id c h = record {
+  units = λ w has. not_taken (times_unit night blocks) (unit_total night) w true (places.unit_in night c.shape w h.shape.shape.within has) (h.shape.units w has);
+  positions = λ v has. not_taken (times_position night blocks) (position_total night) v true (places.position_in night c.shape v h.shape.shape.within has) (h.shape.positions v has);
 }
 
 pub choice_fits : (night : Night) (blocks : List Block) (u id : ℕ) (c : Choice) → IsChoice night (masks_of night blocks) u c → IsBlockButId night (chosen id c)
@@ -110,16 +110,19 @@ choice_fits night blocks u id c h = record { shape = h.shape.shape; option = h.o
 abbrev pub choice_of : Block → Choice
 choice_of b = record { shape = shape_of b; option = b.park }
 
-pub free_choice : (night : Night) (blocks : List Block) (b : Block) → IsBlockButId night b → IsFreeBlock night blocks b → IsChoice night (masks_of night blocks) (begins_at night b) (choice_of b)
-free_choice night blocks b fits free = record {
+pub free_choice : (places : PlaceLaws) (night : Night) (blocks : List Block) (b : Block) → IsBlockButId night b → IsFreeBlock night blocks b → IsChoice night (masks_of night blocks) (begins_at night b) (choice_of b)
+free_choice places night blocks b fits free = record {
   shape = record {
     shape = fits.shape;
     first = refl;
-    units = λ w has. left_free (times_unit night blocks) (unit_total night) w true (unit_in night (shape_of b) w fits.shape.within has) (free.units w has);
-    positions = λ v has. left_free (times_position night blocks) (position_total night) v true (position_in night (shape_of b) v fits.shape.within has) (free.positions v has);
+    units = λ w has. left_free (times_unit night blocks) (unit_total night) w true (places.unit_in night (shape_of b) w fits.shape.within has) (free.units w has);
+    positions = λ v has. left_free (times_position night blocks) (position_total night) v true (places.position_in night (shape_of b) v fits.shape.within has) (free.positions v has);
   };
   option = fits.option;
 }
 
 pub grown_all : {X : Type 0} (P : X → Type 0) (xs : List X) (x : X) → All P xs → P x → All P (xs ++ x ∷ [])
 grown_all P xs x all p = All-push P xs x all p
+
+pub alone_apart : (night : Night) (b : Block) → ShareNothing night (b ∷ [])
+alone_apart night b = grown_apart night [] b (record { units = λ u. omega arith; positions = λ v. omega arith }) (record { units = λ w has. refl; positions = λ v has. refl })

@@ -1,3 +1,4 @@
+pub mod Given
 pub mod Masks
 pub mod Trails
 pub mod Rising

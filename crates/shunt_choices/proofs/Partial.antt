@@ -1,7 +1,7 @@
 -- Partial plans: the pins are one, they grow by choices, and each other one comes so.
 use Rattle.std.specs.Prelude.{◌↔◌, All, AllPairs, cond, map, Option, Some, None, IsPermutation}
 use Rattle.std.specs.Option.{IsSomeAnd}
-use Rattle.std.proofs.Common.{◌≡◌, ◌⊎◌, ⊎_elim, inl, inr, ℕ, suc, ◌+◌, ◌<◌, ◌≤◌, Bool, true, false, List, [], ◌∷◌, ◌++◌, length, get_or, refl, sym, ap, subst, ◌∙◌, arith}
+use Rattle.std.proofs.Common.{◌≡◌, ◌⊎◌, ⊎_elim, inl, inr, ℕ, ◌+◌, ◌<◌, ◌≤◌, Bool, true, false, List, [], ◌∷◌, ◌++◌, length, get_or, refl, sym, ap, subst, ◌∙◌, arith}
 use Rattle.std.proofs.lemmas.Bool.{cases_lt}
 use Rattle.std.proofs.lemmas.Bool.Decides.{nat_tests}
 use Rattle.std.proofs.lemmas.List.{append-nil, append_assoc, map-append, same_from_push, length-append, get_or_append_left, get_or_push}
@@ -16,10 +16,7 @@ use Rattle.shunt_blocks.specs.defs.Shapes.{shape_of, begins_at, HasUnit}
 use Rattle.shunt_blocks.specs.defs.Blocks.{IsBlockButId}
 use Rattle.shunt_blocks.specs.defs.Lists.{has_unit, has_position, times_unit, ShareNothing, RunsThrough, placed}
 use Rattle.shunt_blocks.specs.defs.Pins.{without_id, AreUsable}
-use Rattle.shunt_blocks.proofs.Places.{unit_in}
-use Rattle.shunt_blocks.proofs.Few.{begins_itself}
-use Rattle.shunt_blocks.proofs.StaysOf.{each_one, placed_part, placed_runs}
-use Rattle.shunt_blocks.proofs.Feasible.{all_within, but_ids}
+use Rattle.shunt_choices.proofs.Given.{BlockLaws, all_within, but_ids, begins_itself, each_one, place}
 use Rattle.shunt_choices.specs.defs.Paths.{masks_of, next_of, AreInOrder, IsPartialPlan}
 use Rattle.shunt_choices.specs.defs.Choices.{Choice, IsChoice, IsChoiceAt, chosen, longer_by}
 use Rattle.shunt_choices.proofs.Masks.{unit_more, position_more}
@@ -30,8 +27,8 @@ use Rattle.shunt_choices.proofs.Grown.{IsNext, next_is, next_at, IsFreeBlock, gr
 
 -- ---- the pins alone
 
-pub pins_alone : (night : Night) (pins start : List Block) → IsInstance night → AreUsable night pins → IsPermutation pins start → AreInOrder night start → IsPartialPlan night pins start
-pins_alone night pins start is usable same rise =
+pub pins_alone : (laws : BlockLaws) (night : Night) (pins start : List Block) → IsInstance night → AreUsable night pins → IsPermutation pins start → AreInOrder night start → IsPartialPlan night pins start
+pins_alone laws night pins start is usable same rise =
     let each = All-permutation (IsBlockButId night) pins start same (but_ids night pins usable.each) in
     let apart = share_nothing night pins start same usable.apart in
     record {
@@ -45,9 +42,9 @@ pins_alone night pins start is usable same rise =
       each = each;
       exactly = λ u lt. (λ h. inl (omega (arith, h, times u)), ⊎_elim (λ h. omega (arith, h, times u)) (λ h. absurd (omega (arith, h))));
       apart = apart;
-      through = placed_part night pins start is (λ k d lt. (usable.in_range.each k d lt).within) usable.apart (all_within night start each) apart
+      through = laws.part night pins start is (λ k d lt. (usable.in_range.each k d lt).within) usable.apart (all_within night start each) apart
           (λ c there. (c, of_permuted pins start c same there, refl))
-          ((placed_runs night pins is usable.in_range usable.apart).0 usable.through);
+          ((laws.renumbered night pins is usable.in_range usable.apart).0 usable.through);
     }
   where
     times : (u : ℕ) → times_unit night start u ≡ times_unit night pins u
@@ -66,10 +63,6 @@ rises_more R xs x rise last i j d before lt = ⊎_elim
     subst (λ z. R z (get_or (xs ++ x ∷ []) j d)) (sym (get_or_append_left xs (x ∷ []) d i (omega (arith, before, at))))
     (subst (λ z. R (get_or xs i d) z) (sym is) (last (get_or xs i d) (in_place xs i d (omega (arith, before, at))))))
     (cases_lt j (length xs))
-
-place : {X : Type 0} (xs : List X) (x : X) → In x xs → (k : ℕ) × (k < length xs) × ((d : X) → get_or xs k d ≡ x)
-place [] x there = absurd there
-place (y ∷ xs) x there = ⊎_elim (λ same. (0, omega arith, λ d. sym same)) (λ later. let at = place xs x later in (suc at.0, omega (arith, at.1), λ d. at.2 d)) there
 
 rises_to : {X : Type 0} (R : X → X → Type 0) (xs : List X) (x y : X) → AllPairs R (xs ++ x ∷ []) → In y xs → R y x
 rises_to R xs x y rise there =
@@ -108,11 +101,11 @@ two_parts night pins blocks h w =
     omega (arith, parts, same)
 
 -- their units come before the number to which the partial plan goes
-found_below : (night : Night) (pins blocks : List Block) → (h : IsPartialPlan night pins blocks) → (c : Block) (w : ℕ) → In c h.found → has_unit night (shape_of c) w ≡ true → w < h.below
-found_below night pins blocks h c w there has =
+found_below : (laws : BlockLaws) (night : Night) (pins blocks : List Block) → (h : IsPartialPlan night pins blocks) → (c : Block) (w : ℕ) → In c h.found → has_unit night (shape_of c) w ≡ true → w < h.below
+found_below laws night pins blocks h c w there has =
     let inside = in_blocks night pins blocks h c there in
     let fits = each_one (IsBlockButId night) blocks c h.each inside in
-    let lt = unit_in night (shape_of c) w fits.shape.within (has_from night c w has) in
+    let lt = laws.places.unit_in night (shape_of c) w fits.shape.within (has_from night c w has) in
     let test = λ (b : Block). has_unit night (shape_of b) w in
     ⊎_elim
     (λ pinned. absurd (omega (arith, pinned, h.apart.units w, two_parts night pins blocks h w, held test h.found c there has)))
@@ -120,14 +113,14 @@ found_below night pins blocks h c w there has =
     ((h.exactly w lt).0 (held test blocks c inside has))
 
 -- and that comes at most to the least uncovered unit
-lower : (night : Night) (pins blocks : List Block) → (h : IsPartialPlan night pins blocks) → (u : ℕ) → IsNext night blocks u → h.below ≤ u
-lower night pins blocks h u next = ⊎_elim
+lower : (laws : BlockLaws) (night : Night) (pins blocks : List Block) → (h : IsPartialPlan night pins blocks) → (u : ℕ) → IsNext night blocks u → h.below ≤ u
+lower laws night pins blocks h u next = ⊎_elim
     (λ less. absurd (omega (arith, next.free, (h.exactly u next.there).1 (inr less))))
     (λ ge. ge)
     (cases_lt u h.below)
 
-pub grown : (night : Night) (pins blocks : List Block) (b : Block) → IsPartialPlan night pins blocks → IsNext night blocks (begins_at night b) → IsBlockButId night b → IsFreeBlock night blocks b → RunsThrough night (placed (blocks ++ b ∷ [])) → IsPartialPlan night pins (blocks ++ b ∷ [])
-grown night pins blocks b h next fits free through = record {
+pub grown : (laws : BlockLaws) (night : Night) (pins blocks : List Block) (b : Block) → IsPartialPlan night pins blocks → IsNext night blocks (begins_at night b) → IsBlockButId night b → IsFreeBlock night blocks b → RunsThrough night (placed (blocks ++ b ∷ [])) → IsPartialPlan night pins (blocks ++ b ∷ [])
+grown laws night pins blocks b h next fits free through = record {
   start = h.start;
   found = h.found ++ b ∷ [];
   below = begins_at night b + b.n;
@@ -144,7 +137,7 @@ grown night pins blocks b h next fits free through = record {
     earlier : (c : Block) → In c h.found → begins_at night c < begins_at night b
     earlier c there =
         let fits_too = each_one (IsBlockButId night) blocks c h.each (in_blocks night pins blocks h c there) in
-        omega (arith, found_below night pins blocks h c (begins_at night c) there (begins_itself night c fits_too.shape.within.n), lower night pins blocks h (begins_at night b) next)
+        omega (arith, found_below laws night pins blocks h c (begins_at night c) there (begins_itself night c fits_too.shape.within.n), lower laws night pins blocks h (begins_at night b) next)
 
     forth : (w : ℕ) → w < unit_total night → 1 ≤ times_unit night (blocks ++ b ∷ []) w → (1 ≤ times_unit night pins w) ⊎ (w < begins_at night b + b.n)
     forth w lt some = at (has_unit night (shape_of b) w) refl
@@ -153,7 +146,7 @@ grown night pins blocks b h next fits free through = record {
         at true e = inr (has_from night b w e).to
         at false e = ⊎_elim
             (λ pinned. inl pinned)
-            (λ low. inr (omega (arith, low, lower night pins blocks h (begins_at night b) next)))
+            (λ low. inr (omega (arith, low, lower laws night pins blocks h (begins_at night b) next)))
             ((h.exactly w lt).0 (omega (arith, some, without_it night blocks b w e)))
 
     back : (w : ℕ) → w < unit_total night → (1 ≤ times_unit night pins w) ⊎ (w < begins_at night b + b.n) → 1 ≤ times_unit night (blocks ++ b ∷ []) w
@@ -186,12 +179,12 @@ pub record EndsWith (night : Night) (pins blocks : List Block) : Type 0 where
   pub fits : IsBlockButId night last
   pub free : IsFreeBlock night front last
 
-shorter : (night : Night) (pins start found : List Block) (b : Block) (below : ℕ) → IsInstance night → IsPermutation pins start → AreInOrder night start → AreInOrder night (found ++ b ∷ [])
+shorter : (laws : BlockLaws) (night : Night) (pins start found : List Block) (b : Block) (below : ℕ) → IsInstance night → IsPermutation pins start → AreInOrder night start → AreInOrder night (found ++ b ∷ [])
     → All (IsBlockButId night) ((start ++ found) ++ b ∷ [])
     → ((u : ℕ) → u < unit_total night → (1 ≤ times_unit night ((start ++ found) ++ b ∷ []) u) ↔ ((1 ≤ times_unit night pins u) ⊎ (u < below)))
     → ShareNothing night ((start ++ found) ++ b ∷ []) → RunsThrough night (placed ((start ++ found) ++ b ∷ []))
     → EndsWith night pins ((start ++ found) ++ b ∷ [])
-shorter night pins start found b below is pinned pins_rise rise each exactly apart through = record {
+shorter laws night pins start found b below is pinned pins_rise rise each exactly apart through = record {
   front = start ++ found;
   last = b;
   is = refl;
@@ -206,7 +199,7 @@ shorter night pins start found b below is pinned pins_rise rise each exactly apa
     each = each_front;
     exactly = λ w lt. (forth w lt, back w lt);
     apart = front_alone;
-    through = placed_part night all front is (all_within night all each) apart (all_within night front each_front) front_alone (λ c there. (c, in_left front (b ∷ []) c there, refl)) through;
+    through = laws.part night all front is (all_within night all each) apart (all_within night front each_front) front_alone (λ c there. (c, in_left front (b ∷ []) c there, refl)) through;
   };
   next = record { there = inside; free = bare; before = before };
   fits = fits;
@@ -232,7 +225,7 @@ shorter night pins start found b below is pinned pins_rise rise each exactly apa
     itself = record { from = omega arith; to = omega (arith, fits.shape.within.n) }
 
     inside : u < unit_total night
-    inside = unit_in night (shape_of b) u fits.shape.within itself
+    inside = laws.places.unit_in night (shape_of b) u fits.shape.within itself
 
     bare : times_unit night front u ≡ 0
     bare = free.units u itself
@@ -280,11 +273,11 @@ shorter night pins start found b below is pinned pins_rise rise each exactly apa
     back w lt (inl pinned_too) = omega (arith, starts w, pinned_too)
     back w lt (inr less) = before w less
 
-last_found : (night : Night) (pins blocks : List Block) → IsInstance night → (h : IsPartialPlan night pins blocks) → (found : List Block) (b : Block) → h.found ≡ found ++ b ∷ [] → EndsWith night pins blocks
-last_found night pins blocks is h found b e =
+last_found : (laws : BlockLaws) (night : Night) (pins blocks : List Block) → IsInstance night → (h : IsPartialPlan night pins blocks) → (found : List Block) (b : Block) → h.found ≡ found ++ b ∷ [] → EndsWith night pins blocks
+last_found laws night pins blocks is h found b e =
     let same : blocks ≡ (h.start ++ found) ++ b ∷ [] = h.is ∙ ap (λ xs. h.start ++ xs) e ∙ sym (append_assoc h.start found (b ∷ [])) in
     subst (EndsWith night pins) (sym same)
-    (shorter night pins h.start found b h.below is h.pinned h.pins_rise (subst (AreInOrder night) e h.found_rise)
+    (shorter laws night pins h.start found b h.below is h.pinned h.pins_rise (subst (AreInOrder night) e h.found_rise)
     (subst (All (IsBlockButId night)) same h.each)
     (subst (λ bs. (u : ℕ) → u < unit_total night → (1 ≤ times_unit night bs u) ↔ ((1 ≤ times_unit night pins u) ⊎ (u < h.below))) same h.exactly)
     (subst (ShareNothing night) same h.apart)
@@ -303,26 +296,26 @@ next_unit night blocks c h = at (next_of (masks_of night blocks)) refl h
     at None e k = absurd k
     at (Some u) e k = (u, e, k)
 
-pub grows : (night : Night) (pins blocks : List Block) (c : Choice) → IsPartialPlan night pins blocks → IsChoiceAt night blocks c → IsPartialPlan night pins (longer_by blocks c) ↔ RunsThrough night (placed (longer_by blocks c))
-grows night pins blocks c h choice =
+pub grows : (laws : BlockLaws) (night : Night) (pins blocks : List Block) (c : Choice) → IsPartialPlan night pins blocks → IsChoiceAt night blocks c → IsPartialPlan night pins (longer_by blocks c) ↔ RunsThrough night (placed (longer_by blocks c))
+grows laws night pins blocks c h choice =
     let at = next_unit night blocks c choice in
     let id = length blocks + 1 in (
       λ longer. longer.through,
-      λ through. grown night pins blocks (chosen id c) h (subst (IsNext night blocks) (sym at.2.shape.first) (next_is night blocks at.0 at.1))
-          (choice_fits night blocks at.0 id c at.2) (choice_free night blocks at.0 id c at.2) through,
+      λ through. grown laws night pins blocks (chosen id c) h (subst (IsNext night blocks) (sym at.2.shape.first) (next_is night blocks at.0 at.1))
+          (choice_fits night blocks at.0 id c at.2) (choice_free laws.places night blocks at.0 id c at.2) through,
     )
 
-pub comes : (night : Night) (pins blocks : List Block) → IsInstance night → IsPartialPlan night pins blocks
+pub comes : (laws : BlockLaws) (night : Night) (pins blocks : List Block) → IsInstance night → IsPartialPlan night pins blocks
     → IsPermutation pins blocks ⊎ ((front : List Block) × (c : Choice) × IsPartialPlan night pins front × IsChoiceAt night front c × (map without_id blocks ≡ map without_id (longer_by front c)))
-comes night pins blocks is h = ⊎_elim
+comes laws night pins blocks is h = ⊎_elim
     (λ none. inl (subst (IsPermutation pins) (sym (append-nil h.start) ∙ ap (λ xs. h.start ++ xs) (sym none) ∙ sym h.is) h.pinned))
     (λ some.
-    let x = last_found night pins blocks is h some.0 some.1 some.2 in
+    let x = last_found laws night pins blocks is h some.0 some.1 some.2 in
     inr (
       x.front,
       choice_of x.last,
       x.plan,
-      choice_there night x.front (choice_of x.last) (begins_at night x.last) (next_at night x.front (begins_at night x.last) x.next) (free_choice night x.front x.last x.fits x.free),
+      choice_there night x.front (choice_of x.last) (begins_at night x.last) (next_at night x.front (begins_at night x.last) x.next) (free_choice laws.places night x.front x.last x.fits x.free),
       ap (map without_id) x.is ∙ same_but_ids x.front x.last,
     ))
     (ends h.found)

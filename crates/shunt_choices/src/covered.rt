@@ -5,7 +5,7 @@ ghost use Rattle.shunt_blocks.specs.defs.Shapes.{AreRunsWithin, IsInRange, unit_
 ghost use Rattle.shunt_choices.specs.defs.Paths.{Masks, masks_of};
 ghost use Rattle.shunt_choices.specs.defs.Filling.{filled};
 
-use shunt_blocks::{Block, Shape, position_from, shape_of, unit_from};
+use shunt_blocks::{Block, Shape, laws, position_from, shape_of, unit_from};
 use shunt_instance::Instance;
 use std::alloc::{AllocError, Global};
 use std::marker::Model;
@@ -80,6 +80,7 @@ impl Covered {
         requires { All (IsInRange instance.now) blocks.now }
         ensures { IfOk result (λ c. c ≡ masks_of instance.now blocks.now) }
     {
+        laws::places();
         let mut covered = Covered::nothing(alloc, instance)?;
         for k in 0..blocks.len() {
             covered.set(instance, shape_of(&blocks[k]), true);

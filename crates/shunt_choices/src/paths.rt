@@ -6,7 +6,7 @@ ghost use Rattle.shunt_blocks.specs.defs.Lists.{ShareNothing};
 ghost use Rattle.shunt_choices.specs.defs.Paths.{Trail, IsTrailOf, masks_of, next_of, AreInOrder};
 
 use crate::covered::Covered;
-use shunt_blocks::{Block, shape_of};
+use shunt_blocks::{Block, laws, shape_of};
 use shunt_instance::Instance;
 use std::alloc::{AllocError, Global};
 use std::marker::Model;
@@ -43,6 +43,7 @@ fn in_order(alloc: Global, instance: &Instance, pins: &[Block]) -> Result<Vec<Bl
     ensures apart { IfOk result (λ v. ShareNothing instance.now v.items) }
     ensures room { IfOk result (λ v. unit_total instance.now ≤ vec_capacity v) }
 {
+    laws::few_blocks();
     let mut blocks = Vec::with_capacity(alloc, instance.units())?;
     blocks.extend_from_slice(pins)?;
     blocks.sort_unstable_by_key(|b| (b.arr.0, b.p));
@@ -125,6 +126,8 @@ impl Path {
         ensures new { self.new ≡ record self.old { blocks = self.old.blocks ++ block ∷ []; covered = masks_of instance.now (self.old.blocks ++ block ∷ []) } }
         ensures of { IsTrailOf instance.now self.new }
     {
+        laws::places();
+        laws::few_blocks();
         self.covered.set(instance, shape_of(&block), true);
         if self.blocks.push(block).is_err() {
             unreachable!();
@@ -142,6 +145,7 @@ impl Path {
         if self.blocks.len() <= self.pins {
             return None;
         }
+        laws::places();
         let block = self.blocks.pop()?;
         self.covered.set(instance, shape_of(&block), false);
         Some(block)

@@ -1,16 +1,16 @@
 pub mod Passing
-pub mod Places
 pub mod Held
-pub mod Few
-pub mod Times
-pub mod Sound
-pub mod StaysOf
-pub mod Feasible
-pub mod Opening
-pub mod Singles
-pub mod Started
-pub mod Matched
-pub mod Tests
-pub mod Upgrade
-pub mod Leasts
+mod Places
+mod Few
+mod Times
+mod Sound
+mod StaysOf
+mod Feasible
+mod Opening
+mod Singles
+mod Started
+mod Matched
+mod Agreed
+mod Upgrade
+mod Leasts
 pub mod Small

@@ -57,8 +57,15 @@ gathered n f [] has place low same = no_sum n
 gathered n f (x ∷ xs) has place low same =
     let parts = same_sums n (λ i. sum_by (λ y. cond (has y i) (f i) 0) (x ∷ xs)) (λ i. cond (has x i) (f i) 0 + sum_by (λ y. cond (has y i) (f i) 0) xs) (λ i lt. sum_by-cons (λ y. cond (has y i) (f i) 0) x xs) in
     let first = same_sums n (λ i. cond (has x i) (f i) 0) (λ i. cond (place x == i) (f i) 0) (λ i lt. ap (λ t. cond t (f i) 0) (same x i (inl refl))) in
-    omega (arith, parts, sum_of_sums n (λ i. cond (has x i) (f i) 0) (λ i. sum_by (λ y. cond (has y i) (f i) 0) xs), first, pick n (place x) f (low x (inl refl)),
-      gathered n f xs has place (λ y there. low y (inr there)) (λ y i there. same y i (inr there)), sum_by-cons (λ y. f (place y)) x xs)
+    omega (
+      arith,
+      parts,
+      sum_of_sums n (λ i. cond (has x i) (f i) 0) (λ i. sum_by (λ y. cond (has y i) (f i) 0) xs),
+      first,
+      pick n (place x) f (low x (inl refl)),
+      gathered n f xs has place (λ y there. low y (inr there)) (λ y i there. same y i (inr there)),
+      sum_by-cons (λ y. f (place y)) x xs,
+    )
 
 -- ---- singles
 
@@ -102,15 +109,15 @@ any_singles night pins others within single covers =
     units : sum_by (λ b. unit_price night (begins_at night b)) others ≡ sum_below (unit_total night) (λ u. cond (times_unit night pins u == 0) (unit_price night u) 0)
     units =
         sym (gathered (unit_total night) (unit_price night) others (λ b u. has_unit night (shape_of b) u) (begins_at night)
-            (λ b there. unit_in night (shape_of b) (begins_at night b) (inside b there).runs (record { from = omega arith; to = omega (arith, (inside b there).runs.n) }))
-            (λ b u there. one_unit night b u (alone b there).one))
+        (λ b there. unit_in night (shape_of b) (begins_at night b) (inside b there).runs (record { from = omega arith; to = omega (arith, (inside b there).runs.n) }))
+        (λ b u there. one_unit night b u (alone b there).one))
         ∙ same_sums (unit_total night) _ _ (λ u lt. left (times_unit night pins u) (times_unit night others u) (unit_price night u) _ (sym (sum_by-append _ pins others) ∙ covers.units u lt)
-            (none_pass others (λ b. has_unit night (shape_of b) u) (unit_price night u)) (one_passes others (λ b. has_unit night (shape_of b) u) (unit_price night u)))
+        (none_pass others (λ b. has_unit night (shape_of b) u) (unit_price night u)) (one_passes others (λ b. has_unit night (shape_of b) u) (unit_price night u)))
 
     positions : sum_by (λ b. position_price night (position_from night (shape_of b))) others ≡ sum_below (position_total night) (λ v. cond (times_position night pins v == 0) (position_price night v) 0)
     positions =
         sym (gathered (position_total night) (position_price night) others (λ b v. has_position night (shape_of b) v) (λ b. position_from night (shape_of b))
-            (λ b there. position_in night (shape_of b) (position_from night (shape_of b)) (inside b there).runs (record { from = omega arith; to = omega (arith, (inside b there).runs.n) }))
-            (λ b v there. one_position night b v (alone b there).one))
+        (λ b there. position_in night (shape_of b) (position_from night (shape_of b)) (inside b there).runs (record { from = omega arith; to = omega (arith, (inside b there).runs.n) }))
+        (λ b v there. one_position night b v (alone b there).one))
         ∙ same_sums (position_total night) _ _ (λ v lt. left (times_position night pins v) (times_position night others v) (position_price night v) _ (sym (sum_by-append _ pins others) ∙ covers.positions v lt)
-            (none_pass others (λ b. has_position night (shape_of b) v) (position_price night v)) (one_passes others (λ b. has_position night (shape_of b) v) (position_price night v)))
+        (none_pass others (λ b. has_position night (shape_of b) v) (position_price night v)) (one_passes others (λ b. has_position night (shape_of b) v) (position_price night v)))

@@ -1,4 +1,4 @@
-use Rattle.shunt_blocks.proofs.Tests.{unit_test, position_test, pair_test, option_test}
+use Rattle.shunt_blocks.proofs.Agreed.{unit_test, position_test, pair_test, option_test}
 use Rattle.shunt_blocks.proofs.laws.tests.Goals as goal
 
 pub returns : goal.returns

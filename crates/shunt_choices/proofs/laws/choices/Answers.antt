@@ -7,8 +7,8 @@ pub returns : goal.returns
 returns c =
     let places : PlaceLaws = record { unit_in = c.places.ensures.unit_in; position_in = c.places.ensures.position_in } in
     record {
-  members = λ night covered u k h lu. choices_are places night covered u k h lu;
-  rise = λ night covered u h. choices_rise night covered u h;
-  once = λ night covered u h. choices_once night covered u h;
-  at_path = λ night blocks k h. choices_at_are places night blocks k h;
-}
+      members = λ night covered u k h lu. choices_are places night covered u k h lu;
+      rise = λ night covered u h. choices_rise night covered u h;
+      once = λ night covered u h. choices_once night covered u h;
+      at_path = λ night blocks k h. choices_at_are places night blocks k h;
+    }

@@ -7,6 +7,6 @@ pub returns : goal.returns
 returns c =
     let places : PlaceLaws = record { unit_in = c.places.ensures.unit_in; position_in = c.places.ensures.position_in } in
     record {
-  members = λ night covered u s h lu. shapes_are places night covered u s h lu;
-  rise = λ night covered u h. shapes_rise night covered u h;
-}
+      members = λ night covered u s h lu. shapes_are places night covered u s h lu;
+      rise = λ night covered u h. shapes_rise night covered u h;
+    }

@@ -13,6 +13,6 @@ returns c =
       feasible_placed = c.feasible_lists.ensures.placed;
     } in
     record {
-  sum = λ night blocks is within apart. counted laws night blocks is within apart;
-  any_order = λ night blocks others is within apart same. any_order laws night blocks others is within apart same;
-}
+      sum = λ night blocks is within apart. counted laws night blocks is within apart;
+      any_order = λ night blocks others is within apart same. any_order laws night blocks others is within apart same;
+    }

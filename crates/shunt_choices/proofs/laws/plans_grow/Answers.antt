@@ -13,8 +13,8 @@ returns c =
       feasible_placed = c.feasible_lists.ensures.placed;
     } in
     record {
-  pins = λ night pins start is usable same rise. pins_alone laws night pins start is usable same rise;
-  grows = λ night pins blocks k h at. grows laws night pins blocks k h at;
-  comes = λ night pins blocks is h. comes laws night pins blocks is h;
-  once = λ front other k d e. once front other k d e;
-}
+      pins = λ night pins start is usable same rise. pins_alone laws night pins start is usable same rise;
+      grows = λ night pins blocks k h at. grows laws night pins blocks k h at;
+      comes = λ night pins blocks is h. comes laws night pins blocks is h;
+      once = λ front other k d e. once front other k d e;
+    }

@@ -17,13 +17,12 @@ use Rattle.shunt_blocks.specs.defs.Ways.{park_way_in, park_way_out, option_way_i
 use Rattle.shunt_blocks.specs.defs.Blocks.{IsBlock, type_fault}
 use Rattle.shunt_blocks.specs.defs.Standing.{is_too_soon, IsSound}
 use Rattle.shunt_blocks.specs.defs.Lists.{times_unit, times_position, track_lengths, stays_of, AreInRange, IsFeasible, RunsThrough}
-use Rattle.shunt_blocks.proofs.Sound.{sound}
 use Rattle.shunt_audit.specs.declared.types.Finding.{Finding}
 use Rattle.shunt_audit.specs.declared.types.Finding.TheVariants.{UnitBare, UnitTwice, PlaceBare, PlaceTwice, WrongType, TooSoon, NoRouteIn, NoRouteOut, Crossing, TooLong, StatedCost}
 use Rattle.shunt_audit.specs.defs.Findings.{kind_of, IsFinding}
 use Rattle.shunt_audit.specs.defs.Listed.{findings_in}
 use Rattle.shunt_audit.proofs.ById.{place_of}
-use Rattle.shunt_audit.proofs.Standing.{are_stays, on_tracks}
+use Rattle.shunt_audit.proofs.Standing.{BlockLaws}
 use Rattle.shunt_audit.proofs.Exactly.{listed_from, listed_to}
 
 once : (n : ℕ) → (n ≡ 0 → ⊥) → (2 ≤ n → ⊥) → n ≡ 1
@@ -58,7 +57,7 @@ out_there night d (Some k) h lacks = no_none (park_way_out night d k) h lacks.1
 at_most : (m n : ℕ) → (n < m → ⊥) → m ≤ n
 at_most m n h = ⊎_elim (λ lt. absurd (h lt)) (λ le. le) (cases_lt n m)
 
-module _ (night : Night) (blocks : List Block) (n : IsInstance night) (h : AreInRange night blocks) where
+module _ (laws : BlockLaws) (night : Night) (blocks : List Block) (n : IsInstance night) (h : AreInRange night blocks) where
   abbrev lengths : List ℕ
   lengths = track_lengths night.station
 
@@ -67,7 +66,7 @@ module _ (night : Night) (blocks : List Block) (n : IsInstance night) (h : AreIn
 
   -- what has no finding of a later kind than the first four
   pub block_of : ((f : Finding) → 5 ≤ kind_of f → IsFinding night blocks f → ⊥) → (b : Block) → In b blocks → IsInRange night b → IsBlock night b
-  block_of none b i within = (sound night b).1 (record {
+  block_of none b i within = (laws.sound night b).1 (record {
     in_range = within;
     types = false_from_ne_true (type_fault night b) (λ t. none (WrongType b.id) (omega arith) (record { item = b; there = i; named = refl; holds = t }));
     in_time = false_from_ne_true (is_too_soon night (shape_of b)) (λ t. none (TooSoon b.id) (omega arith) (record { item = b; there = i; named = refl; holds = t }));
@@ -76,12 +75,12 @@ module _ (night : Night) (blocks : List Block) (n : IsInstance night) (h : AreIn
   })
 
   pub runs : ((f : Finding) → 5 ≤ kind_of f → IsFinding night blocks f → ⊥) → RunsThrough night blocks
-  runs none = clear_through lengths standing (are_stays night blocks n h) (on_tracks night blocks h)
+  runs none = clear_through lengths standing (laws.stays night blocks n h) (laws.tracks night blocks h)
       (λ b c i j x. none (Crossing b.id c.id) (omega arith) (record { item = b; there = i; named = refl; holds = record { item = c; there = j; named = refl; holds = x } }))
       (λ b i. at_most (load_after standing b) (slice_index lengths b.track.0) (λ above. none (TooLong b.id (load_after standing b)) (omega arith) (record { item = b; there = i; named = refl; holds = record { is = refl; above = above } })))
 
   sound_at : All (IsBlock night) blocks → (b : Block) → In b blocks → IsSound night b
-  sound_at each b i = let r = place_of blocks b b i in (sound night b).0 (subst (IsBlock night) r.2 (each r.0 b r.1))
+  sound_at each b i = let r = place_of blocks b b i in (laws.sound night b).0 (subst (IsBlock night) r.2 (each r.0 b r.1))
 
   pub sound_later : All (IsBlock night) blocks → RunsThrough night blocks → (f : Finding) → 5 ≤ kind_of f → IsFinding night blocks f → ⊥
   sound_later each through (UnitBare u) le x = absurd (omega arith)
@@ -92,9 +91,9 @@ module _ (night : Night) (blocks : List Block) (n : IsInstance night) (h : AreIn
   sound_later each through (TooSoon id) le x = false≢true (sym (sound_at each x.item x.there).in_time ∙ x.holds)
   sound_later each through (NoRouteIn id) le x = in_there night x.item.arr x.item.park (sound_at each x.item x.there).way_in x.holds
   sound_later each through (NoRouteOut id) le x = out_there night x.item.dep x.item.park (sound_at each x.item x.there).way_out x.holds
-  sound_later each through (Crossing i j) le x = (through_clear lengths standing (are_stays night blocks n h) (on_tracks night blocks h) through).0 x.item x.holds.item x.there x.holds.there x.holds.holds
+  sound_later each through (Crossing i j) le x = (through_clear lengths standing (laws.stays night blocks n h) (laws.tracks night blocks h) through).0 x.item x.holds.item x.there x.holds.there x.holds.holds
   sound_later each through (TooLong id load) le x =
-      let within : load_after standing x.item ≤ slice_index lengths x.item.track.0 = (through_clear lengths standing (are_stays night blocks n h) (on_tracks night blocks h) through).1 x.item x.there in
+      let within : load_after standing x.item ≤ slice_index lengths x.item.track.0 = (through_clear lengths standing (laws.stays night blocks n h) (laws.tracks night blocks h) through).1 x.item x.there in
       let same = x.holds.is in
       let above = x.holds.above in
       absurd (omega arith)
@@ -128,8 +127,8 @@ pub no_member : (fs : List Finding) → ((f : Finding) → In f fs → ⊥) → 
 no_member [] h = refl
 no_member (f ∷ fs) h = absurd (h f (inl refl))
 
-pub none_where_feasible : (night : Night) (blocks : List Block) → IsInstance night → AreInRange night blocks → (findings_in night blocks ≡ []) ↔ IsFeasible night blocks
-none_where_feasible night blocks n h = (
-  λ e. feasible_from night blocks n h (λ f x. subst (λ (l : List Finding). In f l) e (listed_to night blocks f x)),
-  λ p. no_member (findings_in night blocks) (λ f i. nothing night blocks n h p f (listed_from night blocks f i)),
+pub none_where_feasible : (laws : BlockLaws) (night : Night) (blocks : List Block) → IsInstance night → AreInRange night blocks → (findings_in night blocks ≡ []) ↔ IsFeasible night blocks
+none_where_feasible laws night blocks n h = (
+  λ e. feasible_from laws night blocks n h (λ f x. subst (λ (l : List Finding). In f l) e (listed_to night blocks f x)),
+  λ p. no_member (findings_in night blocks) (λ f i. nothing laws night blocks n h p f (listed_from night blocks f i)),
 )

@@ -6,3 +6,4 @@ pub mod Exactly
 pub mod Feasible
 pub mod Stated
 pub mod Pinned
+pub mod Upgrade

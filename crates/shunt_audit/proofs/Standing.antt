@@ -1,7 +1,8 @@
 -- The stays of blocks: whose they are, that they are well formed, and that the order of the blocks is nothing to them.
-use Rattle.std.proofs.Common.{◌≡◌, ◌⊎◌, inl, inr, ⊎_elim, ℕ, ◌+◌, ◌<◌, ◌≤◌, List, [], ◌∷◌, length, refl, sym, subst, ap, ◌∙◌, arith, sum_by, IsPermutation}
+use Rattle.std.proofs.Common.{◌↔◌, Bool, true, false, ◌≡◌, ◌⊎◌, inl, inr, ⊎_elim, ℕ, ◌+◌, ◌<◌, ◌≤◌, List, [], ◌∷◌, length, refl, sym, subst, ap, ◌∙◌, arith, sum_by, IsPermutation}
 use Rattle.std.specs.Prelude.{Option, Some, None, if◌then◌else◌}
 use Rattle.std.specs.List.{filter_map, cons_option}
+use Rattle.std.proofs.lemmas.Option.{none-some}
 use Rattle.std.proofs.lemmas.List.Sums.{sum_by-cons}
 use Rattle.std.proofs.lemmas.List.Sorted.{sum_by-IsPermutation}
 use Rattle.shunt_base.specs.declared.keys.Stay.{Stay}
@@ -13,10 +14,11 @@ use Rattle.shunt_stays.proofs.Members.{all_in, all_from}
 use Rattle.shunt_stays.proofs.Ascending.{Ascends}
 use Rattle.shunt_instance.specs.defs.Instance.{Night, IsInstance}
 use Rattle.shunt_blocks.specs.declared.records.Block.{Block}
-use Rattle.shunt_blocks.specs.defs.Shapes.{IsInRange}
-use Rattle.shunt_blocks.specs.defs.Standing.{stay_of}
+use Rattle.shunt_blocks.specs.declared.records.Park.{Park}
+use Rattle.shunt_blocks.specs.defs.Shapes.{shape_of, IsInRange}
+use Rattle.shunt_blocks.specs.defs.Blocks.{IsBlock}
+use Rattle.shunt_blocks.specs.defs.Standing.{is_too_soon, parked_stay, stay_with, stay_of, IsSound}
 use Rattle.shunt_blocks.specs.defs.Lists.{AreInRange, track_lengths, stays_of}
-use Rattle.shunt_blocks.proofs.StaysOf.{is_stay, ranges_stand, are_on_tracks, are_stays as stays_stand}
 use Rattle.shunt_audit.proofs.ById.{id_of, place_of}
 
 -- ---- what an option gives of each item
@@ -71,19 +73,28 @@ sum_some g h (x ∷ xs) = omega (arith, option_sum g (h x) (filter_map h xs), su
 abbrev pub stay_number : Stay → ℕ
 stay_number s = s.id
 
+id_where : (soon : Bool) (t s : Stay) → (if soon then None else Some t) ≡ Some s → s.id ≡ t.id
+id_where true t s e = absurd (none-some _ e)
+id_where false t s e = let same : t ≡ s = cc in sym (ap (λ (u : Stay). u.id) same)
+
+id_with : (night : Night) (b : Block) (o : Option Park) (s : Stay) → stay_with night b o ≡ Some s → s.id ≡ b.id
+id_with night b None s e = absurd (none-some _ e)
+id_with night b (Some k) s e = id_where (is_too_soon night (shape_of b)) (parked_stay night b k) s e
+
 pub stay_id : (night : Night) (b : Block) (s : Stay) → stay_of night b ≡ Some s → s.id ≡ b.id
-stay_id night b s e = ap (λ (t : Stay). t.id) (is_stay night b s e).is
+stay_id night b s e = id_with night b b.park s e
+
+-- ---- what the laws of blocks say
+
+pub record BlockLaws : Type 0 where
+  pub sound : (night : Night) (b : Block) → IsBlock night b ↔ IsSound night b
+  pub stays : (night : Night) (blocks : List Block) → IsInstance night → AreInRange night blocks → AreStays (stays_of night blocks)
+  pub tracks : (night : Night) (blocks : List Block) → AreInRange night blocks → AreOnTracks (track_lengths night.station) (stays_of night blocks)
 
 -- ---- the stays of blocks in range
 
 pub in_range : (night : Night) (blocks : List Block) (b : Block) → AreInRange night blocks → In b blocks → IsInRange night b
 in_range night blocks b h i = let r = place_of blocks b b i in subst (IsInRange night) r.2 (h.each r.0 b r.1)
-
-pub are_stays : (night : Night) (blocks : List Block) → IsInstance night → AreInRange night blocks → AreStays (stays_of night blocks)
-are_stays night blocks n h = stays_stand night blocks n (ranges_stand night blocks h)
-
-pub on_tracks : (night : Night) (blocks : List Block) → AreInRange night blocks → AreOnTracks (track_lengths night.station) (stays_of night blocks)
-on_tracks night blocks h = are_on_tracks night blocks (ranges_stand night blocks h).within
 
 pub few_stays : (night : Night) (blocks : List Block) → AreInRange night blocks → length (stays_of night blocks) ≤ 400
 few_stays night blocks h = omega (arith, few_some (stay_of night) blocks, h.few)

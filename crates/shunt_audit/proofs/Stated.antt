@@ -17,6 +17,7 @@ use Rattle.shunt_audit.specs.defs.Plans.{IsPlanFinding, ArePlanFindings, plan_fi
 use Rattle.shunt_audit.proofs.Lists.{of_noted, to_noted}
 use Rattle.shunt_audit.proofs.Order.{Rising, in_order, of_order, unique, one_kind, joined, noted_rises}
 use Rattle.shunt_audit.proofs.Exactly.{exactly, ordered, listed_stretch}
+use Rattle.shunt_audit.proofs.Standing.{BlockLaws}
 use Rattle.shunt_audit.proofs.Feasible.{none_where_feasible}
 
 abbrev misstated : Night → Plan → Bool
@@ -84,10 +85,10 @@ alike a b e = grind (arith, nat_tests)
 told_alike : (a b : ℕ) → a ≡ b → not (a == b) ≡ false
 told_alike a b e = ap not (eq-eqb a b e)
 
-pub plan_none : (night : Night) (plan : Plan) → IsInstance night → AreInRange night plan.blocks → (plan_findings night plan ≡ []) ↔ IsFeasible night plan.blocks × (plan.cost ≡ total_cost night plan.blocks)
+pub plan_none : (laws : BlockLaws) (night : Night) (plan : Plan) → IsInstance night → AreInRange night plan.blocks → (plan_findings night plan ≡ []) ↔ IsFeasible night plan.blocks × (plan.cost ≡ total_cost night plan.blocks)
 unfolding plan_findings
-plan_none night plan n h =
-    let law = none_where_feasible night plan.blocks n h in
+plan_none laws night plan n h =
+    let law = none_where_feasible laws night plan.blocks n h in
     let more = noted (misstated night plan) (stated night plan) in (
       λ e. (law.0 (front_none (findings_in night plan.blocks) more e), alike plan.cost (total_cost night plan.blocks) (unnoted (misstated night plan) (stated night plan) (back_none (findings_in night plan.blocks) more e))),
       λ p. ap (λ (l : List Finding). l ++ more) (law.1 p.0) ∙ not_noted (misstated night plan) (stated night plan) (told_alike plan.cost (total_cost night plan.blocks) p.1),

@@ -3,3 +3,4 @@ pub mod Findings
 pub mod Listed
 pub mod Plans
 pub mod Pins
+pub mod v1

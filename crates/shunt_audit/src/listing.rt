@@ -10,7 +10,7 @@ use crate::clashes::{add_clashes, stays_of};
 use crate::covers::add_covers;
 use crate::faults::add_faults;
 use crate::types::Finding;
-use shunt_blocks::Block;
+use shunt_blocks::{Block, laws};
 use shunt_instance::Instance;
 use std::alloc::{AllocError, Global};
 
@@ -39,8 +39,10 @@ pub fn findings_of(
     ensures of_night { IfOk result (λ v. All (IsOfNight instance.now) v.items) }
     ensures none { IfOk result (λ v. (v.items ≡ []) ↔ IsFeasible instance.now blocks.now) }
 {
-    // It tells that the night is well formed.
+    // The first call tells that the night is well formed, the others what blocks are and how their stays stand.
     instance.station();
+    laws::blocks();
+    laws::stays_of_blocks();
     let mut findings = Vec::new(alloc);
     add_covers(&mut findings, instance, blocks)?;
     let sorted = by_id(alloc, blocks)?;

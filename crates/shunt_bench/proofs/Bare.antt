@@ -3,9 +3,9 @@ use Rattle.std.specs.Prelude.{not, ◌==◌, IfOk, Result, Ok, Err}
 use Rattle.std.proofs.Common.{◌≡◌, [], subst, sym}
 use Rattle.std.proofs.lemmas.List.FromFn.{length-map-range_with_len}
 use Rattle.shunt_instance.specs.defs.Instance.{Night, unit_total, position_total}
-use Rattle.shunt_blocks.specs.defs.Free.{AreMasksOf}
+use Rattle.shunt_choices.specs.defs.Free.{AreMasksOf}
 use Rattle.shunt_blocks.specs.defs.Lists.{times_unit, times_position}
-use Rattle.shunt_blocks.specs.defs.Paths.{Trail, masks_of}
+use Rattle.shunt_choices.specs.defs.Paths.{Trail, masks_of}
 
 masks_of_nothing : (night : Night) → AreMasksOf night (masks_of night [])
 masks_of_nothing night = record {

@@ -2,15 +2,16 @@
 ghost use Rattle.std.specs.Prelude.{◌≡◌, ◌<◌, ◌+◌, ◌-◌, ◌^◌, ℕ, IfOk, length, min};
 ghost use Rattle.std.specs.List.{AllByRecursion};
 ghost use Rattle.shunt_instance.specs.defs.Instance.{unit_total};
-ghost use Rattle.shunt_blocks.specs.defs.Free.{AreMasksOf};
+ghost use Rattle.shunt_choices.specs.defs.Free.{AreMasksOf};
 ghost use Rattle.shunt_blocks.specs.defs.Shapes.{AreRunsWithin};
-ghost use Rattle.shunt_blocks.specs.defs.Choices.{choices_of, options_of, shapes_of};
+ghost use Rattle.shunt_choices.specs.defs.Choices.{choices_of, options_of, shapes_of};
 ghost use Rattle.shunt_blocks.specs.defs.Below.{sum_below};
 ghost use Rattle.shunt_blocks.specs.defs.Costs.{IsCheapest};
 
 use crate::nights::{read_night, times};
-use shunt_blocks::laws::free_shapes;
-use shunt_blocks::{Covered, Path, Shape, Shapes, cheapest, options, shapes_from};
+use shunt_choices::laws::free_shapes;
+use shunt_blocks::{Shape, cheapest};
+use shunt_choices::{Covered, Path, Shapes, options, shapes_from};
 use shunt_instance::Instance;
 use std::alloc::{AllocError, Global};
 use std::io;

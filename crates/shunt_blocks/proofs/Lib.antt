@@ -1,19 +1,16 @@
-pub mod Leasts
-pub mod Masks
-pub mod Trails
-pub mod Rising
-pub mod StaysOf
-pub mod Opening
 pub mod Passing
-pub mod Times
-pub mod Sound
-pub mod Places
+pub mod Held
+mod Places
+mod Few
+mod Times
+mod Sound
+mod StaysOf
+mod Feasible
+mod Opening
+mod Singles
+mod Started
+mod Matched
+mod Agreed
+mod Upgrade
+mod Leasts
 pub mod Small
-mod Remaining
-mod Runs
-mod Progress
-mod Ordered
-mod Chosen
-mod Offered
-mod TwoTracks
-pub mod AtPaths

@@ -12,21 +12,20 @@ use Rattle.shunt_instance.specs.defs.Matching.{is_in_rest, count_below, place_of
 use Rattle.shunt_blocks.specs.declared.records.Block.{Block}
 use Rattle.shunt_blocks.specs.defs.Below.{sum_below}
 use Rattle.shunt_blocks.specs.defs.Costs.{block_cost}
-use Rattle.shunt_blocks.specs.defs.Lists.{times_unit, times_position, total_cost}
-use Rattle.shunt_blocks.specs.defs.Paths.{masks_of}
+use Rattle.shunt_blocks.specs.defs.Lists.{times_unit, times_position, total_cost, units_taken, positions_taken}
 use Rattle.shunt_blocks.specs.defs.Pins.{unit_price, position_price, opening_cost, single, singles_below, singles}
 
 -- ---- sums of numbers below one
 
-same_sums : (n : ℕ) (f g : ℕ → ℕ) → ((i : ℕ) → i < n → f i ≡ g i) → sum_below n f ≡ sum_below n g
+pub same_sums : (n : ℕ) (f g : ℕ → ℕ) → ((i : ℕ) → i < n → f i ≡ g i) → sum_below n f ≡ sum_below n g
 same_sums zero f g h = refl
 same_sums (suc n) f g h = omega (arith, same_sums n f g (λ i lt. h i (omega (arith, lt))), h n (omega arith))
 
-sum_of_sums : (n : ℕ) (f g : ℕ → ℕ) → sum_below n (λ i. f i + g i) ≡ sum_below n f + sum_below n g
+pub sum_of_sums : (n : ℕ) (f g : ℕ → ℕ) → sum_below n (λ i. f i + g i) ≡ sum_below n f + sum_below n g
 sum_of_sums zero f g = refl
 sum_of_sums (suc n) f g = omega (arith, sum_of_sums n f g)
 
-no_sum : (n : ℕ) → sum_below n (λ i. 0) ≡ 0
+pub no_sum : (n : ℕ) → sum_below n (λ i. 0) ≡ 0
 no_sum zero = refl
 no_sum (suc n) = omega (arith, no_sum n)
 
@@ -39,7 +38,7 @@ past_pick : (n w : ℕ) (f : ℕ → ℕ) → n ≤ w → sum_below n (λ v. con
 past_pick zero w f le = refl
 past_pick (suc n) w f le = let none : (w == n) ≡ false = grind (arith, nat_tests, le) in omega (arith, past_pick n w f (omega (arith, le)), ap (λ t. cond t (f n) 0) none)
 
-pick : (n w : ℕ) (f : ℕ → ℕ) → w < n → sum_below n (λ v. cond (w == v) (f v) 0) ≡ f w
+pub pick : (n w : ℕ) (f : ℕ → ℕ) → w < n → sum_below n (λ v. cond (w == v) (f v) 0) ≡ f w
 pick zero w f lt = absurd (omega (arith, lt))
 pick (suc n) w f lt = ⊎_elim
     (λ less. let none : (w == n) ≡ false = grind (arith, nat_tests, less) in omega (arith, pick n w f less, ap (λ t. cond t (f n) 0) none))
@@ -92,7 +91,7 @@ bijection n m from to place f given once =
 
 -- ---- what the singles cost
 
-single_cost : (night : Night) (u v : ℕ) → block_cost night (single night u v) ≡ unit_price night u + position_price night v
+pub single_cost : (night : Night) (u v : ℕ) → block_cost night (single night u v) ≡ unit_price night u + position_price night v
 single_cost night u v = omega arith
 
 singles_cost : (night : Night) (pins : List Block) (place : List ℕ) (n : ℕ) → total_cost night (singles_below night pins place n) ≡ sum_below n (λ u. cond (times_unit night pins u == 0) (unit_price night u + position_price night (place_of place u)) 0)
@@ -106,7 +105,7 @@ singles_cost night pins place (suc n) = omega (arith, sum_by-append (block_cost 
     costs true = omega (arith, single_cost night n (place_of place n))
     costs false = refl
 
-parted : (n : ℕ) (test : ℕ → Bool) (f g : ℕ → ℕ) → sum_below n (λ u. cond (test u) (f u + g u) 0) ≡ sum_below n (λ u. cond (test u) (f u) 0) + sum_below n (λ u. cond (test u) (g u) 0)
+pub parted : (n : ℕ) (test : ℕ → Bool) (f g : ℕ → ℕ) → sum_below n (λ u. cond (test u) (f u + g u) 0) ≡ sum_below n (λ u. cond (test u) (f u) 0) + sum_below n (λ u. cond (test u) (g u) 0)
 parted n test f g = same_sums n _ _ (λ u lt. each (test u) (f u) (g u)) ∙ sum_of_sums n (λ u. cond (test u) (f u) 0) (λ u. cond (test u) (g u) 0)
   where
     each : (t : Bool) (x y : ℕ) → cond t (x + y) 0 ≡ cond t x 0 + cond t y 0
@@ -114,25 +113,25 @@ parted n test f g = same_sums n _ _ (λ u lt. each (test u) (f u) (g u)) ∙ sum
     each false x y = refl
 
 -- the numbers that the masks leave are those that no pin has
-rest_units : (night : Night) (pins : List Block) (u : ℕ) → u < unit_total night → is_in_rest (masks_of night pins).units u ≡ (times_unit night pins u == 0)
+pub rest_units : (night : Night) (pins : List Block) (u : ℕ) → u < unit_total night → is_in_rest (units_taken night pins) u ≡ (times_unit night pins u == 0)
 rest_units night pins u lt = ap not (get_or-map-range_with_len (λ k. not (times_unit night pins k == 0)) 0 (unit_total night) u u false lt (omega arith)) ∙ twice (times_unit night pins u == 0)
   where
     twice : (b : Bool) → not (not b) ≡ b
     twice true = refl
     twice false = refl
 
-rest_positions : (night : Night) (pins : List Block) (v : ℕ) → v < position_total night → is_in_rest (masks_of night pins).places v ≡ (times_position night pins v == 0)
+pub rest_positions : (night : Night) (pins : List Block) (v : ℕ) → v < position_total night → is_in_rest (positions_taken night pins) v ≡ (times_position night pins v == 0)
 rest_positions night pins v lt = ap not (get_or-map-range_with_len (λ k. not (times_position night pins k == 0)) 0 (position_total night) v v false lt (omega arith)) ∙ twice (times_position night pins v == 0)
   where
     twice : (b : Bool) → not (not b) ≡ b
     twice true = refl
     twice false = refl
 
-same_counts : (n : ℕ) (f g : ℕ → Bool) → ((i : ℕ) → i < n → f i ≡ g i) → count_below n f ≡ count_below n g
+pub same_counts : (n : ℕ) (f g : ℕ → Bool) → ((i : ℕ) → i < n → f i ≡ g i) → count_below n f ≡ count_below n g
 same_counts zero f g h = refl
 same_counts (suc n) f g h = omega (arith, same_counts n f g (λ i lt. h i (omega (arith, lt))), ap {B = ℕ} (λ t. cond t 1 0) (h n (omega arith)))
 
-pub one_cost : (night : Night) (pins : List Block) (place : List ℕ) → IsMatchingOfRest (unit_entries night) (position_entries night) (masks_of night pins).units (masks_of night pins).places place → total_cost night (pins ++ singles night pins place) ≡ opening_cost night pins
+pub one_cost : (night : Night) (pins : List Block) (place : List ℕ) → IsMatchingOfRest (unit_entries night) (position_entries night) (units_taken night pins) (positions_taken night pins) place → total_cost night (pins ++ singles night pins place) ≡ opening_cost night pins
 one_cost night pins place m =
     omega (
       arith,
@@ -163,5 +162,5 @@ one_cost night pins place m =
     once : (v : ℕ) → v < position_total night → free_position v ≡ true → count_below (unit_total night) (λ u. free_unit u && (place_of place u == v)) ≡ 1
     once v lt free =
         same_counts (unit_total night) _ _ (λ u in_night. ap (λ t. t && (place_of place u == v)) (sym (rest_units night pins u in_night)))
-        ∙ ap (λ n. count_below n (λ u. is_in_rest (masks_of night pins).units u && (place_of place u == v))) (sym units)
+        ∙ ap (λ n. count_below n (λ u. is_in_rest (units_taken night pins) u && (place_of place u == v))) (sym units)
         ∙ m.once v (record { there = omega (arith, lt, positions); left = rest_positions night pins v lt ∙ free })

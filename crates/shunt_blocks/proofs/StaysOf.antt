@@ -4,6 +4,7 @@ use Rattle.std.specs.List.{AllByRecursion, cons_option, range_with_len}
 use Rattle.std.proofs.Common.{inl, inr, ◌≡◌, ◌≢◌, ⊎_elim, ℕ, suc, ◌+◌, ◌-◌, ◌^◌, ◌<◌, ◌≤◌, Bool, true, false, List, [], ◌∷◌, length, get_or, refl, sym, ap, subst, ◌∙◌, arith}
 use Rattle.std.proofs.lemmas.Option.{none-some}
 use Rattle.std.proofs.lemmas.List.{length-map, get_or-map}
+use Rattle.std.proofs.lemmas.List.Kept.{AllPairs-cons}
 use Rattle.std.proofs.lemmas.List.Elements.{All-tail, All-cons, All-nil}
 use Rattle.std.proofs.lemmas.List.FromFn.{get_or-range_with_len, length-range_with_len}
 use Rattle.std.proofs.lemmas.List.Sums.{sum_by-cons}
@@ -21,13 +22,12 @@ use Rattle.shunt_instance.proofs.Orders.{opened}
 use Rattle.shunt_instance.proofs.Looked.{units_few}
 use Rattle.shunt_blocks.specs.declared.records.Block.{Block}
 use Rattle.shunt_blocks.specs.declared.records.Park.{Park}
-use Rattle.shunt_blocks.specs.defs.Shapes.{shape_of, position_from, IsOnTrack, IsWithinTrains, IsInRange}
+use Rattle.shunt_blocks.specs.defs.Shapes.{shape_of, position_from, IsOnTrack, IsWithinTrains, begins_at}
 use Rattle.shunt_blocks.specs.defs.Standing.{is_too_soon, parked_stay, stay_with, stay_of}
-use Rattle.shunt_blocks.specs.defs.Lists.{has_unit, has_position, times_unit, times_position, ShareNothing, track_lengths, stays_of, CanStand, AreInRange, RunsThrough}
+use Rattle.shunt_blocks.specs.defs.Lists.{has_unit, has_position, times_unit, times_position, ShareNothing, track_lengths, stays_of, CanStand, AreInRange, RunsThrough, placed_from, placed}
 use Rattle.shunt_blocks.specs.defs.Pins.{without_id}
-use Rattle.shunt_blocks.specs.defs.Paths.{begins_at, placed_from, placed}
 use Rattle.shunt_blocks.proofs.Times.{stay_formed, departure}
-use Rattle.shunt_blocks.proofs.Trails.{one_more, begins_itself, few_blocks}
+use Rattle.shunt_blocks.proofs.Few.{one_more, begins_itself, few_blocks}
 
 -- ---- one stay
 
@@ -125,24 +125,24 @@ are_on_tracks night blocks h k d lt =
 
 -- ---- their keys differ before the ids
 
-one_position_more : (night : Night) (b : Block) (blocks : List Block) (v : ℕ) → times_position night (b ∷ blocks) v ≡ cond (has_position night (shape_of b) v) 1 0 + times_position night blocks v
+pub one_position_more : (night : Night) (b : Block) (blocks : List Block) (v : ℕ) → times_position night (b ∷ blocks) v ≡ cond (has_position night (shape_of b) v) 1 0 + times_position night blocks v
 one_position_more night b blocks v = sum_by-cons (λ c. cond (has_position night (shape_of c) v) 1 0) b blocks
 
-has_place : (night : Night) (blocks : List Block) (b : Block) (u : ℕ) → In b blocks → has_unit night (shape_of b) u ≡ true → 1 ≤ times_unit night blocks u
+pub has_place : (night : Night) (blocks : List Block) (b : Block) (u : ℕ) → In b blocks → has_unit night (shape_of b) u ≡ true → 1 ≤ times_unit night blocks u
 has_place night [] b u there has = absurd there
 has_place night (c ∷ blocks) b u there has = ⊎_elim
     (λ same. omega (arith, one_more night c blocks u, ap {B = ℕ} (λ x. cond (has_unit night (shape_of x) u) 1 0) same, ap {B = ℕ} (λ t. cond t 1 0) has))
     (λ later. omega (arith, one_more night c blocks u, has_place night blocks b u later has))
     there
 
-has_stop : (night : Night) (blocks : List Block) (b : Block) (v : ℕ) → In b blocks → has_position night (shape_of b) v ≡ true → 1 ≤ times_position night blocks v
+pub has_stop : (night : Night) (blocks : List Block) (b : Block) (v : ℕ) → In b blocks → has_position night (shape_of b) v ≡ true → 1 ≤ times_position night blocks v
 has_stop night [] b v there has = absurd there
 has_stop night (c ∷ blocks) b v there has = ⊎_elim
     (λ same. omega (arith, one_position_more night c blocks v, ap {B = ℕ} (λ x. cond (has_position night (shape_of x) v) 1 0) same, ap {B = ℕ} (λ t. cond t 1 0) has))
     (λ later. omega (arith, one_position_more night c blocks v, has_stop night blocks b v later has))
     there
 
-has_itself : (night : Night) (b : Block) → 1 ≤ b.n → has_position night (shape_of b) (position_from night (shape_of b)) ≡ true
+pub has_itself : (night : Night) (b : Block) → 1 ≤ b.n → has_position night (shape_of b) (position_from night (shape_of b)) ≡ true
 has_itself night b some = grind (arith, nat_tests)
 
 -- a later block doesn't begin with the same unit, nor with the same position
@@ -189,6 +189,16 @@ rest_apart night b blocks apart = record {
   units = λ u. omega (arith, one_more night b blocks u, apart.units u);
   positions = λ v. omega (arith, one_position_more night b blocks v, apart.positions v);
 }
+
+-- the first units of blocks that share nothing differ
+pub firsts_apart : (night : Night) (blocks : List Block) → All (IsWithinTrains night) blocks → ShareNothing night blocks → AreDistinct (map (begins_at night) blocks)
+firsts_apart night [] within apart = λ i j d before lt. absurd (omega (arith, lt))
+firsts_apart night (b ∷ blocks) within apart =
+    AllPairs-cons (λ x y. x ≢ y) (begins_at night b) (map (begins_at night) blocks)
+    (λ k d lt same.
+    let below : k < length blocks = omega (arith, lt, length-map blocks (begins_at night)) in
+    other_unit night b (get_or blocks k b) blocks apart (within 0 b (omega arith)).runs.n (All-tail (IsWithinTrains night) b blocks within k b below).runs.n (in_place blocks k b below) (same ∙ get_or-map (begins_at night) blocks k b d below))
+    (firsts_apart night blocks (All-tail (IsWithinTrains night) b blocks within) (rest_apart night b blocks apart))
 
 pub all_differ : (night : Night) (blocks : List Block) → IsInstance night → All (IsWithinTrains night) blocks → ShareNothing night blocks → AllDifferBeforeId (stays_of night blocks)
 all_differ night [] h within apart = tt
@@ -260,19 +270,19 @@ tails x y xs ys e = cc
 same_shape : (b c : Block) → without_id b ≡ without_id c → shape_of b ≡ shape_of c
 same_shape b c e = ap shape_of e
 
-times_alike : (night : Night) (blocks others : List Block) (u : ℕ) → map without_id blocks ≡ map without_id others → times_unit night blocks u ≡ times_unit night others u
+pub times_alike : (night : Night) (blocks others : List Block) (u : ℕ) → map without_id blocks ≡ map without_id others → times_unit night blocks u ≡ times_unit night others u
 times_alike night [] [] u e = refl
 times_alike night [] (c ∷ others) u e = absurd (omega (arith, ap length e))
 times_alike night (b ∷ blocks) [] u e = absurd (omega (arith, ap length e))
 times_alike night (b ∷ blocks) (c ∷ others) u e = omega (arith, one_more night b blocks u, one_more night c others u, ap {B = ℕ} (λ s. cond (has_unit night s u) 1 0) (same_shape b c (heads _ _ _ _ e)), times_alike night blocks others u (tails _ _ _ _ e))
 
-positions_alike : (night : Night) (blocks others : List Block) (v : ℕ) → map without_id blocks ≡ map without_id others → times_position night blocks v ≡ times_position night others v
+pub positions_alike : (night : Night) (blocks others : List Block) (v : ℕ) → map without_id blocks ≡ map without_id others → times_position night blocks v ≡ times_position night others v
 positions_alike night [] [] v e = refl
 positions_alike night [] (c ∷ others) v e = absurd (omega (arith, ap length e))
 positions_alike night (b ∷ blocks) [] v e = absurd (omega (arith, ap length e))
 positions_alike night (b ∷ blocks) (c ∷ others) v e = omega (arith, one_position_more night b blocks v, one_position_more night c others v, ap {B = ℕ} (λ s. cond (has_position night s v) 1 0) (same_shape b c (heads _ _ _ _ e)), positions_alike night blocks others v (tails _ _ _ _ e))
 
-alike_apart : (night : Night) (blocks others : List Block) → map without_id blocks ≡ map without_id others → ShareNothing night blocks → ShareNothing night others
+pub alike_apart : (night : Night) (blocks others : List Block) → map without_id blocks ≡ map without_id others → ShareNothing night blocks → ShareNothing night others
 alike_apart night blocks others e apart = record {
   units = λ u. omega (arith, times_alike night blocks others u e, apart.units u);
   positions = λ v. omega (arith, positions_alike night blocks others v e, apart.positions v);
@@ -286,15 +296,15 @@ alike_runs night blocks others h stand others_stand apart same = (
 
 -- ---- places as ids
 
-placed_alike : (k : ℕ) (blocks : List Block) → map without_id blocks ≡ map without_id (placed_from k blocks)
+pub placed_alike : (k : ℕ) (blocks : List Block) → map without_id blocks ≡ map without_id (placed_from k blocks)
 placed_alike k [] = refl
 placed_alike k (b ∷ blocks) = ap (λ bs. without_id b ∷ bs) (placed_alike (k + 1) blocks)
 
-placed_within : (night : Night) (k : ℕ) (blocks : List Block) → All (IsWithinTrains night) blocks → All (IsWithinTrains night) (placed_from k blocks)
+pub placed_within : (night : Night) (k : ℕ) (blocks : List Block) → All (IsWithinTrains night) blocks → All (IsWithinTrains night) (placed_from k blocks)
 placed_within night k [] h = All-nil (IsWithinTrains night)
 placed_within night k (b ∷ blocks) h = let w = h 0 b (omega arith) in All-cons (IsWithinTrains night) (record b { id = k }) (placed_from (k + 1) blocks) (record { runs = w.runs; track = w.track }) (placed_within night (k + 1) blocks (All-tail (IsWithinTrains night) b blocks h))
 
-placed_ids : (k : ℕ) (blocks : List Block) → map (λ b. b.id) (placed_from k blocks) ≡ range_with_len k (length blocks)
+pub placed_ids : (k : ℕ) (blocks : List Block) → map (λ b. b.id) (placed_from k blocks) ≡ range_with_len k (length blocks)
 placed_ids k [] = refl
 placed_ids k (b ∷ blocks) = ap (λ ids. k ∷ ids) (placed_ids (k + 1) blocks)
 
@@ -302,7 +312,7 @@ placed_small : (k : ℕ) (blocks : List Block) → k + length blocks ≤ 401 →
 placed_small k [] le = All-nil (λ b. b.id < 2 ^ 32)
 placed_small k (b ∷ blocks) le = All-cons (λ b. b.id < 2 ^ 32) (record b { id = k }) (placed_from (k + 1) blocks) (omega (arith, le)) (placed_small (k + 1) blocks (omega (arith, le)))
 
-rising : (k n : ℕ) → AreDistinct (range_with_len k n)
+pub rising : (k n : ℕ) → AreDistinct (range_with_len k n)
 rising k n i j d before lt same = omega (arith, before, same, get_or-range_with_len k n i d (omega (arith, before, lt, size)), get_or-range_with_len k n j d (omega (arith, lt, size)))
   where
     size : length (range_with_len k n) ≡ n
@@ -319,14 +329,14 @@ pub placed_runs : (night : Night) (blocks : List Block) → IsInstance night →
 placed_runs night blocks is h apart = alike_runs night blocks (placed blocks) is (ranges_stand night blocks h) (placed_stand night blocks h) apart (placed_alike 1 blocks)
 
 -- blocks that share nothing can stand with their places as ids, whatever their own ids
-pub apart_stand : (night : Night) (blocks : List Block) → IsInstance night → All (IsInRange night) blocks → ShareNothing night blocks → CanStand night (placed blocks)
+pub apart_stand : (night : Night) (blocks : List Block) → IsInstance night → All (IsWithinTrains night) blocks → ShareNothing night blocks → CanStand night (placed blocks)
 apart_stand night blocks is each apart = record {
-  within = placed_within night 1 blocks (λ k d lt. (each k d lt).within);
+  within = placed_within night 1 blocks each;
   small = placed_small 1 blocks (omega (arith, few_blocks night blocks each apart, units_few night (opened night is)));
   ids = subst AreDistinct (sym (placed_ids 1 blocks)) (rising 1 (length blocks));
 }
 
-in_placed : (k : ℕ) (blocks : List Block) (b : Block) → In b blocks → (c : Block) × In c (placed_from k blocks) × (without_id c ≡ without_id b)
+pub in_placed : (k : ℕ) (blocks : List Block) (b : Block) → In b blocks → (c : Block) × In c (placed_from k blocks) × (without_id c ≡ without_id b)
 in_placed k [] b there = absurd there
 in_placed k (x ∷ blocks) b there = ⊎_elim
     (λ same. (record x { id = k }, inl refl, ap without_id (sym same)))
@@ -341,7 +351,7 @@ of_placed k (x ∷ blocks) c there = ⊎_elim
     there
 
 -- with places as ids, a part of blocks that share nothing runs through where all do
-pub placed_part : (night : Night) (blocks others : List Block) → IsInstance night → All (IsInRange night) blocks → ShareNothing night blocks → All (IsInRange night) others → ShareNothing night others
+pub placed_part : (night : Night) (blocks others : List Block) → IsInstance night → All (IsWithinTrains night) blocks → ShareNothing night blocks → All (IsWithinTrains night) others → ShareNothing night others
     → ((c : Block) → In c others → (b : Block) × In b blocks × (without_id b ≡ without_id c))
     → RunsThrough night (placed blocks) → RunsThrough night (placed others)
 placed_part night blocks others is each apart each_other other_apart part through =

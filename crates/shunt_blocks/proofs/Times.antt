@@ -57,7 +57,7 @@ position_is night s k h lt =
 pub leaves_is : (night : Night) (s : Shape) (k : ℕ) → AreRunsWithin night s → k < s.n → leaves night (position_from night s + k) ≡ leave_minute night s
 leaves_is night s k h lt = ap (λ (v : Position). minute_at night.depart v.train.0) (position_is night s k h lt) ∙ minute_is night.depart s.dep.0 h.dep
 
-ready_is : (night : Night) (s : Shape) (k : ℕ) → AreRunsWithin night s → k < s.n → ready night (unit_from night s + k) ≡ (train_at night.arrive s.arr.0).minute + turn_of night.station (kind_at (train_at night.arrive s.arr.0) (s.p + k))
+pub ready_is : (night : Night) (s : Shape) (k : ℕ) → AreRunsWithin night s → k < s.n → ready night (unit_from night s + k) ≡ (train_at night.arrive s.arr.0).minute + turn_of night.station (kind_at (train_at night.arrive s.arr.0) (s.p + k))
 ready_is night s k h lt = ap (λ (u : TrainUnit). minute_at night.arrive u.train.0 + turn_of night.station u.kind) (unit_is night s k h lt) ∙ ap (λ (m : ℕ). m + turn_of night.station (kind_at (train_at night.arrive s.arr.0) (s.p + k))) (minute_is night.arrive s.arr.0 h.arr)
 
 kind_there : (night : Night) (s : Shape) (k : ℕ) → IsOrderedNight night → AreRunsWithin night s → k < s.n → (kind_at (train_at night.arrive s.arr.0) (s.p + k)).0 < length night.station.types

@@ -8,9 +8,5 @@ pub mod Least
 pub mod Standing
 pub mod Lists
 pub mod Pins
-pub mod Filling
-pub mod Paths
-pub mod Free
-pub mod Choices
-pub mod Cursors
 pub mod Polished
+pub mod v1

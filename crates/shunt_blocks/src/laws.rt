@@ -1,5 +1,5 @@
 //! What follows from the definitions of this crate.
-ghost use Rattle.std.specs.Prelude.{◌≡◌, ◌+◌, ◌<◌, ◌↔◌, ◌^◌, ℕ, Bool, true, false, IsTrue, Some, IfSome, All, AllPairs, Option, List, ◌++◌, map};
+ghost use Rattle.std.specs.Prelude.{◌≡◌, ◌+◌, ◌<◌, ◌≤◌, ◌↔◌, length, ◌^◌, ℕ, Bool, true, false, IsTrue, IsSome, Some, None, IfSome, All, AllPairs, Option, List, ◌++◌, map};
 ghost use Rattle.shunt_base.specs.declared.keys.Stay.{Stay};
 ghost use Rattle.shunt_base.specs.defs.Keys.{IsWellFormed, AreStays};
 ghost use Rattle.shunt_stays.specs.defs.Members.{In};
@@ -7,18 +7,19 @@ ghost use Rattle.shunt_stays.specs.defs.Events.{AllDifferBeforeId};
 ghost use Rattle.shunt_stays.specs.defs.Run.{AreOnTracks};
 ghost use Rattle.shunt_instance.specs.defs.Words.{train_at, kind_at, AreDistinct};
 ghost use Rattle.shunt_instance.specs.defs.Instance.{Night, IsInstance, make_unit, make_position, unit_at, position_at, unit_total, position_total};
-ghost use Rattle.shunt_instance.specs.defs.Matching.{IsMatchingOfRest, unit_entries, position_entries};
+ghost use Rattle.shunt_instance.specs.defs.Matching.{IsMatching, IsMatchingOfRest, unit_entries, position_entries};
 ghost use Rattle.shunt_blocks.specs.declared.records.Shape.{Shape};
 ghost use Rattle.shunt_blocks.specs.declared.records.Block.{Block};
 ghost use Rattle.shunt_blocks.specs.declared.records.Park.{Park};
 ghost use Rattle.shunt_blocks.specs.defs.Below.{all_below};
-ghost use Rattle.shunt_blocks.specs.defs.Shapes.{AreRunsWithin, IsWithinTrains, IsInRange, IsShape, HasUnit, HasPosition, unit_from, position_from};
-ghost use Rattle.shunt_blocks.specs.defs.Blocks.{IsBlock, IsOption, have_one_type};
-ghost use Rattle.shunt_blocks.specs.defs.Choices.{IsFreeShape, ShapeBefore, OptionBefore, Choice, IsChoice, ChoiceBefore, shapes_of, options_of, choices_of, choices_at, IsChoiceAt};
+ghost use Rattle.shunt_blocks.specs.defs.Shapes.{AreRunsWithin, IsWithinTrains, IsInRange, IsShape, IsPair, IsOnTrack, HasUnit, HasPosition, is_pair, begins_at, unit_from, position_from};
+ghost use Rattle.shunt_blocks.specs.defs.Ways.{way_in, way_out};
+ghost use Rattle.shunt_blocks.specs.defs.Blocks.{IsBlock, IsBlockButId, IsOption, is_option, have_one_type, type_fault};
+ghost use Rattle.shunt_blocks.specs.defs.Costs.{block_cost};
+ghost use Rattle.shunt_blocks.specs.defs.v1.{HasTwoTypes, LacksRouteIn, LacksRouteOut, IsPlain, IsBlock as IsFirstBlock, IsFeasible as IsFirstFeasible, block_cost as first_block_cost, total_cost as first_total_cost};
 ghost use Rattle.shunt_blocks.specs.defs.Standing.{is_too_soon, stay_of, IsSound};
-ghost use Rattle.shunt_blocks.specs.defs.Lists.{ShareNothing, AreInRange, CanStand, track_lengths, stays_of, RunsThrough, total_cost};
-ghost use Rattle.shunt_blocks.specs.defs.Pins.{without_id, opening_cost, singles};
-ghost use Rattle.shunt_blocks.specs.defs.Paths.{Masks, masks_of, placed};
+ghost use Rattle.shunt_blocks.specs.defs.Lists.{has_unit, has_position, times_unit, Covers, IsFeasible, ShareNothing, AreInRange, CanStand, track_lengths, stays_of, RunsThrough, total_cost, placed, units_taken, positions_taken};
+ghost use Rattle.shunt_blocks.specs.defs.Pins.{AreUsable, Keeps, without_id, IsSingle, opening_cost, singles};
 
 /// All numbers below one pass a test exactly where each does.
 pub fn all_numbers()
@@ -53,14 +54,14 @@ pub fn blocks()
 {}
 
 /// The stays of blocks that can stand are stays with distinct ids on tracks of the night. Where the blocks share nothing,
-/// the keys of these stays differ before the ids. Blocks in range with distinct ids can stand, and so can blocks in range that
-/// share nothing, with their places as ids.
+/// the keys of these stays differ before the ids. Blocks in range with distinct ids can stand, and so can blocks that
+/// share nothing, with their places as ids, whatever their own ids.
 pub fn stays_of_blocks()
     ensures stays { (night : Night) (blocks : List Block) → IsInstance night → CanStand night blocks → AreStays (stays_of night blocks) }
     ensures tracks { (night : Night) (blocks : List Block) → CanStand night blocks → AreOnTracks (track_lengths night.station) (stays_of night blocks) }
     ensures differ { (night : Night) (blocks : List Block) → IsInstance night → CanStand night blocks → ShareNothing night blocks → AllDifferBeforeId (stays_of night blocks) }
     ensures in_range { (night : Night) (blocks : List Block) → AreInRange night blocks → CanStand night blocks }
-    ensures placed { (night : Night) (blocks : List Block) → IsInstance night → All (IsInRange night) blocks → ShareNothing night blocks → CanStand night (placed blocks) }
+    ensures placed { (night : Night) (blocks : List Block) → IsInstance night → All (IsWithinTrains night) blocks → ShareNothing night blocks → CanStand night (placed blocks) }
     ensures from { (night : Night) (blocks : List Block) (s : Stay) → In s (stays_of night blocks) → (b : Block) × In b blocks × (stay_of night b ≡ Some s) }
     ensures to { (night : Night) (blocks : List Block) (b : Block) (s : Stay) → In b blocks → stay_of night b ≡ Some s → In s (stays_of night blocks) }
 {}
@@ -73,39 +74,81 @@ pub fn ids_do_not_matter()
         RunsThrough night blocks → RunsThrough night others }
     ensures same { (night : Night) (blocks others : List Block) → IsInstance night → CanStand night blocks → CanStand night others → ShareNothing night blocks →
         map without_id blocks ≡ map without_id others → RunsThrough night blocks ↔ RunsThrough night others }
-    ensures placed_part { (night : Night) (blocks others : List Block) → IsInstance night → All (IsInRange night) blocks → ShareNothing night blocks →
-        All (IsInRange night) others → ShareNothing night others →
+    ensures placed_part { (night : Night) (blocks others : List Block) → IsInstance night → All (IsWithinTrains night) blocks → ShareNothing night blocks →
+        All (IsWithinTrains night) others → ShareNothing night others →
         ((c : Block) → In c others → (b : Block) × In b blocks × (without_id b ≡ without_id c)) →
         RunsThrough night (placed blocks) → RunsThrough night (placed others) }
     ensures placed { (night : Night) (blocks : List Block) → IsInstance night → AreInRange night blocks → ShareNothing night blocks →
         RunsThrough night blocks ↔ RunsThrough night (placed blocks) }
 {}
 
+/// Blocks that share nothing are at most as many as there are units, and fewer where a unit is in none of them. Their first
+/// units differ.
+pub fn few_blocks()
+    ensures most { (night : Night) (blocks : List Block) → All (IsWithinTrains night) blocks → ShareNothing night blocks → length blocks ≤ unit_total night }
+    ensures fewer { (night : Night) (blocks : List Block) (u : ℕ) → All (IsWithinTrains night) blocks → ShareNothing night blocks →
+        u < unit_total night → times_unit night blocks u ≡ 0 → length blocks < unit_total night }
+    ensures firsts { (night : Night) (blocks : List Block) → All (IsWithinTrains night) blocks → ShareNothing night blocks → AreDistinct (map (begins_at night) blocks) }
+{}
+
+/// Feasible lists are in range, with at most 160 blocks that share nothing. Numbered by their places they are feasible at the
+/// same cost, and so are blocks that cover the night, whatever their ids, where their run goes through.
+pub fn feasible_lists()
+    ensures few { (night : Night) (blocks : List Block) → IsInstance night → IsFeasible night blocks → length blocks ≤ 160 }
+    ensures in_range { (night : Night) (blocks : List Block) → IsInstance night → IsFeasible night blocks → AreInRange night blocks }
+    ensures apart { (night : Night) (blocks : List Block) → IsFeasible night blocks → ShareNothing night blocks }
+    ensures placed { (night : Night) (blocks : List Block) → IsInstance night → IsFeasible night blocks → IsFeasible night (placed blocks) }
+    ensures cost { (night : Night) (blocks : List Block) → total_cost night (placed blocks) ≡ total_cost night blocks }
+    ensures any_ids { (night : Night) (blocks : List Block) → IsInstance night → CanStand night blocks → All (IsBlockButId night) blocks →
+        Covers night blocks → RunsThrough night blocks → IsFeasible night (placed blocks) }
+    ensures no_ids { (night : Night) (blocks : List Block) → IsInstance night → All (IsBlockButId night) blocks →
+        Covers night blocks → RunsThrough night (placed blocks) → IsFeasible night (placed blocks) }
+{}
+
 /// The opening cost is what the pins cost with the other units as unparked blocks of their own, by every matching of the
-/// rest.
+/// rest; and with any unparked one-unit blocks that with the pins cover the night.
 pub fn one_opening_cost()
-    ensures { (night : Night) (pins : List Block) (place : List ℕ) →
-        IsMatchingOfRest (unit_entries night) (position_entries night) (masks_of night pins).units (masks_of night pins).places place →
+    ensures matched { (night : Night) (pins : List Block) (place : List ℕ) →
+        IsMatchingOfRest (unit_entries night) (position_entries night) (units_taken night pins) (positions_taken night pins) place →
         total_cost night (pins ++ singles night pins place) ≡ opening_cost night pins }
+    ensures any { (night : Night) (pins others : List Block) → All (IsWithinTrains night) others → All IsSingle others → Covers night (pins ++ others) →
+        total_cost night (pins ++ others) ≡ opening_cost night pins }
 {}
 
-/// The shapes that `shapes_from` gives are those of uncovered units and positions that begin at the unit, in the order of
-/// choices.
-pub fn free_shapes()
-    ensures members { (night : Night) (covered : Masks) (u : ℕ) (s : Shape) → IsInstance night → u < unit_total night → In s (shapes_of night covered u) ↔ IsFreeShape night covered u s }
-    ensures rise { (night : Night) (covered : Masks) (u : ℕ) → IsInstance night → AllPairs ShapeBefore (shapes_of night covered u) }
+/// Usable pins and the other units as unparked blocks of their own, by a matching of the rest, are a feasible plan with their
+/// places as ids, and it keeps the pins.
+pub fn opening_plans()
+    ensures feasible { (night : Night) (pins : List Block) (place : List ℕ) → IsInstance night → AreUsable night pins →
+        IsMatchingOfRest (unit_entries night) (position_entries night) (units_taken night pins) (positions_taken night pins) place →
+        IsFeasible night (placed (pins ++ singles night pins place)) }
+    ensures keeps { (pins others : List Block) → Keeps (placed (pins ++ others)) pins }
 {}
 
-/// What `options` gives are the options of the shape, in the order of choices.
-pub fn shape_options()
-    ensures members { (night : Night) (s : Shape) (o : Option Park) → In o (options_of night s) ↔ IsOption night s o }
-    ensures rise { (night : Night) (s : Shape) → AllPairs OptionBefore (options_of night s) }
+/// Where there is a feasible list, there is a matching of all units; and so where usable pins leave a rest that has one.
+pub fn matchings()
+    ensures of_plan { (night : Night) (blocks : List Block) → IsFeasible night blocks →
+        (place : List ℕ) × IsMatching (unit_entries night) (position_entries night) place }
+    ensures of_rest { (night : Night) (pins : List Block) (place : List ℕ) → IsInstance night → AreUsable night pins →
+        IsMatchingOfRest (unit_entries night) (position_entries night) (units_taken night pins) (positions_taken night pins) place →
+        (whole : List ℕ) × IsMatching (unit_entries night) (position_entries night) whole }
 {}
 
-/// The shapes that begin at a unit, each with its options, are the choices there, in their order and each once.
-pub fn choices()
-    ensures members { (night : Night) (covered : Masks) (u : ℕ) (c : Choice) → IsInstance night → u < unit_total night → In c (choices_of night covered u) ↔ IsChoice night covered u c }
-    ensures rise { (night : Night) (covered : Masks) (u : ℕ) → IsInstance night → AllPairs ChoiceBefore (choices_of night covered u) }
-    ensures once { (night : Night) (covered : Masks) (u : ℕ) → IsInstance night → AreDistinct (choices_of night covered u) }
-    ensures at_path { (night : Night) (blocks : List Block) (c : Choice) → IsInstance night → In c (choices_at night blocks) ↔ IsChoiceAt night blocks c }
+/// The tests of units, positions and pairs hold exactly where their facts do.
+pub fn tests()
+    ensures unit { (night : Night) (s : Shape) (u : ℕ) → IsTrue (has_unit night s u) ↔ HasUnit night s u }
+    ensures position { (night : Night) (s : Shape) (v : ℕ) → IsTrue (has_position night s v) ↔ HasPosition night s v }
+    ensures pair { (night : Night) (u v : ℕ) → IsTrue (is_pair night u v) ↔ IsPair night u v }
+    ensures option { (night : Night) (s : Shape) (o : Option Park) → IsOnTrack night.station o → IsTrue (is_option night s o) ↔ IsOption night s o }
+{}
+
+/// Over a night without standing trains and permits, a block is one exactly by version 1 of the files, and so is a list of
+/// blocks feasible; what blocks cost is what they cost by version 1, and wrong types and absent ways are those of version 1.
+pub fn upgrade()
+    ensures block { (night : Night) (b : Block) → IsPlain night → IsFirstBlock night b ↔ IsBlock night b }
+    ensures feasible { (night : Night) (blocks : List Block) → IsPlain night → IsFirstFeasible night blocks ↔ IsFeasible night blocks }
+    ensures cost { (night : Night) (b : Block) → IsPlain night → IsWithinTrains night b → first_block_cost night b ≡ block_cost night b }
+    ensures total { (night : Night) (blocks : List Block) → IsPlain night → All (IsWithinTrains night) blocks → first_total_cost night blocks ≡ total_cost night blocks }
+    ensures types { (night : Night) (b : Block) → IsPlain night → IsWithinTrains night b → IsTrue (type_fault night b) ↔ HasTwoTypes night b }
+    ensures route_in { (night : Night) (b : Block) → IsPlain night → IsWithinTrains night b → (IsSome b.park × (way_in night b ≡ None)) ↔ LacksRouteIn night b }
+    ensures route_out { (night : Night) (b : Block) → (IsSome b.park × (way_out night b ≡ None)) ↔ LacksRouteOut night b }
 {}

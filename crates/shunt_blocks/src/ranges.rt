@@ -1,8 +1,7 @@
 // Which blocks are in range, and which are blocks by the rules.
 ghost use Rattle.std.specs.Prelude.{◌≡◌, ◌<◌, ◌≤◌, ◌+◌, ◌↔◌, ℕ, IsTrue};
 ghost use Rattle.shunt_instance.specs.defs.Instance.{unit_total, position_total};
-ghost use Rattle.shunt_blocks.specs.defs.Shapes.{AreRunsWithin, IsWithinTrains, IsInRange, IsPair, IsShape, shape_of, unit_from, position_from};
-ghost use Rattle.shunt_blocks.specs.defs.Free.{is_pair};
+ghost use Rattle.shunt_blocks.specs.defs.Shapes.{AreRunsWithin, IsWithinTrains, IsInRange, IsPair, IsShape, shape_of, unit_from, position_from, is_pair};
 ghost use Rattle.shunt_blocks.specs.defs.Blocks.{IsBlock, IsOption, have_one_type, type_fault};
 ghost use Rattle.shunt_blocks.specs.defs.Lists.{has_unit, has_position};
 
@@ -11,7 +10,7 @@ use crate::ways::{is_option, permits_units};
 use shunt_instance::Instance;
 
 /// Whether both trains are there, and both runs end inside their trains.
-pub(crate) fn are_runs_within(instance: &Instance, shape: Shape) -> bool
+pub fn are_runs_within(instance: &Instance, shape: Shape) -> bool
     ensures { IsTrue result ↔ AreRunsWithin instance.now shape }
 {
     if shape.arr.0 as usize >= instance.arrivals() {
@@ -65,7 +64,7 @@ pub fn in_range(instance: &Instance, block: &Block) -> bool
 }
 
 /// The number of the first unit.
-pub(crate) fn unit_from(instance: &Instance, shape: Shape) -> usize
+pub fn unit_from(instance: &Instance, shape: Shape) -> usize
     requires { AreRunsWithin instance.now shape }
     ensures exact { result ≡ unit_from instance.now shape }
     ensures within { result + shape.n ≤ unit_total instance.now }
@@ -79,7 +78,7 @@ pub(crate) fn unit_from(instance: &Instance, shape: Shape) -> usize
 }
 
 /// The number of the first position.
-pub(crate) fn position_from(instance: &Instance, shape: Shape) -> usize
+pub fn position_from(instance: &Instance, shape: Shape) -> usize
     requires { AreRunsWithin instance.now shape }
     ensures exact { result ≡ position_from instance.now shape }
     ensures within { result + shape.n ≤ position_total instance.now }
@@ -91,7 +90,7 @@ pub(crate) fn position_from(instance: &Instance, shape: Shape) -> usize
 }
 
 /// Whether a unit and a position are matchable.
-pub(crate) fn is_pair(instance: &Instance, u: usize, v: usize) -> bool
+pub fn is_pair(instance: &Instance, u: usize, v: usize) -> bool
     requires unit { u < unit_total instance.now }
     requires position { v < position_total instance.now }
     ensures fact { IsTrue result ↔ IsPair instance.now u v }

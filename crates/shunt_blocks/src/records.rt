@@ -42,7 +42,7 @@ pub struct Block {
 }
 
 /// The block's shape.
-pub(crate) fn shape_of(block: &Block) -> Shape
+pub fn shape_of(block: &Block) -> Shape
     ensures { result ≡ shape_of block.now }
 {
     Shape {

@@ -3,19 +3,13 @@ ghost use Rattle.std.specs.Prelude.{◌≡◌, IfOk, length, [], ◌∷◌};
 ghost use Rattle.shunt_base.specs.defs.Spelling.{IsName};
 ghost use Rattle.shunt_instance.specs.declared.records.Station.{Station};
 ghost use Rattle.shunt_instance.specs.defs.Wellformed.{IsStation, IsTimetable};
-ghost use Rattle.shunt_blocks.specs.defs.Paths.{IsTrailOf};
-ghost use Rattle.shunt_blocks.specs.defs.Free.{AreMasksOf};
 
 use super::*;
-use crate::ranges::{are_runs_within, position_from, unit_from};
-use crate::records::shape_of;
 use shunt_base::{ArrId, DepId, Minute, Name, PlatformId, Side, Stay, TrackId, TypeId, is_name};
 use shunt_instance::{Instance, Origin, Route, Station, Timetable, Track, Train, UnitType};
 use shunt_lists::Items;
 use std::alloc::Global;
 use std::test::Fail;
-
-mod yard;
 
 fn named(alloc: Global, text: &[u8]) -> Result<Name, Fail>
     ensures value { IfOk result (λ n. n ≡ text.now) }
@@ -127,53 +121,6 @@ fn night(alloc: Global) -> Result<Instance, Fail> {
     Ok(Instance::join(alloc, station(alloc)?, timetable(alloc)?)?)
 }
 
-/// Nothing is covered.
-fn bare(alloc: Global, night: &Instance) -> Result<Covered, Fail>
-    ensures { IfOk result (AreMasksOf night.now) }
-{
-    let units = vec![in alloc; false; night.units()]?;
-    let places = vec![in alloc; false; night.positions()]?;
-    Ok(Covered::new(units, places))
-}
-
-/// Whether these are the shapes from a unit.
-fn has_shapes(night: &Instance, u: usize, covered: &Covered, expected: &[Shape]) -> bool
-    requires { AreMasksOf night.now covered.now }
-{
-    if u >= night.units() {
-        return false;
-    }
-    let mut shapes = shapes_from(night, u, covered);
-    for shape in expected {
-        if shapes.next() != Some(*shape) {
-            return false;
-        }
-    }
-    shapes.next().is_none()
-}
-
-/// Whether these are the options of a shape.
-fn has_options(night: &Instance, shape: Shape, expected: &[Option<Park>]) -> bool {
-    if !are_runs_within(night, shape) {
-        return false;
-    }
-    let mut given = options(night, shape);
-    for option in expected {
-        if given.next() != Some(*option) {
-            return false;
-        }
-    }
-    given.next().is_none()
-}
-
-fn on(track: u8, side_in: Side, side_out: Side) -> Option<Park> {
-    Some(Park {
-        track: TrackId(track),
-        side_in,
-        side_out,
-    })
-}
-
 /// A shape of one unit that leaves at place 1.
 fn single(p: u8, dep: u8) -> Shape {
     Shape {
@@ -270,76 +217,5 @@ fn blocks_stand_till_they_leave(rt: HostRuntime) -> Result<(), Fail> {
         return Err("a stay".into());
     };
     assert!(rt; is_from_ten_to_six(stay));
-    Ok(())
-}
-
-#[test]
-fn shapes_begin_at_a_unit(rt: HostRuntime) -> Result<(), Fail> {
-    let night = night(rt.alloc())?;
-    let covered = bare(rt.alloc(), &night)?;
-    assert!(rt; has_shapes(&night, 0, &covered, &[single(1, 1)]));
-    assert!(rt; has_shapes(&night, 1, &covered, &[single(2, 0)]));
-    Ok(())
-}
-
-#[test]
-fn options_begin_unparked(rt: HostRuntime) -> Result<(), Fail> {
-    let night = night(rt.alloc())?;
-    let parked = on(0, Side::A, Side::A);
-    assert!(rt; has_options(&night, single(1, 1), &[None, parked]));
-    assert!(rt; has_options(&night, single(2, 0), &[None, parked]));
-    Ok(())
-}
-
-// The path that begins with this pin.
-fn path_of(alloc: Global, night: &Instance, pin: Block) -> Result<Path, Fail>
-    ensures { IfOk result (IsTrailOf night.now) }
-{
-    if !in_range(night, &pin) {
-        return Err("a pin in range".into());
-    }
-    Ok(Path::start_with(alloc, night, &[pin])?)
-}
-
-// Adds a block of one unit, where it may come next.
-fn push_single(path: &mut Path, night: &Instance, block: Block) -> bool
-    requires { IsTrailOf night.now path.old }
-    ensures { IsTrailOf night.now path.new }
-{
-    if !in_range(night, &block) || block.n != 1 {
-        return false;
-    }
-    let shape = shape_of(&block);
-    if path.next_unit() != Some(unit_from(night, shape)) {
-        return false;
-    }
-    match path.covered().places().get(position_from(night, shape)) {
-        Some(false) => {}
-        _ => return false,
-    }
-    path.push(night, block);
-    true
-}
-
-#[test]
-fn paths_grow_and_shrink(rt: HostRuntime) -> Result<(), Fail> {
-    let night = night(rt.alloc())?;
-    let mut path = Path::start(rt.alloc(), &night)?;
-    assert!(rt; path.next_unit() == Some(0) && path.blocks().is_empty());
-    assert!(rt; push_single(&mut path, &night, parked(1, 1)));
-    assert!(rt; path.next_unit() == Some(1) && path.blocks().len() == 1);
-    assert!(rt; path.pop(&night) == Some(parked(1, 1)));
-    assert!(rt; path.pop(&night).is_none() && path.next_unit() == Some(0));
-    Ok(())
-}
-
-#[test]
-fn pins_stay_on_their_path(rt: HostRuntime) -> Result<(), Fail> {
-    let night = night(rt.alloc())?;
-    let mut path = path_of(rt.alloc(), &night, parked(1, 1))?;
-    assert!(rt; path.pins() == 1 && path.next_unit() == Some(1));
-    assert!(rt; path.pop(&night).is_none() && path.blocks().len() == 1);
-    assert!(rt; push_single(&mut path, &night, parked(2, 0)));
-    assert!(rt; path.next_unit().is_none());
     Ok(())
 }

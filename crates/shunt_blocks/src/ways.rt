@@ -3,8 +3,7 @@ ghost use Rattle.std.specs.Prelude.{◌≡◌, ◌<◌, ◌≤◌, ◌↔◌, Is
 ghost use Rattle.shunt_instance.specs.defs.Wellformed.{IsOrigin};
 ghost use Rattle.shunt_blocks.specs.defs.Shapes.{AreRunsWithin, IsWithinTrains};
 ghost use Rattle.shunt_blocks.specs.defs.Ways.{way_from, way_to, park_way_in, park_way_out, way_in, way_out, permits_units};
-ghost use Rattle.shunt_blocks.specs.defs.Blocks.{IsParkable, IsOption};
-ghost use Rattle.shunt_blocks.specs.defs.Choices.{can_park, is_option};
+ghost use Rattle.shunt_blocks.specs.defs.Blocks.{IsParkable, IsOption, can_park, is_option};
 
 use crate::ranges::unit_from;
 use crate::records::{Block, Park, Shape};
@@ -130,8 +129,8 @@ fn is_parkable(instance: &Instance, shape: Shape, park: Park) -> bool
 }
 
 /// Whether this is an option of a shape.
-#[tactic(auto, unfolding(crate::specs::defs::Choices::is_option))]
-pub(crate) fn is_option(instance: &Instance, shape: Shape, option: Option<Park>) -> bool
+#[tactic(auto, unfolding(crate::specs::defs::Blocks::is_option))]
+pub fn is_option(instance: &Instance, shape: Shape, option: Option<Park>) -> bool
     requires within { AreRunsWithin instance.now shape }
     requires track { IfSome option (λ k. k.track.0 < length instance.now.station.tracks) }
     ensures fact { IsTrue result ↔ IsOption instance.now shape option }

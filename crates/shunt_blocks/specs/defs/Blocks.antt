@@ -1,5 +1,5 @@
 -- Options, blocks, and wrong types.
-use Rattle.std.specs.Prelude.{◌+◌, ◌<◌, ◌==◌, Bool, false, not, ◌||◌, IsTrue, IsSome, length, Option, Some, None}
+use Rattle.std.specs.Prelude.{◌+◌, ◌<◌, ◌==◌, Bool, true, false, not, ◌||◌, ◌&&◌, IsTrue, IsSome, is_some, length, Option, Some, None}
 use Rattle.shunt_instance.specs.defs.Instance.{Night, unit_at, position_at}
 use Rattle.shunt_blocks.specs.declared.records.Shape.{Shape}
 use Rattle.shunt_blocks.specs.declared.records.Block.{Block}
@@ -19,6 +19,20 @@ pub record IsParkable (night : Night) (s : Shape) (k : Park) : Type 0 where
 abbrev pub IsOption : Night → Shape → Option Park → Type 0
 IsOption night s None = Unit {0}
 IsOption night s (Some k) = IsParkable night s k
+
+-- whether a shape can be parked on a track of the station: both ways exist, and the track permits the types of its units
+abbrev pub can_park : Night → Shape → Park → Bool
+can_park night s k = is_some (park_way_in night s.arr k) && is_some (park_way_out night s.dep k) && permits_units night s k.track
+
+-- whether this is an option of a shape, where its track is the station's
+unfoldable pub is_option : Night → Shape → Option Park → Bool
+is_option night s None = true
+is_option night s (Some k) = can_park night s k
+
+-- a shape with one of its options, whatever the id
+pub record IsBlockButId (night : Night) (b : Block) : Type 0 where
+  pub shape : IsShape night (shape_of b)
+  pub option : IsOption night (shape_of b) b.park
 
 -- a shape with one of its options and an id
 pub record IsBlock (night : Night) (b : Block) : Type 0 where

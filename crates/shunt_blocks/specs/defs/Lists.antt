@@ -1,6 +1,6 @@
 -- Lists of blocks: which units and positions they have, what they cost, and when they are a plan that can be done.
-use Rattle.std.specs.Prelude.{◌≡◌, ℕ, ◌+◌, ◌^◌, ◌<◌, ◌≤◌, nat_le, nat_lt, Bool, ◌&&◌, All, List, map, length, count_by, sum_by}
-use Rattle.std.specs.List.{filter_map}
+use Rattle.std.specs.Prelude.{◌≡◌, ℕ, ◌+◌, ◌^◌, ◌<◌, ◌≤◌, ◌==◌, nat_le, nat_lt, Bool, not, ◌&&◌, All, List, [], ◌∷◌, map, length, count_by, sum_by}
+use Rattle.std.specs.List.{filter_map, range_with_len}
 use Rattle.shunt_base.specs.declared.keys.Stay.{Stay}
 use Rattle.shunt_stays.specs.defs.Run.{GoesThrough}
 use Rattle.shunt_instance.specs.declared.records.Station.{Station}
@@ -28,6 +28,14 @@ times_unit night blocks u = count_by (λ b. has_unit night (shape_of b) u) block
 -- how many of them have a position
 abbrev pub times_position : Night → List Block → ℕ → ℕ
 times_position night blocks v = count_by (λ b. has_position night (shape_of b) v) blocks
+
+-- for each unit whether one of these blocks has it
+abbrev pub units_taken : Night → List Block → List Bool
+units_taken night blocks = map (λ u. not (times_unit night blocks u == 0)) (range_with_len 0 (unit_total night))
+
+-- for each position whether one of them has it
+abbrev pub positions_taken : Night → List Block → List Bool
+positions_taken night blocks = map (λ v. not (times_position night blocks v == 0)) (range_with_len 0 (position_total night))
 
 -- each unit and each position is in exactly one block
 pub record Covers (night : Night) (blocks : List Block) : Type 0 where
@@ -73,3 +81,12 @@ pub record IsFeasible (night : Night) (blocks : List Block) : Type 0 where
 -- what they cost together
 abbrev pub total_cost : Night → List Block → ℕ
 total_cost night blocks = sum_by (block_cost night) blocks
+
+-- blocks with their places in the list as ids, from a number on
+abbrev pub placed_from : ℕ → List Block → List Block
+placed_from k [] = []
+placed_from k (b ∷ blocks) = record b { id = k } ∷ placed_from (k + 1) blocks
+
+-- the same from place 1
+abbrev pub placed : List Block → List Block
+placed blocks = placed_from 1 blocks

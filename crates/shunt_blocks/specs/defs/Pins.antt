@@ -41,6 +41,11 @@ position_price night v = cond ((position_at night v).place == 1) 0 night.station
 abbrev pub opening_cost : Night → List Block → ℕ
 opening_cost night pins = total_cost night pins + (sum_below (unit_total night) (λ u. cond (times_unit night pins u == 0) (unit_price night u) 0) + sum_below (position_total night) (λ v. cond (times_position night pins v == 0) (position_price night v) 0))
 
+-- an unparked block of one unit
+pub record IsSingle (b : Block) : Type 0 where
+  pub one : b.n ≡ 1
+  pub unparked : b.park ≡ None
+
 -- a unit as an unparked block of its own, at a position
 abbrev pub single : Night → ℕ → ℕ → Block
 single night u v = record { id = u + 1; arr = (unit_at night u).train; p = (unit_at night u).place; n = 1; dep = (position_at night v).train; q = (position_at night v).place; park = None }

@@ -1,5 +1,5 @@
 -- Shapes: which units and positions they have, and when these go together.
-use Rattle.std.specs.Prelude.{ℕ, ◌+◌, ◌-◌, ◌<◌, ◌≤◌, IfSome, length, Option}
+use Rattle.std.specs.Prelude.{ℕ, ◌+◌, ◌-◌, ◌<◌, ◌≤◌, ◌==◌, ◌&&◌, nat_le, Bool, IfSome, length, Option}
 use Rattle.shunt_instance.specs.defs.Words.{train_at}
 use Rattle.shunt_instance.specs.defs.Instance.{Night, unit_at, position_at, ready, leaves, first_unit, first_position}
 use Rattle.shunt_instance.specs.defs.Matching.{Entry, IsMatchable}
@@ -41,6 +41,10 @@ pub record IsInRange (night : Night) (b : Block) : Type 0 where
 abbrev pub unit_from : Night → Shape → ℕ
 unit_from night s = first_unit night s.arr.0 + (s.p - 1)
 
+-- the first unit of a block
+abbrev pub begins_at : Night → Block → ℕ
+begins_at night b = unit_from night (shape_of b)
+
 -- the number of the first position
 abbrev pub position_from : Night → Shape → ℕ
 position_from night s = first_position night s.dep.0 + (s.q - 1)
@@ -66,6 +70,10 @@ position_entry night v = record { kind = (position_at night v).kind.0; minute = 
 -- the unit and the position with these numbers are matchable
 abbrev pub IsPair : Night → ℕ → ℕ → Type 0
 IsPair night u v = IsMatchable (unit_entry night u) (position_entry night v)
+
+-- whether `IsPair` holds
+abbrev pub is_pair : Night → ℕ → ℕ → Bool
+is_pair night u v = (unit_at night u).kind.0 == (position_at night v).kind.0 && nat_le (ready night u) (leaves night v)
 
 -- the runs are within their trains, and their units and positions are matchable pair by pair
 pub record IsShape (night : Night) (s : Shape) : Type 0 where

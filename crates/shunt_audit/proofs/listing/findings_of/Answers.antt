@@ -9,7 +9,7 @@ use Rattle.shunt_blocks.specs.defs.Lists.{track_lengths, stays_of}
 use Rattle.shunt_audit.specs.defs.Findings.{IsOfNight, AreFindings}
 use Rattle.shunt_audit.specs.defs.Listed.{by_id, block_findings, clash_findings, findings_in}
 use Rattle.shunt_audit.proofs.ById.{sorted_range}
-use Rattle.shunt_audit.proofs.Standing.{are_stays, on_tracks, few_stays}
+use Rattle.shunt_audit.proofs.Standing.{BlockLaws, few_stays}
 use Rattle.shunt_audit.proofs.Exactly.{together}
 use Rattle.shunt_audit.proofs.Feasible.{none_where_feasible}
 use Rattle.shunt_audit.proofs.Stated.{blocks_numbered, blocks_found}
@@ -24,12 +24,12 @@ stays_of-requires c = subst (λ (bs : List Block). All (IsInRange c.args.instanc
 pub add_clashes-requires-clause-stays : goal.add_clashes-requires-clause-stays
 add_clashes-requires-clause-stays c =
     subst AreStays (sym (c.deref-3.ensures.value ∙ c.in_ok-stays.ensures.exact ∙ ap (stays_of c.args.instance.now) (c.deref-2.ensures.value ∙ c.in_ok-sorted.ensures)))
-    (are_stays c.args.instance.now (by_id c.args.blocks.now) c.station.ensures.formed (sorted_range c.args.instance.now c.args.blocks.now c.requires))
+    (c.stays_of_blocks.ensures.stays c.args.instance.now (by_id c.args.blocks.now) c.station.ensures.formed (c.stays_of_blocks.ensures.in_range c.args.instance.now (by_id c.args.blocks.now) (sorted_range c.args.instance.now c.args.blocks.now c.requires)))
 
 pub add_clashes-requires-clause-tracks : goal.add_clashes-requires-clause-tracks
 add_clashes-requires-clause-tracks c =
     subst (AreOnTracks (track_lengths c.args.instance.now.station)) (sym (c.deref-3.ensures.value ∙ c.in_ok-stays.ensures.exact ∙ ap (stays_of c.args.instance.now) (c.deref-2.ensures.value ∙ c.in_ok-sorted.ensures)))
-    (on_tracks c.args.instance.now (by_id c.args.blocks.now) (sorted_range c.args.instance.now c.args.blocks.now c.requires))
+    (c.stays_of_blocks.ensures.tracks c.args.instance.now (by_id c.args.blocks.now) (c.stays_of_blocks.ensures.in_range c.args.instance.now (by_id c.args.blocks.now) (sorted_range c.args.instance.now c.args.blocks.now c.requires)))
 
 pub add_clashes-requires-clause-few : goal.add_clashes-requires-clause-few
 add_clashes-requires-clause-few c =
@@ -46,7 +46,12 @@ returns-clause-exact c =
 
 pub returns-clause-none : goal.returns-clause-none
 returns-clause-none c =
-    let law = none_where_feasible c.args.instance.now c.args.blocks.now c.station.ensures.formed c.requires in
+    let laws : BlockLaws = record {
+      sound = c.blocks-2.ensures;
+      stays = λ night blocks n h. c.stays_of_blocks.ensures.stays night blocks n (c.stays_of_blocks.ensures.in_range night blocks h);
+      tracks = λ night blocks h. c.stays_of_blocks.ensures.tracks night blocks (c.stays_of_blocks.ensures.in_range night blocks h);
+    } in
+    let law = none_where_feasible laws c.args.instance.now c.args.blocks.now c.station.ensures.formed c.requires in
     let is : c.add_clashes.new.findings.items ≡ findings_in c.args.instance.now c.args.blocks.now = returns-clause-exact c in
     (λ e. law.0 (sym is ∙ e), λ p. is ∙ law.1 p)
 

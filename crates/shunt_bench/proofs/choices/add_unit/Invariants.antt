@@ -1,7 +1,7 @@
 use Rattle.std.proofs.Common.{◌≡◌, ◌≤◌, ◌+◌, ◌-◌, ◌^◌, length, min}
 use Rattle.std.specs.List.{AllByRecursion, flat_map}
 use Rattle.shunt_blocks.specs.defs.Shapes.{AreRunsWithin}
-use Rattle.shunt_blocks.specs.defs.Choices.{choices_of, choices_with}
+use Rattle.shunt_choices.specs.defs.Choices.{choices_of, choices_with}
 use Rattle.shunt_bench.proofs.choices.add_unit.Given as goal
 
 abbrev pub invariant-shapes : goal.invariant-shapes

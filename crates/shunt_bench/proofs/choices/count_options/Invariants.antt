@@ -1,6 +1,6 @@
 use Rattle.std.specs.Prelude.{min}
 use Rattle.std.proofs.Common.{◌≡◌, ◌≤◌, length, ◌+◌, ◌-◌, ◌^◌}
-use Rattle.shunt_blocks.specs.defs.Choices.{options_of}
+use Rattle.shunt_choices.specs.defs.Choices.{options_of}
 use Rattle.shunt_bench.proofs.choices.count_options.Given as goal
 
 abbrev pub invariant-left : goal.invariant-left

@@ -1,6 +1,6 @@
 use Rattle.std.proofs.Common.{◌≡◌, ◌-◌, ◌^◌, length, min}
 use Rattle.shunt_blocks.specs.defs.Below.{sum_below}
-use Rattle.shunt_blocks.specs.defs.Choices.{choices_of}
+use Rattle.shunt_choices.specs.defs.Choices.{choices_of}
 use Rattle.shunt_bench.proofs.choices.walk.Given as goal
 
 abbrev pub invariant-loop-u : goal.invariant-loop-u

@@ -1,5 +1,9 @@
 use Rattle.shunt_blocks.proofs.Opening.{one_cost}
+use Rattle.shunt_blocks.proofs.Singles.{any_singles}
 use Rattle.shunt_blocks.proofs.laws.one_opening_cost.Goals as goal
 
 pub returns : goal.returns
-returns c = one_cost
+returns c = record {
+  matched = λ night pins place m. one_cost night pins place m;
+  any = λ night pins others within single covers. any_singles night pins others within single covers;
+}

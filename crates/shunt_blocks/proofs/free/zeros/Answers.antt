@@ -1,5 +1,0 @@
-use Rattle.shunt_blocks.proofs.Runs.{zero_at}
-use Rattle.shunt_blocks.proofs.free.zeros.Goals as goal
-
-pub returns : goal.returns
-returns c = λ v. zero_at 160 v

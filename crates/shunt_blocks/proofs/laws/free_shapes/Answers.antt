@@ -1,9 +1,0 @@
-use Rattle.shunt_blocks.proofs.Chosen.{shapes_are}
-use Rattle.shunt_blocks.proofs.Offered.{shapes_rise}
-use Rattle.shunt_blocks.proofs.laws.free_shapes.Goals as goal
-
-pub returns : goal.returns
-returns c = record {
-  members = λ night covered u s h lu. shapes_are night covered u s h lu;
-  rise = λ night covered u h. shapes_rise night covered u h;
-}

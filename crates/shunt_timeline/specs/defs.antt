@@ -1,0 +1,4 @@
+-- The definitions of this crate.
+pub mod Holdings
+pub mod Levels
+pub mod Kept

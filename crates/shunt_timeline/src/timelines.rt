@@ -1,0 +1,9 @@
+//! Timelines.
+ghost use Rattle.std.specs.Prelude.{◌≡◌};
+
+use crate::track::Track;
+
+#[derive(Debug, Drop)]
+pub struct Timelines {
+    tracks: Vec<Track>,
+}

@@ -1,3 +1,11 @@
 mod Lists
 mod Steps
 mod Ranks
+mod Numbers
+mod Changes
+mod Coming
+mod Own
+mod Before
+mod Insertion
+mod Others
+mod Places

@@ -1,5 +1,5 @@
 -- What is kept at the events of a track, each number as a fresh count of all stays.
-use Rattle.std.specs.Prelude.{◌≡◌, ℕ, ◌+◌, ◌*◌, ◌<◌, ◌≤◌, ◌==◌, Bool, true, sum_by, count_by, length, map, vec_len, vec_capacity, slice_index_or, List, [], ◌∷◌, if◌then◌else◌}
+use Rattle.std.specs.Prelude.{◌≡◌, ℕ, ◌+◌, ◌*◌, ◌<◌, ◌≤◌, ◌==◌, Bool, true, false, sum_by, count_by, length, map, vec_len, vec_capacity, slice_index_or, List, [], ◌∷◌, if◌then◌else◌}
 use Rattle.std.specs.List.{AllByRecursion}
 use Rattle.shunt_base.specs.declared.keys.Stay.{Stay}
 use Rattle.shunt_base.specs.defs.Keys.{AreStays}
@@ -20,6 +20,7 @@ pub record IsKeptAt (stays : List Stay) (t : ℕ) (e : Event) : Type 0 where
   pub stay : In e.stay stays
   pub track : e.stay.track.0 ≡ t
   pub crossings : e.enters ≡ true → e.crossings ≡ count_by (λ b. crosses b e.stay) stays
+  pub none : e.enters ≡ false → e.crossings ≡ 0
   pub standing : e.standing ≡ count_by (stands_at t (key_of e)) stays
   pub load : e.load ≡ load_at stays t (key_of e)
 

@@ -9,3 +9,5 @@ mod Before
 mod Insertion
 mod Others
 mod Places
+mod Arriving
+mod Inserting

@@ -1,6 +1,8 @@
 -- Lists cut at two places.
-use Rattle.std.proofs.Common.{◌≡◌, ◌⊎◌, inl, inr, ⊎_elim, ℕ, zero, suc, ◌+◌, ◌-◌, ◌<◌, ◌≤◌, List, [], ◌∷◌, ◌++◌, length, get_or, take, drop, map, refl, sym, subst, ap, ◌∙◌, arith}
-use Rattle.std.specs.List.{insert, remove}
+use Rattle.std.proofs.Common.{◌≡◌, ◌⊎◌, inl, inr, ⊎_elim, ℕ, zero, suc, ◌+◌, ◌-◌, ◌<◌, ◌≤◌, Bool, List, [], ◌∷◌, ◌++◌, length, get_or, take, drop, map, refl, sym, subst, ap, ◌∙◌, arith}
+use Rattle.std.specs.List.{insert, remove, count_by}
+use Rattle.std.proofs.lemmas.List.{take_at, length-append, length-map}
+use Rattle.std.proofs.lemmas.List.Sums.{count_by-le-length}
 use Rattle.shunt_stays.specs.defs.Members.{In}
 
 pub in_front : {X : Type 0} (n : ℕ) (xs : List X) (x : X) → In x (take n xs) → In x xs
@@ -64,3 +66,29 @@ take_two {X} (suc from) (suc to) (z ∷ xs) lt within =
     let g : suc from + 1 ≡ suc (from + 1) = omega arith in
     ap (λ (l : List X). z ∷ l) (take_two from to xs (omega arith) (omega arith))
     ∙ sym (ap (λ n. z ∷ (take from xs ++ (take n (drop (suc from + 1) (z ∷ xs)) ++ drop (suc to + 1) (z ∷ xs)))) e ∙ ap (λ n. z ∷ (take from xs ++ (take (to - (from + 1)) (drop n (z ∷ xs)) ++ drop (suc to + 1) (z ∷ xs)))) g ∙ ap (λ n. z ∷ (take from xs ++ (take (to - (from + 1)) (drop (from + 1) xs) ++ drop n (z ∷ xs)))) f)
+
+-- a list whose middle was written over
+pub length_written : {X : Type 0} (f : X → X) (from to : ℕ) (xs : List X) → from ≤ to → length (take from xs ++ (map f (take (to - from) (drop from xs)) ++ drop to xs)) ≡ length xs
+length_written f from to xs le =
+    let m = take (to - from) (drop from xs) in
+    omega (arith, ap length (three from to xs le), length-append (take from xs) (m ++ drop to xs), length-append m (drop to xs), length-append (take from xs) (map f m ++ drop to xs), length-append (map f m) (drop to xs), length-map m f)
+
+pub written : {X : Type 0} (f : X → X) (from to n : ℕ) (es now new : List X) → from ≤ to → n ≡ length es → now ≡ es → new ≡ map f (take (to - from) (drop from now))
+    → take n ((take from now ++ (new ++ drop (to - from) (drop from now))) ++ drop (length (take from now ++ (new ++ drop (to - from) (drop from now)))) es) ≡ take from es ++ (map f (take (to - from) (drop from es)) ++ drop to es)
+written f from to n es now new le len same made =
+    let all : take from now ++ (new ++ drop (to - from) (drop from now)) ≡ take from es ++ (map f (take (to - from) (drop from es)) ++ drop to es) =
+        ap (λ l. take from now ++ (l ++ drop (to - from) (drop from now))) made
+        ∙ ap (λ l. take from l ++ (map f (take (to - from) (drop from l)) ++ drop (to - from) (drop from l))) same
+        ∙ ap (λ l. take from es ++ (map f (take (to - from) (drop from es)) ++ l)) (dropped_twice from to es le) in
+    take_at (take from now ++ (new ++ drop (to - from) (drop from now))) _ n (ap length all ∙ length_written f from to es le ∙ sym len) ∙ all
+
+pub in_middle_of : {X : Type 0} (from to : ℕ) (es now : List X) (x : X) → now ≡ es → In x (take (to - from) (drop from now)) → In x es
+in_middle_of from to es now x same h = in_middle from to es x (subst (λ l. In x (take (to - from) (drop from l))) same h)
+
+pub count_middle : {X : Type 0} (p : X → Bool) (from to n : ℕ) (xs : List X) → from ≤ to → length xs ≤ n → count_by p (take (to - from) (drop from xs)) ≤ n
+count_middle p from to n xs le few =
+    let m = take (to - from) (drop from xs) in
+    omega (arith, count_by-le-length p m, ap length (three from to xs le), length-append (take from xs) (m ++ drop to xs), length-append m (drop to xs))
+
+pub counted_within : {X : Type 0} (p : X → Bool) (from to n : ℕ) (xs : List X) → from ≤ to → length xs + 2 ≤ 131072 → n ≡ count_by p (take (to - from) (drop from xs)) → n ≤ 131072
+counted_within p from to n xs le few e = let m : count_by p (take (to - from) (drop from xs)) ≤ 131072 = count_middle p from to 131072 xs le (omega arith) in omega arith

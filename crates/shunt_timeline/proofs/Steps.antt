@@ -1,5 +1,6 @@
 -- One event more of a walk.
 use Rattle.std.proofs.Common.{◌≡◌, ◌⊎◌, inl, inr, ℕ, zero, suc, ◌+◌, ◌*◌, ◌^◌, ◌<◌, ◌≤◌, Bool, true, false, cond, List, [], ◌∷◌, ◌++◌, length, get_or, take, drop, set, map, refl, sym, subst, ap, ◌∙◌, arith, sum_by}
+use mir.Val.{bool_byte}
 use Rattle.std.specs.List.{count_by}
 use Rattle.std.proofs.lemmas.List.{get_or_default, length-take-le}
 use Rattle.std.proofs.lemmas.List.Sums.{sum_by_more, count_by-le-length}
@@ -63,3 +64,12 @@ small_lowered x e l is h = subst IsSmall (sym is) (record {
     standing = let p = h.standing in omega arith;
     load = let p = h.load in omega arith;
   })
+
+-- a test as a number in code
+pub byte_is : (b : Bool) → bool_byte b ≡ flag b
+byte_is true = refl
+byte_is false = refl
+
+pub byte_within : (b : Bool) (n : ℕ) → n ≡ bool_byte b → n ≤ 1
+byte_within true n e = omega arith
+byte_within false n e = omega arith

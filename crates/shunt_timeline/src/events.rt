@@ -1,10 +1,10 @@
 // The entries and leaves on one track in key order, each with what stands there just after it.
 ghost use Rattle.std.specs.Prelude.{◌≡◌, ℕ, ◌+◌, ◌-◌, ◌≤◌, ◌<◌, ◌++◌, Bool, List, if◌then◌else◌, length, map, count_by, slice_index_or, take, drop, vec_len, vec_capacity, ◌∷◌};
 ghost use Rattle.std.specs.List.{All};
-ghost use Rattle.shunt_base.specs.defs.Keys.{rank, IsKey, IsWellFormed};
+ghost use Rattle.shunt_base.specs.defs.Keys.{IsKey, IsWellFormed};
 ghost use Rattle.shunt_stays.specs.defs.Events.{key_before};
 ghost use Rattle.shunt_stays.specs.defs.Members.{In};
-ghost use Rattle.shunt_timeline.specs.defs.Levels.{key_of, at, is_crossed, gets_over, has_left, has_blocked, raised, lowered, IsSmall};
+ghost use Rattle.shunt_timeline.specs.defs.Levels.{key_of, at, is_crossed, gets_over, has_left, has_blocked, raised, lowered, IsSmall, IsPlace};
 ghost use Rattle.shunt_timeline.specs.defs.Kept.{Ascends};
 
 use shunt_base::{EventKey, Stay, compare_keys};
@@ -154,9 +154,7 @@ pub fn place(events: &[Event], key: EventKey) -> usize
     requires ascends { Ascends at events.now }
     requires formed { (e : Event) → In e events.now → IsWellFormed e.stay }
     requires key { IsKey key }
-    ensures bound { result ≤ length events.now }
-    ensures before { (e : Event) → In e (take result events.now) → at e < rank key }
-    ensures after { (e : Event) → In e (drop result events.now) → rank key ≤ at e }
+    ensures { IsPlace events.now key result }
 {
     events.partition_point(|event| is_before(event.key(), key))
 }

@@ -1,11 +1,12 @@
 // The events of one track, while stays come and go.
-ghost use Rattle.std.specs.Prelude.{◌≡◌, ℕ, ◌+◌, ◌-◌, ◌≤◌, ◌<◌, ◌++◌, ◌∷◌, List, if◌then◌else◌, length, map, count_by, slice_index, slice_index_or, slice_range, take, drop, vec_len, vec_capacity};
+ghost use Rattle.std.specs.Prelude.{◌≡◌, ℕ, ◌+◌, ◌-◌, ◌*◌, ◌^◌, ◌≤◌, ◌<◌, ◌++◌, ◌∷◌, List, true, false, if◌then◌else◌, length, map, count_by, slice_index, slice_index_or, slice_range, take, drop, vec_len, vec_capacity};
 ghost use Rattle.std.specs.List.{insert};
 ghost use Rattle.shunt_base.specs.declared.keys.Stay.{Stay};
 ghost use Rattle.shunt_base.specs.defs.Keys.{AreStays};
-ghost use Rattle.shunt_stays.specs.defs.Crossing.{pairs_in, overs_in};
+ghost use Rattle.shunt_stays.specs.defs.Crossing.{same_side, pairs_in, overs_in};
 ghost use Rattle.shunt_stays.specs.defs.Members.{In};
-ghost use Rattle.shunt_timeline.specs.defs.Levels.{is_crossed, gets_over, has_left, has_blocked, raised, lowered, IsSmall};
+ghost use Rattle.shunt_timeline.specs.defs.Levels.{is_crossed, gets_over, has_left, has_blocked, raised, lowered, IsSmall, IsPlace};
+ghost use Rattle.shunt_timeline.specs.defs.Kept.{IsKept, IsLevel};
 
 
 use crate::events::{Event, Level, Met, level_before, lower, place, raise};
@@ -19,6 +20,15 @@ pub struct Track {
     pub events: Vec<Event>,
 }
 
+// Where the events of a stay that comes belong, and what stands there without it.
+#[derive(Clone, Copy, Debug)]
+struct Arrival {
+    from: usize,
+    to: usize,
+    before: Level,
+    others: Level,
+}
+
 /// By how much a stay raises the totals.
 #[derive(Clone, Copy, Debug)]
 pub struct Share {
@@ -27,29 +37,33 @@ pub struct Share {
 }
 
 // A stay comes to stand at the events from one place to another.
-fn raise_between(events: &mut [Event], from: usize, to: usize, stay: &Stay, room: u32) -> Met
+fn raise_between(events: &mut Vec<Event>, from: usize, to: usize, stay: &Stay, room: u32) -> Met
     requires order { from ≤ to }
-    requires within { to ≤ length events.old }
-    requires small { (e : Event) → In e events.old → IsSmall e }
-    requires few { length events.old ≤ 131072 }
-    ensures events { events.new ≡ take from events.old ++ (map (raised stay.now) (slice_range events.old from to) ++ drop to events.old) }
-    ensures crossed { result.crossed ≡ count_by (is_crossed stay.now) (slice_range events.old from to) }
-    ensures over { result.over ≡ count_by (gets_over stay.now room) (slice_range events.old from to) }
-    ensures left { result.left ≡ count_by (has_left stay.now) (slice_range events.old from to) }
-    ensures blocked { result.blocked ≡ count_by (has_blocked stay.now) (slice_range events.old from to) }
+    requires within { to ≤ vec_len events.old }
+    requires small { (e : Event) → In e events.old.items → IsSmall e }
+    requires few { vec_len events.old ≤ 131072 }
+    ensures events { events.new.items ≡ take from events.old.items ++ (map (raised stay.now) (slice_range events.old.items from to) ++ drop to events.old.items) }
+    ensures len { vec_len events.new ≡ vec_len events.old }
+    ensures capacity { vec_capacity events.new ≡ vec_capacity events.old }
+    ensures crossed { result.crossed ≡ count_by (is_crossed stay.now) (slice_range events.old.items from to) }
+    ensures over { result.over ≡ count_by (gets_over stay.now room) (slice_range events.old.items from to) }
+    ensures left { result.left ≡ count_by (has_left stay.now) (slice_range events.old.items from to) }
+    ensures blocked { result.blocked ≡ count_by (has_blocked stay.now) (slice_range events.old.items from to) }
 {
     raise(&mut events[from..to], stay, room)
 }
 
 // A stay stands no more at the events from one place to another.
-fn lower_between(events: &mut [Event], from: usize, to: usize, stay: &Stay, room: u32) -> Met
+fn lower_between(events: &mut Vec<Event>, from: usize, to: usize, stay: &Stay, room: u32) -> Met
     requires order { from ≤ to }
-    requires within { to ≤ length events.old }
-    requires small { (e : Event) → In e events.old → IsSmall e }
-    requires few { length events.old ≤ 131072 }
-    ensures events { events.new ≡ take from events.old ++ (map (lowered stay.now) (slice_range events.old from to) ++ drop to events.old) }
-    ensures crossed { result.crossed ≡ count_by (is_crossed stay.now) (map (lowered stay.now) (slice_range events.old from to)) }
-    ensures over { result.over ≡ count_by (gets_over stay.now room) (map (lowered stay.now) (slice_range events.old from to)) }
+    requires within { to ≤ vec_len events.old }
+    requires small { (e : Event) → In e events.old.items → IsSmall e }
+    requires few { vec_len events.old ≤ 131072 }
+    ensures events { events.new.items ≡ take from events.old.items ++ (map (lowered stay.now) (slice_range events.old.items from to) ++ drop to events.old.items) }
+    ensures len { vec_len events.new ≡ vec_len events.old }
+    ensures capacity { vec_capacity events.new ≡ vec_capacity events.old }
+    ensures crossed { result.crossed ≡ count_by (is_crossed stay.now) (map (lowered stay.now) (slice_range events.old.items from to)) }
+    ensures over { result.over ≡ count_by (gets_over stay.now room) (map (lowered stay.now) (slice_range events.old.items from to)) }
 {
     lower(&mut events[from..to], stay, room)
 }
@@ -89,4 +103,96 @@ fn take_pair(events: &mut Vec<Event>, from: usize, to: usize) -> Event
 {
     let _leave = events.remove(to);
     events.remove(from)
+}
+
+// The entry of a stay, on what stands before it.
+fn entry_of(stay: &Stay, before: Level, met: Met) -> Event
+    requires left { met.left ≤ before.standing }
+    requires blocked { met.blocked ≤ 131072 }
+    requires standing { before.standing ≤ 65536 }
+    requires load { before.load ≤ 65536 * 2 ^ 32 }
+    ensures stay { result.stay ≡ stay.now }
+    ensures enters { result.enters ≡ true }
+    ensures crossings { result.crossings ≡ met.blocked + (if same_side stay.now.side_out stay.now.side_in then 0 else before.standing - met.left) }
+    ensures standing { result.standing ≡ before.standing + 1 }
+    ensures load { result.load ≡ before.load + stay.now.length }
+{
+    let length = stay.length;
+    let staying = before.standing - met.left;
+    let covering = if stay.side_out == stay.side_in {
+        0
+    } else {
+        staying
+    };
+    Event {
+        stay: *stay,
+        enters: true,
+        crossings: met.blocked + covering,
+        standing: before.standing + 1,
+        load: before.load + u64::from(length),
+    }
+}
+
+// The leave of a stay, on what else stands there.
+fn leave_of(stay: &Stay, others: Level) -> Event
+    ensures { result ≡ record { stay = stay.now; enters = false; crossings = 0; standing = others.standing; load = others.load } }
+{
+    Event {
+        stay: *stay,
+        enters: false,
+        crossings: 0,
+        standing: others.standing,
+        load: others.load,
+    }
+}
+
+fn arrival_of(events: &[Event], stay: &Stay) -> Arrival
+    requires { (stays : List Stay) × AreStays (stay.now ∷ stays) × IsKept stays stay.now.track.0 events.now }
+    ensures from { IsPlace events.now stay.now.enter result.from }
+    ensures to { IsPlace events.now stay.now.leave result.to }
+    ensures order { result.from ≤ result.to }
+    ensures before { (stays : List Stay) → AreStays (stay.now ∷ stays) → IsKept stays stay.now.track.0 events.now →
+        IsLevel stays stay.now.track.0 stay.now.enter result.before }
+    ensures others { (stays : List Stay) → AreStays (stay.now ∷ stays) → IsKept stays stay.now.track.0 events.now →
+        IsLevel stays stay.now.track.0 stay.now.leave result.others }
+{
+    let from = place(events, stay.enter);
+    let to = place(events, stay.leave);
+    Arrival {
+        from,
+        to,
+        before: level_before(events, from),
+        others: level_before(events, to),
+    }
+}
+
+impl Track {
+    /// A stay of this track comes. It takes no memory.
+    pub fn insert(&mut self, stay: &Stay) -> Share
+        requires kept { (stays : List Stay) × AreStays (stay.now ∷ stays) × (length stays < 65536) × IsKept stays stay.now.track.0 self.old.events.items }
+        requires room { vec_len self.old.events + 2 ≤ vec_capacity self.old.events }
+        ensures kept { (stays : List Stay) → AreStays (stay.now ∷ stays) → IsKept stays stay.now.track.0 self.old.events.items →
+            IsKept (stay.now ∷ stays) stay.now.track.0 self.new.events.items }
+        ensures pairs { (stays : List Stay) → AreStays (stay.now ∷ stays) → IsKept stays stay.now.track.0 self.old.events.items →
+            pairs_in (stay.now ∷ stays) ≡ pairs_in stays + result.pairs }
+        ensures over { (stays : List Stay) (lengths : List ℕ) → AreStays (stay.now ∷ stays) → IsKept stays stay.now.track.0 self.old.events.items →
+            slice_index lengths stay.now.track.0 ≡ self.old.length → overs_in lengths (stay.now ∷ stays) ≡ overs_in lengths stays + result.over }
+        ensures length { self.new.length ≡ self.old.length }
+        ensures capacity { vec_capacity self.old.events ≤ vec_capacity self.new.events }
+    {
+        let room = self.length;
+        let Arrival {
+            from,
+            to,
+            before,
+            others,
+        } = arrival_of(&self.events, stay);
+        let met = raise_between(&mut self.events, from, to, stay, room);
+        let entry = entry_of(stay, before, met);
+        put_pair(&mut self.events, from, to, entry, leave_of(stay, others));
+        Share {
+            pairs: entry.crossings + met.crossed,
+            over: met.over + u32::from(entry.load > u64::from(room)),
+        }
+    }
 }

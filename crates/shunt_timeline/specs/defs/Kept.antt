@@ -6,7 +6,9 @@ use Rattle.shunt_base.specs.defs.Keys.{AreStays}
 use Rattle.shunt_stays.specs.defs.Members.{In}
 use Rattle.shunt_stays.specs.defs.Run.{AreOnTracks}
 use Rattle.shunt_stays.specs.defs.Crossing.{crosses, stands_at, load_at, pairs_in, overs_in}
+use Rattle.shunt_base.specs.declared.keys.EventKey.{EventKey}
 use Rattle.shunt_timeline.specs.declared.events.Event.{Event}
+use Rattle.shunt_timeline.specs.declared.events.Level.{Level}
 use Rattle.shunt_timeline.specs.declared.track.Track.{Track}
 use Rattle.shunt_timeline.specs.defs.Levels.{key_of, at}
 
@@ -34,3 +36,8 @@ pub record IsKept (stays : List Stay) (t : ℕ) (events : List Event) : Type 0 w
   pub each : (e : Event) → In e events → IsKeptAt stays t e
   pub entries : (f : Stay → ℕ) → sum_by (λ e. if e.enters then f e.stay else 0) events ≡ sum_on t f stays
   pub leaves : (f : Stay → ℕ) → sum_by (λ e. if e.enters then 0 else f e.stay) events ≡ sum_on t f stays
+
+-- what stands on track t just after the moment of a key
+pub record IsLevel (stays : List Stay) (t : ℕ) (k : EventKey) (level : Level) : Type 0 where
+  pub standing : level.standing ≡ count_by (stands_at t k) stays
+  pub load : level.load ≡ load_at stays t k

@@ -1,8 +1,9 @@
 -- One event, and what a stay changes at the events of its track.
-use Rattle.std.specs.Prelude.{◌≡◌, ℕ, ◌+◌, ◌-◌, ◌*◌, ◌^◌, ◌≤◌, Bool, not, ◌&&◌, nat_le, nat_lt, count_by, List, if◌then◌else◌}
+use Rattle.std.specs.Prelude.{◌≡◌, ℕ, ◌+◌, ◌-◌, ◌*◌, ◌^◌, ◌≤◌, ◌<◌, Bool, not, ◌&&◌, nat_le, nat_lt, length, take, drop, List, if◌then◌else◌}
 use Rattle.shunt_base.specs.declared.keys.EventKey.{EventKey}
 use Rattle.shunt_base.specs.declared.keys.Stay.{Stay}
 use Rattle.shunt_base.specs.defs.Keys.{rank}
+use Rattle.shunt_stays.specs.defs.Members.{In}
 use Rattle.shunt_stays.specs.defs.Events.{key_before}
 use Rattle.shunt_stays.specs.defs.Crossing.{crosses, same_side}
 use Rattle.shunt_timeline.specs.declared.events.Event.{Event}
@@ -44,3 +45,9 @@ pub record IsSmall (e : Event) : Type 0 where
   pub crossings : e.crossings ≤ 65536
   pub standing : e.standing ≤ 65536
   pub load : e.load ≤ 65536 * 2 ^ 32
+
+-- so many events come before a key
+pub record IsPlace (events : List Event) (k : EventKey) (n : ℕ) : Type 0 where
+  pub bound : n ≤ length events
+  pub before : (e : Event) → In e (take n events) → at e < rank k
+  pub after : (e : Event) → In e (drop n events) → rank k ≤ at e

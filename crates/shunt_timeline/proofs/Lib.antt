@@ -11,3 +11,4 @@ mod Others
 mod Places
 mod Arriving
 mod Inserting
+mod Removing

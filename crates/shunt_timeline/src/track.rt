@@ -29,6 +29,13 @@ struct Arrival {
     others: Level,
 }
 
+// Where the events of a stay that goes are.
+#[derive(Clone, Copy, Debug)]
+struct Departure {
+    from: usize,
+    to: usize,
+}
+
 /// By how much a stay raises the totals.
 #[derive(Clone, Copy, Debug)]
 pub struct Share {
@@ -166,6 +173,19 @@ fn arrival_of(events: &[Event], stay: &Stay) -> Arrival
     }
 }
 
+fn departure_of(events: &[Event], stay: &Stay) -> Departure
+    requires { (stays : List Stay) × AreStays (stay.now ∷ stays) × IsKept (stay.now ∷ stays) stay.now.track.0 events.now }
+    ensures from { IsPlace events.now stay.now.enter result.from }
+    ensures to { IsPlace events.now stay.now.leave result.to }
+    ensures order { result.from < result.to }
+    ensures within { result.to < length events.now }
+{
+    Departure {
+        from: place(events, stay.enter),
+        to: place(events, stay.leave),
+    }
+}
+
 impl Track {
     /// A stay of this track comes. It takes no memory.
     pub fn insert(&mut self, stay: &Stay) -> Share
@@ -190,6 +210,27 @@ impl Track {
         let met = raise_between(&mut self.events, from, to, stay, room);
         let entry = entry_of(stay, before, met);
         put_pair(&mut self.events, from, to, entry, leave_of(stay, others));
+        Share {
+            pairs: entry.crossings + met.crossed,
+            over: met.over + u32::from(entry.load > u64::from(room)),
+        }
+    }
+    /// A stay of this track goes. It takes no memory.
+    pub fn remove(&mut self, stay: &Stay) -> Share
+        requires { (stays : List Stay) × AreStays (stay.now ∷ stays) × (length stays < 65536) × IsKept (stay.now ∷ stays) stay.now.track.0 self.old.events.items }
+        ensures kept { (stays : List Stay) → AreStays (stay.now ∷ stays) → IsKept (stay.now ∷ stays) stay.now.track.0 self.old.events.items →
+            IsKept stays stay.now.track.0 self.new.events.items }
+        ensures pairs { (stays : List Stay) → AreStays (stay.now ∷ stays) → IsKept (stay.now ∷ stays) stay.now.track.0 self.old.events.items →
+            pairs_in (stay.now ∷ stays) ≡ pairs_in stays + result.pairs }
+        ensures over { (stays : List Stay) (lengths : List ℕ) → AreStays (stay.now ∷ stays) → IsKept (stay.now ∷ stays) stay.now.track.0 self.old.events.items →
+            slice_index lengths stay.now.track.0 ≡ self.old.length → overs_in lengths (stay.now ∷ stays) ≡ overs_in lengths stays + result.over }
+        ensures length { self.new.length ≡ self.old.length }
+        ensures capacity { vec_capacity self.new.events ≡ vec_capacity self.old.events }
+    {
+        let room = self.length;
+        let Departure { from, to } = departure_of(&self.events, stay);
+        let entry = take_pair(&mut self.events, from, to);
+        let met = lower_between(&mut self.events, from, to - 1, stay, room);
         Share {
             pairs: entry.crossings + met.crossed,
             over: met.over + u32::from(entry.load > u64::from(room)),

@@ -12,3 +12,7 @@ mod Places
 mod Arriving
 mod Inserting
 mod Removing
+mod Ids
+mod Tracks
+mod Whole
+mod Gone

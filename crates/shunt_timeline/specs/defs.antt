@@ -2,3 +2,4 @@
 pub mod Holdings
 pub mod Levels
 pub mod Kept
+pub mod Sound

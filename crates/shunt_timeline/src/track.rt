@@ -1,5 +1,5 @@
 // The events of one track, while stays come and go.
-ghost use Rattle.std.specs.Prelude.{◌≡◌, ℕ, ◌+◌, ◌-◌, ◌*◌, ◌^◌, ◌≤◌, ◌<◌, ◌++◌, ◌∷◌, List, true, false, if◌then◌else◌, length, map, count_by, slice_index, slice_index_or, slice_range, take, drop, vec_len, vec_capacity};
+ghost use Rattle.std.specs.Prelude.{◌≡◌, ℕ, ◌+◌, ◌-◌, ◌*◌, ◌^◌, ◌≤◌, ◌<◌, ◌++◌, ◌∷◌, List, true, false, if◌then◌else◌, length, map, count_by, slice_index, slice_index_or, slice_range, take, drop, vec_len, vec_capacity, OnOk};
 ghost use Rattle.std.specs.List.{insert};
 ghost use Rattle.shunt_base.specs.declared.keys.Stay.{Stay};
 ghost use Rattle.shunt_base.specs.defs.Keys.{AreStays};
@@ -11,6 +11,7 @@ ghost use Rattle.shunt_timeline.specs.defs.Kept.{IsKept, IsLevel};
 
 use crate::events::{Event, Level, Met, level_before, lower, place, raise};
 use shunt_base::Stay;
+use std::alloc::AllocError;
 
 /// A track, and the entries and leaves of the stays on it.
 #[derive(Debug, Drop)]
@@ -187,6 +188,17 @@ fn departure_of(events: &[Event], stay: &Stay) -> Departure
 }
 
 impl Track {
+    /// Room for so many events in all. Err is want of memory.
+    pub fn reserve(&mut self, most: usize) -> Result<(), AllocError>
+        ensures events { self.new.events.items ≡ self.old.events.items }
+        ensures length { self.new.length ≡ self.old.length }
+        ensures capacity { vec_capacity self.old.events ≤ vec_capacity self.new.events }
+        ensures ok { OnOk result (most ≤ vec_capacity self.new.events) }
+    {
+        let more = most.saturating_sub(self.events.len());
+        self.events.reserve_exact(more)
+    }
+
     /// A stay of this track comes. It takes no memory.
     pub fn insert(&mut self, stay: &Stay) -> Share
         requires kept { (stays : List Stay) × AreStays (stay.now ∷ stays) × (length stays < 65536) × IsKept stays stay.now.track.0 self.old.events.items }

@@ -10,7 +10,7 @@ use Rattle.shunt_base.specs.defs.Keys.{AreStays, IsWellFormed}
 use Rattle.shunt_stays.specs.defs.Members.{In}
 use Rattle.shunt_stays.specs.defs.Run.{AreOnTracks, GoesThrough}
 use Rattle.shunt_stays.specs.defs.Crossing.{crosses, load_after, pairs_in, overs_in}
-use Rattle.shunt_stays.proofs.Members.{all_from, in_to}
+use Rattle.shunt_stays.proofs.Members.{all_in, all_from, in_place, in_to}
 use Rattle.shunt_stays.proofs.Halves.{formed}
 use Rattle.shunt_stays.proofs.Sorting.{stays_permuted}
 use Rattle.shunt_stays.proofs.Crossings.{through_clear, clear_through, no_pairs, no_overs, pairs_permuted, overs_permuted}
@@ -33,6 +33,10 @@ module _ (stays : List Stay) (tracks : List Track) (spare room pairs over : ℕ)
 
   pub with_gone : AreStays (x ∷ remove stays n)
   with_gone = stays_permuted stays (x ∷ remove stays n) s.sound.formed perm
+
+  -- no stay that is left has its id
+  pub id_gone : All (λ u. u.id ≢ x.id) (remove stays n)
+  id_gone k d within e = all_in (λ u. x.id ≢ u.id) (remove stays n) (get_or (remove stays n) k d) with_gone.1 (in_place (remove stays n) k d within) (sym e)
 
   placed_all : AreOnTracks (lengths_of tracks) (x ∷ remove stays n)
   placed_all = All-permutation (λ u. u.track.0 < length (lengths_of tracks)) stays (x ∷ remove stays n) perm s.sound.placed

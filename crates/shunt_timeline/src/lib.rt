@@ -2,6 +2,8 @@
 #![tactic(auto)]
 
 mod events;
+#[cfg(test)]
+mod tests;
 mod timelines;
 mod track;
 

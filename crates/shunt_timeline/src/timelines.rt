@@ -1,5 +1,5 @@
 //! The clash of stays, kept while stays come and go.
-ghost use Rattle.std.specs.Prelude.{◌≡◌, ◌≢◌, ◌↔◌, ℕ, ◌+◌, ◌*◌, ◌^◌, ◌<◌, ◌≤◌, max, List, [], ◌∷◌, Option, Some, None, length, map, take, drop, slice_index_or, vec_len, vec_capacity, IsPermutation, IfOk, OnOk, OnErr, IfSome, IfNone};
+ghost use Rattle.std.specs.Prelude.{◌≡◌, ◌≢◌, ◌↔◌, ℕ, ◌+◌, ◌*◌, ◌^◌, ◌<◌, ◌≤◌, max, List, [], ◌∷◌, Option, Some, None, length, map, take, drop, slice_index_or, vec_len, vec_capacity, IsPermutation, IfOk, OnOk, OnErr, IfSome, OnSome, IfNone};
 ghost use Rattle.std.specs.List.{All};
 ghost use Rattle.shunt_base.specs.declared.keys.Stay.{Stay};
 ghost use Rattle.shunt_base.specs.defs.Keys.{AreStays, IsWellFormed};
@@ -20,7 +20,8 @@ use std::marker::Model;
 /// Stays on tracks, seen as their list in any order, the lengths of the tracks in dm, and how many stays more may come
 /// without memory.
 ///
-/// They keep the events of each track in key order, with what stands there just after each and how many cross at each entry.
+/// They keep the events of each track in key order, with what stands there just after each and how many cross at each entry,
+/// so that neither a coming nor a going of a stay costs more than a pass over the events of its own track.
 #[derive(Debug, Drop)]
 pub struct Timelines {
     // By ascending id.
@@ -143,6 +144,7 @@ impl Timelines {
         requires few { length self.old.stays < 65536 }
         requires room { 0 < self.old.spare }
         ensures stays { IsPermutation (stay ∷ self.old.stays) self.new.stays }
+        ensures count { length self.new.stays ≡ length self.old.stays + 1 }
         ensures lengths { self.new.lengths ≡ self.old.lengths }
         ensures spare { self.new.spare + 1 ≡ self.old.spare }
     {
@@ -161,6 +163,8 @@ impl Timelines {
     pub fn remove(&mut self, id: u32) -> Option<Stay>
         ensures some { IfSome result (λ stay. (stay.id ≡ id) × IsPermutation (stay ∷ self.new.stays) self.old.stays × (self.new.spare ≡ self.old.spare + 1)) }
         ensures none { result ≡ None ↔ All (λ s. s.id ≢ id) self.old.stays }
+        ensures gone { All (λ s. s.id ≢ id) self.new.stays }
+        ensures count { OnSome result (length self.new.stays + 1 ≡ length self.old.stays) }
         ensures unchanged { IfNone result (self.new ≡ self.old) }
         ensures lengths { self.new.lengths ≡ self.old.lengths }
     {

@@ -1,5 +1,6 @@
 use Rattle.std.proofs.Common.{◌≡◌, ◌≢◌, ◌∙◌, ℕ, ◌+◌, ◌-◌, ◌<◌, ◌≤◌, true, not, List, ◌∷◌, length, get_or, set, take, drop, vec_capacity, ap, subst, sym, refl, arith, IsPermutation}
 use Rattle.std.specs.List.{All, insert}
+use Rattle.std.proofs.lemmas.List.Edits.{length-insert}
 use Rattle.std.proofs.lemmas.List.Sorted.{IsPermutation-insert}
 use Rattle.shunt_base.specs.declared.keys.Stay.{Stay}
 use Rattle.shunt_base.specs.defs.Keys.{AreStays}
@@ -56,3 +57,8 @@ returns-clause-lengths c =
     ∙ lengths_after c.self.inside.stays.items c.self.inside.tracks.items c.self.inside.spare (vec_capacity c.self.inside.stays) c.self.inside.pairs c.self.inside.over c.self.invariant c.args.stay c.requires.formed (subst (λ (h : Holding). c.args.stay.track.0 < length h.lengths) (sym c.self.view_is) c.requires.track) (subst (λ (h : Holding). All (λ s. s.id ≢ c.args.stay.id) h.stays) (sym c.self.view_is) c.requires.new) (subst (λ (h : Holding). length h.stays < 65536) (sym c.self.view_is) c.requires.few) c.index_mut-track.result.now (c.index_mut-track.ensures.value ∙ ap (λ n. get_or c.self.inside.tracks.items n c.index_mut-track.result.now) c.from.ensures) c.insert-share.result.pairs c.insert-share.result.over
       (c.insert-share.ensures.pairs c.self.inside.stays.items new kept) (c.insert-share.ensures.over c.self.inside.stays.items (lengths_of c.self.inside.tracks.items) new kept is) c.insert-share.new.self c.insert-share.ensures.length c.insert-share.ensures.capacity (c.insert-share.ensures.kept c.self.inside.stays.items new kept)
     ∙ ap (λ (h : Holding). h.lengths) c.self.view_is
+
+pub returns-clause-count : goal.returns-clause-count
+returns-clause-count c =
+    let items : c.insert.new.self.items ≡ insert c.self.inside.stays.items c.place_of-place.result c.args.stay = put_items c.insert.result c.is_err.result _ _ _ c.insert.ensures.items c.is_err.ensures.negation c.if-is_err.false in
+    ap (λ l. length l) items ∙ length-insert c.self.inside.stays.items c.place_of-place.result c.args.stay (subst (λ l. c.place_of-place.result ≤ length l) c.deref.ensures.value c.place_of-place.ensures.bound) ∙ ap (λ (h : Holding). length h.stays + 1) c.self.view_is

@@ -1,12 +1,13 @@
 use Rattle.std.proofs.Common.{◌≡◌, ◌≢◌, ◌∙◌, ℕ, ◌+◌, ◌-◌, ◌<◌, ◌≤◌, List, ◌∷◌, length, get_or, set, take, drop, vec_capacity, ap, subst, sym, refl, arith, IsPermutation}
-use Rattle.std.specs.List.{remove}
+use Rattle.std.specs.List.{All, remove}
 use Rattle.std.proofs.lemmas.List.Sorted.{IsPermutation-remove, IsPermutation-sym}
 use Rattle.shunt_base.specs.declared.keys.Stay.{Stay}
 use Rattle.shunt_base.specs.defs.Keys.{AreStays}
 use Rattle.shunt_timeline.specs.defs.Holdings.{Holding}
 use Rattle.shunt_timeline.specs.defs.Kept.{IsKept}
 use Rattle.shunt_timeline.specs.defs.Sound.{lengths_of, IsSound}
-use Rattle.shunt_timeline.proofs.Gone.{with_gone, fewer, kept_all, length_was, pairs_less, over_less, lengths_left, went}
+use Rattle.shunt_timeline.proofs.Gone.{with_gone, fewer, kept_all, length_was, pairs_less, over_less, lengths_left, went, id_gone}
+use Rattle.std.proofs.lemmas.List.Edits.{length-remove}
 use Rattle.shunt_timeline.proofs.timelines.Timelines.remove.Goals as goal
 
 pub remove-share-requires : goal.remove-share-requires
@@ -58,3 +59,11 @@ returns-clause-lengths c =
     ∙ lengths_left c.self.inside.stays.items c.self.inside.tracks.items c.self.inside.spare (vec_capacity c.self.inside.stays) c.self.inside.pairs c.self.inside.over c.self.invariant c.in_ok-place.place (subst (λ l. c.in_ok-place.place < length l) c.deref.ensures.value c.in_ok-place.ensures.some.0) c.remove-stay.result c.remove-stay.ensures.value c.index_mut-track.result.now (c.index_mut-track.ensures.value ∙ ap (λ n. get_or c.self.inside.tracks.items n c.index_mut-track.result.now) c.from.ensures) c.remove-share.result.pairs c.remove-share.result.over
       (c.remove-share.ensures.pairs (remove c.self.inside.stays.items c.in_ok-place.place) gone kept) (c.remove-share.ensures.over (remove c.self.inside.stays.items c.in_ok-place.place) (lengths_of c.self.inside.tracks.items) gone kept is) c.remove-share.new.self c.remove-share.ensures.length c.remove-share.ensures.capacity (c.remove-share.ensures.kept (remove c.self.inside.stays.items c.in_ok-place.place) gone kept)
     ∙ ap (λ (h : Holding). h.lengths) c.self.view_is
+
+pub returns-clause-gone : goal.returns-clause-gone
+returns-clause-gone c =
+    let id : c.remove-stay.result.id ≡ c.args.id = ap (λ (s : Stay). s.id) (c.remove-stay.ensures.value ∙ ap (λ l. get_or l c.in_ok-place.place c.remove-stay.result) (sym c.deref.ensures.value)) ∙ c.in_ok-place.ensures.some.1 c.remove-stay.result in
+    subst (λ l. All (λ s. s.id ≢ c.args.id) l) (sym c.remove-stay.ensures.items) (subst (λ n. All (λ s. s.id ≢ n) (remove c.self.inside.stays.items c.in_ok-place.place)) id (id_gone c.self.inside.stays.items c.self.inside.tracks.items c.self.inside.spare (vec_capacity c.self.inside.stays) c.self.inside.pairs c.self.inside.over c.self.invariant c.in_ok-place.place (subst (λ l. c.in_ok-place.place < length l) c.deref.ensures.value c.in_ok-place.ensures.some.0) c.remove-stay.result c.remove-stay.ensures.value))
+
+pub returns-clause-count : goal.returns-clause-count
+returns-clause-count c = ap (λ l. length l + 1) c.remove-stay.ensures.items ∙ length-remove c.self.inside.stays.items c.in_ok-place.place (subst (λ l. c.in_ok-place.place < length l) c.deref.ensures.value c.in_ok-place.ensures.some.0) ∙ ap (λ (h : Holding). length h.stays) c.self.view_is

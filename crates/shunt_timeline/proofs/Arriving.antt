@@ -1,26 +1,25 @@
 -- What the code of an insertion finds is what a fresh count gives.
-use Rattle.std.proofs.Common.{◌≡◌, ◌≢◌, ◌⊎◌, inl, inr, ⊎_elim, ℕ, zero, suc, ◌+◌, ◌-◌, ◌*◌, ◌^◌, ◌<◌, ◌≤◌, eqb, ltb, leb, Bool, true, false, cond, ◌&&◌, List, [], ◌∷◌, ◌++◌, length, get_or, take, drop, map, refl, sym, subst, ap, ◌∙◌, arith, sum_by}
+use Rattle.std.proofs.Common.{◌≡◌, ◌≢◌, inl, inr, ⊎_elim, ℕ, zero, suc, ◌+◌, ◌-◌, ◌<◌, ◌≤◌, eqb, ltb, leb, true, false, cond, ◌&&◌, List, [], ◌∷◌, ◌++◌, length, get_or, take, drop, refl, sym, subst, ap, ◌∙◌, arith}
 use Rattle.std.specs.List.{count_by}
-use Rattle.std.proofs.lemmas.Bool.{cases_Bool, cases_lt, cases_eq, true≢false}
+use Rattle.std.proofs.lemmas.Bool.{cases_lt, cases_eq, true≢false}
 use Rattle.std.proofs.lemmas.Bool.Decides.{nat_tests}
-use Rattle.std.proofs.lemmas.List.{take-append-drop, take_more, length-take-le, take_at, drop_at}
+use Rattle.std.proofs.lemmas.List.{take-append-drop, take_more, take_at, drop_at}
 use Rattle.std.proofs.lemmas.Slice.{between_is}
 use Rattle.shunt_base.specs.declared.keys.EventKey.{EventKey}
 use Rattle.shunt_base.specs.declared.keys.Stay.{Stay}
 use Rattle.shunt_base.specs.defs.Keys.{rank, IsKey, IsWellFormed, AreStays}
 use Rattle.shunt_stays.specs.defs.Members.{In}
-use Rattle.shunt_stays.specs.defs.Crossing.{crosses, stands_at, load_at, load_after, same_side}
+use Rattle.shunt_stays.specs.defs.Crossing.{crosses, stands_at, load_at}
 use Rattle.shunt_stays.proofs.Members.{all_in, in_place}
 use Rattle.shunt_stays.proofs.Halves.{later_rank, formed}
 use Rattle.shunt_timeline.specs.declared.events.Event.{Event}
-use Rattle.shunt_timeline.specs.defs.Levels.{IsPlace, key_of, at, has_left, has_blocked, raised}
-use Rattle.shunt_timeline.specs.defs.Kept.{Ascends, IsKeptAt, IsKept}
+use Rattle.shunt_timeline.specs.defs.Levels.{IsPlace, key_of, at}
+use Rattle.shunt_timeline.specs.defs.Kept.{IsKeptAt, IsKept}
 use Rattle.shunt_timeline.proofs.Steps.{flag}
 use Rattle.shunt_timeline.proofs.Changes.{apart, entry_at, leave_at, count_one, load_one, no_more, stands_is}
 use Rattle.shunt_timeline.proofs.Coming.{Cut, not_itself}
-use Rattle.shunt_timeline.proofs.Own.{own_is, left_within}
 use Rattle.shunt_timeline.proofs.Before.{level_first, level_later}
-use Rattle.shunt_timeline.proofs.Insertion.{IsOf, five, inserted}
+use Rattle.shunt_timeline.proofs.Insertion.{IsOf, five}
 use Rattle.shunt_timeline.proofs.Places.{in_front, in_rest, in_middle, dropped_twice, three}
 
 in_take_at : {X : Type 0} (n i : ℕ) (xs : List X) (d : X) → i < n → i < length xs → In (get_or xs i d) (take n xs)
@@ -40,9 +39,9 @@ pub places_in_order : (es : List Event) (k l : EventKey) (m n : ℕ) → IsPlace
 places_in_order [] k l m n p q lt = let b = p.bound in omega arith
 places_in_order (d ∷ ds) k l m n p q lt = ⊎_elim
     (λ gt. let b = p.bound in
-      let x : at (get_or (d ∷ ds) n d) < rank k = p.before (get_or (d ∷ ds) n d) (in_take_at m n (d ∷ ds) d gt (omega arith)) in
-      let y : rank l ≤ at (get_or (d ∷ ds) n d) = q.after (get_or (d ∷ ds) n d) (in_drop_at n n (d ∷ ds) d (omega arith) (omega arith)) in
-      absurd (omega arith))
+    let x : at (get_or (d ∷ ds) n d) < rank k = p.before (get_or (d ∷ ds) n d) (in_take_at m n (d ∷ ds) d gt (omega arith)) in
+    let y : rank l ≤ at (get_or (d ∷ ds) n d) = q.after (get_or (d ∷ ds) n d) (in_drop_at n n (d ∷ ds) d (omega arith) (omega arith)) in
+    absurd (omega arith))
     (λ le. le) (cases_lt n m)
 
 module _ (stays : List Stay) (x : Stay) (es : List Event) (a : AreStays (x ∷ stays)) (k : IsKept stays x.track.0 es) where
@@ -88,13 +87,13 @@ level_is stays t [] a k m q n p ne s l first later =
     (f.0 ∙ sym r.0, f.1 ∙ sym r.1)
 level_is stays t (d ∷ ds) a k m q n p ne s l first later = ⊎_elim
     (λ e. let f = first e in
-      let r = level_first stays t (take n (d ∷ ds)) (drop n (d ∷ ds)) a joined m q p.before strict (ap (λ j. take j (d ∷ ds)) e) in
-      (f.0 ∙ sym r.0, f.1 ∙ sym r.1))
+    let r = level_first stays t (take n (d ∷ ds)) (drop n (d ∷ ds)) a joined m q p.before strict (ap (λ j. take j (d ∷ ds)) e) in
+    (f.0 ∙ sym r.0, f.1 ∙ sym r.1))
     (λ e. let f = later d (omega arith) in
-      let back : (n - 1) + 1 ≡ n = omega arith in
-      let b = p.bound in
-      let r = level_later stays t (take n (d ∷ ds)) (drop n (d ∷ ds)) a joined m q p.before strict (take (n - 1) (d ∷ ds)) (get_or (d ∷ ds) (n - 1) d) (ap (λ j. take j (d ∷ ds)) (sym back) ∙ take_more (d ∷ ds) (n - 1) d (omega arith)) in
-      (f.0 ∙ sym r.0, f.1 ∙ sym r.1))
+    let back : (n - 1) + 1 ≡ n = omega arith in
+    let b = p.bound in
+    let r = level_later stays t (take n (d ∷ ds)) (drop n (d ∷ ds)) a joined m q p.before strict (take (n - 1) (d ∷ ds)) (get_or (d ∷ ds) (n - 1) d) (ap (λ j. take j (d ∷ ds)) (sym back) ∙ take_more (d ∷ ds) (n - 1) d (omega arith)) in
+    (f.0 ∙ sym r.0, f.1 ∙ sym r.1))
     (cases_eq n 0)
   where
     joined : IsKept stays t (take n (d ∷ ds) ++ drop n (d ∷ ds))

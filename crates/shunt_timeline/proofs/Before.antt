@@ -1,7 +1,7 @@
 -- What stands just before a moment is what stands just after the last event before it.
-use Rattle.std.proofs.Common.{◌≡◌, ◌≢◌, ◌⊎◌, inl, inr, ⊎_elim, ℕ, ◌+◌, ◌<◌, ◌≤◌, ltb, leb, eqb, Bool, true, false, cond, ◌&&◌, List, [], ◌∷◌, ◌++◌, refl, sym, subst, ap, ◌∙◌, arith, sum_by}
+use Rattle.std.proofs.Common.{◌≡◌, ◌⊎◌, inl, inr, ⊎_elim, ℕ, ◌<◌, ◌≤◌, ltb, leb, eqb, Bool, true, false, cond, ◌&&◌, List, [], ◌∷◌, ◌++◌, refl, sym, subst, ap, ◌∙◌, arith}
 use Rattle.std.specs.List.{count_by}
-use Rattle.std.proofs.lemmas.Bool.{eqb-true, eq-eqb, cases_Bool, cases_eq}
+use Rattle.std.proofs.lemmas.Bool.{eqb-true, eq-eqb, cases_eq}
 use Rattle.std.proofs.lemmas.Bool.Decides.{nat_tests}
 use Rattle.shunt_base.specs.declared.keys.EventKey.{EventKey}
 use Rattle.shunt_base.specs.declared.keys.Stay.{Stay}
@@ -12,7 +12,7 @@ use Rattle.shunt_stays.proofs.Members.{in_left, in_right, in_cases}
 use Rattle.shunt_stays.proofs.Halves.{formed}
 use Rattle.shunt_timeline.specs.declared.events.Event.{Event}
 use Rattle.shunt_timeline.specs.defs.Levels.{key_of, at}
-use Rattle.shunt_timeline.specs.defs.Kept.{Ascends, IsKeptAt, IsKept, sum_on}
+use Rattle.shunt_timeline.specs.defs.Kept.{Ascends, IsKept, sum_on}
 use Rattle.shunt_timeline.proofs.Lists.{sum_alike, sum_zero, sum_some, sum_least, ascends_front, ascends_apart}
 use Rattle.shunt_timeline.proofs.Steps.{flag}
 use Rattle.shunt_timeline.proofs.Ranks.{key_in}
@@ -65,7 +65,6 @@ none e l m lt = grind (arith, nat_tests)
 -- two moments with no event of the track between them
 module _ (stays : List Stay) (t : ℕ) (D E : List Event) (a : AreStays stays) (k : IsKept stays t (D ++ E)) (m : EventKey) (q : IsKey m)
     (before : (e : Event) → In e D → at e < rank m) (after : (e : Event) → In e E → rank m < at e) where
-
   -- none stands before the first event
   pub level_first : D ≡ [] → (count_by (stands_at t m) stays ≡ 0) × (load_at stays t m ≡ 0)
   level_first empty = (sum_zero (λ s. flag (stands_at t m s)) stays (λ s h. ap flag (gone s h)), sum_zero (λ s. cond (stands_at t m s) s.length 0) stays (λ s h. ap (λ b. cond b s.length 0) (gone s h)))
@@ -76,14 +75,14 @@ module _ (stays : List Stay) (t : ℕ) (D E : List Event) (a : AreStays stays) (
       gone : (s : Stay) → In s stays → stands_at t m s ≡ false
       gone s h = ⊎_elim (λ on. let r = has_entry stays t (D ++ E) a k s h on in let lt = all_after r.0 r.1 in let is = r.3 in
           stands_is t m s q (formed stays s a h) ∙ ap (λ b. b && inside (rank m) s) (eq-eqb s.track.0 t on) ∙ none (rank s.enter) (rank s.leave) (rank m) (omega arith))
-        (λ off. off_track t m s off) (cases_eq s.track.0 t)
+          (λ off. off_track t m s off) (cases_eq s.track.0 t)
 
   -- what stands just after the last event before the moment stands at the moment
   pub level_later : (front : List Event) (p : Event) → D ≡ front ++ p ∷ [] → (count_by (stands_at t m) stays ≡ p.standing) × (load_at stays t m ≡ p.load)
   level_later front p is = (
-      sum_alike (λ s. flag (stands_at t m s)) (λ s. flag (stands_at t (key_of p) s)) stays (λ s h. ap flag (same s h)) ∙ sym (k.each p here).standing,
-      sum_alike (λ s. cond (stands_at t m s) s.length 0) (λ s. cond (stands_at t (key_of p) s) s.length 0) stays (λ s h. ap (λ b. cond b s.length 0) (same s h)) ∙ sym (k.each p here).load,
-    )
+    sum_alike (λ s. flag (stands_at t m s)) (λ s. flag (stands_at t (key_of p) s)) stays (λ s h. ap flag (same s h)) ∙ sym (k.each p here).standing,
+    sum_alike (λ s. cond (stands_at t m s) s.length 0) (λ s. cond (stands_at t (key_of p) s) s.length 0) stays (λ s h. ap (λ b. cond b s.length 0) (same s h)) ∙ sym (k.each p here).load,
+  )
     where
       last : In p D
       last = subst (In p) (sym is) (in_right front (p ∷ []) p (inl refl))
@@ -111,4 +110,4 @@ module _ (stays : List Stay) (t : ℕ) (D E : List Event) (a : AreStays stays) (
           stands_is t m s q w
           ∙ ap (λ b. eqb s.track.0 t && b) (sym (alike (rank s.enter) (rank s.leave) (rank m) (at p) (moved (rank s.enter) r.0 r.3 (side r.0 r.1)) (moved (rank s.leave) l.0 l.3 (side l.0 l.1)) (before p last)))
           ∙ sym (stands_is t (key_of p) s (key_in p (formed_at stays t (D ++ E) a k p here)) w))
-        (λ off. off_track t m s off ∙ sym (off_track t (key_of p) s off)) (cases_eq s.track.0 t)
+          (λ off. off_track t m s off ∙ sym (off_track t (key_of p) s off)) (cases_eq s.track.0 t)

@@ -1,25 +1,23 @@
 -- What one stay more changes at one event.
-use Rattle.std.proofs.Common.{◌≡◌, ◌≢◌, ◌⊎◌, inl, inr, ⊎_elim, ℕ, ◌+◌, ◌-◌, ◌<◌, ◌≤◌, ◌^◌, ltb, leb, eqb, Bool, true, false, cond, not, ◌&&◌, ◌||◌, List, [], ◌∷◌, ◌++◌, refl, sym, subst, ap, ◌∙◌, arith, sum_by}
+use Rattle.std.proofs.Common.{◌≡◌, ◌≢◌, inr, ⊎_elim, ℕ, ◌+◌, ◌<◌, ◌≤◌, ltb, leb, eqb, Bool, true, false, cond, not, ◌&&◌, ◌||◌, List, ◌∷◌, refl, sym, ap, ◌∙◌, arith}
 use Rattle.std.specs.List.{count_by}
 use Rattle.std.specs.Ordering.{nat_cmp, is_le}
-use Rattle.std.proofs.lemmas.Bool.{ltb-true, ltb-false, lt-ltb, le-leb, eqb-true, eq-eqb, cases_Bool, true≢false, false≢true, and_parts, false_from_ne_true}
+use Rattle.std.proofs.lemmas.Bool.{eqb-true, eq-eqb, cases_Bool, and_parts, false_from_ne_true}
 use Rattle.std.proofs.lemmas.Bool.Decides.{nat_tests}
 use Rattle.std.proofs.lemmas.List.Sums.{sum_by-cons}
-use Rattle.shunt_base.specs.declared.ids.Side.{Side}
 use Rattle.shunt_base.specs.declared.keys.EventKey.{EventKey}
 use Rattle.shunt_base.specs.declared.keys.Stay.{Stay}
-use Rattle.shunt_base.specs.defs.Keys.{rank, key_cmp, IsKey, IsWellFormed, AreStays}
+use Rattle.shunt_base.specs.defs.Keys.{rank, IsKey, IsWellFormed}
 use Rattle.shunt_base.proofs.Ranks.{key_cmp_is}
 use Rattle.shunt_stays.specs.defs.Members.{In}
 use Rattle.shunt_stays.specs.defs.Events.{key_before}
 use Rattle.shunt_stays.specs.defs.Crossing.{crosses, in_the_way, stands_at, load_at, same_side}
-use Rattle.shunt_stays.proofs.Members.{all_in}
-use Rattle.shunt_stays.proofs.Halves.{before_is, later_rank, formed, ids_apart}
+use Rattle.shunt_stays.proofs.Halves.{before_is, ids_apart}
 use Rattle.shunt_timeline.specs.declared.events.Event.{Event}
-use Rattle.shunt_timeline.specs.defs.Levels.{key_of, at, is_crossed, gets_over, has_left, has_blocked, raised, lowered}
+use Rattle.shunt_timeline.specs.defs.Levels.{key_of, at, is_crossed, raised, lowered}
 use Rattle.shunt_timeline.specs.defs.Kept.{IsKeptAt}
 use Rattle.shunt_timeline.proofs.Steps.{flag}
-use Rattle.shunt_timeline.proofs.Numbers.{met, parts, covers}
+use Rattle.shunt_timeline.proofs.Numbers.{met}
 use Rattle.shunt_timeline.proofs.Ranks.{key_in}
 
 le_is : (a b : ℕ) → is_le (nat_cmp a b) ≡ leb a b
@@ -137,7 +135,6 @@ module _ (stays : List Stay) (x : Stay) (t : ℕ) (e : Event) where
 
   more_load : Load (x ∷ stays) ≡ cond (stands_at t (key_of e) x) x.length 0 + Load stays
   more_load = load_one t (key_of e) x stays
-
 
   -- where x doesn't stand, nothing changes
   pub kept_aside : stands_at t (key_of e) x ≡ false → (e.enters ≡ true → crosses x e.stay ≡ false) → IsKeptAt stays t e → IsKeptAt (x ∷ stays) t e

@@ -1,26 +1,22 @@
 -- A stay comes among the events of its track: A lie before it, B while it stands, C after it.
-use Rattle.std.proofs.Common.{◌≡◌, ◌≢◌, ◌⊎◌, inl, inr, ⊎_elim, ℕ, ◌+◌, ◌-◌, ◌*◌, ◌<◌, ◌≤◌, ◌^◌, ltb, leb, eqb, Bool, true, false, cond, not, ◌&&◌, List, [], ◌∷◌, ◌++◌, length, get_or, map, refl, sym, subst, ap, ◌∙◌, arith, sum_by}
+use Rattle.std.proofs.Common.{◌≡◌, ◌≢◌, ⊎_elim, ℕ, ◌+◌, ◌<◌, ◌≤◌, ltb, leb, eqb, Bool, true, false, cond, ◌&&◌, List, ◌∷◌, ◌++◌, get_or, refl, sym, ap, ◌∙◌, arith, sum_by}
 use Rattle.std.specs.List.{count_by}
-use Rattle.std.proofs.lemmas.Bool.{eqb-true, eq-eqb, cases_Bool, cases_eq, true≢false, false≢true, lt-ltb, le-leb}
-use Rattle.std.proofs.lemmas.Bool.Decides.{nat_tests}
+use Rattle.std.proofs.lemmas.Bool.{eq-eqb, cases_Bool, cases_eq}
 use Rattle.std.proofs.lemmas.List.Sums.{sum_by-cons, sum_by-append}
-use Rattle.shunt_base.specs.declared.keys.EventKey.{EventKey}
 use Rattle.shunt_base.specs.declared.keys.Stay.{Stay}
-use Rattle.shunt_base.specs.defs.Keys.{rank, IsKey, IsWellFormed, AreStays}
+use Rattle.shunt_base.specs.defs.Keys.{rank, IsWellFormed, AreStays}
 use Rattle.shunt_stays.specs.defs.Members.{In}
-use Rattle.shunt_stays.specs.defs.Events.{key_before}
-use Rattle.shunt_stays.specs.defs.Crossing.{crosses, stands_at, load_at, load_after, same_side, pairs_in, overs_in}
-use Rattle.shunt_stays.proofs.Members.{all_in, in_left, in_right, in_cases, of_map, in_map}
-use Rattle.shunt_stays.proofs.Halves.{before_is, later_rank, formed}
-use Rattle.shunt_stays.proofs.Crossings.{crosses_is, never_itself}
+use Rattle.shunt_stays.specs.defs.Crossing.{crosses, stands_at, load_at, load_after, pairs_in, overs_in}
+use Rattle.shunt_stays.proofs.Members.{in_left, in_right}
+use Rattle.shunt_stays.proofs.Halves.{formed}
 use Rattle.shunt_timeline.specs.declared.events.Event.{Event}
-use Rattle.shunt_timeline.specs.defs.Levels.{key_of, at, is_crossed, gets_over, has_left, has_blocked, raised, lowered}
-use Rattle.shunt_timeline.specs.defs.Kept.{Ascends, IsKeptAt, IsKept, sum_on}
-use Rattle.shunt_timeline.proofs.Lists.{sum_alike, sum_plus, sum_zero, sum_map, sum_some, sum_least, ascends_front, ascends_back, ascends_apart, ascends_joined, ascends_map}
+use Rattle.shunt_timeline.specs.defs.Levels.{key_of, at, is_crossed, gets_over}
+use Rattle.shunt_timeline.specs.defs.Kept.{IsKept, sum_on}
+use Rattle.shunt_timeline.proofs.Lists.{sum_alike, sum_plus, sum_zero}
 use Rattle.shunt_timeline.proofs.Steps.{flag}
-use Rattle.shunt_timeline.proofs.Numbers.{met, parts, covers, nlt, own_ways, standing_ways, over_ways, stays_over}
+use Rattle.shunt_timeline.proofs.Numbers.{over_ways, stays_over}
 use Rattle.shunt_timeline.proofs.Ranks.{key_in}
-use Rattle.shunt_timeline.proofs.Changes.{inside, stands_is, crosses_ranks, entry_at, leave_at, apart, off_track, off_crossing, not_yet, no_more, stands_now, crossed_not_yet, crossed_no_more, count_one, load_one, kept_aside, aside_kept, kept_raised, kept_lowered}
+use Rattle.shunt_timeline.proofs.Changes.{entry_at, leave_at, off_track, off_crossing, not_yet, no_more, stands_now, crossed_not_yet, crossed_no_more, count_one, load_one}
 
 pub record Cut (stays : List Stay) (x : Stay) (A B C : List Event) : Type 0 where
   pub formed : AreStays (x ∷ stays)
@@ -172,9 +168,9 @@ module _ (stays : List Stay) (x : Stay) (A B C : List Event) (c : Cut stays x A 
       each_over s = ⊎_elim (λ e.
           let r : get_or lengths s.track.0 0 ≡ room = ap (λ n. get_or lengths n 0) e ∙ is in
           ap (λ n. flag (ltb n (load_after (x ∷ stays) s))) r ∙ over_ways room (load_after stays s) (load_after (x ∷ stays) s) (more s) ∙ ap (λ n. flag (ltb n (load_after stays s)) + flag (pushed room s)) (sym r) ∙ ap (λ b. flag (ltb (get_or lengths s.track.0 0) (load_after stays s)) + cond b (flag (pushed room s)) 0) (sym (eq-eqb s.track.0 x.track.0 e)))
-        (λ ne.
+          (λ ne.
           let same : load_after (x ∷ stays) s ≡ load_after stays s = load_of s ∙ ap (λ b. cond b x.length 0 + load_after stays s) (off_track s.track.0 s.enter x (λ e. ne (sym e))) ∙ omega arith in
           let none : cond (eqb s.track.0 x.track.0) (flag (pushed room s)) 0 ≡ 0 = zero_cond (eqb s.track.0 x.track.0) _ (ap flag (unpushed room s (off_track s.track.0 s.enter x (λ e. ne (sym e))))) in
           let left : flag (ltb (get_or lengths s.track.0 0) (load_after (x ∷ stays) s)) ≡ flag (ltb (get_or lengths s.track.0 0) (load_after stays s)) = ap (λ n. flag (ltb (get_or lengths s.track.0 0) n)) same in
           omega arith)
-        (cases_eq s.track.0 x.track.0)
+          (cases_eq s.track.0 x.track.0)

@@ -1,29 +1,21 @@
 -- Timelines as a whole, once a stay went.
-use Rattle.std.proofs.Common.{◌≡◌, ◌≢◌, ◌⊎◌, inl, inr, ⊎_elim, ◌↔◌, ℕ, zero, suc, ◌+◌, ◌-◌, ◌*◌, ◌^◌, ◌<◌, ◌≤◌, ltb, Bool, true, false, cond, List, [], ◌∷◌, ◌++◌, length, get_or, set, map, take, drop, vec_len, vec_capacity, refl, sym, subst, ap, ◌∙◌, arith, sum_by, IsPermutation}
-use Rattle.std.specs.List.{count_by, All, AllByRecursion, insert, remove}
-use Rattle.std.proofs.lemmas.List.Edits.{length-insert, length-remove}
-use Rattle.std.proofs.lemmas.List.Elements.{All-cons, All-tail}
-use Rattle.std.proofs.lemmas.List.Sorted.{All-permutation, IsPermutation-insert, IsPermutation-remove}
-use Rattle.std.proofs.lemmas.List.Sums.{sum_by-cons, count_by-le-length}
+use Rattle.std.proofs.Common.{◌≡◌, ◌≢◌, ℕ, ◌+◌, ◌-◌, ◌*◌, ◌<◌, ◌≤◌, List, ◌∷◌, length, get_or, set, vec_capacity, sym, subst, ap, ◌∙◌, arith, IsPermutation}
+use Rattle.std.specs.List.{All, remove}
+use Rattle.std.proofs.lemmas.List.Edits.{length-remove}
+use Rattle.std.proofs.lemmas.List.Elements.{All-tail}
+use Rattle.std.proofs.lemmas.List.Sorted.{All-permutation, IsPermutation-remove}
 use Rattle.shunt_base.specs.declared.keys.Stay.{Stay}
-use Rattle.shunt_base.specs.defs.Keys.{AreStays, IsWellFormed}
-use Rattle.shunt_stays.specs.defs.Members.{In}
-use Rattle.shunt_stays.specs.defs.Run.{AreOnTracks, GoesThrough}
-use Rattle.shunt_stays.specs.defs.Crossing.{crosses, load_after, pairs_in, overs_in}
-use Rattle.shunt_stays.proofs.Members.{all_in, all_from, in_place, in_to}
-use Rattle.shunt_stays.proofs.Halves.{formed}
+use Rattle.shunt_base.specs.defs.Keys.{AreStays}
+use Rattle.shunt_stays.specs.defs.Run.{AreOnTracks}
+use Rattle.shunt_stays.specs.defs.Crossing.{pairs_in, overs_in}
+use Rattle.shunt_stays.proofs.Members.{all_in, in_place}
 use Rattle.shunt_stays.proofs.Sorting.{stays_permuted}
-use Rattle.shunt_stays.proofs.Crossings.{through_clear, clear_through, no_pairs, no_overs, pairs_permuted, overs_permuted}
-use Rattle.shunt_timeline.specs.declared.events.Event.{Event}
+use Rattle.shunt_stays.proofs.Crossings.{pairs_permuted, overs_permuted}
 use Rattle.shunt_timeline.specs.declared.track.Track.{Track}
 use Rattle.shunt_timeline.specs.defs.Kept.{IsKept}
-use Rattle.shunt_timeline.specs.defs.Sound.{lengths_of, AreSame, AreSound, IsSound}
-use Rattle.shunt_timeline.proofs.Lists.{sum_most}
-use Rattle.shunt_timeline.proofs.Steps.{flag, flag_most}
-use Rattle.shunt_timeline.proofs.Places.{in_rest}
-use Rattle.shunt_timeline.proofs.Coming.{not_itself}
-use Rattle.shunt_timeline.proofs.Others.{beside, without, reordered, length_kept}
-use Rattle.shunt_timeline.proofs.Ids.{ids_put, ids_taken}
+use Rattle.shunt_timeline.specs.defs.Sound.{lengths_of, IsSound}
+use Rattle.shunt_timeline.proofs.Others.{without, reordered}
+use Rattle.shunt_timeline.proofs.Ids.{ids_taken}
 use Rattle.shunt_timeline.proofs.Tracks.{at_set, lengths_set, length_lengths, length_at}
 
 -- a stay goes

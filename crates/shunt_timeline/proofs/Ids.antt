@@ -1,6 +1,6 @@
 -- Stays by ascending id.
-use Rattle.std.proofs.Common.{◌≡◌, ◌≢◌, ◌⊎◌, inl, inr, ⊎_elim, ℕ, zero, suc, ◌+◌, ◌-◌, ◌*◌, ◌^◌, ◌<◌, ◌≤◌, ltb, Bool, true, false, cond, List, [], ◌∷◌, ◌++◌, length, get_or, take, drop, refl, sym, subst, ap, ◌∙◌, arith}
-use Rattle.std.specs.List.{AllByRecursion, All, insert, remove}
+use Rattle.std.proofs.Common.{◌≡◌, ◌≢◌, inr, ⊎_elim, ℕ, zero, suc, ◌<◌, ◌≤◌, ltb, true, false, List, [], ◌∷◌, ◌++◌, length, get_or, take, drop, refl, sym, subst, ap, ◌∙◌, arith}
+use Rattle.std.specs.List.{All, insert, remove}
 use Rattle.std.specs.List.Sorted.{IsPartitionedBy, IsPartitionPoint}
 use Rattle.std.proofs.lemmas.Bool.{ltb-true, ltb-false, lt-ltb}
 use Rattle.std.proofs.lemmas.List.{take-append-drop}
@@ -29,11 +29,11 @@ pub nowhere : (xs : List Stay) (id n : ℕ) → Ascends id_of xs → n ≤ lengt
 nowhere xs id n a bound before after ne k d lt is = ⊎_elim
     (λ l. let b = before (get_or xs k d) l in absurd (omega arith))
     (λ r. let p = in_drop n xs (get_or xs k d) r in
-      let within : n < length xs = let u = p.1 in let v = p.2 in omega arith in
-      let low : id ≤ (get_or xs n d).id = after (get_or xs n d) (head n xs d within) in
-      let same : (get_or xs p.0 d).id ≡ id = ap (λ (s : Stay). s.id) (default xs p.0 d (get_or xs k d) p.2 ∙ p.3) ∙ is in
-      let up : (get_or xs n d).id ≤ (get_or xs p.0 d).id = ascends_at id_of xs n p.0 d a p.1 p.2 in
-      ne d within (omega arith))
+    let within : n < length xs = let u = p.1 in let v = p.2 in omega arith in
+    let low : id ≤ (get_or xs n d).id = after (get_or xs n d) (head n xs d within) in
+    let same : (get_or xs p.0 d).id ≡ id = ap (λ (s : Stay). s.id) (default xs p.0 d (get_or xs k d) p.2 ∙ p.3) ∙ is in
+    let up : (get_or xs n d).id ≤ (get_or xs p.0 d).id = ascends_at id_of xs n p.0 d a p.1 p.2 in
+    ne d within (omega arith))
     (in_cases (take n xs) (drop n xs) (get_or xs k d) (subst (λ (l : List Stay). In (get_or xs k d) l) (sym (take-append-drop n xs)) (in_place xs k d lt)))
   where
     head : {X : Type 0} (n : ℕ) (xs : List X) (d : X) → n < length xs → In (get_or xs n d) (drop n xs)

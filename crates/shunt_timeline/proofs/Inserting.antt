@@ -1,12 +1,12 @@
 -- The insertion of a stay on its track, step by step.
-use Rattle.std.proofs.Common.{◌≡◌, ◌⊎◌, inl, inr, ⊎_elim, ℕ, ◌+◌, ◌-◌, ◌*◌, ◌^◌, ◌<◌, ◌≤◌, ltb, Bool, true, false, cond, List, [], ◌∷◌, ◌++◌, length, get_or, take, drop, map, refl, sym, subst, ap, ◌∙◌, arith}
+use Rattle.std.proofs.Common.{◌≡◌, ℕ, ◌+◌, ◌-◌, ◌<◌, ◌≤◌, ltb, cond, List, ◌∷◌, ◌++◌, length, get_or, take, drop, map, sym, subst, ap, ◌∙◌, arith}
 use Rattle.std.specs.List.{count_by}
 use Rattle.std.proofs.lemmas.List.{length-take-le, length-drop, length-map}
 use Rattle.std.proofs.lemmas.List.Sums.{count_by-le-length}
 use Rattle.shunt_base.specs.declared.keys.Stay.{Stay}
 use Rattle.shunt_base.specs.defs.Keys.{AreStays}
 use Rattle.shunt_stays.specs.defs.Members.{In}
-use Rattle.shunt_stays.specs.defs.Crossing.{crosses, stands_at, load_at, load_after, same_side, pairs_in, overs_in}
+use Rattle.shunt_stays.specs.defs.Crossing.{crosses, load_at, load_after, same_side, pairs_in, overs_in}
 use Rattle.shunt_timeline.specs.declared.events.Event.{Event}
 use Rattle.shunt_timeline.specs.declared.events.Met.{Met}
 use Rattle.shunt_timeline.specs.declared.track.Arrival.{Arrival}
@@ -16,10 +16,9 @@ use Rattle.shunt_timeline.proofs.Steps.{flag}
 use Rattle.shunt_timeline.proofs.Changes.{entry_at}
 use Rattle.shunt_timeline.proofs.Coming.{Cut, pairs_more, overs_more}
 use Rattle.shunt_timeline.proofs.Own.{own_is, left_within}
-use Rattle.shunt_timeline.proofs.Insertion.{IsOf, five, inserted}
+use Rattle.shunt_timeline.proofs.Insertion.{five, inserted}
 use Rattle.shunt_timeline.proofs.Others.{length_kept, small_kept}
-use Rattle.shunt_timeline.proofs.Places.{three, count_middle}
-use Rattle.shunt_timeline.proofs.Arriving.{order, middle, arriving, put_back, IsEntry, IsLeave, entry_kept, leave_kept}
+use Rattle.shunt_timeline.proofs.Arriving.{arriving, put_back, IsEntry, IsLeave, entry_kept, leave_kept}
 
 -- what was found before anything was put in
 pub record Came (x : Stay) (es now : List Event) (arrival : Arrival) (met : Met) (room : ℕ) : Type 0 where
@@ -83,7 +82,7 @@ module _ (x : Stay) (es now : List Event) (arrival : Arrival) (met : Met) (room 
         let b = q.bound in
         let lm : length (map (raised x) mid) ≡ arrival.to - arrival.from = length-map mid (raised x) ∙ length-take-le (arrival.to - arrival.from) (drop arrival.from es) (omega (arith, length-drop arrival.from es)) in
         let is : new ≡ five (take arrival.from es) en (map (raised x) mid) le (drop arrival.to es) =
-            put_back arrival.from arrival.to (take arrival.from es) (map (raised x) mid) (drop arrival.to es) after new en le h.order (length-take-le arrival.from es p.bound) lm raised_is made in
+        put_back arrival.from arrival.to (take arrival.from es) (map (raised x) mid) (drop arrival.to es) after new en le h.order (length-take-le arrival.from es p.bound) lm raised_is made in
         subst (λ (l : List Event). IsKept (x ∷ stays) x.track.0 l) (sym is) (inserted stays x (take arrival.from es) mid (drop arrival.to es) cut en le i.is o.is en_kept le_kept)
 
     pub pairs_new : pairs_in (x ∷ stays) ≡ pairs_in stays + (en.crossings + met.crossed)

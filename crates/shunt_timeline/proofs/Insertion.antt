@@ -1,21 +1,18 @@
 -- The events of a track once a stay came, and once it went.
-use Rattle.std.proofs.Common.{◌≡◌, ◌≢◌, ◌⊎◌, inl, inr, ⊎_elim, ℕ, ◌+◌, ◌*◌, ◌<◌, ◌≤◌, eqb, Bool, true, false, cond, List, [], ◌∷◌, ◌++◌, length, map, refl, sym, subst, ap, ◌∙◌, arith, sum_by}
-use Rattle.std.specs.List.{count_by, AllByRecursion}
-use Rattle.std.proofs.lemmas.Bool.{eqb-true, eq-eqb, cases_Bool, cases_eq, true≢false, false≢true}
+use Rattle.std.proofs.Common.{◌≡◌, ◌≢◌, ◌⊎◌, inl, inr, ⊎_elim, ℕ, ◌+◌, ◌<◌, eqb, Bool, true, false, cond, List, ◌∷◌, ◌++◌, map, refl, sym, subst, ap, ◌∙◌, arith, sum_by}
+use Rattle.std.proofs.lemmas.Bool.{eq-eqb, cases_Bool}
 use Rattle.std.proofs.lemmas.List.Sums.{sum_by-cons, sum_by-append}
-use Rattle.shunt_base.specs.declared.keys.EventKey.{EventKey}
 use Rattle.shunt_base.specs.declared.keys.Stay.{Stay}
 use Rattle.shunt_base.specs.defs.Keys.{rank, IsKey, IsWellFormed, AreStays}
 use Rattle.shunt_stays.specs.defs.Members.{In}
-use Rattle.shunt_stays.specs.defs.Crossing.{crosses, stands_at}
-use Rattle.shunt_stays.proofs.Members.{all_in, all_from, in_left, in_right, in_cases, of_map, in_map}
+use Rattle.shunt_stays.proofs.Members.{all_in, all_from, in_left, in_right, in_cases, of_map}
 use Rattle.shunt_stays.proofs.Halves.{later_rank, formed}
 use Rattle.shunt_timeline.specs.declared.events.Event.{Event}
 use Rattle.shunt_timeline.specs.defs.Levels.{key_of, at, raised, lowered}
 use Rattle.shunt_timeline.specs.defs.Kept.{Ascends, IsKeptAt, IsKept, sum_on}
 use Rattle.shunt_timeline.proofs.Lists.{sum_map, ascends_front, ascends_back, ascends_apart, ascends_joined, ascends_map}
 use Rattle.shunt_timeline.proofs.Ranks.{key_in}
-use Rattle.shunt_timeline.proofs.Changes.{entry_at, leave_at, off_track, off_crossing, not_yet, no_more, stands_now, crossed_not_yet, crossed_no_more, kept_aside, aside_kept, kept_raised, kept_lowered}
+use Rattle.shunt_timeline.proofs.Changes.{entry_at, leave_at, not_yet, no_more, stands_now, crossed_not_yet, crossed_no_more, kept_aside, aside_kept, kept_raised, kept_lowered}
 use Rattle.shunt_timeline.proofs.Coming.{Cut, inA, inB, inC, keyA, keyB, keyC, early_entry, late_entry, sum_parts}
 
 abbrev pub five : List Event → Event → List Event → Event → List Event → List Event
@@ -58,15 +55,15 @@ module _ (stays : List Stay) (x : Stay) (A B C : List Event) (c : Cut stays x A 
   each_new e h = ⊎_elim
       (λ l. kept_aside stays x x.track.0 e (keyA stays x A B C c e l) (early_entry stays x A B C c e l) (c.kept.each e (inA stays x A B C c e l)))
       (λ r. ⊎_elim
-        (λ s. subst (IsKeptAt (x ∷ stays) x.track.0) (sym s) ken)
-        (λ r. ⊎_elim
-          (λ m. let b = of_map (raised x) B e m in subst (IsKeptAt (x ∷ stays) x.track.0) (sym b.2) (kept_raised stays x x.track.0 b.0 (keyB stays x A B C c b.0 b.1) (c.kept.each b.0 (inB stays x A B C c b.0 b.1))))
-          (λ r. ⊎_elim
-            (λ s. subst (IsKeptAt (x ∷ stays) x.track.0) (sym s) kle)
-            (λ l. kept_aside stays x x.track.0 e (keyC stays x A B C c e l) (late_entry stays x A B C c e l) (c.kept.each e (inC stays x A B C c e l)))
-            r)
-          r)
-        r)
+      (λ s. subst (IsKeptAt (x ∷ stays) x.track.0) (sym s) ken)
+      (λ r. ⊎_elim
+      (λ m. let b = of_map (raised x) B e m in subst (IsKeptAt (x ∷ stays) x.track.0) (sym b.2) (kept_raised stays x x.track.0 b.0 (keyB stays x A B C c b.0 b.1) (c.kept.each b.0 (inB stays x A B C c b.0 b.1))))
+      (λ r. ⊎_elim
+      (λ s. subst (IsKeptAt (x ∷ stays) x.track.0) (sym s) kle)
+      (λ l. kept_aside stays x x.track.0 e (keyC stays x A B C c e l) (late_entry stays x A B C c e l) (c.kept.each e (inC stays x A B C c e l)))
+      r)
+      r)
+      r)
       (in_five A en (map (raised x) B) le C e h)
 
   ascends_new : Ascends at (five A en (map (raised x) B) le C)
@@ -77,7 +74,7 @@ module _ (stays : List Stay) (x : Stay) (A B C : List Event) (c : Cut stays x A 
       let rest : Ascends at (B ++ C) = ascends_back at A (B ++ C) c.kept.ascends in
       let tail : Ascends at (le ∷ C) = (all_from (λ y. at le < at y) C (λ y h. let gt = c.after y h in omega arith), ascends_back at B C rest) in
       let middle : Ascends at (map (raised x) B ++ (le ∷ C)) = ascends_joined at (map (raised x) B) (le ∷ C) (ascends_map at (raised x) B (λ e. refl) (ascends_front at B C rest)) tail
-            (λ u v h j. let p = (raised_at u h).1 in ⊎_elim (λ s. let q : at v ≡ at le = ap at s in omega arith) (λ k. let gt = c.after v k in omega arith) j) in
+      (λ u v h j. let p = (raised_at u h).1 in ⊎_elim (λ s. let q : at v ≡ at le = ap at s in omega arith) (λ k. let gt = c.after v k in omega arith) j) in
       let above : (y : Event) → In y (map (raised x) B ++ (le ∷ C)) → at en < at y = λ y h. ⊎_elim (λ m. let p = (raised_at y m).0 in omega arith) (λ r. ⊎_elim (λ s. let q : at y ≡ at le = ap at s in omega arith) (λ k. let gt = c.after y k in omega arith) r) (in_cases (map (raised x) B) (le ∷ C) y h) in
       ascends_joined at A (en ∷ (map (raised x) B ++ (le ∷ C))) (ascends_front at A (B ++ C) c.kept.ascends) (all_from (λ y. at en < at y) (map (raised x) B ++ (le ∷ C)) above, middle)
       (λ u v h j. let p = c.before u h in ⊎_elim (λ s. let q : at v ≡ at en = ap at s in omega arith) (λ k. let q = above v k in omega arith) j)
@@ -147,10 +144,10 @@ module _ (stays : List Stay) (x : Stay) (A B C : List Event) (en le : Event) (a 
   each_left e h = ⊎_elim
       (λ l. let p = first_before e l in aside_kept stays x x.track.0 e (not_yet x a.0 x.track.0 refl (key_of e) (key e (inl l)) p) (λ t. let r : at e ≡ rank e.stay.enter = ap rank (entry_at e t) in crossed_not_yet x e.stay a.0 (w e (inl l)) (omega arith)) (other e (inl l)) (k.each e (there e (inl l))))
       (λ r. ⊎_elim
-        (λ m. let b = of_map (lowered x) B e m in
-          subst (IsKeptAt stays x.track.0) (sym b.2) (kept_lowered stays x x.track.0 b.0 (stands_now x a.0 x.track.0 refl (key_of b.0) (key b.0 (inr (inl b.1))) (first_since b.0 b.1) (first_until b.0 b.1)) (other b.0 (inr (inl b.1))) (k.each b.0 (there b.0 (inr (inl b.1))))))
-        (λ l. let p = first_after e l in aside_kept stays x x.track.0 e (no_more x a.0 x.track.0 refl (key_of e) (key e (inr (inr l))) (omega arith)) (λ t. let r : at e ≡ rank e.stay.enter = ap rank (entry_at e t) in crossed_no_more x e.stay a.0 (w e (inr (inr l))) (omega arith)) (other e (inr (inr l))) (k.each e (there e (inr (inr l)))))
-        (in_cases (map (lowered x) B) C e r))
+      (λ m. let b = of_map (lowered x) B e m in
+      subst (IsKeptAt stays x.track.0) (sym b.2) (kept_lowered stays x x.track.0 b.0 (stands_now x a.0 x.track.0 refl (key_of b.0) (key b.0 (inr (inl b.1))) (first_since b.0 b.1) (first_until b.0 b.1)) (other b.0 (inr (inl b.1))) (k.each b.0 (there b.0 (inr (inl b.1))))))
+      (λ l. let p = first_after e l in aside_kept stays x x.track.0 e (no_more x a.0 x.track.0 refl (key_of e) (key e (inr (inr l))) (omega arith)) (λ t. let r : at e ≡ rank e.stay.enter = ap rank (entry_at e t) in crossed_no_more x e.stay a.0 (w e (inr (inr l))) (omega arith)) (other e (inr (inr l))) (k.each e (there e (inr (inr l)))))
+      (in_cases (map (lowered x) B) C e r))
       (in_cases A (map (lowered x) B ++ C) e h)
 
   lowered_at : (e : Event) → In e (map (lowered x) B) → (rank x.enter < at e) × (at e < rank x.leave)

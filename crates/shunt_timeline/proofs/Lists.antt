@@ -1,11 +1,9 @@
 -- Lists that ascend, and sums over lists.
-use Rattle.std.proofs.Common.{◌≡◌, ◌⊎◌, inl, inr, ⊎_elim, ℕ, zero, suc, ◌+◌, ◌*◌, ◌<◌, ◌≤◌, Bool, true, false, cond, List, [], ◌∷◌, ◌++◌, length, get_or, take, drop, set, map, refl, sym, subst, ap, ◌∙◌, arith, sum_by}
-use Rattle.std.specs.List.{AllByRecursion, count_by}
-use Rattle.std.proofs.lemmas.List.{get_or-take, get_or-drop, get_or_default, length-take-le}
-use Rattle.std.proofs.lemmas.List.Sums.{sum_by-cons, sum_by-append, sum_by_more}
-use Rattle.std.proofs.lemmas.List.Edits.{map_over_more}
+use Rattle.std.proofs.Common.{◌≡◌, inl, inr, ⊎_elim, ℕ, zero, suc, ◌+◌, ◌*◌, ◌<◌, ◌≤◌, List, [], ◌∷◌, ◌++◌, length, get_or, take, drop, map, refl, sym, ap, arith, sum_by}
+use Rattle.std.specs.List.{AllByRecursion}
+use Rattle.std.proofs.lemmas.List.Sums.{sum_by-cons}
 use Rattle.shunt_stays.specs.defs.Members.{In}
-use Rattle.shunt_stays.proofs.Members.{all_in, all_from, in_place, in_to, in_from, in_left, in_right, in_cases}
+use Rattle.shunt_stays.proofs.Members.{all_in, all_from, in_place, in_left, in_right, in_cases}
 use Rattle.shunt_timeline.specs.defs.Kept.{Ascends}
 
 -- sums
@@ -29,9 +27,9 @@ sum_map g f (x ∷ xs) = let rest = sum_map g f xs in omega (arith, sum_by-cons 
 pub sum_some : {X : Type 0} (f : X → ℕ) (xs : List X) → 0 < sum_by f xs → (x : X) × In x xs × (0 < f x)
 sum_some f [] lt = absurd (omega arith)
 sum_some {X} f (x ∷ xs) lt = elim (f x) as (λ n. f x ≡ n → (y : X) × In y (x ∷ xs) × (0 < f y)) [
-    zero ↦ λ e. let r = sum_some f xs (omega (arith, sum_by-cons f x xs)) in (r.0, inr r.1, r.2)
+  | zero ↦ λ e. let r = sum_some f xs (omega (arith, sum_by-cons f x xs)) in (r.0, inr r.1, r.2)
   | suc n ↦ λ e. (x, inl refl, omega arith)
-  ] refl
+] refl
 
 pub sum_least : {X : Type 0} (f : X → ℕ) (xs : List X) (x : X) → In x xs → f x ≤ sum_by f xs
 sum_least f [] x h = absurd h

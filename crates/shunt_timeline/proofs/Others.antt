@@ -1,23 +1,22 @@
 -- Other tracks, other orders of the stays, and how large the kept numbers are.
-use Rattle.std.proofs.Common.{◌≡◌, ◌≢◌, ◌⊎◌, inl, inr, ⊎_elim, ℕ, ◌+◌, ◌*◌, ◌^◌, ◌<◌, ◌≤◌, eqb, ltb, Bool, true, false, cond, List, [], ◌∷◌, ◌++◌, length, map, refl, sym, subst, ap, ◌∙◌, arith, sum_by, IsPermutation}
-use Rattle.std.specs.List.{count_by, AllByRecursion}
-use Rattle.std.proofs.lemmas.Bool.{eqb-true, eq-eqb, cases_Bool, cases_eq, true≢false, false≢true}
-use Rattle.std.proofs.lemmas.List.Sums.{sum_by-cons, sum_by-append, count_by-le-length}
-use Rattle.std.proofs.lemmas.List.Sorted.{sum_by-IsPermutation, Contains-permutation, IsPermutation-sym}
+use Rattle.std.proofs.Common.{◌≡◌, ◌≢◌, ⊎_elim, ℕ, ◌+◌, ◌*◌, ◌^◌, ◌<◌, ◌≤◌, eqb, Bool, true, false, cond, List, [], ◌∷◌, length, refl, sym, ap, ◌∙◌, arith, sum_by, IsPermutation}
+use Rattle.std.specs.List.{count_by}
+use Rattle.std.proofs.lemmas.Bool.{eqb-true, cases_Bool}
+use Rattle.std.proofs.lemmas.List.Sums.{sum_by-cons, count_by-le-length}
+use Rattle.std.proofs.lemmas.List.Sorted.{sum_by-IsPermutation, Contains-permutation}
 use Rattle.shunt_base.specs.declared.keys.EventKey.{EventKey}
 use Rattle.shunt_base.specs.declared.keys.Stay.{Stay}
-use Rattle.shunt_base.specs.defs.Keys.{rank, IsKey, IsWellFormed, AreStays}
+use Rattle.shunt_base.specs.defs.Keys.{AreStays}
 use Rattle.shunt_stays.specs.defs.Members.{In}
-use Rattle.shunt_stays.specs.defs.Crossing.{crosses, stands_at, load_at, load_after, pairs_in, overs_in}
-use Rattle.shunt_stays.proofs.Members.{in_to, in_from, all_from}
+use Rattle.shunt_stays.specs.defs.Crossing.{crosses, stands_at, load_at}
+use Rattle.shunt_stays.proofs.Members.{in_to, in_from}
 use Rattle.shunt_stays.proofs.Halves.{formed}
 use Rattle.shunt_timeline.specs.declared.events.Event.{Event}
-use Rattle.shunt_timeline.specs.defs.Levels.{key_of, at, IsSmall}
-use Rattle.shunt_timeline.specs.defs.Kept.{Ascends, IsKeptAt, IsKept, sum_on}
-use Rattle.shunt_timeline.proofs.Lists.{sum_most, sum_alike, sum_plus}
+use Rattle.shunt_timeline.specs.defs.Levels.{key_of, IsSmall}
+use Rattle.shunt_timeline.specs.defs.Kept.{IsKept, sum_on}
+use Rattle.shunt_timeline.proofs.Lists.{sum_most}
 use Rattle.shunt_timeline.proofs.Steps.{flag}
 use Rattle.shunt_timeline.proofs.Changes.{off_track, off_crossing, kept_aside, aside_kept}
-use Rattle.shunt_timeline.proofs.Coming.{not_itself}
 
 -- a track on which x isn't
 pub beside : (stays : List Stay) (x : Stay) (t : ℕ) (events : List Event) → x.track.0 ≢ t → IsKept stays t events → IsKept (x ∷ stays) t events

@@ -1,26 +1,23 @@
 -- How many cross a stay that comes, and what stands just before an event.
-use Rattle.std.proofs.Common.{◌≡◌, ◌≢◌, ◌⊎◌, inl, inr, ⊎_elim, ℕ, ◌+◌, ◌-◌, ◌*◌, ◌<◌, ◌≤◌, ◌^◌, ltb, leb, eqb, Bool, true, false, cond, not, ◌&&◌, List, [], ◌∷◌, ◌++◌, length, get_or, map, refl, sym, subst, ap, ◌∙◌, arith, sum_by}
+use Rattle.std.proofs.Common.{◌≡◌, ◌≢◌, ⊎_elim, ℕ, ◌+◌, ◌-◌, ◌<◌, ◌≤◌, ltb, eqb, Bool, true, false, cond, not, ◌&&◌, List, refl, sym, ap, ◌∙◌, arith, sum_by}
 use Rattle.std.specs.List.{count_by}
-use Rattle.std.proofs.lemmas.Bool.{eqb-true, eq-eqb, cases_Bool, cases_eq, true≢false, false≢true, lt-ltb, le-leb}
+use Rattle.std.proofs.lemmas.Bool.{cases_Bool}
 use Rattle.std.proofs.lemmas.Bool.Decides.{nat_tests}
-use Rattle.std.proofs.lemmas.List.Sums.{sum_by-cons, sum_by-append}
-use Rattle.shunt_base.specs.declared.keys.EventKey.{EventKey}
 use Rattle.shunt_base.specs.declared.keys.Stay.{Stay}
-use Rattle.shunt_base.specs.defs.Keys.{rank, IsKey, IsWellFormed, AreStays}
+use Rattle.shunt_base.specs.defs.Keys.{rank, IsWellFormed}
 use Rattle.shunt_stays.specs.defs.Members.{In}
 use Rattle.shunt_stays.specs.defs.Events.{key_before}
-use Rattle.shunt_stays.specs.defs.Crossing.{crosses, stands_at, load_at, same_side}
-use Rattle.shunt_stays.proofs.Members.{all_in, in_left, in_right, in_cases}
-use Rattle.shunt_stays.proofs.Halves.{before_is, later_rank, formed, ids_apart}
+use Rattle.shunt_stays.specs.defs.Crossing.{crosses, stands_at, same_side}
+use Rattle.shunt_stays.proofs.Members.{all_in}
+use Rattle.shunt_stays.proofs.Halves.{before_is, formed, ids_apart}
 use Rattle.shunt_timeline.specs.declared.events.Event.{Event}
-use Rattle.shunt_timeline.specs.defs.Levels.{key_of, at, has_left, has_blocked}
-use Rattle.shunt_timeline.specs.defs.Kept.{Ascends, IsKeptAt, IsKept, sum_on}
-use Rattle.shunt_timeline.proofs.Lists.{sum_alike, sum_plus, sum_zero, sum_some, sum_least, ascends_front, ascends_apart}
+use Rattle.shunt_timeline.specs.defs.Levels.{has_left, has_blocked}
+use Rattle.shunt_timeline.specs.defs.Kept.{sum_on}
+use Rattle.shunt_timeline.proofs.Lists.{sum_alike, sum_plus, sum_zero}
 use Rattle.shunt_timeline.proofs.Steps.{flag}
 use Rattle.shunt_timeline.proofs.Numbers.{met, parts, covers, own_ways, standing_ways}
-use Rattle.shunt_timeline.proofs.Ranks.{key_in}
-use Rattle.shunt_timeline.proofs.Changes.{inside, stands_is, crosses_ranks, off_track, off_crossing}
-use Rattle.shunt_timeline.proofs.Coming.{Cut, and_flag, sum_on_all, window, wx, inA, inB, inC, we, leave_rank, leave_none}
+use Rattle.shunt_timeline.proofs.Changes.{inside, stands_is, crosses_ranks}
+use Rattle.shunt_timeline.proofs.Coming.{Cut, and_flag, window, wx, inB, we, leave_rank, leave_none}
 
 no_part : (be bl xe xl : ℕ) → bl ≤ xe → parts be bl xe xl ≡ false
 no_part be bl xe xl le = grind (arith, nat_tests)
@@ -86,8 +83,8 @@ module _ (stays : List Stay) (x : Stay) (A B C : List Event) (c : Cut stays x A 
   leaving p q is none =
       sum_alike (λ e. flag (q e)) g B (λ e h. ⊎_elim (λ t. none e h t ∙ sym (ap (λ b. cond b 0 (flag (part e.stay && p e.stay))) t)) (λ t. is e h t ∙ sym (ap (λ b. cond b 0 (flag (part e.stay && p e.stay))) t)) (cases_Bool e.enters))
       ∙ sym (window stays x A B C c g
-        (λ e h. leave_none stays x A B C c e _ (λ t. let lt = c.before e h in let r = leave_rank stays x A B C c e t in gone e (no_part (rank e.stay.enter) (rank e.stay.leave) xe xl (omega arith))))
-        (λ e h. leave_none stays x A B C c e _ (λ t. let lt = c.after e h in let r = leave_rank stays x A B C c e t in gone e (no_part_late (rank e.stay.enter) (rank e.stay.leave) xe xl (omega arith)))))
+      (λ e h. leave_none stays x A B C c e _ (λ t. let lt = c.before e h in let r = leave_rank stays x A B C c e t in gone e (no_part (rank e.stay.enter) (rank e.stay.leave) xe xl (omega arith))))
+      (λ e h. leave_none stays x A B C c e _ (λ t. let lt = c.after e h in let r = leave_rank stays x A B C c e t in gone e (no_part_late (rank e.stay.enter) (rank e.stay.leave) xe xl (omega arith)))))
       ∙ c.kept.leaves (λ s. flag (part s && p s))
     where
       g : Event → ℕ

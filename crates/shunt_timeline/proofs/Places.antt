@@ -1,5 +1,5 @@
 -- Lists cut at two places.
-use Rattle.std.proofs.Common.{◌≡◌, ◌⊎◌, inl, inr, ⊎_elim, ℕ, zero, suc, ◌+◌, ◌-◌, ◌<◌, ◌≤◌, Bool, List, [], ◌∷◌, ◌++◌, length, get_or, take, drop, map, refl, sym, subst, ap, ◌∙◌, arith}
+use Rattle.std.proofs.Common.{◌≡◌, inl, inr, ℕ, zero, suc, ◌+◌, ◌-◌, ◌<◌, ◌≤◌, Bool, List, [], ◌∷◌, ◌++◌, length, take, drop, map, refl, sym, subst, ap, ◌∙◌, arith}
 use Rattle.std.specs.List.{insert, remove, count_by}
 use Rattle.std.proofs.lemmas.List.{take_at, length-append, length-map}
 use Rattle.std.proofs.lemmas.List.Sums.{count_by-le-length}
@@ -77,9 +77,9 @@ pub written : {X : Type 0} (f : X → X) (from to n : ℕ) (es now new : List X)
     → take n ((take from now ++ (new ++ drop (to - from) (drop from now))) ++ drop (length (take from now ++ (new ++ drop (to - from) (drop from now)))) es) ≡ take from es ++ (map f (take (to - from) (drop from es)) ++ drop to es)
 written f from to n es now new le len same made =
     let all : take from now ++ (new ++ drop (to - from) (drop from now)) ≡ take from es ++ (map f (take (to - from) (drop from es)) ++ drop to es) =
-        ap (λ l. take from now ++ (l ++ drop (to - from) (drop from now))) made
-        ∙ ap (λ l. take from l ++ (map f (take (to - from) (drop from l)) ++ drop (to - from) (drop from l))) same
-        ∙ ap (λ l. take from es ++ (map f (take (to - from) (drop from es)) ++ l)) (dropped_twice from to es le) in
+    ap (λ l. take from now ++ (l ++ drop (to - from) (drop from now))) made
+    ∙ ap (λ l. take from l ++ (map f (take (to - from) (drop from l)) ++ drop (to - from) (drop from l))) same
+    ∙ ap (λ l. take from es ++ (map f (take (to - from) (drop from es)) ++ l)) (dropped_twice from to es le) in
     take_at (take from now ++ (new ++ drop (to - from) (drop from now))) _ n (ap length all ∙ length_written f from to es le ∙ sym len) ∙ all
 
 pub in_middle_of : {X : Type 0} (from to : ℕ) (es now : List X) (x : X) → now ≡ es → In x (take (to - from) (drop from now)) → In x es

@@ -1,13 +1,9 @@
 -- The tests of events and stays, by the numbers of their keys.
-use Rattle.std.proofs.Common.{◌≡◌, ◌⊎◌, inl, inr, ⊎_elim, ℕ, ◌<◌, ◌≤◌, ltb, leb, Bool, true, false, cond, ◌&&◌, List, length, get_or, take, drop, refl, sym, subst, ap, ◌∙◌, arith}
+use Rattle.std.proofs.Common.{◌≡◌, ℕ, ◌<◌, ◌≤◌, ltb, true, false, cond, List, length, get_or, take, drop, sym, subst, ◌∙◌, arith}
 use Rattle.std.proofs.lemmas.Bool.{ltb-true, ltb-false, lt-ltb}
 use Rattle.std.specs.List.Sorted.{IsPartitionedBy, IsPartitionPoint}
-use Rattle.std.specs.Ordering.{nat_cmp, is_le}
-use Rattle.std.proofs.lemmas.Bool.Decides.{nat_tests}
 use Rattle.shunt_base.specs.declared.keys.EventKey.{EventKey}
-use Rattle.shunt_base.specs.declared.keys.Stay.{Stay}
-use Rattle.shunt_base.specs.defs.Keys.{rank, key_cmp, IsKey, IsWellFormed}
-use Rattle.shunt_base.proofs.Ranks.{key_cmp_is}
+use Rattle.shunt_base.specs.defs.Keys.{rank, IsKey, IsWellFormed}
 use Rattle.shunt_stays.specs.defs.Members.{In}
 use Rattle.shunt_stays.specs.defs.Events.{key_before}
 use Rattle.shunt_stays.proofs.Members.{in_place}

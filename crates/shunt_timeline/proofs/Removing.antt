@@ -1,7 +1,7 @@
 -- The removal of a stay from its track, step by step.
-use Rattle.std.proofs.Common.{◌≡◌, ◌≢◌, ◌⊎◌, inl, inr, ⊎_elim, ℕ, zero, suc, ◌+◌, ◌-◌, ◌*◌, ◌^◌, ◌<◌, ◌≤◌, ltb, Bool, true, false, cond, List, [], ◌∷◌, ◌++◌, length, get_or, take, drop, map, refl, sym, subst, ap, ◌∙◌, append_assoc, arith}
+use Rattle.std.proofs.Common.{◌≡◌, inl, ⊎_elim, ℕ, zero, suc, ◌+◌, ◌-◌, ◌<◌, ◌≤◌, ltb, Bool, true, false, List, [], ◌∷◌, ◌++◌, length, get_or, take, drop, map, refl, sym, subst, ap, ◌∙◌, append_assoc, arith}
 use Rattle.std.specs.List.{count_by}
-use Rattle.std.proofs.lemmas.Bool.{cases_Bool, cases_lt, cases_eq, true≢false}
+use Rattle.std.proofs.lemmas.Bool.{cases_Bool, cases_eq, true≢false}
 use Rattle.std.proofs.lemmas.List.{take-append-drop, length-take-le, length-drop, take_at, drop_at, length-append, length-map}
 use Rattle.std.proofs.lemmas.List.Sums.{count_by-le-length}
 use Rattle.shunt_base.specs.declared.keys.EventKey.{EventKey}
@@ -9,14 +9,14 @@ use Rattle.shunt_base.specs.declared.keys.Stay.{Stay}
 use Rattle.shunt_base.specs.defs.Keys.{rank, IsKey, IsWellFormed, AreStays}
 use Rattle.shunt_base.proofs.Ranks.{rank_tells}
 use Rattle.shunt_stays.specs.defs.Members.{In}
-use Rattle.shunt_stays.specs.defs.Crossing.{crosses, stands_at, load_at, load_after, pairs_in, overs_in}
-use Rattle.shunt_stays.proofs.Members.{all_in, in_place, in_left, in_right, in_cases}
+use Rattle.shunt_stays.specs.defs.Crossing.{crosses, load_at, load_after, pairs_in, overs_in}
+use Rattle.shunt_stays.proofs.Members.{in_place, in_right, in_cases}
 use Rattle.shunt_stays.proofs.Halves.{later_rank, formed, same_id}
 use Rattle.shunt_timeline.specs.declared.events.Event.{Event}
 use Rattle.shunt_timeline.specs.declared.events.Met.{Met}
 use Rattle.shunt_timeline.specs.defs.Levels.{IsPlace, IsSmall, key_of, at, is_crossed, gets_over, lowered}
-use Rattle.shunt_timeline.specs.defs.Kept.{Ascends, IsKept, IsKeptAt}
-use Rattle.shunt_timeline.proofs.Lists.{ascends_at, in_take, in_drop}
+use Rattle.shunt_timeline.specs.defs.Kept.{IsKept, IsKeptAt}
+use Rattle.shunt_timeline.proofs.Lists.{ascends_at, in_drop}
 use Rattle.shunt_timeline.proofs.Steps.{flag}
 use Rattle.shunt_timeline.proofs.Ranks.{key_in}
 use Rattle.shunt_timeline.proofs.Changes.{entry_at, leave_at, key_id, count_one}
@@ -37,13 +37,15 @@ module _ (stays : List Stay) (x : Stay) (es : List Event) (a : AreStays (x ∷ s
   found key n p e h is = ⊎_elim
       (λ l. let lt = p.before e l in absurd (omega arith))
       (λ r. let j = in_drop n es e r in
-        let within : n < length es = let u = j.1 in let v = j.2 in omega arith in
-        (within, λ d.
-          let low : rank key ≤ at (get_or es n d) = p.after (get_or es n d) (head n es d within) in
-          let up : at (get_or es n d) ≤ at (get_or es j.0 d) = ascends_at at es n j.0 d k.ascends j.1 j.2 in
-          let same : get_or es j.0 d ≡ e = default es j.0 d e j.2 ∙ j.3 in
-          let high : at (get_or es j.0 d) ≡ at e = ap at same in
-          omega arith))
+      let within : n < length es = let u = j.1 in let v = j.2 in omega arith in (
+        within,
+        λ d.
+            let low : rank key ≤ at (get_or es n d) = p.after (get_or es n d) (head n es d within) in
+            let up : at (get_or es n d) ≤ at (get_or es j.0 d) = ascends_at at es n j.0 d k.ascends j.1 j.2 in
+            let same : get_or es j.0 d ≡ e = default es j.0 d e j.2 ∙ j.3 in
+            let high : at (get_or es j.0 d) ≡ at e = ap at same in
+            omega arith,
+      ))
       (in_cases (take n es) (drop n es) e (subst (λ (l : List Event). In e l) (sym (take-append-drop n es)) h))
     where
       head : {X : Type 0} (n : ℕ) (xs : List X) (d : X) → n < length xs → In (get_or xs n d) (drop n xs)
@@ -64,22 +66,26 @@ module _ (stays : List Stay) (x : Stay) (es : List Event) (a : AreStays (x ∷ s
   pub entry_found : (n : ℕ) → IsPlace es x.enter n → (n < length es) × ((d : Event) → IsOf x true (get_or es n d))
   entry_found n p =
       let r = has_entry (x ∷ stays) x.track.0 es a k x (inl refl) refl in
-      let f = found x.enter n p r.0 r.1 r.3 in
-      (f.0, λ d.
-        let o = of_key (get_or es n d) (in_place es n d f.0) x.enter a.0.enter_in a.0.enter_id (f.1 d) in record {
-          stay = o.0;
-          kind = ⊎_elim (λ t. t) (λ t. absurd (true≢false (sym a.0.enters ∙ ap (λ (z : EventKey). z.enters) (sym o.1 ∙ leave_at (get_or es n d) t ∙ ap (λ (s : Stay). s.leave) o.0) ∙ a.0.leaves))) (cases_Bool (get_or es n d).enters);
-        })
+      let f = found x.enter n p r.0 r.1 r.3 in (
+        f.0,
+        λ d.
+            let o = of_key (get_or es n d) (in_place es n d f.0) x.enter a.0.enter_in a.0.enter_id (f.1 d) in record {
+              stay = o.0;
+              kind = ⊎_elim (λ t. t) (λ t. absurd (true≢false (sym a.0.enters ∙ ap (λ (z : EventKey). z.enters) (sym o.1 ∙ leave_at (get_or es n d) t ∙ ap (λ (s : Stay). s.leave) o.0) ∙ a.0.leaves))) (cases_Bool (get_or es n d).enters);
+            },
+      )
 
   pub leave_found : (n : ℕ) → IsPlace es x.leave n → (n < length es) × ((d : Event) → IsOf x false (get_or es n d))
   leave_found n p =
       let r = has_leave (x ∷ stays) x.track.0 es a k x (inl refl) refl in
-      let f = found x.leave n p r.0 r.1 r.3 in
-      (f.0, λ d.
-        let o = of_key (get_or es n d) (in_place es n d f.0) x.leave a.0.leave_in a.0.leave_id (f.1 d) in record {
-          stay = o.0;
-          kind = ⊎_elim (λ t. absurd (true≢false (sym a.0.enters ∙ ap (λ (z : EventKey). z.enters) (sym (sym o.1 ∙ entry_at (get_or es n d) t ∙ ap (λ (s : Stay). s.enter) o.0)) ∙ a.0.leaves))) (λ t. t) (cases_Bool (get_or es n d).enters);
-        })
+      let f = found x.leave n p r.0 r.1 r.3 in (
+        f.0,
+        λ d.
+            let o = of_key (get_or es n d) (in_place es n d f.0) x.leave a.0.leave_in a.0.leave_id (f.1 d) in record {
+              stay = o.0;
+              kind = ⊎_elim (λ t. absurd (true≢false (sym a.0.enters ∙ ap (λ (z : EventKey). z.enters) (sym (sym o.1 ∙ entry_at (get_or es n d) t ∙ ap (λ (s : Stay). s.enter) o.0)) ∙ a.0.leaves))) (λ t. t) (cases_Bool (get_or es n d).enters);
+            },
+      )
 
   pub places_apart : (from to : ℕ) → IsPlace es x.enter from → IsPlace es x.leave to → from < to
   places_apart from to p q =
@@ -105,8 +111,8 @@ five_of {X} (suc from) (suc to) (z ∷ xs) d lt within =
     let g : suc from + 1 ≡ suc (from + 1) = omega arith in
     ap (λ (l : List X). z ∷ l) (five_of from to xs d (omega arith) (omega arith))
     ∙ sym (ap (λ n. z ∷ (take from xs ++ (get_or xs from d ∷ (take n (drop (suc from + 1) (z ∷ xs)) ++ (get_or xs to d ∷ drop (suc to + 1) (z ∷ xs)))))) e
-      ∙ ap (λ n. z ∷ (take from xs ++ (get_or xs from d ∷ (take (to - (from + 1)) (drop n (z ∷ xs)) ++ (get_or xs to d ∷ drop (suc to + 1) (z ∷ xs)))))) g
-      ∙ ap (λ n. z ∷ (take from xs ++ (get_or xs from d ∷ (take (to - (from + 1)) (drop (from + 1) xs) ++ (get_or xs to d ∷ drop n (z ∷ xs)))))) f)
+    ∙ ap (λ n. z ∷ (take from xs ++ (get_or xs from d ∷ (take (to - (from + 1)) (drop n (z ∷ xs)) ++ (get_or xs to d ∷ drop (suc to + 1) (z ∷ xs)))))) g
+    ∙ ap (λ n. z ∷ (take from xs ++ (get_or xs from d ∷ (take (to - (from + 1)) (drop (from + 1) xs) ++ (get_or xs to d ∷ drop n (z ∷ xs)))))) f)
 
 -- what was taken out and lowered
 pub record Went (x : Stay) (es gone after : List Event) (from to : ℕ) (entry : Event) (met : Met) (room : ℕ) : Type 0 where

@@ -1,5 +1,5 @@
 -- One event more of a walk.
-use Rattle.std.proofs.Common.{◌≡◌, ◌⊎◌, inl, inr, ℕ, zero, suc, ◌+◌, ◌*◌, ◌^◌, ◌<◌, ◌≤◌, Bool, true, false, cond, List, [], ◌∷◌, ◌++◌, length, get_or, take, drop, set, map, refl, sym, subst, ap, ◌∙◌, arith, sum_by}
+use Rattle.std.proofs.Common.{◌≡◌, ℕ, zero, suc, ◌+◌, ◌<◌, ◌≤◌, Bool, true, false, cond, List, [], ◌∷◌, ◌++◌, length, get_or, take, drop, set, map, refl, sym, subst, ap, ◌∙◌, arith}
 use mir.Val.{bool_byte}
 use Rattle.std.specs.List.{count_by}
 use Rattle.std.proofs.lemmas.List.{get_or_default, length-take-le}
@@ -60,10 +60,10 @@ flag_most false = omega arith
 
 pub small_lowered : (x : Stay) (e l : Event) → l ≡ lowered x e → IsSmall e → IsSmall l
 small_lowered x e l is h = subst IsSmall (sym is) (record {
-    crossings = let p = h.crossings in omega arith;
-    standing = let p = h.standing in omega arith;
-    load = let p = h.load in omega arith;
-  })
+  crossings = let p = h.crossings in omega arith;
+  standing = let p = h.standing in omega arith;
+  load = let p = h.load in omega arith;
+})
 
 -- a test as a number in code
 pub byte_is : (b : Bool) → bool_byte b ≡ flag b

@@ -1,10 +1,10 @@
 -- Timelines as a whole.
-use Rattle.std.proofs.Common.{◌≡◌, ◌≢◌, ◌⊎◌, inl, inr, ⊎_elim, ◌↔◌, ℕ, zero, suc, ◌+◌, ◌-◌, ◌*◌, ◌^◌, ◌<◌, ◌≤◌, ltb, Bool, true, false, not, cond, Result, List, [], ◌∷◌, ◌++◌, length, get_or, set, map, take, drop, vec_len, vec_capacity, refl, sym, subst, ap, ◌∙◌, arith, sum_by, IsPermutation}
-use Rattle.std.specs.List.{count_by, All, AllByRecursion, insert, remove}
+use Rattle.std.proofs.Common.{◌≡◌, ◌≢◌, inl, inr, ◌↔◌, ℕ, ◌+◌, ◌-◌, ◌*◌, ◌^◌, ◌<◌, ◌≤◌, ltb, Bool, false, not, cond, Result, List, [], ◌∷◌, length, get_or, set, take, drop, vec_len, vec_capacity, sym, subst, ap, ◌∙◌, arith, IsPermutation}
+use Rattle.std.specs.List.{count_by, All, insert}
 use Rattle.std.specs.Result.{is_ok}
-use Rattle.std.proofs.lemmas.List.Edits.{length-insert, length-remove}
-use Rattle.std.proofs.lemmas.List.Elements.{All-cons, All-tail}
-use Rattle.std.proofs.lemmas.List.Sorted.{All-permutation, IsPermutation-insert, IsPermutation-remove}
+use Rattle.std.proofs.lemmas.List.Edits.{length-insert}
+use Rattle.std.proofs.lemmas.List.Elements.{All-cons}
+use Rattle.std.proofs.lemmas.List.Sorted.{All-permutation, IsPermutation-insert}
 use Rattle.std.proofs.lemmas.List.Sums.{sum_by-cons, count_by-le-length}
 use Rattle.shunt_base.specs.declared.keys.Stay.{Stay}
 use Rattle.shunt_base.specs.defs.Keys.{AreStays, IsWellFormed}
@@ -18,13 +18,13 @@ use Rattle.shunt_stays.proofs.Crossings.{through_clear, clear_through, no_pairs,
 use Rattle.shunt_timeline.specs.declared.events.Event.{Event}
 use Rattle.shunt_timeline.specs.declared.track.Track.{Track}
 use Rattle.shunt_timeline.specs.defs.Kept.{IsKept}
-use Rattle.shunt_timeline.specs.defs.Sound.{lengths_of, AreSame, AreSound, IsSound}
+use Rattle.shunt_timeline.specs.defs.Sound.{lengths_of, AreSame, IsSound}
 use Rattle.shunt_timeline.proofs.Lists.{sum_most}
 use Rattle.shunt_timeline.proofs.Steps.{flag, flag_most}
 use Rattle.shunt_timeline.proofs.Places.{in_rest}
 use Rattle.shunt_timeline.proofs.Coming.{not_itself}
-use Rattle.shunt_timeline.proofs.Others.{beside, without, reordered, length_kept}
-use Rattle.shunt_timeline.proofs.Ids.{ids_put, ids_taken}
+use Rattle.shunt_timeline.proofs.Others.{beside, reordered, length_kept}
+use Rattle.shunt_timeline.proofs.Ids.{ids_put}
 use Rattle.shunt_timeline.proofs.Tracks.{at_set, lengths_set, length_lengths, length_at}
 
 pub through : (lengths : List ℕ) (stays : List Stay) (p o : ℕ) → AreStays stays → AreOnTracks lengths stays → p ≡ pairs_in stays → o ≡ overs_in lengths stays → (p ≡ 0) × (o ≡ 0) ↔ GoesThrough lengths stays
@@ -129,19 +129,19 @@ module _ (stays : List Stay) (tracks : List Track) (spare room pairs over : ℕ)
 pub roomier : (stays stays' : List Stay) (tracks tracks' : List Track) (spare spare' room room' pairs over : ℕ) → IsSound stays tracks spare room pairs over → stays' ≡ stays → AreSame tracks tracks'
     → length stays + spare' ≤ room' → length stays + spare' < 2 ^ 62 → ((t : ℕ) (d : Track) → t < length tracks' → 2 * (length stays + spare') ≤ vec_capacity (get_or tracks' t d).events) → IsSound stays' tracks' spare' room' pairs over
 roomier stays stays' tracks tracks' spare spare' room room' pairs over s is same fits small rooms = subst (λ (l : List Stay). IsSound l tracks' spare' room' pairs over) (sym is) (record {
-    sound = record {
-      formed = s.sound.formed;
-      placed = subst (λ (l : List ℕ). AreOnTracks l stays) (sym same.lengths) s.sound.placed;
-      sorted = s.sound.sorted;
-      few = s.sound.few;
-      kept = λ t d lt. let l : t < length tracks = omega (arith, same.count) in subst (λ (es : List Event). IsKept stays t es) (sym (same.events t d l)) (s.sound.kept t d l);
-      room = rooms;
-    };
-    fits = fits;
-    small = small;
-    pairs_are = s.pairs_are;
-    over_are = s.over_are ∙ ap (λ l. overs_in l stays) (sym same.lengths);
-  })
+  sound = record {
+    formed = s.sound.formed;
+    placed = subst (λ (l : List ℕ). AreOnTracks l stays) (sym same.lengths) s.sound.placed;
+    sorted = s.sound.sorted;
+    few = s.sound.few;
+    kept = λ t d lt. let l : t < length tracks = omega (arith, same.count) in subst (λ (es : List Event). IsKept stays t es) (sym (same.events t d l)) (s.sound.kept t d l);
+    room = rooms;
+  };
+  fits = fits;
+  small = small;
+  pairs_are = s.pairs_are;
+  over_are = s.over_are ∙ ap (λ l. overs_in l stays) (sym same.lengths);
+})
 
 pub still_room : (stays : List Stay) (tracks tracks' : List Track) (spare room pairs over : ℕ) → IsSound stays tracks spare room pairs over → AreSame tracks tracks' → (t : ℕ) (d : Track) → t < length tracks' → 2 * (length stays + spare) ≤ vec_capacity (get_or tracks' t d).events
 still_room stays tracks tracks' spare room pairs over s same t d lt = let l : t < length tracks = omega (arith, same.count) in let r = same.room t d l in let q = s.sound.room t d l in omega arith

@@ -99,14 +99,7 @@ fn sixty_tracks(rt: HostRuntime) -> Result<(), Fail> {
     for number in 0..30000u16 {
         let minute = number / 60 * 2 + 1;
         let track = (number % 60) as u8;
-        let next = stay(
-            u32::from(number),
-            track,
-            1,
-            Side::A,
-            minute,
-            minute + 1,
-        );
+        let next = stay(u32::from(number), track, 1, Side::A, minute, minute + 1);
         come(&mut timelines, next);
         assert!(rt; are(timelines.clash(), 0, 0));
     }

@@ -8,7 +8,6 @@ ghost use Rattle.shunt_stays.specs.defs.Members.{In};
 ghost use Rattle.shunt_timeline.specs.defs.Levels.{is_crossed, gets_over, has_left, has_blocked, raised, lowered, IsSmall, IsPlace};
 ghost use Rattle.shunt_timeline.specs.defs.Kept.{IsKept, IsLevel};
 
-
 use crate::events::{Event, Level, Met, level_before, lower, place, raise};
 use shunt_base::Stay;
 use std::alloc::AllocError;

@@ -1,15 +1,12 @@
 -- What is kept at the events of a track, each number as a fresh count of all stays.
-use Rattle.std.specs.Prelude.{◌≡◌, ℕ, ◌+◌, ◌*◌, ◌<◌, ◌≤◌, ◌==◌, Bool, true, false, sum_by, count_by, length, map, vec_len, vec_capacity, slice_index_or, List, [], ◌∷◌, if◌then◌else◌}
+use Rattle.std.specs.Prelude.{◌≡◌, ℕ, ◌<◌, ◌==◌, true, false, sum_by, count_by, List, [], ◌∷◌, if◌then◌else◌}
 use Rattle.std.specs.List.{AllByRecursion}
 use Rattle.shunt_base.specs.declared.keys.Stay.{Stay}
-use Rattle.shunt_base.specs.defs.Keys.{AreStays}
 use Rattle.shunt_stays.specs.defs.Members.{In}
-use Rattle.shunt_stays.specs.defs.Run.{AreOnTracks}
-use Rattle.shunt_stays.specs.defs.Crossing.{crosses, stands_at, load_at, pairs_in, overs_in}
+use Rattle.shunt_stays.specs.defs.Crossing.{crosses, stands_at, load_at}
 use Rattle.shunt_base.specs.declared.keys.EventKey.{EventKey}
 use Rattle.shunt_timeline.specs.declared.events.Event.{Event}
 use Rattle.shunt_timeline.specs.declared.events.Level.{Level}
-use Rattle.shunt_timeline.specs.declared.track.Track.{Track}
 use Rattle.shunt_timeline.specs.defs.Levels.{key_of, at}
 
 -- each is below all that follow

@@ -1,7 +1,6 @@
-use Rattle.std.proofs.Common.{◌≡◌, ◌∙◌, ◌+◌, ◌≤◌, Bool, cond, ap, sym, length, take, arith}
-use Rattle.std.proofs.lemmas.List.{take_all}
+use Rattle.std.proofs.Common.{◌∙◌, ◌+◌, cond, ap, arith}
 use Rattle.shunt_timeline.specs.defs.Levels.{is_crossed, gets_over, has_left, has_blocked, lowered, IsSmall}
-use Rattle.shunt_timeline.proofs.Steps.{at_hand, walks, counts_made, counts_within, count_map, small_lowered, flag_most}
+use Rattle.shunt_timeline.proofs.Steps.{at_hand, walks, counts_made, counts_within, small_lowered, flag_most}
 use Rattle.shunt_timeline.proofs.events.lower.Goals as goal
 
 pub with-met-requires-clause-small : goal.with-met-requires-clause-small

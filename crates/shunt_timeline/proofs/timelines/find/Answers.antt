@@ -1,4 +1,4 @@
-use Rattle.std.proofs.Common.{◌≡◌, ◌∙◌, ap, arith}
+use Rattle.std.proofs.Common.{◌∙◌, ap, arith}
 use Rattle.std.proofs.lemmas.List.{get_or_default}
 use Rattle.shunt_timeline.proofs.Ids.{id_of, nowhere}
 use Rattle.shunt_timeline.proofs.timelines.find.Goals as goal

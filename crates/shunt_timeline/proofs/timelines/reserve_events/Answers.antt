@@ -1,5 +1,4 @@
-use Rattle.std.proofs.Common.{◌≡◌, ◌∙◌, ap, arith}
-use Rattle.shunt_timeline.specs.declared.track.Track.{Track}
+use Rattle.std.proofs.Common.{arith}
 use Rattle.shunt_timeline.proofs.Tracks.{same_put, room_next}
 use Rattle.shunt_timeline.proofs.timelines.reserve_events.Goals as goal
 

@@ -1,4 +1,4 @@
-use Rattle.std.proofs.Common.{◌≡◌, ℕ, ◌<◌, ◌≤◌, get_or, vec_capacity}
+use Rattle.std.proofs.Common.{ℕ, ◌<◌, ◌≤◌, get_or, vec_capacity}
 use Rattle.shunt_timeline.specs.declared.track.Track.{Track}
 use Rattle.shunt_timeline.specs.defs.Sound.{AreSame}
 use Rattle.shunt_timeline.proofs.timelines.reserve_events.Given as goal

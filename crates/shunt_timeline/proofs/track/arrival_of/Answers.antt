@@ -1,4 +1,3 @@
-use Rattle.std.proofs.Common.{◌≡◌, ◌≤◌}
 use Rattle.shunt_timeline.proofs.Arriving.{wf, order, level_is, new_enter, new_leave}
 use Rattle.shunt_timeline.proofs.track.arrival_of.Goals as goal
 

@@ -1,4 +1,4 @@
-use Rattle.std.proofs.Common.{◌≡◌, ◌≤◌, ◌∙◌, ap, length, arith}
+use Rattle.std.proofs.Common.{◌≤◌, ◌∙◌, ap, length, arith}
 use Rattle.std.specs.List.{insert}
 use Rattle.shunt_timeline.proofs.Places.{put_two}
 use Rattle.shunt_timeline.proofs.track.put_pair.Goals as goal

@@ -1,4 +1,4 @@
-use Rattle.std.proofs.Common.{◌≡◌, ◌<◌, ◌∙◌, ap, length, arith}
+use Rattle.std.proofs.Common.{◌<◌, ◌∙◌, ap, length, arith}
 use Rattle.std.specs.List.{remove}
 use Rattle.shunt_timeline.proofs.Places.{take_two}
 use Rattle.shunt_timeline.proofs.track.take_pair.Goals as goal

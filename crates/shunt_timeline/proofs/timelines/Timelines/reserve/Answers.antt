@@ -1,4 +1,4 @@
-use Rattle.std.proofs.Common.{◌≡◌, ◌≤◌, ◌+◌, ◌*◌, vec_capacity, length, arith}
+use Rattle.std.proofs.Common.{◌≡◌, vec_capacity, length, arith}
 use Rattle.shunt_timeline.proofs.Whole.{roomier, still_room}
 use Rattle.shunt_timeline.proofs.timelines.Timelines.reserve.Goals as goal
 

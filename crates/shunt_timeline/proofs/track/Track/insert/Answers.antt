@@ -1,6 +1,5 @@
-use Rattle.std.proofs.Common.{◌≡◌, ◌≤◌, ◌+◌, ◌-◌, ◌*◌, ◌^◌, ◌∙◌, ltb, ap, subst, sym, cond, length, arith}
-use Rattle.std.specs.List.{count_by}
-use Rattle.shunt_stays.specs.defs.Crossing.{same_side, overs_in}
+use Rattle.std.proofs.Common.{◌≤◌, ◌+◌, ◌∙◌, ltb, ap, subst, sym, length, arith}
+use Rattle.shunt_stays.specs.defs.Crossing.{overs_in}
 use Rattle.shunt_timeline.specs.declared.events.Event.{Event}
 use Rattle.shunt_timeline.specs.defs.Levels.{is_crossed, gets_over, has_blocked}
 use Rattle.shunt_timeline.specs.defs.Kept.{IsKept, IsLevel}
@@ -58,8 +57,8 @@ overflow_add-result c =
       blocked = c.raise_between-met.ensures.blocked;
     } in
     let own : c.entry_of-entry.result.crossings ≤ 65536 = entry_small c.args.stay.now c.args.self.now.events.items c.deref.result.now c.arrival_of-from.result c.raise_between-met.result c.args.self.now.length came c.requires.kept.0 c.requires.kept.1 c.requires.kept.3 c.entry_of-entry.result c.leave_of.result
-      (record { is = record { stay = c.entry_of-entry.ensures.stay; kind = c.entry_of-entry.ensures.enters }; crossings = c.entry_of-entry.ensures.crossings; standing = c.entry_of-entry.ensures.standing; load = c.entry_of-entry.ensures.load })
-      (record { is = record { stay = ap (λ (e : Event). e.stay) c.leave_of.ensures; kind = ap (λ (e : Event). e.enters) c.leave_of.ensures }; crossings = ap (λ (e : Event). e.crossings) c.leave_of.ensures; standing = ap (λ (e : Event). e.standing) c.leave_of.ensures; load = ap (λ (e : Event). e.load) c.leave_of.ensures }) c.requires.kept.2 in
+    (record { is = record { stay = c.entry_of-entry.ensures.stay; kind = c.entry_of-entry.ensures.enters }; crossings = c.entry_of-entry.ensures.crossings; standing = c.entry_of-entry.ensures.standing; load = c.entry_of-entry.ensures.load })
+    (record { is = record { stay = ap (λ (e : Event). e.stay) c.leave_of.ensures; kind = ap (λ (e : Event). e.enters) c.leave_of.ensures }; crossings = ap (λ (e : Event). e.crossings) c.leave_of.ensures; standing = ap (λ (e : Event). e.standing) c.leave_of.ensures; load = ap (λ (e : Event). e.load) c.leave_of.ensures }) c.requires.kept.2 in
     let crossed : c.raise_between-met.result.crossed ≤ 131072 = counted_within (is_crossed c.args.stay.now) c.arrival_of-from.result.from c.arrival_of-from.result.to c.raise_between-met.result.crossed c.args.self.now.events.items c.arrival_of-from.ensures.order (few_events c.requires.kept.0 c.args.stay.now c.args.self.now.events.items c.requires.kept.1 c.requires.kept.2 c.requires.kept.3) c.raise_between-met.ensures.crossed in
     record { fits = omega arith }
 
@@ -84,9 +83,9 @@ returns-clause-kept c = λ stays a k.
       blocked = c.raise_between-met.ensures.blocked;
     } in
     kept_new c.args.stay.now c.args.self.now.events.items c.deref.result.now c.arrival_of-from.result c.raise_between-met.result c.args.self.now.length came stays a k c.entry_of-entry.result c.leave_of.result
-      (record { is = record { stay = c.entry_of-entry.ensures.stay; kind = c.entry_of-entry.ensures.enters }; crossings = c.entry_of-entry.ensures.crossings; standing = c.entry_of-entry.ensures.standing; load = c.entry_of-entry.ensures.load })
-      (record { is = record { stay = ap (λ (e : Event). e.stay) c.leave_of.ensures; kind = ap (λ (e : Event). e.enters) c.leave_of.ensures }; crossings = ap (λ (e : Event). e.crossings) c.leave_of.ensures; standing = ap (λ (e : Event). e.standing) c.leave_of.ensures; load = ap (λ (e : Event). e.load) c.leave_of.ensures })
-      c.raise_between-met.new.events.items c.put_pair.new.events.items c.raise_between-met.ensures.events c.put_pair.ensures.events
+    (record { is = record { stay = c.entry_of-entry.ensures.stay; kind = c.entry_of-entry.ensures.enters }; crossings = c.entry_of-entry.ensures.crossings; standing = c.entry_of-entry.ensures.standing; load = c.entry_of-entry.ensures.load })
+    (record { is = record { stay = ap (λ (e : Event). e.stay) c.leave_of.ensures; kind = ap (λ (e : Event). e.enters) c.leave_of.ensures }; crossings = ap (λ (e : Event). e.crossings) c.leave_of.ensures; standing = ap (λ (e : Event). e.standing) c.leave_of.ensures; load = ap (λ (e : Event). e.load) c.leave_of.ensures })
+    c.raise_between-met.new.events.items c.put_pair.new.events.items c.raise_between-met.ensures.events c.put_pair.ensures.events
 
 pub returns-clause-pairs : goal.returns-clause-pairs
 returns-clause-pairs c = λ stays a k.
@@ -103,8 +102,8 @@ returns-clause-pairs c = λ stays a k.
       blocked = c.raise_between-met.ensures.blocked;
     } in
     pairs_new c.args.stay.now c.args.self.now.events.items c.deref.result.now c.arrival_of-from.result c.raise_between-met.result c.args.self.now.length came stays a k c.entry_of-entry.result c.leave_of.result
-      (record { is = record { stay = c.entry_of-entry.ensures.stay; kind = c.entry_of-entry.ensures.enters }; crossings = c.entry_of-entry.ensures.crossings; standing = c.entry_of-entry.ensures.standing; load = c.entry_of-entry.ensures.load })
-      (record { is = record { stay = ap (λ (e : Event). e.stay) c.leave_of.ensures; kind = ap (λ (e : Event). e.enters) c.leave_of.ensures }; crossings = ap (λ (e : Event). e.crossings) c.leave_of.ensures; standing = ap (λ (e : Event). e.standing) c.leave_of.ensures; load = ap (λ (e : Event). e.load) c.leave_of.ensures })
+    (record { is = record { stay = c.entry_of-entry.ensures.stay; kind = c.entry_of-entry.ensures.enters }; crossings = c.entry_of-entry.ensures.crossings; standing = c.entry_of-entry.ensures.standing; load = c.entry_of-entry.ensures.load })
+    (record { is = record { stay = ap (λ (e : Event). e.stay) c.leave_of.ensures; kind = ap (λ (e : Event). e.enters) c.leave_of.ensures }; crossings = ap (λ (e : Event). e.crossings) c.leave_of.ensures; standing = ap (λ (e : Event). e.standing) c.leave_of.ensures; load = ap (λ (e : Event). e.load) c.leave_of.ensures })
 
 pub returns-clause-over : goal.returns-clause-over
 returns-clause-over c = λ stays lengths a k is.
@@ -121,6 +120,6 @@ returns-clause-over c = λ stays lengths a k is.
       blocked = c.raise_between-met.ensures.blocked;
     } in
     overs_new c.args.stay.now c.args.self.now.events.items c.deref.result.now c.arrival_of-from.result c.raise_between-met.result c.args.self.now.length came stays a k c.entry_of-entry.result c.leave_of.result
-      (record { is = record { stay = c.entry_of-entry.ensures.stay; kind = c.entry_of-entry.ensures.enters }; crossings = c.entry_of-entry.ensures.crossings; standing = c.entry_of-entry.ensures.standing; load = c.entry_of-entry.ensures.load })
-      (record { is = record { stay = ap (λ (e : Event). e.stay) c.leave_of.ensures; kind = ap (λ (e : Event). e.enters) c.leave_of.ensures }; crossings = ap (λ (e : Event). e.crossings) c.leave_of.ensures; standing = ap (λ (e : Event). e.standing) c.leave_of.ensures; load = ap (λ (e : Event). e.load) c.leave_of.ensures }) lengths is
+    (record { is = record { stay = c.entry_of-entry.ensures.stay; kind = c.entry_of-entry.ensures.enters }; crossings = c.entry_of-entry.ensures.crossings; standing = c.entry_of-entry.ensures.standing; load = c.entry_of-entry.ensures.load })
+    (record { is = record { stay = ap (λ (e : Event). e.stay) c.leave_of.ensures; kind = ap (λ (e : Event). e.enters) c.leave_of.ensures }; crossings = ap (λ (e : Event). e.crossings) c.leave_of.ensures; standing = ap (λ (e : Event). e.standing) c.leave_of.ensures; load = ap (λ (e : Event). e.load) c.leave_of.ensures }) lengths is
     ∙ ap (λ n. overs_in lengths stays + (c.raise_between-met.result.over + n)) (sym (c.from-2.ensures ∙ byte_is (ltb c.from.result c.entry_of-entry.result.load) ∙ ap (λ n. flag (ltb n c.entry_of-entry.result.load)) c.from.ensures))

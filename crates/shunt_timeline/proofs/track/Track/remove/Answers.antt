@@ -1,8 +1,6 @@
-use Rattle.std.proofs.Common.{◌≡◌, ◌≤◌, ◌<◌, ◌+◌, ◌-◌, ◌∙◌, ltb, ap, subst, sym, map, take, drop, length, arith}
-use Rattle.std.specs.List.{count_by}
+use Rattle.std.proofs.Common.{◌≡◌, ◌≤◌, ◌<◌, ◌+◌, ◌-◌, ◌∙◌, ltb, ap, subst, sym, length, arith}
 use Rattle.shunt_stays.specs.defs.Crossing.{overs_in}
-use Rattle.shunt_timeline.specs.declared.events.Event.{Event}
-use Rattle.shunt_timeline.specs.defs.Levels.{IsPlace, IsSmall, is_crossed, gets_over, lowered}
+use Rattle.shunt_timeline.specs.defs.Levels.{IsPlace, is_crossed, gets_over, lowered}
 use Rattle.shunt_timeline.proofs.Steps.{flag, byte_is, byte_within}
 use Rattle.shunt_timeline.proofs.Removing.{Went, gone_in, gone_length, kept_left, pairs_left, overs_left, entry_in, small_before, few_before, lowered_within}
 use Rattle.shunt_timeline.proofs.track.Track.remove.Goals as goal

@@ -196,12 +196,12 @@ module _ (x : Stay) (es gone after : List Event) (from to : ℕ) (entry : Event)
   load_is : load_after (x ∷ stays) x ≡ entry.load
   load_is = sym (entry_here.load ∙ ap (λ z. load_at (x ∷ stays) x.track.0 z) (entry_at entry i.kind ∙ ap (λ (s : Stay). s.enter) i.stay))
 
-  pub pairs_left : pairs_in (x ∷ stays) ≡ pairs_in stays + (entry.crossings + met.crossed)
+  pub pairs_left : pairs_in (x ∷ stays) ≡ pairs_in stays + (met.crossed + entry.crossings)
   pairs_left =
       let f : met.crossed ≡ count_by (is_crossed x) (map (lowered x) B) = h.crossed ∙ ap (λ l. count_by (is_crossed x) (map (lowered x) l)) mid in
       pairs_more stays x A (map (lowered x) B) C c ∙ ap (λ n. pairs_in stays + n) (let g = own in omega arith)
 
-  pub overs_left : (lengths : List ℕ) → get_or lengths x.track.0 0 ≡ room → overs_in lengths (x ∷ stays) ≡ overs_in lengths stays + (met.over + flag (ltb room entry.load))
+  pub overs_left : (lengths : List ℕ) → get_or lengths x.track.0 0 ≡ room → overs_in lengths (x ∷ stays) ≡ overs_in lengths stays + (flag (ltb room entry.load) + met.over)
   overs_left lengths at_room =
       let f : met.over ≡ count_by (gets_over x room) (map (lowered x) B) = h.over ∙ ap (λ l. count_by (gets_over x room) (map (lowered x) l)) mid in
       let g : flag (ltb room (load_after (x ∷ stays) x)) ≡ flag (ltb room entry.load) = ap (λ n. flag (ltb room n)) load_is in

@@ -243,8 +243,8 @@ impl Track {
         let entry = take_pair(&mut self.events, from, to);
         let met = lower_between(&mut self.events, from, to - 1, stay, room);
         Share {
-            pairs: entry.crossings + met.crossed,
-            over: met.over + u32::from(entry.load > u64::from(room)),
+            pairs: met.crossed + entry.crossings,
+            over: u32::from(entry.load > u64::from(room)) + met.over,
         }
     }
 }

@@ -77,4 +77,4 @@ returns-clause-over c = λ stays lengths a k is.
       over = c.lower_between-met.ensures.over;
     } in
     overs_left c.args.stay.now c.args.self.now.events.items c.take_pair-entry.new.events.items c.lower_between-met.new.events.items c.departure_of-from.result.from c.departure_of-from.result.to c.take_pair-entry.result c.lower_between-met.result c.args.self.now.length went stays a k lengths is
-    ∙ ap (λ n. overs_in lengths stays + (c.lower_between-met.result.over + n)) (sym (c.from-2.ensures ∙ byte_is (ltb c.from.result c.take_pair-entry.result.load) ∙ ap (λ n. flag (ltb n c.take_pair-entry.result.load)) c.from.ensures))
+    ∙ ap (λ n. overs_in lengths stays + (n + c.lower_between-met.result.over)) (sym (c.from-2.ensures ∙ byte_is (ltb c.from.result c.take_pair-entry.result.load) ∙ ap (λ n. flag (ltb n c.take_pair-entry.result.load)) c.from.ensures))

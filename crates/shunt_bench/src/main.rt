@@ -1,10 +1,11 @@
-//! Measures, by the first word: `records FILE`, `tracks`, `choices STATION TIMETABLE WALKS` and `audit STATION TIMETABLE PLAN
-//! RUNS`. Without words it prints nothing.
+//! Measures, by the first word: `records FILE`, `tracks`, `timelines`, `choices STATION TIMETABLE WALKS` and `audit STATION
+//! TIMETABLE PLAN RUNS`. Without words it prints nothing.
 #![tactic(auto)]
 
 mod audits;
 mod choices;
 mod nights;
+mod timelines;
 mod tracks;
 
 use audits::measure_audit;
@@ -14,6 +15,7 @@ use shunt_store::{DiskStore, read_all};
 use std::rt::{Clock, Env, Files};
 use std::time::CpuClock;
 use std::{env, io};
+use timelines::measure_timelines;
 use tracks::measure_tracks;
 
 /// The longest file that is measured, in bytes.
@@ -51,6 +53,15 @@ fn main(rt: HostRuntime) -> io::Result<()> {
             measure_tracks(&rt, 100, 320)?;
             measure_tracks(&rt, 400, 80)?;
             measure_tracks(&rt, 1600, 20)
+        }
+        ("timelines", _) => {
+            for tracks in [1, 60] {
+                measure_timelines(&rt, 10, tracks, 1000)?;
+                measure_timelines(&rt, 100, tracks, 200)?;
+                measure_timelines(&rt, 1000, tracks, 20)?;
+                measure_timelines(&rt, 10000, tracks, 4)?;
+            }
+            Ok(())
         }
         ("choices", (Some(station), Some(timetable), Some(walks), _)) => {
             measure_choices(&rt, station.as_str(), timetable.as_str(), walks.as_str())

@@ -1,0 +1,5 @@
+-- The definitions of this crate.
+pub mod Holdings
+pub mod Levels
+pub mod Kept
+pub mod Sound

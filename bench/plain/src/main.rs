@@ -2,8 +2,8 @@
 //!
 //! `plain make timetable SIZE` and `plain make certificate SIZE` print a file of about that many bytes;
 //! `plain largest station` and `plain largest timetable` print files that reach every limit and are accepted;
-//! `plain largest plan` prints a plan of 400 blocks over them; `plain split FILE` splits it at commas and line ends and keeps
-//! the fields; `plain choices STATION TIMETABLE WALKS` walks over the choices for each unit.
+//! `plain largest plan` prints a plan of 400 blocks over them; `plain split FILE..` splits each file at commas and line ends and
+//! keeps the fields; `plain choices STATION TIMETABLE WALKS` walks over the choices for each unit.
 
 mod choices;
 
@@ -17,7 +17,7 @@ fn main() {
         ["largest", "station"] => print!("{}", largest_station()),
         ["largest", "timetable"] => print!("{}", largest_timetable()),
         ["largest", "plan"] => print!("{}", largest_plan()),
-        ["split", name] => split(name),
+        ["split", ref names @ ..] if !names.is_empty() => names.iter().for_each(|name| split(name)),
         ["choices", station, timetable, walks] => choices::measure(station, timetable, walks.parse().expect("a number")),
         _ => std::process::exit(2),
     }

@@ -1,3 +1,4 @@
 -- The definitions of this crate.
 pub mod Spelling
 pub mod Keys
+pub mod Listed

@@ -4,7 +4,6 @@ pub mod Trails
 pub mod Rising
 pub mod StaysOf
 pub mod Opening
-pub mod Passing
 pub mod Times
 pub mod Sound
 pub mod Places

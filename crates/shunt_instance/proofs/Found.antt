@@ -8,13 +8,14 @@ use Rattle.std.proofs.lemmas.List.Quantifiers.{position-Some}
 use Rattle.std.proofs.lemmas.List.Sums.{position_or_len_is}
 use Rattle.std.proofs.lemmas.Option.{slice_get-get_or, slice_get-map, slice_get_within, get_or_from_slice_get}
 use Rattle.std.proofs.lemmas.Slice.Eq.{bytes_eq-Decides}
+use Rattle.shunt_lists.specs.defs.Members.{AreDistinct}
 use Rattle.shunt_base.specs.declared.ids.PlatformId.{PlatformId}
 use Rattle.shunt_base.specs.declared.ids.TrackId.{TrackId}
 use Rattle.shunt_base.specs.declared.ids.Side.{Side}
 use Rattle.shunt_base.specs.declared.ids.Side.TheVariants.{A, B}
 use Rattle.shunt_instance.specs.declared.records.Route.{Route}
 use Rattle.shunt_instance.specs.declared.records.Station.{Station}
-use Rattle.shunt_instance.specs.defs.Words.{AreDistinct, same_side, is_open_at, way_of, joins, route_cost}
+use Rattle.shunt_instance.specs.defs.Words.{same_side, is_open_at, way_of, joins, route_cost}
 use Rattle.shunt_instance.specs.defs.Wellformed.{IsRoute, IsStation}
 
 -- the thing that is found has the name

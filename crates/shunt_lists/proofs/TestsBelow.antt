@@ -1,6 +1,6 @@
 -- Tests of all numbers below one.
-use Rattle.std.specs.Prelude.{IsTrue, ◌&&◌, ◌↔◌}
-use Rattle.std.proofs.Common.{◌≡◌, ⊎_elim, ℕ, zero, suc, ◌<◌, ◌≤◌, Bool, true, refl, subst, arith}
+use Rattle.std.specs.Prelude.{IsTrue, ◌↔◌}
+use Rattle.std.proofs.Common.{◌≡◌, ⊎_elim, ℕ, zero, suc, ◌<◌, Bool, true, refl, subst, arith}
 use Rattle.std.proofs.lemmas.Bool.{and_parts, and_from, cases_lt}
 use Rattle.shunt_lists.specs.defs.Below.{all_below}
 

@@ -8,18 +8,18 @@ use Rattle.std.proofs.lemmas.Bool.{false≢true, and_parts, and_from, or_cases, 
 use Rattle.std.proofs.lemmas.Bool.Decides.{nat_tests}
 use Rattle.std.proofs.lemmas.List.Sums.{sum_by-cons}
 use Rattle.std.proofs.lemmas.List.Sorted.{sum_by-IsPermutation}
+use Rattle.shunt_lists.proofs.Sums.{some_of, sum_filter}
+use Rattle.shunt_lists.proofs.Members.{filter_from, filter_to}
+use Rattle.shunt_lists.specs.defs.Members.{In}
 use Rattle.shunt_base.specs.declared.ids.Side.{Side}
 use Rattle.shunt_base.specs.declared.ids.Side.TheVariants.{A, B}
 use Rattle.shunt_base.specs.declared.keys.EventKey.{EventKey}
 use Rattle.shunt_base.specs.declared.keys.Stay.{Stay}
 use Rattle.shunt_base.specs.defs.Keys.{key_cmp, rank, IsBefore, IsKey, IsWellFormed, AreStays}
 use Rattle.shunt_base.proofs.Ranks.{key_cmp_is, is_before}
-use Rattle.shunt_stays.specs.defs.Members.{In}
 use Rattle.shunt_stays.specs.defs.Events.{key_before}
 use Rattle.shunt_stays.specs.defs.Run.{GoesThrough, AreOnTracks}
 use Rattle.shunt_stays.specs.defs.Crossing.{Crosses, same_side, in_the_way, crosses, stands_at, load_at, load_after, NoneCross, NoneOver, pairs_in, overs_in}
-use Rattle.shunt_stays.proofs.Members.{filter_from, filter_to}
-use Rattle.shunt_stays.proofs.Sums.{some_of, sum_filter}
 use Rattle.shunt_stays.proofs.Halves.{formed, before_is, halves_of, ordered}
 use Rattle.shunt_stays.proofs.Track.{length_of, Meets, stands_by, total_at}
 use Rattle.shunt_stays.proofs.Runs.{goes_clear, clear_goes}

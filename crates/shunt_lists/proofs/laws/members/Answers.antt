@@ -1,5 +1,5 @@
 use Rattle.std.proofs.Common.{⊎_elim, subst, sym}
-use Rattle.std.specs.Prelude.{filter, map}
+use Rattle.std.specs.Prelude.{map}
 use Rattle.shunt_lists.specs.defs.Members.{In}
 use Rattle.shunt_lists.proofs.Members.{in_from, in_to, in_left, in_right, in_cases, in_map, of_map, filter_from, filter_to, in_flat, of_flat}
 use Rattle.shunt_lists.proofs.laws.members.Goals as goal

@@ -4,6 +4,7 @@ pub mod Trails
 pub mod Rising
 pub mod StaysOf
 pub mod Opening
+pub mod Passing
 pub mod Times
 pub mod Sound
 pub mod Places

@@ -1,4 +1,5 @@
 -- The definitions of this crate.
+pub mod Below
 pub mod Shapes
 pub mod Ways
 pub mod Blocks

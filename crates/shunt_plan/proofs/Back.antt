@@ -6,10 +6,9 @@ use Rattle.std.specs.Fmt.{decimal}
 use Rattle.std.specs.Char.{is_ascii_digit}
 use Rattle.std.specs.Str.Parse.{digits_value}
 use Rattle.std.proofs.lemmas.List.{append-nil, append_assoc, length-map}
-use Rattle.std.proofs.lemmas.Bool.{lt-ltb, le-leb, cases_Bool, cond-true, and_from, false_from_ne_true, or_from, eqb-true}
+use Rattle.std.proofs.lemmas.Bool.{lt-ltb, le-leb, cases_Bool}
 use Rattle.std.proofs.lemmas.Bool.Decides.{nat_tests}
 use Rattle.std.proofs.lemmas.Option.{slice_get-get_or}
-use Rattle.shunt_lists.specs.defs.Members.{AreDistinct}
 use Rattle.shunt_base.specs.declared.ids.ArrId.{ArrId}
 use Rattle.shunt_base.specs.declared.ids.DepId.{DepId}
 use Rattle.shunt_base.specs.declared.ids.TrackId.{TrackId}
@@ -31,6 +30,7 @@ use Rattle.shunt_instance.specs.declared.records.Station.{Station}
 use Rattle.shunt_instance.specs.declared.records.Track.{Track}
 use Rattle.shunt_instance.specs.declared.records.Train.{Train}
 use Rattle.shunt_instance.specs.declared.records.Origin.TheVariants as origin
+use Rattle.shunt_instance.specs.defs.Words.{AreDistinct}
 use Rattle.shunt_instance.specs.defs.Wellformed.{IsStation}
 use Rattle.shunt_instance.specs.defs.Instance.{Night, IsInstance, IsOrderedNight}
 use Rattle.shunt_instance.proofs.Found.{found_there}
@@ -54,14 +54,21 @@ AllHold : List Check → Type 0
 AllHold [] = Unit {0}
 AllHold (c ∷ checks) = (c.holds ≡ true) × AllHold checks
 
+yes_is : {X : Type 0} (b : Bool) (r s : X) → b ≡ true → (if b then r else s) ≡ r
+yes_is true r s e = refl
+yes_is false r s e = absurd cc
+
 holding : {X : Type 0} (n : ℕ) (checks : List Check) (x : X) → AllHold checks → passes n checks x ≡ Ok x
 unfolding AllHold
 holding n [] x all = refl
-holding n (c ∷ checks) x all = cond-true c.holds (passes n checks x) (Err record { row = n; field = c.field; kind = c.kind }) all.0 ∙ holding n checks x all.1
+holding n (c ∷ checks) x all = yes_is c.holds (passes n checks x) (Err record { row = n; field = c.field; kind = c.kind }) all.0 ∙ holding n checks x all.1
+
+and_two : (a b : Bool) → a ≡ true → b ≡ true → (a && b) ≡ true
+and_two a b e f = cc
 
 all_pass : {X : Type 0} (p : X → Bool) (xs : List X) → All (λ x. IsTrue (p x)) xs → list_all p xs ≡ true
 all_pass p [] all = refl
-all_pass p (x ∷ xs) all = and_from (p x) (list_all p xs) (all 0 x (omega arith)) (all_pass p xs (λ k d lt. all (suc k) d (omega arith)))
+all_pass p (x ∷ xs) all = and_two (p x) (list_all p xs) (all 0 x (omega arith)) (all_pass p xs (λ k d lt. all (suc k) d (omega arith)))
 
 lead : (a n : ℕ) → (a ≡ 48 → n ≡ 1) → (not (a == 48) || n == 1) ≡ true
 lead a n h = ⊎_elim (λ t. let m = h (eq_of a t) in grind (arith, nat_tests)) (λ f. or_left _ _ (ap not f)) (cases_Bool (a == 48))
@@ -73,16 +80,16 @@ lead a n h = ⊎_elim (λ t. let m = h (eq_of a t) in grind (arith, nat_tests)) 
     or_left b c e = cc
 
 decimal_test : (bytes : List ℕ) → IsDecimal bytes → is_decimal_text bytes ≡ true
-decimal_test bytes is = and_from _ _ (and_from _ _ (and_from _ _ (lt-ltb 0 (length bytes) is.nonempty) (le-leb (length bytes) 18 is.short)) (lead _ _ is.leading)) (all_pass is_ascii_digit bytes is.digits)
+decimal_test bytes is = and_two _ _ (and_two _ _ (and_two _ _ (lt-ltb 0 (length bytes) is.nonempty) (le-leb (length bytes) 18 is.short)) (lead _ _ is.leading)) (all_pass is_ascii_digit bytes is.digits)
 
 -- a number is read from what is printed of it
 pub number_again : (x : ℕ) → x < 10 ^ 18 → decimal_of (decimal x) ≡ Some x
 unfolding decimal_of
-number_again x lt = cond-true (is_decimal_text (decimal x)) (Some (digits_value 10 (decimal x))) None (decimal_test (decimal x) (spelled x lt)) ∙ ap (λ y. Some y) (value_again x lt)
+number_again x lt = yes_is (is_decimal_text (decimal x)) (Some (digits_value 10 (decimal x))) None (decimal_test (decimal x) (spelled x lt)) ∙ ap (λ y. Some y) (value_again x lt)
 
 pub in_limits : (least most x : ℕ) → least ≤ x → x ≤ most → is_within least most x ≡ true
 unfolding is_within
-in_limits least most x le ge = and_from _ _ (le-leb least x le) (le-leb x most ge)
+in_limits least most x le ge = and_two _ _ (le-leb least x le) (le-leb x most ge)
 
 abbrev arr_id : ℕ → ArrId
 arr_id k = record { 0 = k }
@@ -223,12 +230,22 @@ in_middle : (xs zs : List Block) (y : Block) (d : ℕ) → get_or (map (λ (b : 
 in_middle [] zs y d = refl
 in_middle (x ∷ xs) zs y d = in_middle xs zs y d
 
+one_is_no : (b : Bool) → (b ≡ true → ⊥) → b ≡ false
+one_is_no true h = absurd (h refl)
+one_is_no false h = refl
+
+none_or : (a b : Bool) → a ≡ false → b ≡ false → (a || b) ≡ false
+none_or a b e f = cc
+
+same_number : (a b : ℕ) → (a == b) ≡ true → a ≡ b
+same_number a b e = grind (arith, nat_tests)
+
 -- of blocks with distinct ids none before one of them has its id
 not_before : (xs zs : List Block) (y : Block) → AreDistinct (map (λ (b : Block). b.id) (xs ++ y ∷ zs)) → list_any (λ b. b.id == y.id) xs ≡ false
 not_before [] zs y all = refl
 not_before (x ∷ xs) zs y all =
-    or_from (x.id == y.id) (list_any (λ b. b.id == y.id) xs)
-    (false_from_ne_true (x.id == y.id) (λ e. all 0 (suc (length xs)) y.id (omega arith) (omega (arith, length-map (xs ++ y ∷ zs) (λ (b : Block). b.id), length-append xs (y ∷ zs))) (eqb-true x.id y.id e ∙ sym (in_middle xs zs y y.id))))
+    none_or (x.id == y.id) (list_any (λ b. b.id == y.id) xs)
+    (one_is_no (x.id == y.id) (λ e. all 0 (suc (length xs)) y.id (omega arith) (omega (arith, length-map (xs ++ y ∷ zs) (λ (b : Block). b.id), length-append xs (y ∷ zs))) (same_number x.id y.id e ∙ sym (in_middle xs zs y y.id))))
     (not_before xs zs y (λ i j d lt small. all (suc i) (suc j) d (omega arith) (omega arith)))
 
 id_new : (xs zs : List Block) (y : Block) → AreDistinct (map (λ (b : Block). b.id) (xs ++ y ∷ zs)) → has_id xs y.id ≡ false

@@ -5,7 +5,7 @@ use Rattle.std.specs.Option.{is_some, unwrap_or}
 use Rattle.std.specs.Fmt.{decimal}
 use Rattle.std.proofs.lemmas.List.{append-nil, append_assoc}
 use Rattle.std.proofs.lemmas.List.Elements.{All-tail}
-use Rattle.std.proofs.lemmas.Bool.{lt-ltb, cond-true}
+use Rattle.std.proofs.lemmas.Bool.{lt-ltb}
 use Rattle.shunt_base.specs.declared.ids.ArrId.{ArrId}
 use Rattle.shunt_base.specs.declared.ids.DepId.{DepId}
 use Rattle.shunt_base.specs.declared.ids.TrackId.{TrackId}
@@ -40,9 +40,13 @@ abbrev AllHold : List Check → Type 0
 AllHold [] = Unit {0}
 AllHold (c ∷ checks) = (c.holds ≡ true) × AllHold checks
 
+yes_is : {X : Type 0} (b : Bool) (r s : X) → b ≡ true → (if b then r else s) ≡ r
+yes_is true r s e = refl
+yes_is false r s e = absurd cc
+
 holding : {X : Type 0} (n : ℕ) (checks : List Check) (x : X) → AllHold checks → passes n checks x ≡ Ok x
 holding n [] x all = refl
-holding n (c ∷ checks) x all = cond-true c.holds (passes n checks x) (Err record { row = n; field = c.field; kind = c.kind }) all.0 ∙ holding n checks x all.1
+holding n (c ∷ checks) x all = yes_is c.holds (passes n checks x) (Err record { row = n; field = c.field; kind = c.kind }) all.0 ∙ holding n checks x all.1
 
 -- a number from the one to the other is read from what is printed of it
 record IsRead (least most x : ℕ) : Type 0 where

@@ -1,7 +1,7 @@
 -- What the records of an edits file state is turns that a file can state.
 use Rattle.std.proofs.Common.{◌≡◌, ℕ, ◌+◌, ◌<◌, Bool, true, false, List, [], ◌∷◌, ◌++◌, length, length-append, refl, sym, subst, arith}
 use Rattle.std.specs.Prelude.{Result, Ok, Err, IfOk, All, ◌==◌, if◌then◌else◌, codes}
-use Rattle.std.proofs.lemmas.List.Elements.{All-append, All-cons, All-nil}
+use Rattle.std.proofs.lemmas.List.Elements.{All-append, All-cons}
 use Rattle.std.proofs.lemmas.Bool.{true≢false, ltb-true}
 use Rattle.shunt_rows.specs.declared.fault.RowFault.{RowFault}
 use Rattle.shunt_rows.specs.declared.fault.ReadError.{ReadError}
@@ -139,6 +139,9 @@ turn_formed night before row =
     (chosen (is_word row (codes "undo")) _ _ (Formed night before) (undo_formed night before row)
     (chosen (is_word row (codes "redo")) _ _ (Formed night before) (redo_formed night before row) (λ h. absurd (true≢false (sym h.0))))))))))
 
+none_all : {X : Type 0} (P : X → Type 0) → All P []
+none_all P k d lt = absurd (omega arith)
+
 later_formed : (n : ℕ) (night : Night) (before after : List Turn) (row : List (List ℕ)) → AreTurns night before → answer n (edits_later night before row) ≡ Ok after → AreTurns night after
 unfolding edits_later
 later_formed n night before after row are e =
@@ -148,13 +151,13 @@ later_formed n night before after row are e =
     subst (AreTurns night) (sym (passed n all.checks all.value after e))
     (record {
       few = omega (arith, f.0, length-append before (m.value ∷ []));
-      each = All-append (IsTurn night) before (m.value ∷ []) are.each (All-cons (IsTurn night) m.value [] f.1 (All-nil (IsTurn night)));
+      each = All-append (IsTurn night) before (m.value ∷ []) are.each (All-cons (IsTurn night) m.value [] f.1 (none_all (IsTurn night)));
     })
 
 first_formed : (night : Night) (before : List Turn) (row : List (List ℕ)) → answer 1 (edits_first row) ≡ Ok before → AreTurns night before
 unfolding edits_first
 first_formed night before row e =
-    subst (AreTurns night) (sym (passed 1 (edits_first row).checks (edits_first row).value before e)) (record { few = omega arith; each = All-nil (IsTurn night) })
+    subst (AreTurns night) (sym (passed 1 (edits_first row).checks (edits_first row).value before e)) (record { few = omega arith; each = none_all (IsTurn night) })
 
 goes_on : {X Y : Type 0} (r : Result X RowFault) (g : X → Result Y RowFault) (z : Y) → formats.◌>>=◌ r g ≡ Ok z → (x : X) × (r ≡ Ok x) × (g x ≡ Ok z)
 goes_on (Ok x) g z e = (x, refl, e)

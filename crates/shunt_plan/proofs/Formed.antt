@@ -6,9 +6,8 @@ use Rattle.std.specs.Option.{is_some, unwrap_or}
 use Rattle.std.proofs.lemmas.List.{map-append, append-nil}
 use Rattle.std.proofs.lemmas.List.Elements.{All-push}
 use Rattle.std.proofs.lemmas.List.Quantifiers.{all_pairs_push, position-Some}
-use Rattle.std.proofs.lemmas.Bool.{true≢false, ltb-true, or_parts, cond-true, not-true}
+use Rattle.std.proofs.lemmas.Bool.{true≢false, ltb-true}
 use Rattle.std.proofs.lemmas.Bool.Decides.{nat_tests}
-use Rattle.shunt_lists.specs.defs.Members.{AreDistinct}
 use Rattle.shunt_base.specs.declared.ids.ArrId.{ArrId}
 use Rattle.shunt_base.specs.declared.ids.DepId.{DepId}
 use Rattle.shunt_base.specs.declared.ids.TrackId.{TrackId}
@@ -27,6 +26,7 @@ use Rattle.shunt_instance.specs.declared.records.Station.{Station}
 use Rattle.shunt_instance.specs.declared.records.Train.{Train}
 use Rattle.shunt_instance.specs.declared.records.Track.{Track}
 use Rattle.shunt_instance.specs.declared.records.Origin.TheVariants as origin
+use Rattle.shunt_instance.specs.defs.Words.{AreDistinct}
 use Rattle.shunt_instance.specs.defs.Instance.{Night}
 use Rattle.shunt_blocks.specs.declared.records.Block.{Block}
 use Rattle.shunt_blocks.specs.defs.Shapes.{IsOnTrack, IsInRange}
@@ -59,6 +59,18 @@ there nothing (Some y) e = refl
 pub within : (least most x : ℕ) → is_within least most x ≡ true → (least ≤ x) × (x ≤ most)
 unfolding is_within
 within least most x e = grind (arith, nat_tests)
+
+neither : (a b : Bool) → (a || b) ≡ false → (a ≡ false) × (b ≡ false)
+neither true b e = absurd (true≢false e)
+neither false b e = (refl, e)
+
+yes_is : {X : Type 0} (b : Bool) (r s : X) → b ≡ true → (if b then r else s) ≡ r
+yes_is true r s e = refl
+yes_is false r s e = absurd cc
+
+negated : (b : Bool) → not b ≡ true → b ≡ false
+negated true e = absurd (true≢false (sym e))
+negated false e = refl
 
 -- a number that is found is one of the list's
 number_found : {X I : Type 0} (p : X → Bool) (xs : List X) (d : X) (id : ℕ → I) (number : I → ℕ) → ((k : ℕ) → number (id k) ≡ k) → (i : I) (o : Option ℕ) → position p xs ≡ o → option_map id o ≡ Some i → number i < length xs
@@ -134,7 +146,7 @@ block_formed n night blocks row b e =
     let place = within 1 (dep_units night made.dep + 1 - made.n) made.q q.0 in
     subst (IsMore night blocks) (sym (passed n ((option_in night.station row 8).checks ++ []) made b q.1)) (record {
       room = ltb-true _ _ room.0;
-      new = not-true _ new.0;
+      new = negated _ new.0;
       in_range = record {
         from = low.0;
         to = low.1;
@@ -161,8 +173,8 @@ number_apart a b e is = grind (arith, nat_tests)
 -- an id that none has differs from each
 pub none_has : (blocks : List Block) (id : ℕ) → list_any (λ b. b.id == id) blocks ≡ false → (k : ℕ) (d : ℕ) → k < length (map (λ (b : Block). b.id) blocks) → get_or (map (λ (b : Block). b.id) blocks) k d ≢ id
 none_has [] id e k d lt is = absurd (omega arith)
-none_has (b ∷ blocks) id e zero d lt is = number_apart b.id id (or_parts _ _ e).0 is
-none_has (b ∷ blocks) id e (suc k) d lt is = none_has blocks id (or_parts _ _ e).1 k d (omega arith) is
+none_has (b ∷ blocks) id e zero d lt is = number_apart b.id id (neither _ _ e).0 is
+none_has (b ∷ blocks) id e (suc k) d lt is = none_has blocks id (neither _ _ e).1 k d (omega arith) is
 
 one_more : (night : Night) (blocks : List Block) (b : Block) → AreInRange night blocks → IsMore night blocks b → AreInRange night (blocks ++ b ∷ [])
 unfolding has_id
@@ -176,7 +188,7 @@ one_more night blocks b are more = record {
 passes_too : {A B : Type 0} (n : ℕ) (checks : List Check) (x : A) (y : B) (z : A) → passes n checks x ≡ Ok z → passes n checks y ≡ Ok y
 passes_too n [] x y z is = refl
 passes_too n (c ∷ checks) x y z is = ⊎_elim
-    (λ p. cond-true c.holds _ _ p.0 ∙ passes_too n checks x y z (sym p.1 ∙ is))
+    (λ p. yes_is c.holds _ _ p.0 ∙ passes_too n checks x y z (sym p.1 ∙ is))
     (λ p. absurd (let f = sym p.1 ∙ is in cc))
     (choice c.holds (passes n checks x) (Err record { row = n; field = c.field; kind = c.kind }))
 

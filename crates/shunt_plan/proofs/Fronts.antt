@@ -2,13 +2,13 @@
 use Rattle.std.proofs.Common.{◌≡◌, ◌≢◌, ◌⊎◌, ℕ, zero, suc, ◌+◌, ◌<◌, ◌≤◌, Bool, true, false, ◌||◌, List, [], ◌∷◌, ◌++◌, length, map, get_or, take, drop, refl, sym, ap, subst, ◌∙◌, arith, inl, inr, ⊎_elim, IsTrue}
 use Rattle.std.specs.Prelude.{All, ◌==◌}
 use Rattle.std.specs.List.{list_any}
-use Rattle.std.proofs.lemmas.Bool.{true≢false, eqb-true, or_cases}
+use Rattle.std.proofs.lemmas.Bool.{true≢false}
 use Rattle.std.proofs.lemmas.Bool.Decides.{nat_tests}
 use Rattle.std.proofs.lemmas.List.{take_all, take_more, drop_more, take-append-drop, map-append, length-map}
-use Rattle.std.proofs.lemmas.List.Elements.{All-push, All-more}
+use Rattle.std.proofs.lemmas.List.Elements.{All-push}
 use Rattle.std.proofs.lemmas.List.Quantifiers.{all_pairs_push}
-use Rattle.shunt_lists.proofs.Members.{in_place}
-use Rattle.shunt_lists.specs.defs.Members.{In, AreDistinct}
+use Rattle.shunt_stays.specs.defs.Members.{In}
+use Rattle.shunt_instance.specs.defs.Words.{AreDistinct}
 use Rattle.shunt_blocks.specs.declared.records.Block.{Block}
 use Rattle.shunt_blocks.specs.defs.Pins.{IsKept, Keeps, without_id}
 use Rattle.shunt_plan.specs.defs.BlockRecords.{has_id}
@@ -17,6 +17,9 @@ use Rattle.shunt_plan.proofs.Formed.{none_has}
 
 -- ---- what holds of each
 
+pub each_more : {X : Type 0} (P : X → Type 0) (xs : List X) (i : ℕ) (d : X) → i < length xs → All P (take i xs) → P (get_or xs i d) → All P (take (i + 1) xs)
+each_more P xs i d lt all p = subst (All P) (sym (take_more xs i d lt)) (All-push P (take i xs) (get_or xs i d) all p)
+
 pub each_whole : {X : Type 0} (P : X → Type 0) (xs : List X) (i : ℕ) → length xs ≤ i → All P (take i xs) → All P xs
 each_whole P xs i le all = subst (All P) (take_all i xs le) all
 
@@ -24,6 +27,13 @@ each_whole P xs i le all = subst (All P) (take_all i xs le) all
 
 abbrev ids : List Block → List ℕ
 ids blocks = map (λ b. b.id) blocks
+
+is_equal : (a b : ℕ) → (a == b) ≡ true → a ≡ b
+is_equal a b e = grind (arith, nat_tests)
+
+either : (a b : Bool) → (a || b) ≡ true → (a ≡ true) ⊎ (b ≡ true)
+either true b e = inl refl
+either false b e = inr e
 
 id_at : (blocks : List Block) (i : ℕ) (d : Block) (e : ℕ) → i < length blocks → get_or (ids blocks) i e ≡ (get_or blocks i d).id
 id_at [] i d e lt = absurd (omega arith)
@@ -35,9 +45,9 @@ clash : (blocks : List Block) (i : ℕ) (d : Block) → i < length blocks → li
 clash [] i d lt e all = omega arith
 clash (b ∷ blocks) zero d lt e all = true≢false (sym e)
 clash (b ∷ blocks) (suc i) d lt e all = ⊎_elim
-    (λ t. all 0 (suc i) 0 (omega arith) (omega (arith, length-map blocks (λ (b : Block). b.id))) (eqb-true b.id (get_or blocks i d).id t ∙ sym (id_at blocks i d 0 (omega arith))))
+    (λ t. all 0 (suc i) 0 (omega arith) (omega (arith, length-map blocks (λ (b : Block). b.id))) (is_equal b.id (get_or blocks i d).id t ∙ sym (id_at blocks i d 0 (omega arith))))
     (λ t. clash blocks i d (omega arith) t (λ j k e lt small. all (suc j) (suc k) e (omega arith) (omega arith)))
-    (or_cases (b.id == (get_or blocks i d).id) (list_any (λ b. b.id == (get_or blocks i d).id) (take i blocks)) e)
+    (either (b.id == (get_or blocks i d).id) (list_any (λ b. b.id == (get_or blocks i d).id) (take i blocks)) e)
 
 pub own_ids_not : (blocks : List Block) (i : ℕ) (d : Block) → i < length blocks → true ≡ has_id (take i blocks) (get_or blocks i d).id → (IsTrue false → AreDistinct (ids blocks)) × (AreDistinct (ids blocks) → IsTrue false)
 unfolding has_id
@@ -59,8 +69,14 @@ in_last : {X : Type 0} (x y : X) (xs : List X) → In x (xs ++ y ∷ []) → In 
 in_last x y [] i = ⊎_elim (λ e. inr e) (λ n. absurd n) i
 in_last x y (z ∷ xs) i = ⊎_elim (λ e. inl (inl e)) (λ j. ⊎_elim (λ k. inl (inr k)) (λ e. inr e) (in_last x y xs j)) i
 
+-- the one at a place is a member
+is_in : {X : Type 0} (xs : List X) (i : ℕ) (d : X) → i < length xs → In (get_or xs i d) xs
+is_in [] i d lt = absurd (omega arith)
+is_in (x ∷ xs) zero d lt = inl refl
+is_in (x ∷ xs) (suc i) d lt = inr (is_in xs i d (omega arith))
+
 pub kept_here : (blocks : List Block) (pin : Block) (i : ℕ) (d : Block) → i < length blocks → without_id (get_or blocks i d) ≡ without_id pin → (IsTrue true → IsKept blocks pin) × (IsKept blocks pin → IsTrue true)
-kept_here blocks pin i d lt same = (λ _. record { block = get_or blocks i d; there = in_place blocks i d lt; same = same }, λ _. refl)
+kept_here blocks pin i d lt same = (λ _. record { block = get_or blocks i d; there = is_in blocks i d lt; same = same }, λ _. refl)
 
 pub not_yet : (blocks : List Block) (pin : Block) (i : ℕ) (d : Block) → i < length blocks → (IsKept (take i blocks) pin → ⊥) → (without_id (get_or blocks i d) ≡ without_id pin → IsTrue false) → IsKept (take (i + 1) blocks) pin → ⊥
 not_yet blocks pin i d lt none differs kept =
@@ -82,4 +98,4 @@ first_lost blocks seen pins i d same lt kept lost = record {
 }
 
 pub keeps_more : (blocks seen pins : List Block) (i : ℕ) (d : Block) → seen ≡ blocks → i < length pins → Keeps blocks (take i pins) → IsKept seen (get_or pins i d) → Keeps blocks (take (i + 1) pins)
-keeps_more blocks seen pins i d same lt kept is = All-more (IsKept blocks) pins i d lt kept (subst (λ (l : List Block). IsKept l (get_or pins i d)) same is)
+keeps_more blocks seen pins i d same lt kept is = each_more (IsKept blocks) pins i d lt kept (subst (λ (l : List Block). IsKept l (get_or pins i d)) same is)

@@ -8,10 +8,9 @@ use Rattle.std.specs.Char.{is_ascii_digit}
 use Rattle.std.specs.Str.Parse.{digits_value}
 use Rattle.std.proofs.lemmas.List.{map-id, append-nil, append_assoc, length-map}
 use Rattle.std.proofs.lemmas.Slice.Eq.{bytes_eq-Decides}
-use Rattle.std.proofs.lemmas.Bool.{true≢false, lt-ltb, le-leb, cases_Bool, cond-true, and_from, false_from_ne_true, or_from, eqb-true, and_parts}
+use Rattle.std.proofs.lemmas.Bool.{true≢false, lt-ltb, le-leb, cases_Bool}
 use Rattle.std.proofs.lemmas.Bool.Decides.{nat_tests}
 use Rattle.std.proofs.lemmas.Option.{slice_get-get_or}
-use Rattle.shunt_lists.specs.defs.Members.{AreDistinct}
 use Rattle.shunt_base.specs.declared.ids.PlatformId.{PlatformId}
 use Rattle.shunt_base.specs.declared.ids.TrackId.{TrackId}
 use Rattle.shunt_base.specs.declared.ids.TypeId.{TypeId}
@@ -29,7 +28,7 @@ use Rattle.shunt_instance.specs.declared.records.Track.{Track}
 use Rattle.shunt_instance.specs.declared.records.Route.{Route}
 use Rattle.shunt_instance.specs.declared.records.Permit.{Permit}
 use Rattle.shunt_instance.specs.declared.records.Station.{Station}
-use Rattle.shunt_instance.specs.defs.Words.{is_open_at, joins, same_side, way_of}
+use Rattle.shunt_instance.specs.defs.Words.{AreDistinct, is_open_at, joins, same_side, way_of}
 use Rattle.shunt_instance.specs.defs.Wellformed.{IsUnitType, IsTrack, IsRoute, IsPermit, IsStation}
 use Rattle.shunt_instance.proofs.Found.{found_there}
 use Rattle.shunt_station.specs.defs.Stating.{Draft, Ends, empty_station, first_of, type_of_name, platform_of_name, track_number, ends_of, type_of, platform_of, track_of, opens, stands, route_of, is_permitted, permit_of, cost_of, later_of, station_format}
@@ -45,18 +44,25 @@ AllHold : List Check → Type 0
 AllHold [] = Unit {0}
 AllHold (c ∷ checks) = (c.holds ≡ true) × AllHold checks
 
+yes_is : {X : Type 0} (b : Bool) (r s : X) → b ≡ true → (if b then r else s) ≡ r
+yes_is true r s e = refl
+yes_is false r s e = absurd cc
+
 holding : {X : Type 0} (n : ℕ) (checks : List Check) (x : X) → AllHold checks → passes n checks x ≡ Ok x
 unfolding AllHold
 holding n [] x all = refl
-holding n (c ∷ checks) x all = cond-true c.holds (passes n checks x) (Err record { row = n; field = c.field; kind = c.kind }) all.0 ∙ holding n checks x all.1
+holding n (c ∷ checks) x all = yes_is c.holds (passes n checks x) (Err record { row = n; field = c.field; kind = c.kind }) all.0 ∙ holding n checks x all.1
+
+and_two : (a b : Bool) → a ≡ true → b ≡ true → (a && b) ≡ true
+and_two a b e f = cc
 
 all_pass : {X : Type 0} (p : X → Bool) (xs : List X) → All (λ x. IsTrue (p x)) xs → list_all p xs ≡ true
 all_pass p [] all = refl
-all_pass p (x ∷ xs) all = and_from (p x) (list_all p xs) (all 0 x (omega arith)) (all_pass p xs (λ k d lt. all (suc k) d (omega arith)))
+all_pass p (x ∷ xs) all = and_two (p x) (list_all p xs) (all 0 x (omega arith)) (all_pass p xs (λ k d lt. all (suc k) d (omega arith)))
 
 -- a name is spelled as one
 name_read : (name : List ℕ) → IsName name → is_name_text name ≡ true
-name_read name is = and_from _ _ (and_from _ _ (lt-ltb 0 (length name) is.0) (le-leb (length name) 16 is.1)) (all_pass is_name_byte name is.2)
+name_read name is = and_two _ _ (and_two _ _ (lt-ltb 0 (length name) is.0) (le-leb (length name) 16 is.1)) (all_pass is_name_byte name is.2)
 
 lead : (a n : ℕ) → (a ≡ 48 → n ≡ 1) → (not (a == 48) || n == 1) ≡ true
 lead a n h = ⊎_elim (λ t. let m = h (eq_of a t) in grind (arith, nat_tests)) (λ f. or_left _ _ (ap not f)) (cases_Bool (a == 48))
@@ -68,11 +74,11 @@ lead a n h = ⊎_elim (λ t. let m = h (eq_of a t) in grind (arith, nat_tests)) 
     or_left b c e = cc
 
 decimal_test : (bytes : List ℕ) → IsDecimal bytes → is_decimal_text bytes ≡ true
-decimal_test bytes is = and_from _ _ (and_from _ _ (and_from _ _ (lt-ltb 0 (length bytes) is.nonempty) (le-leb (length bytes) 18 is.short)) (lead _ _ is.leading)) (all_pass is_ascii_digit bytes is.digits)
+decimal_test bytes is = and_two _ _ (and_two _ _ (and_two _ _ (lt-ltb 0 (length bytes) is.nonempty) (le-leb (length bytes) 18 is.short)) (lead _ _ is.leading)) (all_pass is_ascii_digit bytes is.digits)
 
 number_again : (x : ℕ) → x < 10 ^ 18 → decimal_of (decimal x) ≡ Some x
 unfolding decimal_of
-number_again x lt = cond-true (is_decimal_text (decimal x)) (Some (digits_value 10 (decimal x))) None (decimal_test (decimal x) (spelled x lt)) ∙ ap (λ y. Some y) (value_again x lt)
+number_again x lt = yes_is (is_decimal_text (decimal x)) (Some (digits_value 10 (decimal x))) None (decimal_test (decimal x) (spelled x lt)) ∙ ap (λ y. Some y) (value_again x lt)
 
 -- a number from the one to the other is read from what is printed of it
 record IsRead (least most x : ℕ) : Type 0 where
@@ -82,7 +88,7 @@ record IsRead (least most x : ℕ) : Type 0 where
 
 in_range : (least most x : ℕ) → least ≤ x → x ≤ most → is_within least most x ≡ true
 unfolding is_within
-in_range least most x le ge = and_from _ _ (le-leb least x le) (le-leb x most ge)
+in_range least most x le ge = and_two _ _ (le-leb least x le) (le-leb x most ge)
 
 number_read : (least most x : ℕ) → least ≤ x → x ≤ most → most < 10 ^ 18 → IsRead least most x
 number_read least most x le ge small =
@@ -95,12 +101,19 @@ in_middle : {X Y : Type 0} (f : X → Y) (xs zs : List X) (y : X) (d : Y) → ge
 in_middle f [] zs y d = refl
 in_middle f (x ∷ xs) zs y d = in_middle f xs zs y d
 
+one_is_no : (b : Bool) → (b ≡ true → ⊥) → b ≡ false
+one_is_no true h = absurd (h refl)
+one_is_no false h = refl
+
+none_or : (a b : Bool) → a ≡ false → b ≡ false → (a || b) ≡ false
+none_or a b e f = cc
+
 -- of distinct things none before one of them passes a test that tells it
 not_before : {X Y : Type 0} (f : X → Y) (test : X → Bool) (xs zs : List X) (y : X) → ((x : X) → test x ≡ true → f x ≡ f y) → AreDistinct (map f (xs ++ y ∷ zs)) → list_any test xs ≡ false
 not_before f test [] zs y tells all = refl
 not_before f test (x ∷ xs) zs y tells all =
-    or_from (test x) (list_any test xs)
-    (false_from_ne_true (test x) (λ e. all 0 (suc (length xs)) (f y) (omega arith) (omega (arith, length-map (xs ++ y ∷ zs) f, length-append xs (y ∷ zs))) (tells x e ∙ sym (in_middle f xs zs y (f y)))))
+    none_or (test x) (list_any test xs)
+    (one_is_no (test x) (λ e. all 0 (suc (length xs)) (f y) (omega arith) (omega (arith, length-map (xs ++ y ∷ zs) f, length-append xs (y ∷ zs))) (tells x e ∙ sym (in_middle f xs zs y (f y)))))
     (not_before f test xs zs y tells (λ i j d lt small. all (suc i) (suc j) d (omega arith) (omega arith)))
 
 by_name : (name other : List ℕ) → bytes_eq other name ≡ true → other ≡ name
@@ -181,6 +194,13 @@ same_way A B e = absurd (true≢false (sym e))
 same_way B A e = absurd (true≢false (sym e))
 same_way B B e = refl
 
+same_number : (a b : ℕ) → (a == b) ≡ true → a ≡ b
+same_number a b e = grind (arith, nat_tests)
+
+both : (a b : Bool) → (a && b) ≡ true → (a ≡ true) × (b ≡ true)
+both true b e = (refl, e)
+both false b e = absurd (true≢false (sym e))
+
 abbrev platform_id : ℕ → PlatformId
 platform_id k = record { 0 = k }
 
@@ -195,10 +215,10 @@ way_from p t q = (p, (t, q))
 
 joins_tells : (y r : Route) → joins y.platform y.track y.side r ≡ true → way_of r ≡ way_of y
 joins_tells y r e =
-    let c = and_parts _ (same_side r.side y.side) e in
-    let d = and_parts (r.platform.0 == y.platform.0) _ c.0 in
-    ap (λ k. way_from (platform_id k) r.track r.side) (eqb-true r.platform.0 y.platform.0 d.0)
-    ∙ ap (λ k. way_from y.platform (track_id k) r.side) (eqb-true r.track.0 y.track.0 d.1)
+    let c = both _ (same_side r.side y.side) e in
+    let d = both (r.platform.0 == y.platform.0) _ c.0 in
+    ap (λ k. way_from (platform_id k) r.track r.side) (same_number r.platform.0 y.platform.0 d.0)
+    ∙ ap (λ k. way_from y.platform (track_id k) r.side) (same_number r.track.0 y.track.0 d.1)
     ∙ ap (λ q. way_from y.platform y.track q) (same_way r.side y.side c.1)
 
 abbrev permit_from : TrackId → TypeId → Permit
@@ -206,8 +226,8 @@ permit_from t k = record { track = t; kind = k }
 
 names_tell : (y p : Permit) → (p.track.0 == y.track.0 && p.kind.0 == y.kind.0) ≡ true → p ≡ y
 names_tell y p e =
-    let c = and_parts _ _ e in
-    ap (λ k. permit_from (track_id k) p.kind) (eqb-true p.track.0 y.track.0 c.0) ∙ ap (λ k. permit_from y.track (type_id k)) (eqb-true p.kind.0 y.kind.0 c.1)
+    let c = both _ _ e in
+    ap (λ k. permit_from (track_id k) p.kind) (same_number p.track.0 y.track.0 c.0) ∙ ap (λ k. permit_from y.track (type_id k)) (same_number p.kind.0 y.kind.0 c.1)
 
 name_of_type : UnitType → List ℕ
 name_of_type t = t.name

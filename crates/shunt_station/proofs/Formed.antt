@@ -4,14 +4,12 @@ use Rattle.std.specs.Prelude.{Result, Ok, Err, IfOk, bytes_eq, All, AllPairs, �
 use Rattle.std.specs.List.{list_any}
 use Rattle.std.specs.Option.{is_some, unwrap_or}
 use Rattle.std.proofs.lemmas.List.{map-append}
-use Rattle.std.proofs.lemmas.List.Elements.{All-append, All-cons, All-nil, All-push}
+use Rattle.std.proofs.lemmas.List.Elements.{All-append, All-cons}
 use Rattle.std.proofs.lemmas.List.Quantifiers.{all_pairs_push, position-Some}
 use Rattle.std.proofs.lemmas.Slice.Eq.{bytes_eq-Decides}
-use Rattle.std.proofs.lemmas.Bool.{true≢false, ltb-true, leb-true, and_parts, or_parts, not-true, and_from}
+use Rattle.std.proofs.lemmas.Bool.{true≢false, ltb-true, leb-true}
 use Rattle.std.proofs.lemmas.Bool.Decides.{nat_tests}
 use Rattle.std.proofs.lemmas.List.Sums.{AllPass-from_list_all}
-use Rattle.shunt_lists.proofs.Lists.{no_pairs}
-use Rattle.shunt_lists.specs.defs.Members.{AreDistinct}
 use Rattle.shunt_base.specs.declared.ids.PlatformId.{PlatformId}
 use Rattle.shunt_base.specs.declared.ids.TrackId.{TrackId}
 use Rattle.shunt_base.specs.declared.ids.TypeId.{TypeId}
@@ -32,7 +30,7 @@ use Rattle.shunt_instance.specs.declared.records.Track.{Track}
 use Rattle.shunt_instance.specs.declared.records.Route.{Route}
 use Rattle.shunt_instance.specs.declared.records.Permit.{Permit}
 use Rattle.shunt_instance.specs.declared.records.Station.{Station}
-use Rattle.shunt_instance.specs.defs.Words.{is_open, is_open_at, joins, same_side, way_of}
+use Rattle.shunt_instance.specs.defs.Words.{AreDistinct, is_open, is_open_at, joins, same_side, way_of}
 use Rattle.shunt_instance.specs.defs.Wellformed.{IsUnitType, IsTrack, IsRoute, IsPermit, IsStation}
 use Rattle.shunt_station.specs.defs.Stating.{Draft, Ends, empty_station, first_of, type_of_name, platform_of_name, track_number, ends_of, type_of, platform_of, track_of, opens, stands, route_of, is_permitted, permit_of, cost_of, later_of, station_format}
 
@@ -52,22 +50,34 @@ within : (least most x : ℕ) → is_within least most x ≡ true → (least ≤
 unfolding is_within
 within least most x e = grind (arith, nat_tests)
 
+both : (a b : Bool) → (a && b) ≡ true → (a ≡ true) × (b ≡ true)
+both true b e = (refl, e)
+both false b e = absurd (true≢false (sym e))
+
 name_from : (text : List ℕ) → is_name_text text ≡ true → IsName text
 name_from text t =
-    let parts = and_parts _ _ t in
-    let first = and_parts _ _ parts.0 in
+    let parts = both _ _ t in
+    let first = both _ _ parts.0 in
     (ltb-true _ _ first.0, leb-true _ _ first.1, AllPass-from_list_all is_name_byte text parts.1)
+
+neither : (a b : Bool) → (a || b) ≡ false → (a ≡ false) × (b ≡ false)
+neither true b e = absurd (true≢false e)
+neither false b e = (refl, e)
+
+negated : (b : Bool) → not b ≡ true → b ≡ false
+negated true e = absurd (true≢false (sym e))
+negated false e = refl
 
 -- where none passes a test that this one passes, each differs from it
 none_such : {X Y : Type 0} (f : X → Y) (test : X → Bool) (xs : List X) (y : Y) → ((x : X) → f x ≡ y → test x ≡ true) → list_any test xs ≡ false → (k : ℕ) (d : Y) → k < length (map f xs) → get_or (map f xs) k d ≢ y
 none_such f test [] y same e k d lt is = absurd (omega arith)
-none_such f test (x ∷ xs) y same e zero d lt is = true≢false (sym (same x is) ∙ (or_parts _ _ e).0)
-none_such f test (x ∷ xs) y same e (suc k) d lt is = none_such f test xs y same (or_parts _ _ e).1 k d (omega arith) is
+none_such f test (x ∷ xs) y same e zero d lt is = true≢false (sym (same x is) ∙ (neither _ _ e).0)
+none_such f test (x ∷ xs) y same e (suc k) d lt is = none_such f test xs y same (neither _ _ e).1 k d (omega arith) is
 
 none_same : {Y : Type 0} (test : Y → Bool) (ys : List Y) (y : Y) → ((x : Y) → x ≡ y → test x ≡ true) → list_any test ys ≡ false → (k : ℕ) (d : Y) → k < length ys → get_or ys k d ≢ y
 none_same test [] y same e k d lt is = absurd (omega arith)
-none_same test (x ∷ xs) y same e zero d lt is = true≢false (sym (same x is) ∙ (or_parts _ _ e).0)
-none_same test (x ∷ xs) y same e (suc k) d lt is = none_same test xs y same (or_parts _ _ e).1 k d (omega arith) is
+none_same test (x ∷ xs) y same e zero d lt is = true≢false (sym (same x is) ∙ (neither _ _ e).0)
+none_same test (x ∷ xs) y same e (suc k) d lt is = none_same test xs y same (neither _ _ e).1 k d (omega arith) is
 
 -- one more thing, unlike the others
 distinct_push : {X Y : Type 0} (f : X → Y) (test : X → Bool) (xs : List X) (y : X) → ((x : X) → f x ≡ f y → test x ≡ true) → AreDistinct (map f xs) → list_any test xs ≡ false → AreDistinct (map f (xs ++ y ∷ []))
@@ -75,6 +85,12 @@ distinct_push f test xs y same all e = subst AreDistinct (sym (map-append f xs (
 
 plain_push : {Y : Type 0} (test : Y → Bool) (ys : List Y) (y : Y) → ((x : Y) → x ≡ y → test x ≡ true) → AreDistinct ys → list_any test ys ≡ false → AreDistinct (ys ++ y ∷ [])
 plain_push test ys y same all e = all_pairs_push (λ m n. m ≢ n) ys y all (none_same test ys y same e)
+
+none_all : {X : Type 0} (P : X → Type 0) → All P []
+none_all P k d lt = absurd (omega arith)
+
+all_push : {X : Type 0} (P : X → Type 0) (xs : List X) (y : X) → All P xs → P y → All P (xs ++ y ∷ [])
+all_push P xs y all p = All-append P xs (y ∷ []) all (All-cons P y [] p (none_all P))
 
 each_kept : {X : Type 0} (P Q : X → Type 0) (xs : List X) → ((x : X) → P x → Q x) → All P xs → All Q xs
 each_kept P Q xs keeps all k d lt = keeps _ (all k d lt)
@@ -129,8 +145,8 @@ type_formed n d t row s e =
     subst (λ (u : Draft). IsStation u.station) (value _ _ turn.1) (record {
       name = s.name;
       few_types = let lt : length d.station.types < 40 = ltb-true _ _ room.0 in omega (arith, length-append d.station.types (t0 ∷ []));
-      types = All-push IsUnitType d.station.types t0 s.types (record { name = name_from (at row 2) name.0; some = long.0; long = long.1; turns = late.0; turn = late.1 });
-      type_names = distinct_push (λ u. u.name) (λ u. bytes_eq u.name (at row 2)) d.station.types t0 (λ u. same_name (at row 2) u.name) s.type_names (not-true _ new.0);
+      types = all_push IsUnitType d.station.types t0 s.types (record { name = name_from (at row 2) name.0; some = long.0; long = long.1; turns = late.0; turn = late.1 });
+      type_names = distinct_push (λ u. u.name) (λ u. bytes_eq u.name (at row 2)) d.station.types t0 (λ u. same_name (at row 2) u.name) s.type_names (negated _ new.0);
       few_platforms = s.few_platforms;
       platforms = s.platforms;
       platform_names = s.platform_names;
@@ -162,8 +178,8 @@ platform_formed n d t row s e =
       types = s.types;
       type_names = s.type_names;
       few_platforms = let lt : length d.station.platforms < 30 = ltb-true _ _ room.0 in omega (arith, length-append d.station.platforms (at row 2 ∷ []));
-      platforms = All-push IsName d.station.platforms (at row 2) s.platforms (name_from (at row 2) name.0);
-      platform_names = plain_push (λ p. bytes_eq p (at row 2)) d.station.platforms (at row 2) (λ p. same_name (at row 2) p) s.platform_names (not-true _ new.0);
+      platforms = all_push IsName d.station.platforms (at row 2) s.platforms (name_from (at row 2) name.0);
+      platform_names = plain_push (λ p. bytes_eq p (at row 2)) d.station.platforms (at row 2) (λ p. same_name (at row 2) p) s.platform_names (negated _ new.0);
       few_tracks = s.few_tracks;
       tracks = s.tracks;
       track_names = s.track_names;
@@ -216,8 +232,8 @@ track_formed n d t row s e =
       platforms = s.platforms;
       platform_names = s.platform_names;
       few_tracks = let lt : length d.station.tracks < 60 = ltb-true _ _ room.0 in omega (arith, length-append d.station.tracks (t0 ∷ []));
-      tracks = All-push IsTrack d.station.tracks t0 s.tracks (record { name = name_from (at row 2) name.0; some = long.0; long = long.1; open_at = ends_open (at row 4) ends (there all_open _ sides.0) });
-      track_names = distinct_push (λ u. u.name) (λ u. bytes_eq u.name (at row 2)) d.station.tracks t0 (λ u. same_name (at row 2) u.name) s.track_names (not-true _ new.0);
+      tracks = all_push IsTrack d.station.tracks t0 s.tracks (record { name = name_from (at row 2) name.0; some = long.0; long = long.1; open_at = ends_open (at row 4) ends (there all_open _ sides.0) });
+      track_names = distinct_push (λ u. u.name) (λ u. bytes_eq u.name (at row 2)) d.station.tracks t0 (λ u. same_name (at row 2) u.name) s.track_names (negated _ new.0);
       routes = each_kept (IsRoute d.station) (IsRoute next) d.station.routes (route_kept d.station next grows) s.routes;
       ways = s.ways;
       permits = each_kept (IsPermit d.station) (IsPermit next) d.station.permits (permit_kept d.station next grows) s.permits;
@@ -263,8 +279,11 @@ joins_own r q e =
     subst (λ (w : PlatformId × (TrackId × Side)). (q.platform.0 == w.0.0 && q.track.0 == w.1.0.0 && same_side q.side w.1.1) ≡ true) e
     (all_three _ _ _ (same_number q.platform.0) (same_number q.track.0) (same_side_is q.side))
 
+both_true : (a b : Bool) → a ≡ true → b ≡ true → (a && b) ≡ true
+both_true a b e f = cc
+
 names_own : (p q : Permit) → q ≡ p → (q.track.0 == p.track.0 && q.kind.0 == p.kind.0) ≡ true
-names_own p q e = subst (λ (w : Permit). (q.track.0 == w.track.0 && q.kind.0 == w.kind.0) ≡ true) e (and_from _ _ (same_number q.track.0) (same_number q.kind.0))
+names_own p q e = subst (λ (w : Permit). (q.track.0 == w.track.0 && q.kind.0 == w.kind.0) ≡ true) e (both_true _ _ (same_number q.track.0) (same_number q.kind.0))
 
 abbrev no_platform : PlatformId
 no_platform = record { 0 = 0 }
@@ -306,8 +325,8 @@ route_formed n d t row s e =
       few_tracks = s.few_tracks;
       tracks = s.tracks;
       track_names = s.track_names;
-      routes = All-push (IsRoute next) d.station.routes r0 (each_kept (IsRoute d.station) (IsRoute next) d.station.routes (route_kept d.station next grows) s.routes) is;
-      ways = distinct_push way_of (joins mp.value mt.value ms.value) d.station.routes r0 (joins_own r0) s.ways (not-true _ new.0);
+      routes = all_push (IsRoute next) d.station.routes r0 (each_kept (IsRoute d.station) (IsRoute next) d.station.routes (route_kept d.station next grows) s.routes) is;
+      ways = distinct_push way_of (joins mp.value mt.value ms.value) d.station.routes r0 (joins_own r0) s.ways (negated _ new.0);
       permits = each_kept (IsPermit d.station) (IsPermit next) d.station.permits (permit_kept d.station next grows) s.permits;
       permits_differ = s.permits_differ;
       split = s.split;
@@ -342,8 +361,8 @@ permit_formed n d t row s e =
       track_names = s.track_names;
       routes = each_kept (IsRoute d.station) (IsRoute next) d.station.routes (route_kept d.station next grows) s.routes;
       ways = s.ways;
-      permits = All-push (IsPermit next) d.station.permits p0 (each_kept (IsPermit d.station) (IsPermit next) d.station.permits (permit_kept d.station next grows) s.permits) is;
-      permits_differ = plain_push (λ p. p.track.0 == mt.value.0 && p.kind.0 == mk.value.0) d.station.permits p0 (names_own p0) s.permits_differ (not-true _ new.0);
+      permits = all_push (IsPermit next) d.station.permits p0 (each_kept (IsPermit d.station) (IsPermit next) d.station.permits (permit_kept d.station next grows) s.permits) is;
+      permits_differ = plain_push (λ p. p.track.0 == mt.value.0 && p.kind.0 == mk.value.0) d.station.permits p0 (names_own p0) s.permits_differ (negated _ new.0);
       split = s.split;
       couple = s.couple;
       unparked = s.unparked;
@@ -397,21 +416,24 @@ later_formed n d t row s =
     (in_either n (is_word row (codes "cost")) _ _ t (IsStation t.station) (cost_formed n d t row s)
     (in_either n (d.version == 2 && is_word row (codes "permit")) _ _ t (IsStation t.station) (permit_formed n d t row s) (λ e. absurd cc))))))
 
+no_pairs : {X : Type 0} (R : X → X → Type 0) → AllPairs R []
+no_pairs R i j d lt small = absurd (omega arith)
+
 empty_formed : (name : List ℕ) → IsName name → IsStation (empty_station name)
 empty_formed name is = record {
   name = is;
   few_types = omega arith;
-  types = All-nil IsUnitType;
+  types = none_all IsUnitType;
   type_names = no_pairs (λ m n. m ≢ n);
   few_platforms = omega arith;
-  platforms = All-nil IsName;
+  platforms = none_all IsName;
   platform_names = no_pairs (λ m n. m ≢ n);
   few_tracks = omega arith;
-  tracks = All-nil IsTrack;
+  tracks = none_all IsTrack;
   track_names = no_pairs (λ m n. m ≢ n);
-  routes = All-nil (IsRoute (empty_station name));
+  routes = none_all (IsRoute (empty_station name));
   ways = no_pairs (λ m n. m ≢ n);
-  permits = All-nil (IsPermit (empty_station name));
+  permits = none_all (IsPermit (empty_station name));
   permits_differ = no_pairs (λ m n. m ≢ n);
   split = omega arith;
   couple = omega arith;

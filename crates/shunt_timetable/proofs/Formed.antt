@@ -4,14 +4,12 @@ use Rattle.std.specs.Prelude.{Result, Ok, Err, bytes_eq, All, AllPairs, Option, 
 use Rattle.std.specs.Option.{is_some, unwrap_or}
 use Rattle.std.specs.List.{list_any}
 use Rattle.std.proofs.lemmas.List.{map-append, append-nil, append_assoc}
-use Rattle.std.proofs.lemmas.List.Elements.{All-append, All-cons, All-tail, filter-append, All-nil, All-push}
+use Rattle.std.proofs.lemmas.List.Elements.{All-append, All-cons, All-tail, filter-append}
 use Rattle.std.proofs.lemmas.List.Quantifiers.{all_pairs_push, position-Some}
 use Rattle.std.proofs.lemmas.Slice.Eq.{bytes_eq-Decides}
-use Rattle.std.proofs.lemmas.Bool.{true≢false, ltb-true, leb-true, and_parts, or_parts, not-true}
+use Rattle.std.proofs.lemmas.Bool.{true≢false, ltb-true, leb-true}
 use Rattle.std.proofs.lemmas.Bool.Decides.{nat_tests}
 use Rattle.std.proofs.lemmas.List.Sums.{AllPass-from_list_all, sum_by-append}
-use Rattle.shunt_lists.proofs.Lists.{no_pairs}
-use Rattle.shunt_lists.specs.defs.Members.{AreDistinct}
 use Rattle.shunt_base.specs.declared.ids.TypeId.{TypeId}
 use Rattle.shunt_base.specs.defs.Spelling.{IsName, is_name_byte, is_name_text, decimal_of, minute_of, is_minute_text, minute_value}
 use Rattle.shunt_base.proofs.Minutes.{spelled}
@@ -26,7 +24,7 @@ use Rattle.shunt_instance.specs.declared.records.Timetable.{Timetable}
 use Rattle.shunt_instance.specs.declared.records.Train.{Train}
 use Rattle.shunt_instance.specs.declared.records.Origin.{Origin}
 use Rattle.shunt_instance.specs.declared.records.Origin.TheVariants as origin
-use Rattle.shunt_instance.specs.defs.Words.{is_standing, unit_count}
+use Rattle.shunt_instance.specs.defs.Words.{AreDistinct, is_standing, unit_count}
 use Rattle.shunt_instance.specs.defs.Wellformed.{IsOrigin, IsTrain, AreTrains, StandingFirst, IsTimetable}
 use Rattle.shunt_timetable.specs.defs.TimetableFormat.{Listed, first_of, has_train, unit_of, units_from, empty_train, standing_of, moving_of, stand_of, arrive_of, depart_of, may_stand, later_of, timetable_of, timetable_format}
 
@@ -46,21 +44,39 @@ within : (least most x : ℕ) → is_within least most x ≡ true → (least ≤
 unfolding is_within
 within least most x e = grind (arith, nat_tests)
 
+both : (a b : Bool) → (a && b) ≡ true → (a ≡ true) × (b ≡ true)
+both true b e = (refl, e)
+both false b e = absurd (true≢false (sym e))
+
+neither : (a b : Bool) → (a || b) ≡ false → (a ≡ false) × (b ≡ false)
+neither true b e = absurd (true≢false e)
+neither false b e = (refl, e)
+
+pub negated : (b : Bool) → not b ≡ true → b ≡ false
+negated true e = absurd (true≢false (sym e))
+negated false e = refl
+
 pub name_from : (text : List ℕ) → is_name_text text ≡ true → IsName text
 name_from text t =
-    let parts = and_parts _ _ t in
-    let first = and_parts _ _ parts.0 in
+    let parts = both _ _ t in
+    let first = both _ _ parts.0 in
     (ltb-true _ _ first.0, leb-true _ _ first.1, AllPass-from_list_all is_name_byte text parts.1)
 
 -- a name that none has differs from each
 none_named : {X : Type 0} (name : X → List ℕ) (xs : List X) (n : List ℕ) → list_any (λ x. bytes_eq (name x) n) xs ≡ false → (k : ℕ) (d : List ℕ) → k < length (map name xs) → get_or (map name xs) k d ≢ n
 none_named name [] n e k d lt is = absurd (omega arith)
-none_named name (x ∷ xs) n e zero d lt is = true≢false (sym ((bytes_eq-Decides (name x) n).1 is) ∙ (or_parts _ _ e).0)
-none_named name (x ∷ xs) n e (suc k) d lt is = none_named name xs n (or_parts _ _ e).1 k d (omega arith) is
+none_named name (x ∷ xs) n e zero d lt is = true≢false (sym ((bytes_eq-Decides (name x) n).1 is) ∙ (neither _ _ e).0)
+none_named name (x ∷ xs) n e (suc k) d lt is = none_named name xs n (neither _ _ e).1 k d (omega arith) is
 
 -- one more thing with a new name
 distinct_push : {X : Type 0} (name : X → List ℕ) (xs : List X) (y : X) → AreDistinct (map name xs) → list_any (λ x. bytes_eq (name x) (name y)) xs ≡ false → AreDistinct (map name (xs ++ y ∷ []))
 distinct_push name xs y all e = subst AreDistinct (sym (map-append name xs (y ∷ []))) (all_pairs_push (λ m n. m ≢ n) (map name xs) (name y) all (none_named name xs (name y) e))
+
+none_all : {X : Type 0} (P : X → Type 0) → All P []
+none_all P k d lt = absurd (omega arith)
+
+all_push : {X : Type 0} (P : X → Type 0) (xs : List X) (y : X) → All P xs → P y → All P (xs ++ y ∷ [])
+all_push P xs y all p = All-append P xs (y ∷ []) all (All-cons P y [] p (none_all P))
 
 -- a train with more units, and the same in all else
 record Fills (station : Station) (before : ℕ) (t : Train) (more : ℕ) (u : Train) : Type 0 where
@@ -83,7 +99,7 @@ units_fill n station before t row k (suc more) u kinds room e =
     let kind : TypeId = record { 0 = unwrap_or place 0 } in
     let lt = (position-Some (λ x. bytes_eq x.name (at row k)) station.types (unwrap_or place 0) (record { name = []; length = 0; turn = 0 }) (there place 0 a.0)).0 in
     let less = ltb-true (before + length t.units) 160 b.0 in
-    let f = units_fill n station before (record t { units = t.units ++ kind ∷ [] }) row (k + 1) more u (All-push (λ k. k.0 < length station.types) t.units kind kinds lt) (omega (arith, less, length-append t.units (kind ∷ []))) b.1 in
+    let f = units_fill n station before (record t { units = t.units ++ kind ∷ [] }) row (k + 1) more u (all_push (λ k. k.0 < length station.types) t.units kind kinds lt) (omega (arith, less, length-append t.units (kind ∷ []))) b.1 in
     record { name = f.name; minute = f.minute; origin = f.origin; many = omega (arith, f.many, length-append t.units (kind ∷ [])); kinds = f.kinds; room = f.room }
 
 -- what is stated of one more train
@@ -131,10 +147,10 @@ moving_adds n station trains row t units e =
     let m = checked (is_some (minute_of (at row 3))) _ _ t d.1 in
     let p = checked (is_some place) _ _ t m.1 in
     let bare : Train = empty_train (at row 2) (unwrap_or (minute_of (at row 3)) 0) (origin.Platform (record { 0 = unwrap_or place 0 })) in
-    let f = units_fill n station (unit_count trains) bare row 5 (length row - 4) t (All-nil (λ k. k.0 < length station.types)) (omega (arith, units)) p.1 in
+    let f = units_fill n station (unit_count trains) bare row 5 (length row - 4) t (none_all (λ k. k.0 < length station.types)) (omega (arith, units)) p.1 in
     let w = within 5 12 (length row) a.0 in
     let lt = (position-Some (λ x. bytes_eq x (at row 4)) station.platforms (unwrap_or place 0) [] (there place 0 p.0)).0 in (
-      filled station trains bare t (length row - 4) (ltb-true _ _ b.0) (name_from (at row 2) c.0) (not-true _ d.0) (minute_small (at row 3) _ (there (minute_of (at row 3)) 0 m.0)) lt refl (omega (arith, w.0)) (omega (arith, w.1)) f,
+      filled station trains bare t (length row - 4) (ltb-true _ _ b.0) (name_from (at row 2) c.0) (negated _ d.0) (minute_small (at row 3) _ (there (minute_of (at row 3)) 0 m.0)) lt refl (omega (arith, w.0)) (omega (arith, w.1)) f,
       stands_at t bare.origin f.origin,
     )
 
@@ -148,10 +164,10 @@ standing_adds n station trains row t units e =
     let d = checked (not (has_train trains (at row 2))) _ _ t c.1 in
     let p = checked (is_some place) _ _ t d.1 in
     let bare : Train = empty_train (at row 2) 0 (origin.Track (record { 0 = unwrap_or place 0 })) in
-    let f = units_fill n station (unit_count trains) bare row 4 (length row - 3) t (All-nil (λ k. k.0 < length station.types)) (omega (arith, units)) p.1 in
+    let f = units_fill n station (unit_count trains) bare row 4 (length row - 3) t (none_all (λ k. k.0 < length station.types)) (omega (arith, units)) p.1 in
     let w = within 4 11 (length row) a.0 in
     let lt = (position-Some (λ x. bytes_eq x.name (at row 3)) station.tracks (unwrap_or place 0) (record { name = []; length = 0; side_a = true; side_b = true }) (there place 0 p.0)).0 in (
-      filled station trains bare t (length row - 3) (ltb-true _ _ b.0) (name_from (at row 2) c.0) (not-true _ d.0) (omega arith) lt refl (omega (arith, w.0)) (omega (arith, w.1)) f,
+      filled station trains bare t (length row - 3) (ltb-true _ _ b.0) (name_from (at row 2) c.0) (negated _ d.0) (omega arith) lt refl (omega (arith, w.0)) (omega (arith, w.1)) f,
       stands_at t bare.origin f.origin,
       f.minute,
     )
@@ -160,7 +176,7 @@ trains_push : (station : Station) (trains : List Train) (t : Train) → AreTrain
 trains_push station trains t all one = record {
   few = let room = one.room in omega (arith, length-append trains (t ∷ []));
   units = let fit = one.units in omega (arith, sum_by-append (λ t. length t.units) trains (t ∷ []));
-  each = All-push (IsTrain station) trains t all.each one.train;
+  each = all_push (IsTrain station) trains t all.each one.train;
   names = distinct_push (λ u. u.name) trains t all.names one.new;
 }
 
@@ -196,17 +212,20 @@ pub record IsListed (station : Station) (s : Listed) : Type 0 where
   pub from_platform : All (λ r. is_standing r ≡ false) s.depart
   pub still : s.moving ≡ false → All (λ r. is_standing r ≡ true) s.arrive
 
+no_pairs : {X : Type 0} (R : X → X → Type 0) → AllPairs R []
+no_pairs R i j d lt small = absurd (omega arith)
+
 no_trains : (station : Station) → AreTrains station []
-no_trains station = record { few = omega arith; units = omega arith; each = All-nil (IsTrain station); names = no_pairs (λ m n. m ≢ n) }
+no_trains station = record { few = omega arith; units = omega arith; each = none_all (IsTrain station); names = no_pairs (λ m n. m ≢ n) }
 
 nothing_listed : (station : Station) (version : ℕ) → IsListed station (record { version = version; arrive = []; depart = []; moving = false })
 nothing_listed station version = record {
   arrive = no_trains station;
   depart = no_trains station;
   first = refl;
-  at_start = All-nil (λ r. IsTrue (is_standing r) → r.minute ≡ 0);
-  from_platform = All-nil (λ r. is_standing r ≡ false);
-  still = λ e. All-nil (λ r. is_standing r ≡ true);
+  at_start = none_all (λ r. IsTrue (is_standing r) → r.minute ≡ 0);
+  from_platform = none_all (λ r. is_standing r ≡ false);
+  still = λ e. none_all (λ r. is_standing r ≡ true);
 }
 
 pub first_formed : (station : Station) (s : Listed) (row : List (List ℕ)) → answer 1 (first_of row) ≡ Ok s → IsListed station s
@@ -231,12 +250,12 @@ stand_keeps n station s t row f still e =
     let m = standing_of station s.arrive row in
     let p = pass_split n m.checks m.value (record s { arrive = s.arrive ++ m.value ∷ [] }) t e in
     let one = standing_adds n station s.arrive row m.value f.arrive.units p.0 in
-    let all = All-push (λ r. is_standing r ≡ true) s.arrive m.value (f.still still) one.1 in
+    let all = all_push (λ r. is_standing r ≡ true) s.arrive m.value (f.still still) one.1 in
     subst (IsListed station) p.1 (record {
       arrive = trains_push station s.arrive m.value f.arrive one.0;
       depart = f.depart;
       first = all_stand (s.arrive ++ m.value ∷ []) all;
-      at_start = All-push (λ r. IsTrue (is_standing r) → r.minute ≡ 0) s.arrive m.value f.at_start (λ stands. one.2);
+      at_start = all_push (λ r. IsTrue (is_standing r) → r.minute ≡ 0) s.arrive m.value f.at_start (λ stands. one.2);
       from_platform = f.from_platform;
       still = λ e. all;
     })
@@ -251,7 +270,7 @@ arrive_keeps n station s t row f e =
       arrive = trains_push station s.arrive m.value f.arrive one.0;
       depart = f.depart;
       first = moves_last s.arrive m.value f.first one.1;
-      at_start = All-push (λ r. IsTrue (is_standing r) → r.minute ≡ 0) s.arrive m.value f.at_start (λ stands. absurd (true≢false (sym stands ∙ one.1)));
+      at_start = all_push (λ r. IsTrue (is_standing r) → r.minute ≡ 0) s.arrive m.value f.at_start (λ stands. absurd (true≢false (sym stands ∙ one.1)));
       from_platform = f.from_platform;
       still = λ e. absurd (true≢false e);
     })
@@ -267,7 +286,7 @@ depart_keeps n station s t row f e =
       depart = trains_push station s.depart m.value f.depart one.0;
       first = f.first;
       at_start = f.at_start;
-      from_platform = All-push (λ r. is_standing r ≡ false) s.depart m.value f.from_platform one.1;
+      from_platform = all_push (λ r. is_standing r ≡ false) s.depart m.value f.from_platform one.1;
       still = λ e. absurd (true≢false e);
     })
 
@@ -286,7 +305,7 @@ later_keeps n station s t row f e =
     let second = if is_word row (codes "depart") then depart_of station s row else third in
     ⊎_elim (λ a. arrive_keeps n station s t row f a.1)
     (λ r. ⊎_elim (λ d. depart_keeps n station s t row f d.1)
-    (λ q. ⊎_elim (λ w. stand_keeps n station s t row f (not-true _ (and_parts _ _ (and_parts _ _ w.0).0).1) w.1) (λ z. absurd (no_word_fails n s t z))
+    (λ q. ⊎_elim (λ w. stand_keeps n station s t row f (negated _ (both _ _ (both _ _ w.0).0).1) w.1) (λ z. absurd (no_word_fails n s t z))
     (choose n may (stand_of station s row) (no_word s) t q))
     (choose n (is_word row (codes "depart")) (depart_of station s row) third t r))
     (choose n (is_word row (codes "arrive")) (arrive_of station s row) second t e)

@@ -5,7 +5,6 @@ use Rattle.std.specs.List.{AllByRecursion}
 use Rattle.std.proofs.lemmas.List.Concat.{flat_map-cons, flat_map-append}
 use Rattle.std.proofs.lemmas.List.Elements.{All-tail, All-filter}
 use Rattle.std.proofs.lemmas.Bool.Decides.{nat_tests}
-use Rattle.std.proofs.lemmas.Result.{IfOk-weaker}
 use Rattle.shunt_base.specs.declared.ids.TypeId.{TypeId}
 use Rattle.shunt_base.specs.defs.Spelling.{IsName, minute_text}
 use Rattle.shunt_rows.specs.defs.Records.{is_plain, IsPlainField, IsPlainRow, ArePlain, text_of_row, text_of_rows, records_of, ReadsBack}
@@ -97,6 +96,10 @@ text_of_sections station t p q r u v x y z h xs ys zs a b c d e =
     e ∙ ap (λ w. w ++ go z) d ∙ ap (λ w. w ++ come y ++ go z) c ∙ ap (λ w. w ++ stand x ++ come y ++ go z) b
     ∙ ap (λ l. p ++ text_of_row first_row ++ stand l ++ come y ++ go z) xs ∙ ap (λ l. p ++ text_of_row first_row ++ stand t.arrive ++ come l ++ go z) ys ∙ ap (λ l. p ++ text_of_row first_row ++ stand t.arrive ++ come t.arrive ++ go l) zs
     ∙ text_is station t p h a
+
+pub ok_then : {X E : Type 0} (r : Result X E) (P Q : X → Type 0) → ((x : X) → P x → Q x) → IfOk r P → IfOk r Q
+ok_then (Ok x) P Q f h = f x h
+ok_then (Err e) P Q f h = tt
 
 pub rows_read : (station : Station) (t : Timetable) (text bytes : List ℕ) → IsStation station → IsTimetable station t → text ≡ text_of_rows (rows_of station t) → ReadsBack text bytes → records_of bytes ≡ rows_of station t
 rows_read station t text bytes s h is back = back (rows_of station t) (timetable_plain station t s h) is

@@ -1,9 +1,9 @@
 -- Which runs of units and positions are free, as tests.
 use Rattle.std.specs.Prelude.{◌≡◌, ℕ, ◌+◌, nat_le, ◌==◌, ◌&&◌, Bool, true, not, length, slice_index_or}
-use Rattle.shunt_lists.specs.defs.Below.{all_below}
 use Rattle.shunt_instance.specs.defs.Words.{train_at}
 use Rattle.shunt_instance.specs.defs.Instance.{Night, unit_at, position_at, ready, leaves, unit_total, position_total}
 use Rattle.shunt_blocks.specs.defs.Paths.{Masks}
+use Rattle.shunt_blocks.specs.defs.Below.{all_below}
 
 -- both lists have the lengths of the night
 pub record AreMasksOf (night : Night) (covered : Masks) : Type 0 where

@@ -2,3 +2,4 @@
 pub mod Spelling
 pub mod Keys
 pub mod Listed
+pub mod Sides

@@ -1,3 +1,5 @@
 pub mod Decimal
 pub mod Minutes
 pub mod Ranks
+pub mod Sides
+pub mod Names

@@ -9,7 +9,7 @@ mod minute;
 mod name;
 mod number;
 
-pub use duals::{Duals, Price};
+pub use duals::{Case, Cases, Duals, Price, PriceKind};
 pub use ids::{ArrId, DepId, PlatformId, Side, TrackId, TypeId};
 pub use keys::{EventKey, Stay, compare_keys};
 pub use minute::{Minute, minute_bytes, parse_minute};

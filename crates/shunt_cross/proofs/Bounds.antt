@@ -3,11 +3,11 @@ use Rattle.std.proofs.Common.{◌≡◌, inl, inr, ⊎_elim, ℕ, zero, suc, ◌
 use Rattle.std.specs.List.{count_by}
 use Rattle.std.proofs.lemmas.Bool.{cases_Bool, true≢false}
 use Rattle.std.proofs.lemmas.List.{take_more}
-use Rattle.std.proofs.lemmas.List.Sums.{sum_by-cons, sum_by-append}
+use Rattle.std.proofs.lemmas.List.Sums.{sum_by-cons, sum_by-append, count_by-le-length, sum_by-take-le, sum_by_more, sum_by_more_le}
+use Rattle.shunt_lists.specs.defs.Members.{In}
 use Rattle.shunt_base.specs.declared.keys.EventKey.{EventKey}
 use Rattle.shunt_base.specs.declared.keys.Stay.{Stay}
 use Rattle.shunt_base.specs.defs.Keys.{AreStays, IsWellFormed}
-use Rattle.shunt_stays.specs.defs.Members.{In}
 use Rattle.shunt_stays.specs.defs.Crossing.{crosses, stands_at, load_at}
 use Rattle.shunt_stays.proofs.Halves.{formed}
 use Rattle.shunt_stays.proofs.Crossings.{crosses_is, never_itself}
@@ -20,15 +20,11 @@ zero_of : (b : Bool) → b ≡ false → ◌≡◌ {A = ℕ} (cond b 1 0) 0
 zero_of true e = absurd (true≢false e)
 zero_of false e = refl
 
-count_within : {X : Type 0} (p : X → Bool) (xs : List X) → count_by p xs ≤ length xs
-count_within p [] = omega arith
-count_within p (x ∷ xs) = let r = count_within p xs in let o = one (p x) in omega (arith, sum_by-cons (λ y. cond (p y) 1 0) x xs)
-
 -- one isn't counted
 count_below : {X : Type 0} (p : X → Bool) (xs : List X) (x : X) → In x xs → p x ≡ false → count_by p xs < length xs
 count_below p [] x h e = absurd h
 count_below p (y ∷ xs) x (inl s) e =
-    let r = count_within p xs in
+    let r = count_by-le-length p xs in
     let none = zero_of (p y) (ap p (sym s) ∙ e) in
     omega (arith, sum_by-cons (λ z. cond (p z) 1 0) y xs)
 count_below p (y ∷ xs) x (inr h) e = let r = count_below p xs x h e in let o = one (p y) in omega (arith, sum_by-cons (λ z. cond (p z) 1 0) y xs)
@@ -37,17 +33,6 @@ count_below p (y ∷ xs) x (inr h) e = let r = count_below p xs x h e in let o =
 sum_within : {X : Type 0} (f : X → ℕ) (n : ℕ) (xs : List X) → ((x : X) → In x xs → f x ≤ n) → sum_by f xs ≤ length xs * n
 sum_within f n [] h = omega arith
 sum_within f n (x ∷ xs) h = let r = sum_within f n xs (λ y i. h y (inr i)) in let o = h x (inl refl) in omega (arith, sum_by-cons f x xs)
-
-sum_take : {X : Type 0} (f : X → ℕ) (xs : List X) (i : ℕ) → sum_by f (take i xs) ≤ sum_by f xs
-sum_take f xs zero = omega arith
-sum_take f [] (suc i) = omega arith
-sum_take f (x ∷ xs) (suc i) = let r = sum_take f xs i in omega (arith, sum_by-cons f x xs, sum_by-cons f x (take i xs))
-
-sum_more : {X : Type 0} (f : X → ℕ) (xs : List X) (i : ℕ) (d : X) → i < length xs → sum_by f (take (i + 1) xs) ≡ sum_by f (take i xs) + f (get_or xs i d)
-sum_more f xs i d lt = ap (sum_by f) (take_more xs i d lt) ∙ omega (arith, sum_by-append f (take i xs) (get_or xs i d ∷ []), sum_by-cons f (get_or xs i d) [])
-
-sum_next : {X : Type 0} (f : X → ℕ) (xs : List X) (i : ℕ) (d : X) → i < length xs → sum_by f (take i xs) + f (get_or xs i d) ≤ sum_by f xs
-sum_next f xs i d lt = let r = sum_take f xs (i + 1) in omega (arith, sum_more f xs i d lt)
 
 -- a stay doesn't cross itself
 not_itself : (b : Stay) → IsWellFormed b → (t : Bool) → crosses b b ≡ t → t ≡ false
@@ -73,13 +58,13 @@ load_within stays t k a few = load_times (length stays) (sum_by (λ s. cond (sta
 pub pairs_fit : (stays : List Stay) → AreStays stays → length stays ≤ 65536 → (i x y : ℕ) (d : Stay) → i < length stays
     → x ≡ sum_by (λ b. count_by (crosses b) stays) (take i stays) → y ≡ count_by (crosses (get_or stays i d)) stays → x + y < 4294967296
 pairs_fit stays a few i x y d lt so more =
-    let next : sum_by (λ b. count_by (crosses b) stays) (take i stays) + count_by (crosses (get_or stays i d)) stays ≤ sum_by (λ b. count_by (crosses b) stays) stays = sum_next (λ b. count_by (crosses b) stays) stays i d lt in
+    let next : sum_by (λ b. count_by (crosses b) stays) (take i stays) + count_by (crosses (get_or stays i d)) stays ≤ sum_by (λ b. count_by (crosses b) stays) stays = sum_by_more_le (λ b. count_by (crosses b) stays) stays i d lt in
     let most = pairs_within stays a few in
     omega arith
 
 pub load_fits : (stays : List Stay) (t : ℕ) (k : EventKey) → AreStays stays → length stays ≤ 65536 → (i x y : ℕ) (d : Stay) → i < length stays
     → x ≡ load_at (take i stays) t k → y ≡ cond (stands_at t k (get_or stays i d)) (get_or stays i d).length 0 → x + y < 18446744073709551616
 load_fits stays t k a few i x y d lt so more =
-    let next : load_at (take i stays) t k + cond (stands_at t k (get_or stays i d)) (get_or stays i d).length 0 ≤ load_at stays t k = sum_next (λ s. cond (stands_at t k s) s.length 0) stays i d lt in
+    let next : load_at (take i stays) t k + cond (stands_at t k (get_or stays i d)) (get_or stays i d).length 0 ≤ load_at stays t k = sum_by_more_le (λ s. cond (stands_at t k s) s.length 0) stays i d lt in
     let most : load_at stays t k < 18446744073709551616 = load_within stays t k a few in
     omega arith

@@ -8,13 +8,16 @@ use Rattle.std.proofs.lemmas.List.Quantifiers.{position-Some}
 use Rattle.std.proofs.lemmas.List.Sums.{position_or_len_is}
 use Rattle.std.proofs.lemmas.Option.{slice_get-get_or, slice_get-map, slice_get_within, get_or_from_slice_get}
 use Rattle.std.proofs.lemmas.Slice.Eq.{bytes_eq-Decides}
+use Rattle.shunt_base.proofs.Sides.{same_side_tells, same_side_itself}
+use Rattle.shunt_base.specs.defs.Sides.{same_side}
+use Rattle.shunt_lists.specs.defs.Members.{AreDistinct}
 use Rattle.shunt_base.specs.declared.ids.PlatformId.{PlatformId}
 use Rattle.shunt_base.specs.declared.ids.TrackId.{TrackId}
 use Rattle.shunt_base.specs.declared.ids.Side.{Side}
 use Rattle.shunt_base.specs.declared.ids.Side.TheVariants.{A, B}
 use Rattle.shunt_instance.specs.declared.records.Route.{Route}
 use Rattle.shunt_instance.specs.declared.records.Station.{Station}
-use Rattle.shunt_instance.specs.defs.Words.{AreDistinct, same_side, is_open_at, way_of, joins, route_cost}
+use Rattle.shunt_instance.specs.defs.Words.{is_open_at, way_of, joins, route_cost}
 use Rattle.shunt_instance.specs.defs.Wellformed.{IsRoute, IsStation}
 
 -- the thing that is found has the name
@@ -33,16 +36,6 @@ found_there name_of xs name k d h is =
     let lt : k < length xs = rw length-map at within in
     let named : name_of (get_or xs k d) ≡ name = sym (get_or-map name_of xs k d [] lt) ∙ get_or_from_slice_get (map name_of xs) k name [] is in
     first_is (λ x. bytes_eq (name_of x) name) xs k (position_or_len_is (λ x. bytes_eq (name_of x) name) xs k d (omega arith) (λ j before. false_from_ne_true (bytes_eq (name_of (get_or xs j d)) name) (λ same. h j k [] before within (get_or-map name_of xs j d [] (omega arith) ∙ (bytes_eq-Decides (name_of (get_or xs j d)) name).0 same ∙ sym named ∙ sym (get_or-map name_of xs k d [] lt)))) (λ here. (bytes_eq-Decides (name_of (get_or xs k d)) name).1 named)) lt
-
-same_way : (s q : Side) → same_side s q ≡ true → s ≡ q
-same_way A A e = refl
-same_way A B e = absurd (false≢true e)
-same_way B A e = absurd (false≢true e)
-same_way B B e = refl
-
-itself : (s : Side) → same_side s s ≡ true
-itself A = refl
-itself B = refl
 
 -- what is true of each route is true of the one that is found, which joins what was asked
 pub found_route : (P : Route → Type 0) (p : PlatformId) (t : TrackId) (s : Side) (rs : List Route) → All P rs → IfSome (find (joins p t s) rs) (λ r. P r × (joins p t s r ≡ true))
@@ -67,13 +60,13 @@ opens : (s : Station) (r : Route) (p : PlatformId) (t : TrackId) (side : Side) �
 opens s r p t side is same =
     let h = and_parts (r.platform.0 == p.0 && r.track.0 == t.0) (same_side r.side side) same in
     let k = and_parts (r.platform.0 == p.0) (r.track.0 == t.0) h.0 in
-    sym (open_same s r.track.0 t.0 r.side side (eqb-true _ _ k.1) (same_way r.side side h.1)) ∙ is
+    sym (open_same s r.track.0 t.0 r.side side (eqb-true _ _ k.1) (same_side_tells r.side side h.1)) ∙ is
 
 pub side_open : (s : Station) (p : PlatformId) (t : TrackId) (side : Side) → IsStation s → IfSome (route_cost s p t side) (λ c. IsTrue (is_open_at s t side))
 side_open s p t side h = told (find (joins p t side) s.routes) (λ r. IsRoute s r × (joins p t side r ≡ true)) (λ c. IsTrue (is_open_at s t side)) (found_route (IsRoute s) p t side s.routes h.routes) (λ r q. opens s r p t side q.0.open_at q.1)
 
 joins_itself : (r : Route) → joins r.platform r.track r.side r ≡ true
-joins_itself r = and_from _ _ (and_from _ _ (eq-eqb r.platform.0 r.platform.0 refl) (eq-eqb r.track.0 r.track.0 refl)) (itself r.side)
+joins_itself r = and_from _ _ (and_from _ _ (eq-eqb r.platform.0 r.platform.0 refl) (eq-eqb r.track.0 r.track.0 refl)) (same_side_itself r.side)
 
 abbrev way : ℕ → ℕ → Side → PlatformId × (TrackId × Side)
 way p t s = (record { 0 = p }, (record { 0 = t }, s))
@@ -85,7 +78,7 @@ one_way : (r q : Route) → joins q.platform q.track q.side r ≡ true → way_o
 one_way r q same =
     let h = and_parts (r.platform.0 == q.platform.0 && r.track.0 == q.track.0) (same_side r.side q.side) same in
     let k = and_parts (r.platform.0 == q.platform.0) (r.track.0 == q.track.0) h.0 in
-    way_is r.platform.0 q.platform.0 r.track.0 q.track.0 r.side q.side (eqb-true _ _ k.0) (eqb-true _ _ k.1) (same_way r.side q.side h.1)
+    way_is r.platform.0 q.platform.0 r.track.0 q.track.0 r.side q.side (eqb-true _ _ k.0) (eqb-true _ _ k.1) (same_side_tells r.side q.side h.1)
 
 abbrev found_in : Route → List Route → Option Route
 found_in q rs = find (joins q.platform q.track q.side) rs

@@ -5,3 +5,4 @@ pub mod Facts
 pub mod Found
 pub mod Looked
 pub mod Small
+pub mod Named

@@ -1,10 +1,11 @@
 -- What is read from the tables of an instance.
-use Rattle.std.specs.Prelude.{Option, Some, IfSome, IsTrue, slice_get, option_map, position, bytes_eq}
+use Rattle.std.specs.Prelude.{Option, None, Some, IfSome, IsTrue, slice_get, option_map, position, bytes_eq}
 use Rattle.std.proofs.Common.{◌≡◌, ℕ, ◌+◌, ◌<◌, ◌≤◌, Bool, false, List, [], length, map, get_or, take, sym, ap, ◌∙◌, subst, arith, refl}
 use Rattle.std.proofs.lemmas.List.{get_or-map}
 use Rattle.std.proofs.lemmas.Grind.{get_or_default_zero}
 use Rattle.std.proofs.lemmas.List.Sums.{sum_by_more_le}
 use Rattle.std.proofs.lemmas.Option.{get_or_from_slice_get, slice_get_read}
+use Rattle.shunt_lists.specs.defs.Members.{AreDistinct}
 use Rattle.shunt_base.specs.declared.ids.ArrId.{ArrId}
 use Rattle.shunt_base.specs.declared.ids.DepId.{DepId}
 use Rattle.shunt_base.specs.declared.ids.PlatformId.{PlatformId}
@@ -17,12 +18,13 @@ use Rattle.shunt_instance.specs.declared.records.Train.{Train}
 use Rattle.shunt_instance.specs.declared.records.Unit.{Unit as TrainUnit}
 use Rattle.shunt_instance.specs.declared.records.Position.{Position}
 use Rattle.shunt_instance.specs.declared.records.UnitType.{UnitType}
-use Rattle.shunt_instance.specs.defs.Words.{AreDistinct, names_of, train_of_name, train_at, minute_at, turn_of, unit_count, is_open_at, route_cost}
+use Rattle.shunt_instance.specs.defs.Words.{names_of, train_of_name, train_at, minute_at, turn_of, unit_count, is_open_at, route_cost}
 use Rattle.shunt_instance.specs.defs.Wellformed.{IsStation, IsTimetable, AreTrains}
 use Rattle.shunt_instance.specs.defs.Instance.{Night, IsOrderedNight, sort_by_minute, make_unit, make_position, units_of, positions_of, unit_total, position_total, unit_at, position_at, ready, leaves, first_unit, first_position, ready_of, leaves_of, IsUnitAt, IsPositionAt}
 use Rattle.shunt_instance.specs.defs.Tables.{AreEntries, AreFirsts, AreCosts, route_cell}
 use Rattle.shunt_instance.proofs.Numbers.{length_through}
 use Rattle.shunt_instance.proofs.Orders.{trains_stay, sort_moves, night_is}
+use Rattle.shunt_instance.proofs.Named.{at_one_place}
 use Rattle.shunt_instance.proofs.Facts.{unit_at_is, position_at_is}
 use Rattle.shunt_instance.proofs.Found.{found_has, found_there, cost_small, side_open}
 
@@ -168,3 +170,22 @@ entries_of s ar dp a b e f units us positions ps ready leaves ae be ue pe ee uu 
   ready_list = re ∙ ap (λ (ts : List Train). map (ready_of s ts) us) ee ∙ ap (map (ready_of s ar)) uu;
   leave_list = le ∙ ap (λ (ts : List Train). map (leaves_of ts) ps) fe ∙ ap (map (leaves_of dp)) pp;
 }
+
+-- the place of a name is that of the train, or the track, that has it
+pub named_train : (names : List (List ℕ)) (ts us : List Train) (name : List ℕ) (o : Option ℕ) → names ≡ names_of ts → ts ≡ us → o ≡ position (λ n. bytes_eq n name) names → o ≡ train_of_name us name
+named_train names ts us name o is same e =
+    e
+    ∙ ap (position (λ n. bytes_eq n name)) is
+    ∙ sym (at_one_place (λ (t : Train). t.name) (λ t. bytes_eq t.name name) (λ n. bytes_eq n name) (λ t. refl) ts)
+    ∙ ap (λ (xs : List Train). train_of_name xs name) same
+
+pub named_track : (names : List (List ℕ)) (ts us : List Track) (name : List ℕ) (o : Option ℕ) → names ≡ map (λ (t : Track). t.name) ts → ts ≡ us → o ≡ position (λ n. bytes_eq n name) names → o ≡ position (name_test name) us
+named_track names ts us name o is same e =
+    e
+    ∙ ap (position (λ n. bytes_eq n name)) is
+    ∙ sym (at_one_place (λ (t : Track). t.name) (name_test name) (λ n. bytes_eq n name) (λ t. refl) ts)
+    ∙ ap (position (name_test name)) same
+
+pub few_places : (o : Option ℕ) (n : ℕ) → IfSome o (λ k. k < n) → n ≤ 100 → IfSome o (λ k. k < 256)
+few_places None n h le = tt
+few_places (Some k) n h le = omega arith

@@ -14,11 +14,12 @@ use Rattle.std.proofs.lemmas.Map.Keys.{IsDistinct-IsPermutation}
 use Rattle.std.proofs.lemmas.Map.Made.{AllPairs-from_IsDistinct, IsDistinct-from_AllPairs}
 use Rattle.std.proofs.lemmas.Slice.Eq.{bytes_eq-Decides}
 use Rattle.std.specs.declared.cmp.Ordering.TheVariants.{Less, Equal, Greater}
+use Rattle.shunt_lists.specs.defs.Members.{AreDistinct}
 use Rattle.shunt_instance.specs.declared.records.Origin.TheVariants as origin
 use Rattle.shunt_instance.specs.declared.records.Station.{Station}
 use Rattle.shunt_instance.specs.declared.records.Train.{Train}
 use Rattle.shunt_instance.specs.declared.records.Timetable.{Timetable}
-use Rattle.shunt_instance.specs.defs.Words.{AreDistinct, is_standing, names_of}
+use Rattle.shunt_instance.specs.defs.Words.{is_standing, names_of}
 use Rattle.shunt_instance.specs.defs.Wellformed.{IsStation, IsTrain, AreTrains, StandingFirst, IsTimetable}
 use Rattle.shunt_instance.specs.defs.Instance.{insert_by_minute, sort_by_minute, Night, night_of, IsOrderedNight, IsInstance}
 

@@ -1,9 +1,11 @@
 -- The night of this crate's tests is well formed.
-use Rattle.std.specs.Prelude.{All, AllPairs, IsTrue, filter}
+use Rattle.std.specs.Prelude.{All, IsTrue}
 use Rattle.std.proofs.Common.{◌≡◌, ◌≢◌, ℕ, ◌<◌, ◌≤◌, true, false, List, [], ◌∷◌, length, subst, sym, ap, ◌∙◌, arith, refl}
 use Rattle.std.proofs.lemmas.Bool.{false≢true}
-use Rattle.std.proofs.lemmas.List.Elements.{All-nil, All-cons}
+use Rattle.std.proofs.lemmas.List.Elements.{All-cons}
 use Rattle.std.proofs.lemmas.List.Kept.{AllPairs-cons}
+use Rattle.shunt_lists.proofs.Lists.{all_one}
+use Rattle.shunt_lists.specs.defs.Members.{AreDistinct}
 use Rattle.shunt_base.specs.declared.ids.TypeId.{TypeId}
 use Rattle.shunt_base.specs.declared.ids.Side.TheVariants.{A}
 use Rattle.shunt_base.specs.defs.Spelling.{IsName}
@@ -15,17 +17,14 @@ use Rattle.shunt_instance.specs.declared.records.Track.{Track}
 use Rattle.shunt_instance.specs.declared.records.UnitType.{UnitType}
 use Rattle.shunt_instance.specs.declared.records.Train.{Train}
 use Rattle.shunt_instance.specs.declared.records.Timetable.{Timetable}
-use Rattle.shunt_instance.specs.defs.Words.{AreDistinct, is_standing, names_of}
-use Rattle.shunt_instance.specs.defs.Wellformed.{IsUnitType, IsTrack, IsRoute, IsPermit, IsStation, IsTrain, AreTrains, IsTimetable}
-
-only : {X : Type 0} (P : X → Type 0) (x : X) → P x → All P (x ∷ [])
-only P x p = All-cons P x [] p (All-nil P)
+use Rattle.shunt_instance.specs.defs.Words.{is_standing}
+use Rattle.shunt_instance.specs.defs.Wellformed.{IsUnitType, IsTrack, IsRoute, IsPermit, IsStation, IsTrain, IsTimetable}
 
 alone : {X : Type 0} (x : X) → AreDistinct (x ∷ [])
 alone x i j d before within = absurd (omega arith)
 
 apart : {X : Type 0} (x y : X) → x ≢ y → AreDistinct (x ∷ y ∷ [])
-apart x y ne = AllPairs-cons (λ a b. a ≢ b) x (y ∷ []) (only (λ b. x ≢ b) y ne) (alone y)
+apart x y ne = AllPairs-cons (λ a b. a ≢ b) x (y ∷ []) (all_one (λ b. x ≢ b) y ne) (alone y)
 
 abbrev pub small_station : List ℕ → List ℕ → List ℕ → List ℕ → Station
 small_station n k p t = record {
@@ -44,17 +43,17 @@ pub station_is : (n k p t : List ℕ) → IsName n → IsName k → IsName p →
 station_is n k p t nn kk pp tt' = record {
   name = nn;
   few_types = omega arith;
-  types = only IsUnitType _ (record { name = kk; some = omega arith; long = omega arith; turns = omega arith; turn = omega arith });
+  types = all_one IsUnitType _ (record { name = kk; some = omega arith; long = omega arith; turns = omega arith; turn = omega arith });
   type_names = alone _;
   few_platforms = omega arith;
-  platforms = only IsName p pp;
+  platforms = all_one IsName p pp;
   platform_names = alone p;
   few_tracks = omega arith;
-  tracks = only IsTrack _ (record { name = tt'; some = omega arith; long = omega arith; open_at = refl });
+  tracks = all_one IsTrack _ (record { name = tt'; some = omega arith; long = omega arith; open_at = refl });
   track_names = alone _;
-  routes = only (IsRoute (small_station n k p t)) _ (record { platform = omega arith; track = omega arith; open_at = refl; cost = omega arith });
+  routes = all_one (IsRoute (small_station n k p t)) _ (record { platform = omega arith; track = omega arith; open_at = refl; cost = omega arith });
   ways = alone _;
-  permits = only (IsPermit (small_station n k p t)) _ (record { track = omega arith; kind = omega arith });
+  permits = all_one (IsPermit (small_station n k p t)) _ (record { track = omega arith; kind = omega arith });
   permits_differ = alone _;
   split = omega arith;
   couple = omega arith;
@@ -80,7 +79,7 @@ pub timetable_is : (s : Station) (a b o : List ℕ) → IsName a → IsName b �
 timetable_is s a b o aa bb oo ne types platforms =
     let P = λ (k : TypeId). k.0 < length s.types in
     let kind : P first_type = omega arith in
-    let one = only P first_type kind in
+    let one = all_one P first_type kind in
     let two = All-cons P first_type (first_type ∷ []) kind one in
     let three = All-cons P first_type (first_type ∷ first_type ∷ []) kind two in
     let late = train_is s a 600 (first_type ∷ first_type ∷ []) platforms aa (omega arith) (omega arith) (omega arith) two in
@@ -90,11 +89,11 @@ timetable_is s a b o aa bb oo ne types platforms =
     let second : Train = small_train b 500 (first_type ∷ []) in
     let third : Train = small_train o 900 (first_type ∷ first_type ∷ first_type ∷ []) in
     record {
-      arrive = record { few = omega arith; units = omega arith; each = All-cons (IsTrain s) first (second ∷ []) late (only (IsTrain s) second early); names = apart a b ne };
-      depart = record { few = omega arith; units = omega arith; each = only (IsTrain s) third out; names = alone o };
+      arrive = record { few = omega arith; units = omega arith; each = All-cons (IsTrain s) first (second ∷ []) late (all_one (IsTrain s) second early); names = apart a b ne };
+      depart = record { few = omega arith; units = omega arith; each = all_one (IsTrain s) third out; names = alone o };
       first = refl;
-      at_start = All-cons (λ r. IsTrue (is_standing r) → r.minute ≡ 0) first (second ∷ []) (λ stands. absurd (false≢true stands)) (only (λ r. IsTrue (is_standing r) → r.minute ≡ 0) second (λ stands. absurd (false≢true stands)));
-      from_platform = only (λ r. is_standing r ≡ false) third refl;
+      at_start = All-cons (λ r. IsTrue (is_standing r) → r.minute ≡ 0) first (second ∷ []) (λ stands. absurd (false≢true stands)) (all_one (λ r. IsTrue (is_standing r) → r.minute ≡ 0) second (λ stands. absurd (false≢true stands)));
+      from_platform = all_one (λ r. is_standing r ≡ false) third refl;
     }
 
 abbrev pub station_from : List ℕ → List UnitType → List (List ℕ) → List Track → List Route → List Permit → Station

@@ -1,12 +1,12 @@
 // A night: the station joined with the timetable.
-ghost use Rattle.std.specs.Prelude.{◌≡◌, ◌+◌, ◌<◌, ◌≤◌, ℕ, false, IsTrue, Some, IfOk, IfSome, length, slice_get};
-ghost use Rattle.shunt_instance.specs.defs.Words.{route_cost, permits, is_standing, is_open_at, names_of, train_at, track_names, track_of_name};
+ghost use Rattle.std.specs.Prelude.{◌≡◌, ◌+◌, ◌<◌, ◌≤◌, ℕ, false, IsTrue, Some, IfOk, IfSome, length, slice_get, position, bytes_eq};
+ghost use Rattle.shunt_lists.specs.defs.Members.{AreDistinct};
+ghost use Rattle.shunt_instance.specs.defs.Words.{route_cost, permits, is_standing, is_open_at, names_of, train_at, train_of_name, track_names, track_of_name};
 ghost use Rattle.shunt_instance.specs.defs.Wellformed.{IsStation, IsTimetable, IsTrain};
 ghost use Rattle.shunt_instance.specs.defs.Instance.{night_of, IsInstance, unit_total, position_total, unit_at, position_at, ready, leaves, first_unit, first_position, arr_of_name, dep_of_name, IsUnitAt, IsPositionAt};
 
-use crate::lookups::{
-    cost_table, named_table, pair_table, permit_cell, route_cell, track_number, train_named,
-};
+use crate::lookups::{cost_table, named_table, pair_table, permit_cell, route_cell};
+use crate::names::{Names, names_of};
 use crate::numbering::{
     first_numbers, leave_minutes, number_positions, number_units, ready_minutes, sorted,
 };
@@ -34,6 +34,9 @@ pub struct Instance {
     costs: Vec<Option<u32>>,
     named: Vec<bool>,
     pairs: Vec<bool>,
+    arr_names: Names,
+    dep_names: Names,
+    track_names: Names,
 }
 
 impl Model for Instance {
@@ -45,7 +48,7 @@ impl Model for Instance {
 
     ghost view = { λ a. record { station = a.station; arrive = a.arrive.items; depart = a.depart.items } };
 
-    ghost invariant = { λ a. AreTables (record { station = a.station; arrive = a.arrive.items; depart = a.depart.items }) a.units.items a.positions.items a.ready.items a.leaves.items a.first_units.items a.first_positions.items a.costs.items a.named.items a.pairs.items };
+    ghost invariant = { λ a. AreTables (record { station = a.station; arrive = a.arrive.items; depart = a.depart.items }) a.units.items a.positions.items a.ready.items a.leaves.items a.first_units.items a.first_positions.items a.costs.items a.named.items a.pairs.items a.arr_names a.dep_names a.track_names };
 }
 
 impl Instance {
@@ -71,6 +74,9 @@ impl Instance {
         let costs = cost_table(alloc, station.routes.as_slice())?;
         let named = named_table(alloc, station.permits.as_slice())?;
         let pairs = pair_table(alloc, station.permits.as_slice())?;
+        let arr_names = names_of(alloc, &arrive)?;
+        let dep_names = names_of(alloc, &depart)?;
+        let track_names = names_of(alloc, station.tracks.as_slice())?;
         Ok(Instance {
             station,
             arrive,
@@ -84,6 +90,9 @@ impl Instance {
             costs,
             named,
             pairs,
+            arr_names,
+            dep_names,
+            track_names,
         })
     }
 
@@ -197,6 +206,7 @@ impl Instance {
         requires { train.0 < length self.now.arrive }
         ensures exact { result ≡ first_unit self.now train.0 }
         ensures within { result + length (train_at self.now.arrive train.0).units ≤ unit_total self.now }
+        ensures few { unit_total self.now ≤ 160 }
     {
         self.first_units[train.0 as usize]
     }
@@ -206,6 +216,7 @@ impl Instance {
         requires { train.0 < length self.now.depart }
         ensures exact { result ≡ first_position self.now train.0 }
         ensures within { result + length (train_at self.now.depart train.0).units ≤ position_total self.now }
+        ensures few { position_total self.now ≤ 160 }
     {
         self.first_positions[train.0 as usize]
     }
@@ -236,7 +247,7 @@ impl Instance {
         ensures some { IfSome result (λ a. slice_get (names_of self.now.arrive) a.0 ≡ Some name.now) }
         ensures only { (k : ℕ) → slice_get (names_of self.now.arrive) k ≡ Some name.now → result ≡ Some (record { 0 = k }) }
     {
-        match train_named(&self.arrive, name) {
+        match self.arr_place(name) {
             Some(k) => Some(ArrId(k as u8)),
             None => None,
         }
@@ -248,7 +259,7 @@ impl Instance {
         ensures some { IfSome result (λ d. slice_get (names_of self.now.depart) d.0 ≡ Some name.now) }
         ensures only { (k : ℕ) → slice_get (names_of self.now.depart) k ≡ Some name.now → result ≡ Some (record { 0 = k }) }
     {
-        match train_named(&self.depart, name) {
+        match self.dep_place(name) {
             Some(k) => Some(DepId(k as u8)),
             None => None,
         }
@@ -260,9 +271,36 @@ impl Instance {
         ensures some { IfSome result (λ t. slice_get (track_names self.now.station) t.0 ≡ Some name.now) }
         ensures only { (k : ℕ) → slice_get (track_names self.now.station) k ≡ Some name.now → result ≡ Some (record { 0 = k }) }
     {
-        match track_number(self.station.tracks.as_slice(), name) {
+        match self.track_place(name) {
             Some(k) => Some(TrackId(k as u8)),
             None => None,
         }
+    }
+
+    // The number of the arriving train with a name.
+    fn arr_place(&self, name: &[u8]) -> Option<usize>
+        ensures exact { result ≡ train_of_name self.now.arrive name.now }
+        ensures few { IfSome result (λ k. k < 256) }
+        ensures distinct { AreDistinct (names_of self.now.arrive) }
+    {
+        self.arr_names.place_of(name)
+    }
+
+    // The number of the departing train with a name.
+    fn dep_place(&self, name: &[u8]) -> Option<usize>
+        ensures exact { result ≡ train_of_name self.now.depart name.now }
+        ensures few { IfSome result (λ k. k < 256) }
+        ensures distinct { AreDistinct (names_of self.now.depart) }
+    {
+        self.dep_names.place_of(name)
+    }
+
+    // The number of the track with a name.
+    fn track_place(&self, name: &[u8]) -> Option<usize>
+        ensures exact { result ≡ position (λ t. bytes_eq t.name name.now) self.now.station.tracks }
+        ensures few { IfSome result (λ k. k < 256) }
+        ensures distinct { AreDistinct (track_names self.now.station) }
+    {
+        self.track_names.place_of(name)
     }
 }

@@ -1,5 +1,5 @@
 //! What follows from the definitions of this crate.
-ghost use Rattle.std.specs.Prelude.{◌≡◌, ◌+◌, ◌-◌, ◌<◌, ◌≤◌, ℕ, List, IsTrue, Some, IfSome, length, slice_index_or};
+ghost use Rattle.std.specs.Prelude.{◌≡◌, ◌+◌, ◌-◌, ◌<◌, ◌≤◌, ℕ, List, IsTrue, Some, IfSome, length, take, map, position, slice_get, slice_index_or, bytes_eq};
 ghost use Rattle.std.specs.List.Sorted.{IsPermutation, IsNonDecreasingBy, IsStableByKey};
 ghost use Rattle.std.specs.Ordering.{nat_cmp};
 ghost use Rattle.shunt_base.specs.declared.ids.PlatformId.{PlatformId};
@@ -9,7 +9,8 @@ ghost use Rattle.shunt_instance.specs.declared.records.Station.{Station};
 ghost use Rattle.shunt_instance.specs.declared.records.Timetable.{Timetable};
 ghost use Rattle.shunt_instance.specs.declared.records.Train.{Train};
 ghost use Rattle.shunt_instance.specs.declared.records.Route.{Route};
-ghost use Rattle.shunt_instance.specs.defs.Words.{train_at, kind_at, route_cost, is_open_at};
+ghost use Rattle.shunt_lists.specs.defs.Members.{AreDistinct};
+ghost use Rattle.shunt_instance.specs.defs.Words.{train_at, kind_at, unit_count, route_cost, is_open_at};
 ghost use Rattle.shunt_instance.specs.defs.Wellformed.{IsStation, IsTimetable};
 ghost use Rattle.shunt_instance.specs.defs.Instance.{sort_by_minute, Night, night_of, IsOrderedNight, IsInstance, make_unit, make_position, unit_total, position_total, unit_at, position_at, ready, leaves, first_unit, first_position, IsUnitAt, IsPositionAt};
 ghost use Rattle.shunt_instance.specs.defs.Matching.{entry_at, unit_entries, position_entries, RisesByKind};
@@ -38,6 +39,18 @@ pub fn unit_numbers()
     ensures position { (night : Night) (v : ℕ) → IsInstance night → v < position_total night → IsPositionAt night v (position_at night v) }
     ensures position_there { (night : Night) (d place : ℕ) → d < length night.depart → 1 ≤ place → place ≤ length (train_at night.depart d).units → position_at night (first_position night d + (place - 1)) ≡ make_position d place (kind_at (train_at night.depart d) place) }
     ensures positions_few { (night : Night) → IsInstance night → position_total night ≤ 160 }
+{}
+
+/// The units of each train are numbered behind those of the trains before it, and within the night; and so are positions.
+pub fn rooms_of_trains()
+    ensures unit { (night : Night) (a : ℕ) → a < length night.arrive → first_unit night a + length (train_at night.arrive a).units ≤ unit_total night }
+    ensures position { (night : Night) (d : ℕ) → d < length night.depart → first_position night d + length (train_at night.depart d).units ≤ position_total night }
+    ensures behind { (trains : List Train) (i j : ℕ) → i < j → i < length trains → unit_count (take i trains) + length (train_at trains i).units ≤ unit_count (take j trains) }
+{}
+
+/// Where names are distinct, each is found at its own place.
+pub fn names_are_found<X>()
+    ensures { (name_of : X → List ℕ) (xs : List X) (name : List ℕ) (k : ℕ) (d : X) → AreDistinct (map name_of xs) → slice_get (map name_of xs) k ≡ Some name → position (λ x. bytes_eq (name_of x) name) xs ≡ Some k }
 {}
 
 /// The entries of a night are its units and positions, and along those of each type the minutes never fall.

@@ -4,6 +4,7 @@
 mod joined;
 pub mod laws;
 mod lookups;
+mod names;
 mod numbering;
 mod records;
 

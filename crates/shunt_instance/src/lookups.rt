@@ -1,10 +1,9 @@
-// Tables in which routes and permits are looked up, and names.
-ghost use Rattle.std.specs.Prelude.{◌≡◌, ◌<◌, length, All, IfOk, position, bytes_eq};
-ghost use Rattle.shunt_instance.specs.defs.Words.{train_of_name};
+// Tables in which routes and permits are looked up.
+ghost use Rattle.std.specs.Prelude.{◌≡◌, ◌<◌, length, All, IfOk};
 ghost use Rattle.shunt_instance.specs.defs.Wellformed.{IsStation};
 ghost use Rattle.shunt_instance.specs.defs.Tables.{route_cell, permit_cell, AreCosts, AreNamed, ArePairs};
 
-use crate::records::{Permit, Route, Track, Train};
+use crate::records::{Permit, Route};
 use shunt_base::{PlatformId, Side, TrackId, TypeId};
 use std::alloc::{AllocError, Global};
 
@@ -74,18 +73,4 @@ pub(crate) fn pair_table(alloc: Global, permits: &[Permit]) -> Result<Vec<bool>,
         pairs[permit_cell(permit.track, permit.kind)] = true;
     }
     Ok(pairs)
-}
-
-/// The number of the first train with a name.
-pub(crate) fn train_named(trains: &[Train], name: &[u8]) -> Option<usize>
-    ensures { result ≡ train_of_name trains.now name.now }
-{
-    trains.iter().position(|t| t.name.bytes() == name)
-}
-
-/// The number of the first track with a name.
-pub(crate) fn track_number(tracks: &[Track], name: &[u8]) -> Option<usize>
-    ensures { result ≡ position (λ t. bytes_eq t.name name.now) tracks.now }
-{
-    tracks.iter().position(|t| t.name.bytes() == name)
 }

@@ -5,6 +5,8 @@ ghost use Rattle.std.specs.Prelude.{◌≡◌, ◌==◌, length};
 
 use std::marker::Model;
 
+pub mod laws;
+
 /// A `Vec` that a contract sees as the list of its items, without its room.
 ///
 /// Structs and variants that a contract compares with a value of a definition have fields of this type.

@@ -1,11 +1,11 @@
 -- Masks that leave out the same entries.
 use Rattle.std.proofs.Common.{◌≡◌, ℕ, Bool, ◌&&◌, ◌==◌, eqb, leb, List, length, sym, ap, ◌∙◌, arith}
+use Rattle.shunt_lists.proofs.CountsBelow.{count_below-same}
 use Rattle.shunt_instance.specs.defs.Matching.{Entry, entry_at, is_in_rest, IsOfRest, place_of, IsMatchingOfRest}
 use Rattle.shunt_matching.specs.declared.types.Shortage.{Shortage}
 use Rattle.shunt_matching.specs.declared.types.Shortage.TheVariants.{Balance, ByMinute}
 use Rattle.shunt_matching.specs.defs.Counts.{is_of_kind, is_by_minute, count_of_kind, count_by_minute, AreAlikeBelow}
 use Rattle.shunt_matching.specs.defs.Shortages.{IsFirstShortage}
-use Rattle.shunt_matching.proofs.Below.{count_below-same}
 
 abbrev flipped : (n : ℕ) (mask other : List Bool) → AreAlikeBelow n mask other → AreAlikeBelow n other mask
 flipped n mask other h = λ i lt. sym (h i lt)

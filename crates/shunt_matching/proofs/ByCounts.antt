@@ -2,11 +2,12 @@
 use Rattle.std.proofs.Common.{◌≡◌, ⊎_elim, ℕ, suc, ◌<◌, ◌≤◌, Bool, true, false, cond, ◌&&◌, eqb, leb, List, length, get_or, refl, sym, ap, ◌∙◌, subst, arith}
 use Rattle.std.proofs.lemmas.List.FromFn.{get_or-map-range_with_len, length-map-range_with_len}
 use Rattle.std.proofs.lemmas.Bool.{cases_lt, and_parts, and_from, eq-eqb, eqb-true, leb-true, le-leb}
-use Rattle.shunt_instance.specs.defs.Matching.{Entry, entry_at, is_in_rest, IsOfRest, count_below, IsMatchable, place_of, times_given, IsMatchingOfRest, RisesByKind}
+use Rattle.shunt_lists.proofs.Numbers.{get_or-passing}
+use Rattle.shunt_lists.proofs.SumsBelow.{count_of_places}
+use Rattle.shunt_lists.proofs.CountsBelow.{count_below-le, count_below-same, count_below-within, count_below-rises, same_rank, of_rank, count_below-one}
+use Rattle.shunt_lists.specs.defs.Below.{count_below}
+use Rattle.shunt_instance.specs.defs.Matching.{Entry, entry_at, is_in_rest, IsOfRest, IsMatchable, place_of, times_given, IsMatchingOfRest, RisesByKind}
 use Rattle.shunt_matching.specs.defs.Counts.{is_of_kind, is_by_minute, count_by_minute, IsBalanced, numbers_of_kind, earlier_of_kind, first_fit_at, first_fit_of}
-use Rattle.shunt_matching.proofs.Below.{count_below-le, count_below-same, count_below-within, count_below-rises, same_rank, of_rank, count_below-one}
-use Rattle.shunt_matching.proofs.Places.{count_of_places}
-use Rattle.shunt_matching.proofs.Numbers.{get_or-passing}
 
 -- ---- a matching has these counts
 

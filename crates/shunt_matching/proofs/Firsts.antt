@@ -1,13 +1,13 @@
 -- A first shortage is the only one, and comes exactly where the counts fail.
 use Rattle.std.proofs.Common.{◌≡◌, ⊎_elim, ℕ, ◌<◌, ◌≤◌, Bool, false, List, length, sym, ap, ◌∙◌, subst, arith}
 use Rattle.std.proofs.lemmas.Bool.{cases_lt, cases_order, and_left, and_right, ne_eqb}
+use Rattle.shunt_lists.proofs.CountsBelow.{count_below-none}
 use Rattle.shunt_base.specs.declared.ids.TypeId.{TypeId}
 use Rattle.shunt_instance.specs.defs.Matching.{Entry, entry_at}
 use Rattle.shunt_matching.specs.declared.types.Shortage.{Shortage}
 use Rattle.shunt_matching.specs.declared.types.Shortage.TheVariants.{Balance, ByMinute}
 use Rattle.shunt_matching.specs.defs.Counts.{is_of_kind, is_by_minute, count_of_kind, count_by_minute, IsBalanced, HasKindsBelow}
 use Rattle.shunt_matching.specs.defs.Shortages.{IsEven, IsEnoughBy, IsFirstUneven, IsFirstLate, IsFirstShortage}
-use Rattle.shunt_matching.proofs.Below.{count_below-none}
 
 -- ---- from the types that are there to all numbers
 

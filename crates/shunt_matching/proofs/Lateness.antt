@@ -1,10 +1,10 @@
 -- A shortage by any minute is one by a minute at which a position of the type leaves.
 use Rattle.std.proofs.Common.{◌≡◌, ⊎_elim, ℕ, suc, ◌+◌, ◌-◌, ◌<◌, ◌≤◌, Bool, true, List, length, sym, ◌∙◌, below_more, arith}
 use Rattle.std.proofs.lemmas.Bool.{cases_lt, and_parts, and_from, leb-true, le-leb}
+use Rattle.shunt_lists.proofs.CountsBelow.{count_below-le, count_below-rises, of_rank}
 use Rattle.shunt_instance.specs.defs.Matching.{Entry, entry_at, RisesByKind}
 use Rattle.shunt_matching.specs.defs.Counts.{is_of_kind, is_by_minute, count_by_minute}
 use Rattle.shunt_matching.specs.defs.Shortages.{IsEnoughBy, IsLateAt}
-use Rattle.shunt_matching.proofs.Below.{count_below-le, count_below-rises, of_rank}
 use Rattle.shunt_matching.proofs.ByCounts.{rises, kind_of}
 
 -- up to n, no position of the type has a minute by which there are too few units

@@ -1,6 +1,3 @@
-pub mod Below
-pub mod Places
-pub mod Numbers
 pub mod ByCounts
 pub mod Lateness
 pub mod Firsts

@@ -1,6 +1,7 @@
 // The units and the positions of an instance, and counts over their rest.
 ghost use Rattle.std.specs.Prelude.{◌≡◌, ◌<◌, ◌≤◌, ℕ, List, length, slice_index_or, false};
-ghost use Rattle.shunt_instance.specs.defs.Matching.{Entry, entry_at, count_below};
+ghost use Rattle.shunt_lists.specs.defs.Below.{count_below};
+ghost use Rattle.shunt_instance.specs.defs.Matching.{Entry, entry_at};
 ghost use Rattle.shunt_matching.specs.defs.Counts.{is_of_kind, is_by_minute, count_by_minute};
 
 /// Units or positions by their numbers.

@@ -2,8 +2,8 @@
 use Rattle.std.proofs.Common.{◌≡◌, inl, inr, ⊎_elim, ◌↔◌, ℕ, ◌<◌, Bool, List, [], ◌∷◌, refl, sym, subst, ap, ◌∙◌, arith}
 use Rattle.std.specs.List.{AllByRecursion, filter}
 use Rattle.std.proofs.lemmas.Bool.{cases_Bool}
-use Rattle.shunt_stays.specs.defs.Members.{In}
-use Rattle.shunt_stays.proofs.Members.{all_in, all_from, filter_from, filter_yes, filter_no}
+use Rattle.shunt_lists.proofs.Members.{all_in, all_from, filter_from, filter_yes, filter_no}
+use Rattle.shunt_lists.specs.defs.Members.{In}
 
 -- each is before all that follow
 abbrev pub Ascends : {X : Type 0} → (X → ℕ) → List X → Type 0

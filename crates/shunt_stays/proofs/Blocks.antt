@@ -6,11 +6,11 @@ use Rattle.std.proofs.lemmas.Bool.{false≢true, cases_Bool, cases_eq, leb-true,
 use Rattle.std.proofs.lemmas.List.{length-set, map-set, get_or-set_same, get_or-set_other}
 use Rattle.std.proofs.lemmas.List.Sums.{sum_by-cons}
 use Rattle.std.proofs.Math.ListN.{get_or-map}
+use Rattle.shunt_lists.specs.defs.Members.{In}
 use Rattle.shunt_base.specs.declared.ids.Side.{Side}
 use Rattle.shunt_base.specs.declared.ids.Side.TheVariants.{A, B}
 use Rattle.shunt_base.specs.declared.keys.Stay.{Stay}
 use Rattle.shunt_base.specs.defs.Keys.{IsWellFormed, AreStays}
-use Rattle.shunt_stays.specs.defs.Members.{In}
 use Rattle.shunt_stays.specs.defs.Events.{Move, entry_of, leave_of}
 use Rattle.shunt_stays.specs.defs.Run.{Standing, Stop, Through, put, without_first, without_last, without, load, entered, left, moved, ◌>>=◌, run}
 use Rattle.shunt_stays.specs.defs.Run.Stop.{Over}

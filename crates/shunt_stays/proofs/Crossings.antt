@@ -8,18 +8,20 @@ use Rattle.std.proofs.lemmas.Bool.{false≢true, and_parts, and_from, or_cases, 
 use Rattle.std.proofs.lemmas.Bool.Decides.{nat_tests}
 use Rattle.std.proofs.lemmas.List.Sums.{sum_by-cons}
 use Rattle.std.proofs.lemmas.List.Sorted.{sum_by-IsPermutation}
+use Rattle.shunt_base.proofs.Sides.{same_side_tells, same_side_is}
+use Rattle.shunt_base.specs.defs.Sides.{same_side}
+use Rattle.shunt_lists.proofs.Sums.{some_of, sum_filter}
+use Rattle.shunt_lists.proofs.Members.{filter_from, filter_to}
+use Rattle.shunt_lists.specs.defs.Members.{In}
 use Rattle.shunt_base.specs.declared.ids.Side.{Side}
 use Rattle.shunt_base.specs.declared.ids.Side.TheVariants.{A, B}
 use Rattle.shunt_base.specs.declared.keys.EventKey.{EventKey}
 use Rattle.shunt_base.specs.declared.keys.Stay.{Stay}
 use Rattle.shunt_base.specs.defs.Keys.{key_cmp, rank, IsBefore, IsKey, IsWellFormed, AreStays}
 use Rattle.shunt_base.proofs.Ranks.{key_cmp_is, is_before}
-use Rattle.shunt_stays.specs.defs.Members.{In}
 use Rattle.shunt_stays.specs.defs.Events.{key_before}
 use Rattle.shunt_stays.specs.defs.Run.{GoesThrough, AreOnTracks}
-use Rattle.shunt_stays.specs.defs.Crossing.{Crosses, same_side, in_the_way, crosses, stands_at, load_at, load_after, NoneCross, NoneOver, pairs_in, overs_in}
-use Rattle.shunt_stays.proofs.Members.{filter_from, filter_to}
-use Rattle.shunt_stays.proofs.Sums.{some_of, sum_filter}
+use Rattle.shunt_stays.specs.defs.Crossing.{Crosses, in_the_way, crosses, stands_at, load_at, load_after, NoneCross, NoneOver, pairs_in, overs_in}
 use Rattle.shunt_stays.proofs.Halves.{formed, before_is, halves_of, ordered}
 use Rattle.shunt_stays.proofs.Track.{length_of, Meets, stands_by, total_at}
 use Rattle.shunt_stays.proofs.Runs.{goes_clear, clear_goes}
@@ -27,24 +29,11 @@ use Rattle.shunt_stays.proofs.Tracks.{on_track}
 use Rattle.shunt_stays.proofs.Fewer.{stays_filter, by_track}
 use Rattle.shunt_stays.proofs.Standing.{fits_at}
 
--- the test of two sides
-side_same : (x y : Side) → same_side x y ≡ true → x ≡ y
-side_same A A t = refl
-side_same A B t = absurd (false≢true t)
-side_same B A t = absurd (false≢true t)
-side_same B B t = refl
-
-same_sides : (x y : Side) → x ≡ y → same_side x y ≡ true
-same_sides A A e = refl
-same_sides A B e = absurd (cc)
-same_sides B A e = absurd (cc)
-same_sides B B e = refl
-
 side_differs : (x y : Side) → not (same_side x y) ≡ true → x ≢ y
-side_differs x y t e = false≢true (sym (not-true (same_side x y) t) ∙ same_sides x y e)
+side_differs x y t e = false≢true (sym (not-true (same_side x y) t) ∙ same_side_is x y e)
 
 differing : (x y : Side) → x ≢ y → not (same_side x y) ≡ true
-differing x y ne = not_from_false (same_side x y) (false_from_ne_true (same_side x y) (λ t. ne (side_same x y t)))
+differing x y ne = not_from_false (same_side x y) (false_from_ne_true (same_side x y) (λ t. ne (same_side_tells x y t)))
 
 less_is : (o : Ordering) → is_lt o ≡ true → o ≡ Less
 less_is Less t = refl
@@ -63,12 +52,12 @@ Blocked b c = (IsBefore c.leave b.leave × (c.side_out ≢ c.side_in)) ⊎ (IsBe
 way_from : (b c : Stay) → in_the_way b c ≡ true → Blocked b c
 way_from b c t =
     ⊎_elim (λ u. let p = and_parts (key_before c.leave b.leave) (not (same_side c.side_out c.side_in)) u in inl (before_from c.leave b.leave p.0, side_differs c.side_out c.side_in p.1))
-    (λ u. let p = and_parts (key_before b.leave c.leave) (same_side b.side_out c.side_in) u in inr (before_from b.leave c.leave p.0, side_same b.side_out c.side_in p.1))
+    (λ u. let p = and_parts (key_before b.leave c.leave) (same_side b.side_out c.side_in) u in inr (before_from b.leave c.leave p.0, same_side_tells b.side_out c.side_in p.1))
     (or_cases (key_before c.leave b.leave && not (same_side c.side_out c.side_in)) (key_before b.leave c.leave && same_side b.side_out c.side_in) t)
 
 way_to : (b c : Stay) → Blocked b c → in_the_way b c ≡ true
 way_to b c (inl p) = or_left (key_before c.leave b.leave && not (same_side c.side_out c.side_in)) (key_before b.leave c.leave && same_side b.side_out c.side_in) (and_from (key_before c.leave b.leave) (not (same_side c.side_out c.side_in)) (before_to c.leave b.leave p.0) (differing c.side_out c.side_in p.1))
-way_to b c (inr p) = or_right (key_before c.leave b.leave && not (same_side c.side_out c.side_in)) (key_before b.leave c.leave && same_side b.side_out c.side_in) (and_from (key_before b.leave c.leave) (same_side b.side_out c.side_in) (before_to b.leave c.leave p.0) (same_sides b.side_out c.side_in p.1))
+way_to b c (inr p) = or_right (key_before c.leave b.leave && not (same_side c.side_out c.side_in)) (key_before b.leave c.leave && same_side b.side_out c.side_in) (and_from (key_before b.leave c.leave) (same_side b.side_out c.side_in) (before_to b.leave c.leave p.0) (same_side_is b.side_out c.side_in p.1))
 
 -- the test of a crossing
 pub crosses_is : (b c : Stay) → crosses b c ≡ true ↔ Crosses b c

@@ -4,11 +4,11 @@ use Rattle.std.specs.Result.{IfOk}
 use Rattle.std.proofs.lemmas.List.Sums.{sum_by-cons}
 use Rattle.shunt_base.specs.declared.keys.Stay.{Stay}
 use Rattle.shunt_base.specs.defs.Keys.{AreStays}
-use Rattle.shunt_stays.specs.defs.Members.{In}
 use Rattle.shunt_stays.specs.defs.Events.{Move, entry_of, leave_of, insert_by_key, key_before, in_order}
 use Rattle.shunt_stays.specs.defs.Run.{Standing, Stop, Through, run, run_of, AreOnTracks, empty_tracks, blocks_on, entries_in, leaves_in}
 use Rattle.std.proofs.lemmas.Bool.{cases_Bool}
-use Rattle.shunt_stays.proofs.Members.{of_map}
+use Rattle.shunt_lists.proofs.Members.{of_map}
+use Rattle.shunt_lists.specs.defs.Members.{In}
 use Rattle.shunt_stays.proofs.Halves.{Half, move_of, halves_of, of_stay, in_order_is}
 use Rattle.shunt_stays.proofs.Fewer.{on_tracks}
 use Rattle.shunt_stays.proofs.Steps.{run_leaves}

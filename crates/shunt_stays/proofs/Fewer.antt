@@ -5,15 +5,15 @@ use Rattle.std.specs.Result.{IsOk}
 use Rattle.std.proofs.lemmas.Bool.{false≢true, cases_Bool, eqb-true, eq-eqb, or_cases, or_left, or_right}
 use Rattle.std.proofs.lemmas.List.Elements.{filter-append}
 use Rattle.std.proofs.Math.ListN.{get_or-map}
+use Rattle.shunt_lists.proofs.Sums.{filter_least}
+use Rattle.shunt_lists.proofs.Members.{all_in, all_from, in_to, filter_yes, filter_no, filter_from, filter_to}
+use Rattle.shunt_lists.specs.defs.Members.{In}
 use Rattle.shunt_base.specs.declared.ids.Side.{Side}
 use Rattle.shunt_base.specs.declared.ids.Side.TheVariants.{A, B}
 use Rattle.shunt_base.specs.declared.keys.Stay.{Stay}
 use Rattle.shunt_base.specs.defs.Keys.{AreStays}
-use Rattle.shunt_stays.specs.defs.Members.{In}
 use Rattle.shunt_stays.specs.defs.Events.{in_order, Move}
 use Rattle.shunt_stays.specs.defs.Run.{put, run, GoesThrough, AreOnTracks, empty_tracks, Standing}
-use Rattle.shunt_stays.proofs.Members.{all_in, all_from, in_to, filter_yes, filter_no, filter_from, filter_to}
-use Rattle.shunt_stays.proofs.Sums.{filter_least}
 use Rattle.shunt_stays.proofs.Ascending.{ascends_filter, unique}
 use Rattle.shunt_stays.proofs.Halves.{Half, at, move_of, halves_of, ordered, same_id, of_stay, half_in, in_order_is}
 use Rattle.shunt_stays.proofs.Track.{length_of, total, GoesOn}

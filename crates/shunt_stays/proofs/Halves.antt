@@ -3,13 +3,13 @@ use Rattle.std.proofs.Common.{◌≡◌, ◌≢◌, ◌⊎◌, inl, inr, ⊎_eli
 use Rattle.std.specs.Ordering.{nat_cmp, is_lt}
 use Rattle.std.proofs.lemmas.Bool.{cases_Bool, ltb-true, ltb-false}
 use Rattle.std.proofs.lemmas.Bool.Decides.{nat_tests}
+use Rattle.shunt_lists.proofs.Members.{all_in, all_from, Distinct}
+use Rattle.shunt_lists.specs.defs.Members.{In}
 use Rattle.shunt_base.specs.declared.keys.EventKey.{EventKey}
 use Rattle.shunt_base.specs.declared.keys.Stay.{Stay}
 use Rattle.shunt_base.specs.defs.Keys.{rank, IsKey, IsWellFormed, AreStays}
 use Rattle.shunt_base.proofs.Ranks.{key_cmp_is, is_before}
-use Rattle.shunt_stays.specs.defs.Members.{In}
 use Rattle.shunt_stays.specs.defs.Events.{Move, entry_of, leave_of, key_before, insert_by_key, in_order}
-use Rattle.shunt_stays.proofs.Members.{all_in, all_from, Distinct}
 use Rattle.shunt_stays.proofs.Ascending.{Ascends}
 
 -- a stay's entry (true) or its leave

@@ -1,5 +1,4 @@
 pub mod Members
-pub mod Sums
 pub mod Ascending
 pub mod Halves
 pub mod Track

@@ -1,104 +1,10 @@
--- Members of lists.
-use Rattle.std.proofs.Common.{◌≡◌, ◌⊎◌, inl, inr, ⊎_elim, ℕ, zero, suc, ◌<◌, Bool, true, false, cond, List, [], ◌∷◌, ◌++◌, length, get_or, map, refl, sym, subst, ap, ◌∙◌, arith}
-use Rattle.std.specs.List.{AllByRecursion, Contains, filter}
-use Rattle.std.proofs.lemmas.Bool.{cases_Bool}
+-- Members of a list to which one is put at a side.
+use Rattle.std.proofs.Common.{◌≡◌, ◌⊎◌, inl, inr, ⊎_elim, List, [], ◌∷◌, ◌++◌, refl, sym, subst}
 use Rattle.shunt_base.specs.declared.ids.Side.{Side}
 use Rattle.shunt_base.specs.declared.ids.Side.TheVariants.{A, B}
-use Rattle.shunt_stays.specs.defs.Members.{In}
+use Rattle.shunt_lists.specs.defs.Members.{In}
+use Rattle.shunt_lists.proofs.Members.{Distinct, in_left, in_right, in_cases, of_one}
 use Rattle.shunt_stays.specs.defs.Run.{put}
-
-pub all_in : {X : Type 0} (P : X → Type 0) (xs : List X) (x : X) → AllByRecursion P xs → In x xs → P x
-all_in P [] x all here = absurd here
-all_in P (y ∷ ys) x all (inl e) = subst P (sym e) all.0
-all_in P (y ∷ ys) x all (inr h) = all_in P ys x all.1 h
-
-pub all_from : {X : Type 0} (P : X → Type 0) (xs : List X) → ((x : X) → In x xs → P x) → AllByRecursion P xs
-all_from P [] h = tt
-all_from P (x ∷ xs) h = (h x (inl refl), all_from P xs (λ y i. h y (inr i)))
-
-pub in_left : {X : Type 0} (xs ys : List X) (x : X) → In x xs → In x (xs ++ ys)
-in_left [] ys x h = absurd h
-in_left (z ∷ xs) ys x (inl e) = inl e
-in_left (z ∷ xs) ys x (inr h) = inr (in_left xs ys x h)
-
-pub in_right : {X : Type 0} (xs ys : List X) (x : X) → In x ys → In x (xs ++ ys)
-in_right [] ys x h = h
-in_right (z ∷ xs) ys x h = inr (in_right xs ys x h)
-
-pub in_cases : {X : Type 0} (xs ys : List X) (x : X) → In x (xs ++ ys) → In x xs ⊎ In x ys
-in_cases [] ys x h = inr h
-in_cases (z ∷ xs) ys x (inl e) = inl (inl e)
-in_cases (z ∷ xs) ys x (inr h) = ⊎_elim (λ l. inl (inr l)) (λ r. inr r) (in_cases xs ys x h)
-
--- members by place and by recursion
-at_place : {X : Type 0} (xs : List X) (x : X) (k : ℕ) → k < length xs → get_or xs k x ≡ x → In x xs
-at_place [] x k lt e = absurd (omega arith)
-at_place (y ∷ xs) x zero lt e = inl (sym e)
-at_place (y ∷ xs) x (suc k) lt e = inr (at_place xs x k (omega arith) e)
-
-pub in_from : {X : Type 0} (xs : List X) (x : X) → Contains xs x → In x xs
-in_from xs x c = at_place xs x c.0 c.1 c.2
-
-pub in_to : {X : Type 0} (xs : List X) (x : X) → In x xs → Contains xs x
-in_to [] x h = absurd h
-in_to (y ∷ xs) x (inl e) = (0, omega arith, sym e)
-in_to (y ∷ xs) x (inr h) = let c = in_to xs x h in (suc c.0, let lt = c.1 in omega arith, c.2)
-
-pub in_place : {X : Type 0} (xs : List X) (k : ℕ) (d : X) → k < length xs → In (get_or xs k d) xs
-in_place [] k d lt = absurd (omega arith)
-in_place (y ∷ xs) zero d lt = inl refl
-in_place (y ∷ xs) (suc k) d lt = inr (in_place xs k d (omega arith))
-
-pub in_map : {X Y : Type 0} (f : X → Y) (xs : List X) (x : X) → In x xs → In (f x) (map f xs)
-in_map f [] x h = absurd h
-in_map f (y ∷ xs) x (inl e) = inl (ap f e)
-in_map f (y ∷ xs) x (inr h) = inr (in_map f xs x h)
-
-pub of_map : {X Y : Type 0} (f : X → Y) (xs : List X) (y : Y) → In y (map f xs) → (x : X) × In x xs × (y ≡ f x)
-of_map f [] y h = absurd h
-of_map f (x ∷ xs) y (inl e) = (x, inl refl, e)
-of_map f (x ∷ xs) y (inr h) = let r = of_map f xs y h in (r.0, inr r.1, r.2)
-
--- the first is kept, or it isn't
-pub filter_yes : {X : Type 0} (p : X → Bool) (x : X) (xs : List X) → p x ≡ true → filter p (x ∷ xs) ≡ x ∷ filter p xs
-filter_yes p x xs t = ap (λ b. cond b (x ∷ filter p xs) (filter p xs)) t
-
-pub filter_no : {X : Type 0} (p : X → Bool) (x : X) (xs : List X) → p x ≡ false → filter p (x ∷ xs) ≡ filter p xs
-filter_no p x xs t = ap (λ b. cond b (x ∷ filter p xs) (filter p xs)) t
-
-pub filter_from : {X : Type 0} (p : X → Bool) (xs : List X) (x : X) → In x (filter p xs) → In x xs × (p x ≡ true)
-filter_from p [] x h = absurd h
-filter_from {X} p (y ∷ xs) x h = ⊎_elim (yes (λ i. filter_from p xs x i)) (no (λ i. filter_from p xs x i)) (cases_Bool (p y))
-  where
-    first : (t : p y ≡ true) → (x ≡ y) ⊎ In x (filter p xs) → (In x (filter p xs) → In x xs × (p x ≡ true)) → In x (y ∷ xs) × (p x ≡ true)
-    first t (inl e) later = (inl e, ap p e ∙ t)
-    first t (inr i) later = let r = later i in (inr r.0, r.1)
-
-    yes : (In x (filter p xs) → In x xs × (p x ≡ true)) → p y ≡ true → In x (y ∷ xs) × (p x ≡ true)
-    yes known t = first t (subst (In x) (filter_yes p y xs t) h) known
-
-    no : (In x (filter p xs) → In x xs × (p x ≡ true)) → p y ≡ false → In x (y ∷ xs) × (p x ≡ true)
-    no known t = let r = known (subst (In x) (filter_no p y xs t) h) in (inr r.0, r.1)
-
-pub filter_to : {X : Type 0} (p : X → Bool) (xs : List X) (x : X) → In x xs → p x ≡ true → In x (filter p xs)
-filter_to p [] x h t = absurd h
-filter_to p (y ∷ xs) x (inl e) t = subst (In x) (sym (filter_yes p y xs (ap p (sym e) ∙ t))) (inl e)
-filter_to p (y ∷ xs) x (inr i) t =
-    ⊎_elim (λ u. subst (In x) (sym (filter_yes p y xs u)) (inr (filter_to p xs x i t))) (λ u. subst (In x) (sym (filter_no p y xs u)) (filter_to p xs x i t)) (cases_Bool (p y))
-
--- no member stands twice
-abbrev pub Distinct : {X : Type 0} → List X → Type 0
-Distinct [] = Unit {0}
-Distinct (x ∷ xs) = (In x xs → ⊥) × Distinct xs
-
-pub distinct_filter : {X : Type 0} (p : X → Bool) (xs : List X) → Distinct xs → Distinct (filter p xs)
-distinct_filter p [] d = tt
-distinct_filter p (x ∷ xs) d =
-    ⊎_elim (λ t. subst Distinct (sym (filter_yes p x xs t)) (λ h. d.0 (filter_from p xs x h).0, distinct_filter p xs d.1)) (λ t. subst Distinct (sym (filter_no p x xs t)) (distinct_filter p xs d.1)) (cases_Bool (p x))
-
-one : {X : Type 0} (x y : X) → In y (x ∷ []) → y ≡ x
-one x y (inl e) = e
-one x y (inr h) = absurd h
 
 pub put_here : {X : Type 0} (side : Side) (x : X) (xs : List X) → In x (put side x xs)
 put_here A x xs = inl refl
@@ -110,13 +16,13 @@ put_there B x y xs h = in_left xs (x ∷ []) y h
 
 pub put_cases : {X : Type 0} (side : Side) (x y : X) (xs : List X) → In y (put side x xs) → (y ≡ x) ⊎ In y xs
 put_cases A x y xs h = h
-put_cases B x y xs h = ⊎_elim (λ l. inr l) (λ r. inl (one x y r)) (in_cases xs (x ∷ []) y h)
+put_cases B x y xs h = ⊎_elim (λ l. inr l) (λ r. inl (of_one x y r)) (in_cases xs (x ∷ []) y h)
 
 pub distinct_put : {X : Type 0} (side : Side) (x : X) (xs : List X) → (In x xs → ⊥) → Distinct xs → Distinct (put side x xs)
 distinct_put A x xs new d = (new, d)
 distinct_put B x [] new d = (λ h. h, tt)
 distinct_put B x (y ∷ xs) new d =
-    (λ h. ⊎_elim (λ l. d.0 l) (λ r. new (inl (sym (one x y r)))) (in_cases xs (x ∷ []) y h), distinct_put B x xs (λ h. new (inr h)) d.1)
+    (λ h. ⊎_elim (λ l. d.0 l) (λ r. new (inl (sym (of_one x y r)))) (in_cases xs (x ∷ []) y h), distinct_put B x xs (λ h. new (inr h)) d.1)
 
 pub distinct_taken : {X : Type 0} (side : Side) (x : X) (xs : List X) → Distinct (put side x xs) → (In x xs → ⊥) × Distinct xs
 distinct_taken A x xs d = d

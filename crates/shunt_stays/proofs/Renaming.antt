@@ -3,16 +3,17 @@ use Rattle.std.proofs.Common.{◌≡◌, ◌≢◌, inl, inr, ⊎_elim, ◌↔�
 use Rattle.std.specs.List.{filter, AllByRecursion, AllZip}
 use Rattle.std.proofs.lemmas.Bool.{true≢false, false≢true, cases_Bool, cases_order, lt-ltb, le-ltb}
 use Rattle.std.proofs.lemmas.List.Sums.{sum_by-cons}
+use Rattle.shunt_lists.proofs.Members.{all_in, all_from, filter_from, filter_to, filter_yes, filter_no}
+use Rattle.shunt_lists.specs.defs.Members.{In}
 use Rattle.shunt_base.specs.declared.ids.Side.{Side}
 use Rattle.shunt_base.specs.declared.ids.Side.TheVariants.{A, B}
 use Rattle.shunt_base.specs.declared.keys.EventKey.{EventKey}
 use Rattle.shunt_base.specs.declared.keys.Stay.{Stay}
 use Rattle.shunt_base.specs.defs.Keys.{rank, IsKey, IsWellFormed, AreStays}
 use Rattle.shunt_base.proofs.Ranks.{rank_tells}
-use Rattle.shunt_stays.specs.defs.Members.{In}
 use Rattle.shunt_stays.specs.defs.Events.{with_id, SameButId, DifferBeforeId, AllDifferBeforeId}
 use Rattle.shunt_stays.specs.defs.Run.{put, GoesThrough, AreOnTracks}
-use Rattle.shunt_stays.proofs.Members.{all_in, all_from, put_here, put_there, put_cases, filter_from, filter_to, filter_yes, filter_no}
+use Rattle.shunt_stays.proofs.Members.{put_here, put_there, put_cases}
 use Rattle.shunt_stays.proofs.Halves.{Half, key_of, at, insert_half, insert_by, in_insert, halves_of, formed, same_id, of_stay}
 use Rattle.shunt_stays.proofs.Track.{length_of, total, GoesOn}
 use Rattle.shunt_stays.proofs.Tracks.{on_track}

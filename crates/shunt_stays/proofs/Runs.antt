@@ -2,14 +2,15 @@
 use Rattle.std.proofs.Common.{◌≡◌, ◌≢◌, ◌⊎◌, inl, inr, ⊎_elim, ℕ, ◌<◌, ◌≤◌, leb, ltb, Bool, true, false, List, [], ◌∷◌, refl, sym, subst, ap, arith}
 use Rattle.std.proofs.lemmas.Bool.{true≢false, false≢true, and_parts, leb-true, ltb-true}
 use Rattle.std.proofs.lemmas.Bool.Decides.{nat_tests}
+use Rattle.shunt_lists.proofs.Sums.{sum_same}
+use Rattle.shunt_lists.proofs.Members.{all_in, Distinct}
+use Rattle.shunt_lists.specs.defs.Members.{In}
 use Rattle.shunt_base.specs.declared.keys.Stay.{Stay}
 use Rattle.shunt_base.specs.defs.Keys.{rank}
-use Rattle.shunt_stays.specs.defs.Members.{In}
 use Rattle.shunt_stays.specs.defs.Run.{put}
-use Rattle.shunt_stays.proofs.Members.{all_in, put_here, put_there, put_cases, distinct_put, distinct_taken, Distinct}
+use Rattle.shunt_stays.proofs.Members.{put_here, put_there, put_cases, distinct_put, distinct_taken}
 use Rattle.shunt_stays.proofs.Ascending.{Ascends}
 use Rattle.shunt_stays.proofs.Halves.{Half, at, InKeyOrder}
-use Rattle.shunt_stays.proofs.Sums.{sum_same}
 use Rattle.shunt_stays.proofs.Track.{length_of, total, GoesOn, Meets, stands_by, total_at}
 use Rattle.shunt_stays.proofs.Sides.{Arranged, arranged_put, arranged_taken, arranged_none, clear_from, fits_from, leaves_first, at_end}
 

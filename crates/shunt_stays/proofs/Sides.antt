@@ -1,13 +1,13 @@
 -- Two stays that stand on the track at once, one nearer to A.
 use Rattle.std.proofs.Common.{◌≡◌, ◌≢◌, ◌⊎◌, inl, inr, ⊎_elim, ℕ, ◌<◌, List, [], ◌∷◌, ◌++◌, refl, sym, subst, ap, ◌∙◌, arith}
+use Rattle.shunt_lists.proofs.Members.{in_left, in_right, in_cases, Distinct}
+use Rattle.shunt_lists.specs.defs.Members.{In}
 use Rattle.shunt_base.specs.defs.Keys.{rank}
-use Rattle.shunt_stays.specs.defs.Members.{In}
 use Rattle.shunt_stays.specs.defs.Run.{put}
 use Rattle.shunt_stays.proofs.Track.{Meets}
 use Rattle.shunt_base.specs.declared.ids.Side.{Side}
 use Rattle.shunt_base.specs.declared.ids.Side.TheVariants.{A, B}
 use Rattle.shunt_base.specs.declared.keys.Stay.{Stay}
-use Rattle.shunt_stays.proofs.Members.{in_left, in_right, in_cases, Distinct}
 
 -- s is nearer to A: each can go when it has to
 abbrev pub Fits : Stay → Stay → Type 0

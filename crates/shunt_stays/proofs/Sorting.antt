@@ -7,14 +7,14 @@ use Rattle.std.proofs.lemmas.Bool.{cases_lt, eqb-false, ne_eqb}
 use Rattle.std.proofs.lemmas.Bool.Decides.{nat_tests}
 use Rattle.std.proofs.lemmas.List.Concat.{flat_map-cons}
 use Rattle.std.proofs.lemmas.List.Sorted.{Contains-permutation, IsPermutation-sym}
-use Rattle.std.proofs.lemmas.Map.Keys.{IsDistinct-IsPermutation}
+use Rattle.std.proofs.lemmas.Map.Keys.{IsDistinct-IsPermutation, ge_from_not_lt}
+use Rattle.shunt_lists.proofs.Members.{all_in, all_from, in_cases, in_from, in_to, in_map, of_map, in_place}
+use Rattle.shunt_lists.specs.defs.Members.{In}
 use Rattle.shunt_base.specs.declared.keys.Stay.{Stay}
 use Rattle.shunt_base.specs.defs.Keys.{key_cmp, rank, IsKey, IsWellFormed, AreStays}
 use Rattle.shunt_base.proofs.Ranks.{key_cmp_is}
-use Rattle.shunt_stays.specs.defs.Members.{In}
 use Rattle.shunt_stays.specs.defs.Events.{Move, entry_of, leave_of, moves_of, in_order}
 use Rattle.shunt_stays.specs.defs.Run.{AreOnTracks}
-use Rattle.shunt_stays.proofs.Members.{all_in, all_from, in_cases, in_from, in_to, in_map, of_map, in_place}
 use Rattle.shunt_stays.proofs.Ascending.{Ascends, unique}
 use Rattle.shunt_stays.proofs.Halves.{Half, at, move_of, halves_of, ordered, formed, later_rank, ids_apart, of_stay, half_in, in_order_is}
 use Rattle.shunt_stays.proofs.Fewer.{order_same, on_tracks}
@@ -120,9 +120,6 @@ distinct_moves (s ∷ stays) a =
       (all_from (λ n. same_rank (leave_of s) n ≡ false) (moves_of stays) (λ n h. ranks_apart s stays (s, false) n a.0 a.2 a.1 refl h), distinct_moves stays a.2),
     )
 
-not_less : (a b : ℕ) → is_lt (nat_cmp a b) ≡ false → b ≤ a
-not_less a b e = grind (arith, nat_tests)
-
 abbrev by_key : Move → Move → Ordering
 by_key m n = key_cmp m.key n.key
 
@@ -134,7 +131,7 @@ unfolding IsDistinct
 ascends_sorted [] s d q = tt
 ascends_sorted (m ∷ []) s d q = (tt, tt)
 ascends_sorted (m ∷ n ∷ moves) s d q =
-    let le : when m ≤ when n = not_less (when n) (when m) (ap is_lt (sym (key_cmp_is n.key m.key (q n (inr (inl refl))) (q m (inl refl)))) ∙ s 0 m (omega arith) (omega arith)) in
+    let le : when m ≤ when n = ge_from_not_lt (when n) (when m) (ap is_lt (sym (key_cmp_is n.key m.key (q n (inr (inl refl))) (q m (inl refl)))) ∙ s 0 m (omega arith) (omega arith)) in
     let ne = eqb-false (when m) (when n) d.0.0 in
     let lt : when m < when n = ⊎_elim (λ x. x) (λ x. absurd (ne (omega arith))) (cases_lt (when m) (when n)) in
     let rest = ascends_sorted (n ∷ moves) (sorted_tail m (n ∷ moves) s) d.1 (λ x h. q x (inr h)) in

@@ -2,15 +2,16 @@
 use Rattle.std.proofs.Common.{◌≡◌, ◌⊎◌, inl, inr, ⊎_elim, ℕ, ◌+◌, ◌<◌, ◌≤◌, leb, ltb, Bool, true, false, List, [], ◌∷◌, sym, subst, ap, arith}
 use Rattle.std.proofs.lemmas.Bool.{true≢false, false≢true, cases_lt, and_parts, leb-true, ltb-true}
 use Rattle.std.proofs.lemmas.List.Sums.{sum_by-append, sum_by-cons}
+use Rattle.shunt_lists.proofs.Sums.{sum_within}
+use Rattle.shunt_lists.proofs.Members.{all_in, Distinct}
+use Rattle.shunt_lists.specs.defs.Members.{In}
 use Rattle.shunt_base.specs.declared.ids.Side.{Side}
 use Rattle.shunt_base.specs.declared.ids.Side.TheVariants.{A, B}
 use Rattle.shunt_base.specs.declared.keys.Stay.{Stay}
 use Rattle.shunt_base.specs.defs.Keys.{rank, AreStays}
-use Rattle.shunt_stays.specs.defs.Members.{In}
 use Rattle.shunt_stays.specs.defs.Run.{put}
-use Rattle.shunt_stays.proofs.Members.{all_in, put_here, put_there, put_cases, Distinct}
+use Rattle.shunt_stays.proofs.Members.{put_here, put_there, put_cases}
 use Rattle.shunt_stays.proofs.Ascending.{Ascends}
-use Rattle.shunt_stays.proofs.Sums.{sum_within}
 use Rattle.shunt_stays.proofs.Halves.{Half, at, halves_of, ordered}
 use Rattle.shunt_stays.proofs.Track.{length_of, total, GoesOn, stands_by, total_at}
 

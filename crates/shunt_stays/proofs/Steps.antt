@@ -4,9 +4,10 @@ use Rattle.std.specs.Result.{IsOk}
 use Rattle.std.proofs.lemmas.Bool.{cases_Bool, leb-true, le-leb}
 use Rattle.std.proofs.lemmas.List.{length-set}
 use Rattle.std.proofs.lemmas.List.Sums.{sum_by-cons, sum_by-append, sum_by-set}
+use Rattle.shunt_lists.proofs.Lists.{append_one}
+use Rattle.shunt_lists.specs.defs.Members.{In}
 use Rattle.shunt_base.specs.declared.ids.Side.{Side}
 use Rattle.shunt_base.specs.declared.ids.Side.TheVariants.{A, B}
-use Rattle.shunt_stays.specs.defs.Members.{In}
 use Rattle.shunt_stays.specs.defs.Events.{Move}
 use Rattle.shunt_stays.specs.defs.Run.{Standing, Stop, Through, put, without, load, entered, left, moved, ◌>>=◌, run, blocks_on, entries_in, leaves_in, seen}
 use Rattle.shunt_stays.specs.defs.Run.Stop.{Over}
@@ -19,10 +20,6 @@ after_steps done r = r >>= (λ t. Ok (record t { steps = done ++ t.steps }))
 pub none_done : (r : Result Through Stop) → after_steps [] r ≡ r
 none_done (Ok t) = refl
 none_done (Err e) = refl
-
-append_one : {X : Type 0} (xs : List X) (x : X) (ys : List X) → xs ++ x ∷ ys ≡ (xs ++ x ∷ []) ++ ys
-append_one [] x ys = refl
-append_one {X} (z ∷ xs) x ys = ap (λ (l : List X). z ∷ l) (append_one xs x ys)
 
 abbrev one_more : Move → List Standing → Through → Through
 one_more m blocks t = record t { steps = (m, load blocks) ∷ t.steps }

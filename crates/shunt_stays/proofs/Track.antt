@@ -1,10 +1,10 @@
 -- One track: its halves are done one after the other, over the list of the stays that stand there.
 use Rattle.std.proofs.Common.{◌≡◌, ◌≢◌, ◌⊎◌, ℕ, ◌<◌, ◌≤◌, leb, ltb, Bool, true, false, ◌&&◌, List, [], ◌∷◌, sum_by}
+use Rattle.shunt_lists.proofs.Sums.{some_of}
 use Rattle.shunt_base.specs.declared.keys.Stay.{Stay}
 use Rattle.shunt_base.specs.defs.Keys.{rank}
 use Rattle.shunt_stays.specs.defs.Run.{put}
 use Rattle.shunt_stays.proofs.Halves.{Half}
-use Rattle.shunt_stays.proofs.Sums.{some_of}
 
 abbrev pub length_of : Stay → ℕ
 length_of s = s.length

@@ -3,10 +3,10 @@ use Rattle.std.proofs.Common.{◌≡◌, inl, inr, ⊎_elim, ◌↔◌, ℕ, ◌
 use Rattle.std.specs.List.{filter}
 use Rattle.std.proofs.lemmas.Bool.{cases_Bool, eqb-true, eqb-false, eq-eqb}
 use Rattle.std.proofs.lemmas.List.{length-set, get_or-set_same, get_or-set_other}
+use Rattle.shunt_lists.proofs.Members.{filter_yes, filter_no}
+use Rattle.shunt_lists.specs.defs.Members.{In}
 use Rattle.shunt_base.specs.declared.keys.Stay.{Stay}
-use Rattle.shunt_stays.specs.defs.Members.{In}
 use Rattle.shunt_stays.specs.defs.Run.{put}
-use Rattle.shunt_stays.proofs.Members.{filter_yes, filter_no}
 use Rattle.shunt_stays.proofs.Halves.{Half}
 use Rattle.shunt_stays.proofs.Track.{GoesOn}
 use Rattle.shunt_stays.proofs.Blocks.{GoesAll}

@@ -2,11 +2,11 @@
 ghost use Rattle.std.specs.Prelude.{◌≡◌, ◌≢◌, ◌↔◌, ◌≤◌, ◌<◌, ◌+◌, ℕ, Bool, true, List, Option, Some, None, Ok, Err, IsOk, IfOk, length, map, filter, slice_index, IsPermutation};
 ghost use Rattle.std.specs.List.{AllZip};
 ghost use Rattle.std.specs.List.Sorted.{IsSorted};
+ghost use Rattle.shunt_lists.specs.defs.Members.{In};
 ghost use Rattle.shunt_base.specs.declared.ids.Side.{Side};
 ghost use Rattle.shunt_base.specs.declared.keys.EventKey.{EventKey};
 ghost use Rattle.shunt_base.specs.declared.keys.Stay.{Stay};
 ghost use Rattle.shunt_base.specs.defs.Keys.{AreStays, IsWellFormed, IsKey, key_cmp};
-ghost use Rattle.shunt_stays.specs.defs.Members.{In};
 ghost use Rattle.shunt_stays.specs.defs.Events.{Move, moves_of, in_order, SameButId, AllDifferBeforeId};
 ghost use Rattle.shunt_stays.specs.defs.Run.{Standing, put, without, load, moved, run, run_of, empty_tracks, GoesThrough, AreOnTracks, blocks_on, entries_in, leaves_in, seen};
 ghost use Rattle.shunt_stays.specs.defs.Crossing.{Crosses, crosses, load_at, NoneCross, NoneOver, pairs_in, overs_in};

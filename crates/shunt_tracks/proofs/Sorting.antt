@@ -8,13 +8,13 @@ use Rattle.std.proofs.lemmas.Bool.{cases_Bool}
 use Rattle.std.proofs.lemmas.List.{get_or-map, length-map}
 use Rattle.std.proofs.lemmas.List.Concat.{flat_map-cons}
 use Rattle.std.proofs.lemmas.List.Sorted.{IsPermutation-map}
+use Rattle.shunt_lists.proofs.Members.{in_place, in_map}
+use Rattle.shunt_lists.specs.defs.Members.{In}
 use Rattle.shunt_base.specs.declared.ids.TrackId.{TrackId}
 use Rattle.shunt_base.specs.declared.keys.Stay.{Stay}
 use Rattle.shunt_base.specs.defs.Keys.{AreStays, key_cmp}
-use Rattle.shunt_stays.specs.defs.Members.{In}
 use Rattle.shunt_stays.specs.defs.Events.{Move, entry_of, leave_of, moves_of, key_before, insert_by_key, in_order}
 use Rattle.shunt_stays.specs.defs.Run.{AreOnTracks}
-use Rattle.shunt_stays.proofs.Members.{in_place, in_map}
 use Rattle.shunt_stays.proofs.Fewer.{on_tracks}
 use Rattle.shunt_stays.proofs.Sorting.{sorted_is}
 use Rattle.shunt_tracks.specs.declared.dues.Due.{Due}

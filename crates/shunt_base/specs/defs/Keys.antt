@@ -25,7 +25,7 @@ pub record IsKey (k : EventKey) : Type 0 where
 unfoldable pub rank : EventKey → ℕ
 rank k = (((k.minute * 2 + cond k.enters 1 0) * 256 + k.train) * 256 + k.place) * 2 ^ 32 + k.id
 
--- both keys carry the block's id, and it enters before it leaves
+-- both keys carry the block's id, it enters before it leaves, and the keys, the length and the track are in their types' ranges
 pub record IsWellFormed (s : Stay) : Type 0 where
   pub enters : s.enter.enters ≡ true
   pub leaves : s.leave.enters ≡ false

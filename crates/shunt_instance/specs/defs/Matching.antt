@@ -1,5 +1,6 @@
 -- Which unit can go with which position, and lists that give each unit a position.
-use Rattle.std.specs.Prelude.{◌≡◌, ℕ, zero, suc, ◌+◌, ◌<◌, ◌≤◌, Bool, true, false, cond, not, ◌&&◌, ◌==◌, List, [], map, length, slice_index, slice_index_or}
+use Rattle.std.specs.Prelude.{◌≡◌, ℕ, ◌<◌, ◌≤◌, Bool, true, false, not, ◌&&◌, ◌==◌, List, [], map, length, slice_index, slice_index_or}
+use Rattle.shunt_lists.specs.defs.Below.{count_below}
 use Rattle.shunt_instance.specs.defs.Instance.{Night, units_of, positions_of, ready_of, leaves_of}
 
 -- a unit: its type, and the minute from which it is ready; or a position: its type, and the minute at which it leaves
@@ -19,11 +20,6 @@ is_in_rest mask i = not (slice_index_or mask i false)
 pub record IsOfRest (entries : List Entry) (mask : List Bool) (i : ℕ) : Type 0 where
   pub there : i < length entries
   pub left : is_in_rest mask i ≡ true
-
--- how many of the numbers below n pass the test
-abbrev pub count_below : ℕ → (ℕ → Bool) → ℕ
-count_below zero test = 0
-count_below (suc n) test = count_below n test + cond (test n) 1 0
 
 -- a unit and a position are matchable where their types are equal and the position leaves no earlier than the unit is ready
 pub record IsMatchable (unit position : Entry) : Type 0 where

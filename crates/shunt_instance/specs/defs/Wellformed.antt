@@ -1,5 +1,6 @@
 -- When a station is well formed, and a timetable over it.
 use Rattle.std.specs.Prelude.{◌≡◌, ◌<◌, ◌≤◌, false, ◌||◌, not, IsTrue, List, ◌++◌, map, filter, length, All}
+use Rattle.shunt_lists.specs.defs.Members.{AreDistinct}
 use Rattle.shunt_base.specs.defs.Spelling.{IsName}
 use Rattle.shunt_instance.specs.declared.records.UnitType.{UnitType}
 use Rattle.shunt_instance.specs.declared.records.Track.{Track}
@@ -10,7 +11,7 @@ use Rattle.shunt_instance.specs.declared.records.Origin.{Origin}
 use Rattle.shunt_instance.specs.declared.records.Origin.TheVariants as origin
 use Rattle.shunt_instance.specs.declared.records.Train.{Train}
 use Rattle.shunt_instance.specs.declared.records.Timetable.{Timetable}
-use Rattle.shunt_instance.specs.defs.Words.{AreDistinct, is_open_at, way_of, is_standing, unit_count, names_of}
+use Rattle.shunt_instance.specs.defs.Words.{is_open_at, way_of, is_standing, unit_count, names_of}
 
 -- a name, a length of 1 to 5,000 dm and a turn of 1 to 1,440 minutes
 pub record IsUnitType (t : UnitType) : Type 0 where

@@ -1,6 +1,7 @@
 -- Words on stations and trains.
-use Rattle.std.specs.Prelude.{◌≢◌, ℕ, ◌-◌, Bool, true, false, ◌||◌, ◌&&◌, ◌==◌, not, List, [], map, length, Option, option_map, unwrap_or, slice_get, slice_index, slice_index_or, AllPairs, find, position, sum_by, bytes_eq}
+use Rattle.std.specs.Prelude.{ℕ, ◌-◌, Bool, true, false, ◌||◌, ◌&&◌, ◌==◌, not, List, [], map, length, Option, option_map, unwrap_or, slice_get, slice_index, slice_index_or, find, position, sum_by, bytes_eq}
 use Rattle.std.specs.List.{list_any}
+use Rattle.shunt_base.specs.defs.Sides.{same_side}
 use Rattle.shunt_base.specs.declared.ids.PlatformId.{PlatformId}
 use Rattle.shunt_base.specs.declared.ids.TrackId.{TrackId}
 use Rattle.shunt_base.specs.declared.ids.TypeId.{TypeId}
@@ -12,16 +13,6 @@ use Rattle.shunt_instance.specs.declared.records.Station.{Station}
 use Rattle.shunt_instance.specs.declared.records.Origin.{Origin}
 use Rattle.shunt_instance.specs.declared.records.Origin.TheVariants as origin
 use Rattle.shunt_instance.specs.declared.records.Train.{Train}
-
--- no two elements of a list are equal
-abbrev pub AreDistinct : {X : Type 0} → List X → Type 0
-AreDistinct = AllPairs (λ x y. x ≢ y)
-
--- whether two sides are one
-abbrev pub same_side : Side → Side → Bool
-same_side A A = true
-same_side B B = true
-same_side _ _ = false
 
 -- whether a track is open at a side
 abbrev pub is_open : Track → Side → Bool

@@ -1,7 +1,8 @@
 -- Counts of the entries of a type, by which it is told whether a matching exists.
 use Rattle.std.specs.Prelude.{◌≡◌, ℕ, ◌<◌, ◌≤◌, Bool, ◌&&◌, ◌==◌, nat_le, List, length, map, filter, slice_index_or, if◌then◌else◌}
 use Rattle.std.specs.List.{range_with_len}
-use Rattle.shunt_instance.specs.defs.Matching.{Entry, entry_at, is_in_rest, count_below}
+use Rattle.shunt_lists.specs.defs.Below.{count_below}
+use Rattle.shunt_instance.specs.defs.Matching.{Entry, entry_at, is_in_rest}
 
 -- whether this number is that of an entry of the rest of this type
 abbrev pub is_of_kind : List Entry → List Bool → ℕ → ℕ → Bool

@@ -1,13 +1,14 @@
 -- Stays in each other's way, and the lengths of those that stand together.
 use Rattle.std.specs.Prelude.{◌≡◌, ◌≢◌, ◌⊎◌, ℕ, ◌≤◌, ◌==◌, nat_lt, Bool, true, false, not, ◌&&◌, ◌||◌, sum_by, count_by, slice_index, List, if◌then◌else◌}
 use Rattle.std.specs.Ordering.{is_le}
+use Rattle.shunt_base.specs.defs.Sides.{same_side}
+use Rattle.shunt_lists.specs.defs.Members.{In}
 use Rattle.shunt_base.specs.declared.ids.Side.{Side}
 use Rattle.shunt_base.specs.declared.ids.Side.TheVariants.{A, B}
 use Rattle.shunt_base.specs.declared.keys.EventKey.{EventKey}
 use Rattle.shunt_base.specs.declared.keys.Stay.{Stay}
 use Rattle.shunt_base.specs.defs.Keys.{key_cmp, IsBefore}
 use Rattle.shunt_stays.specs.defs.Events.{key_before}
-use Rattle.shunt_stays.specs.defs.Members.{In}
 
 -- c enters a track while b stands there, and the one that leaves first has the other in its way
 pub record Crosses (b c : Stay) : Type 0 where
@@ -15,12 +16,6 @@ pub record Crosses (b c : Stay) : Type 0 where
   pub after : IsBefore b.enter c.enter
   pub during : IsBefore c.enter b.leave
   pub blocked : (IsBefore c.leave b.leave × (c.side_out ≢ c.side_in)) ⊎ (IsBefore b.leave c.leave × (b.side_out ≡ c.side_in))
-
-abbrev pub same_side : Side → Side → Bool
-same_side A A = true
-same_side A B = false
-same_side B A = false
-same_side B B = true
 
 -- the one of these two that leaves first has the other in its way
 abbrev pub in_the_way : Stay → Stay → Bool

@@ -1,7 +1,7 @@
 use Rattle.std.proofs.Common.{◌≡◌, length, sym, ap, ◌∙◌, arith}
-use Rattle.shunt_instance.specs.defs.Matching.{count_below}
+use Rattle.shunt_lists.proofs.Numbers.{found_at, found_none}
+use Rattle.shunt_lists.specs.defs.Below.{count_below}
 use Rattle.shunt_matching.specs.defs.Counts.{is_of_kind}
-use Rattle.shunt_matching.proofs.Numbers.{found_at, found_none}
 use Rattle.shunt_matching.proofs.fitting.place_of_rank.Goals as goal
 
 pub returns-then-earlier-rank : goal.returns-then-earlier-rank

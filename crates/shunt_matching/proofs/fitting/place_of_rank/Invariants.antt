@@ -1,5 +1,5 @@
 use Rattle.std.proofs.Common.{◌≡◌, ◌≤◌}
-use Rattle.shunt_instance.specs.defs.Matching.{count_below}
+use Rattle.shunt_lists.specs.defs.Below.{count_below}
 use Rattle.shunt_matching.specs.defs.Counts.{is_of_kind}
 use Rattle.shunt_matching.proofs.fitting.place_of_rank.Given as goal
 

@@ -3,8 +3,8 @@ use Rattle.std.proofs.Common.{◌≡◌, ◌⊎◌, inl, inr, ⊎_elim, ◌↔�
 use Rattle.std.proofs.lemmas.Bool.{false≢true, cases_Bool}
 use Rattle.std.proofs.lemmas.List.Sums.{sum_by-append, sum_by-cons}
 use Rattle.std.specs.List.{filter}
-use Rattle.shunt_stays.specs.defs.Members.{In}
-use Rattle.shunt_stays.proofs.Members.{in_left, in_right, in_cases, filter_yes, filter_no, Distinct}
+use Rattle.shunt_lists.specs.defs.Members.{In}
+use Rattle.shunt_lists.proofs.Members.{in_left, in_right, in_cases, filter_yes, filter_no, Distinct}
 
 -- where a member stands
 record Parts {X : Type 0} (x : X) (xs : List X) : Type 0 where

@@ -1,12 +1,7 @@
 -- Sums and counts over the numbers below a bound, and over the places that a one-to-one list gives.
-use Rattle.std.proofs.Common.{◌≡◌, ⊎_elim, ℕ, zero, suc, ◌+◌, ◌*◌, ◌<◌, Bool, true, false, cond, ◌&&◌, eqb, refl, sym, ap, ◌∙◌, arith, add-mul, one-mul, zero-mul}
+use Rattle.std.proofs.Common.{◌≡◌, ⊎_elim, ℕ, zero, suc, ◌+◌, ◌*◌, ◌<◌, ◌≤◌, Bool, true, false, cond, ◌&&◌, eqb, refl, sym, ap, ◌∙◌, arith, add-mul, one-mul, zero-mul}
 use Rattle.std.proofs.lemmas.Bool.{cases_eq, eq-eqb, ne_eqb}
-use Rattle.shunt_instance.specs.defs.Matching.{count_below}
-
--- the sum of f over the numbers below n
-abbrev pub sum_below : ℕ → (ℕ → ℕ) → ℕ
-sum_below zero f = 0
-sum_below (suc n) f = sum_below n f + f n
+use Rattle.shunt_lists.specs.defs.Below.{count_below, sum_below}
 
 pub sum_below-same : (n : ℕ) (f g : ℕ → ℕ) → ((i : ℕ) → i < n → f i ≡ g i) → sum_below n f ≡ sum_below n g
 sum_below-same zero f g h = refl
@@ -87,3 +82,8 @@ pub count_of_places : (m n : ℕ) (a b : ℕ → Bool) (place : ℕ → ℕ) (p 
     → count_below n (λ v. b v && p v) ≡ count_below m (λ u. a u && p (place u))
 count_of_places m n a b place p given once =
     count_as_sum n b p ∙ sum_of_places m n a b place (λ v. cond (p v) 1 0) given once ∙ sym (count_as_sum m a (λ u. p (place u)))
+
+-- values of at most most
+pub sum_below-small : (n most : ℕ) (value : ℕ → ℕ) → ((k : ℕ) → value k ≤ most) → sum_below n value ≤ most * n
+sum_below-small zero most value h = omega arith
+sum_below-small (suc n) most value h = omega (arith, h n, sum_below-small n most value h)

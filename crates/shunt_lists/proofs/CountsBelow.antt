@@ -1,7 +1,7 @@
 -- Counts and sums over the numbers below a bound.
 use Rattle.std.proofs.Common.{◌≡◌, ⊎_elim, ℕ, zero, suc, ◌+◌, ◌<◌, ◌≤◌, Bool, true, false, cond, refl, sym, ap, subst, add-one, arith}
 use Rattle.std.proofs.lemmas.Bool.{cases_Bool, cases_lt, cases_order}
-use Rattle.shunt_instance.specs.defs.Matching.{count_below}
+use Rattle.shunt_lists.specs.defs.Below.{count_below}
 
 abbrev flag : Bool → ℕ
 flag b = cond b 1 0

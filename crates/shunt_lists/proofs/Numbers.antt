@@ -6,8 +6,8 @@ use Rattle.std.proofs.Math.Seq.{get_or-append_seam}
 use Rattle.std.proofs.lemmas.List.{get_or_past}
 use Rattle.std.proofs.lemmas.List.Elements.{filter-append}
 use Rattle.std.proofs.lemmas.Bool.{cases_lt}
-use Rattle.shunt_instance.specs.defs.Matching.{count_below}
-use Rattle.shunt_matching.proofs.Below.{count_below-rises}
+use Rattle.shunt_lists.specs.defs.Below.{count_below}
+use Rattle.shunt_lists.proofs.CountsBelow.{count_below-rises}
 
 range_more : (a n : ℕ) → range_with_len a (suc n) ≡ range_with_len a n ++ (a + n) ∷ []
 range_more a zero = ap (λ k. k ∷ []) (omega arith)

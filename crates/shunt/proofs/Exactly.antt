@@ -3,6 +3,7 @@ use Rattle.std.proofs.Common.{◌≡◌, Some, None, sym, subst, ap, inl, inr, r
 use Rattle.std.specs.Prelude.{IfSome, ◌⊎◌}
 use Rattle.std.specs.Result.{result_err}
 use Rattle.std.specs.FinMap as map
+use Rattle.shunt_lists.specs.defs.Members.{In}
 use Rattle.shunt_store.specs.defs.Files.{Files, BothTold}
 use Rattle.shunt_store.specs.defs.Causes.{Rose}
 use Rattle.shunt_store.proofs.Texts.{both_map}
@@ -16,7 +17,7 @@ use Rattle.shunt.specs.declared.running.Status.TheVariants as status
 use Rattle.shunt.specs.defs.Words.{Call, Match, Audit, outputs_of}
 use Rattle.shunt.specs.defs.Inputs.{Agrees, Value, stated_in, refused}
 use Rattle.shunt.specs.defs.Replies.{Reply, IsReply, IsReplyOver, IsAnswer, IsPaired, IsShort, Judged, audit_outcome, refusal}
-use Rattle.shunt.specs.defs.Ends.{Seen, CutInText, Delivers, StopsEarly, Ends, In, IsWhole, MayBegin, MayHold, MayWrite, Yields, the_status, written}
+use Rattle.shunt.specs.defs.Ends.{Seen, CutInText, Delivers, StopsEarly, Ends, IsWhole, MayBegin, MayHold, MayWrite, Yields, the_status, written}
 
 -- ---- the status of a delivery
 

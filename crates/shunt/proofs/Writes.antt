@@ -5,12 +5,13 @@ use Rattle.std.proofs.Math.Seq.{take-suc}
 use Rattle.std.proofs.lemmas.List.{map-append, take-append-drop, get_or_default}
 use Rattle.std.proofs.lemmas.Cmp.{nat_list_cmp_total}
 use Rattle.std.specs.FinMap as map_of
+use Rattle.shunt_lists.specs.defs.Members.{In}
 use Rattle.shunt_store.specs.defs.Files.{Files, BothTold, Leaves}
 use Rattle.shunt_store.proofs.Texts.{both_then}
 use Rattle.shunt_store.proofs.TableLaws.{at_name, named, get_here}
 use Rattle.shunt.specs.declared.delivering.FileText.{FileText}
 use Rattle.shunt.specs.defs.Replies.{pair_of}
-use Rattle.shunt.specs.defs.Ends.{written, In, MayHold, MayWrite}
+use Rattle.shunt.specs.defs.Ends.{written, MayHold, MayWrite}
 
 pub written-append : (ws vs : List (List ℕ × List ℕ)) (a : Files) → written (ws ++ vs) a ≡ written vs (written ws a)
 written-append [] vs a = refl

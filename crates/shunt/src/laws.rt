@@ -1,6 +1,7 @@
 //! What follows from the contract of `run` on when each status comes and what then stands: of every command, and then of each.
 ghost use Rattle.std.specs.Prelude.{◌≡◌, ◌⊎◌, List, ℕ, Some, Ok};
 ghost use Rattle.std.specs.FinMap as map;
+ghost use Rattle.shunt_lists.specs.defs.Members.{In};
 ghost use Rattle.shunt_store.specs.defs.Files.{Files, BothTold, content};
 ghost use Rattle.shunt_store.specs.defs.Causes.{Rose};
 ghost use Rattle.shunt_instance.specs.defs.Instance.{Night};
@@ -11,7 +12,7 @@ ghost use Rattle.shunt.specs.declared.running.Status.{Status};
 ghost use Rattle.shunt.specs.defs.Words.{Call, Match, Audit, outputs_of};
 ghost use Rattle.shunt.specs.defs.Inputs.{Agrees, refused, stated_night, plans_in};
 ghost use Rattle.shunt.specs.defs.Replies.{Reply, IsReply, IsReplyOver, IsSound, refusal};
-ghost use Rattle.shunt.specs.defs.Ends.{Ends, Seen, CutInText, In, IsWhole, Yields, the_status};
+ghost use Rattle.shunt.specs.defs.Ends.{Ends, Seen, CutInText, IsWhole, Yields, the_status};
 
 /// `Store` comes only where the store failed in the call, and `Sink` only where the sink did, so neither over a store or a
 /// sink whose count of faults is 0. `Words` never comes of words that spell a command.

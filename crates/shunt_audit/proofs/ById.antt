@@ -9,11 +9,10 @@ use Rattle.std.proofs.lemmas.List.{get_or-map, length-map}
 use Rattle.std.proofs.lemmas.List.Sorted.{All-permutation, IsPermutation-refl, IsPermutation-cons, IsPermutation-sym, IsPermutation-trans, IsPermutation-middle, IsPermutation-map, length_permutation}
 use Rattle.std.proofs.lemmas.Map.Keys.{IsDistinct-IsPermutation}
 use Rattle.std.proofs.lemmas.Map.Made.{AllPairs-from_IsDistinct, IsDistinct-from_AllPairs}
-use Rattle.shunt_stays.specs.defs.Members.{In}
-use Rattle.shunt_stays.proofs.Members.{all_in, all_from}
+use Rattle.shunt_lists.proofs.Members.{all_in, all_from}
+use Rattle.shunt_lists.specs.defs.Members.{In, AreDistinct}
 use Rattle.shunt_stays.proofs.Ascending.{Ascends, unique}
 use Rattle.shunt_stays.proofs.Sorting.{in_permuted, of_permuted}
-use Rattle.shunt_instance.specs.defs.Words.{AreDistinct}
 use Rattle.shunt_instance.specs.defs.Instance.{Night}
 use Rattle.shunt_blocks.specs.declared.records.Block.{Block}
 use Rattle.shunt_blocks.specs.defs.Shapes.{IsInRange}

@@ -5,10 +5,10 @@ use Rattle.std.specs.Prelude.{IsTrue, IsSome, is_some, not, ◌&&◌, ◌==◌, 
 use Rattle.std.proofs.lemmas.Bool.{eqb-true, eq-eqb, leb-true, le-leb, ltb-true, lt-ltb}
 use Rattle.std.proofs.lemmas.List.{append_assoc}
 use Rattle.std.proofs.lemmas.List.Sorted.{sum_by-IsPermutation, IsPermutation-sym}
+use Rattle.shunt_lists.proofs.Members.{in_left, in_right, in_cases, of_flat, in_flat}
+use Rattle.shunt_lists.specs.defs.Members.{In}
 use Rattle.shunt_base.specs.declared.keys.Stay.{Stay}
-use Rattle.shunt_stays.specs.defs.Members.{In}
 use Rattle.shunt_stays.specs.defs.Crossing.{Crosses, crosses, load_after}
-use Rattle.shunt_stays.proofs.Members.{in_left, in_right, in_cases}
 use Rattle.shunt_stays.proofs.Ascending.{Ascends}
 use Rattle.shunt_stays.proofs.Crossings.{crosses_is}
 use Rattle.shunt_stays.proofs.Sorting.{in_permuted}
@@ -24,7 +24,7 @@ use Rattle.shunt_audit.specs.declared.types.Finding.{Finding}
 use Rattle.shunt_audit.specs.declared.types.Finding.TheVariants.{UnitBare, UnitTwice, PlaceBare, PlaceTwice, WrongType, TooSoon, NoRouteIn, NoRouteOut, Crossing, TooLong, StatedCost}
 use Rattle.shunt_audit.specs.defs.Findings.{HasBlock, HasStay, IsOver, IsFinding, kind_of, FindingBefore, AreInOrder}
 use Rattle.shunt_audit.specs.defs.Listed.{noted, noted_below, by_id, lacks_way_in, lacks_way_out, bare_units, twice_units, bare_places, twice_places, wrong_types, too_soons, no_ways_in, no_ways_out, crossings_of, crossings, too_longs, cover_findings, block_findings, clash_findings, findings_in}
-use Rattle.shunt_audit.proofs.Lists.{of_flat, to_flat, of_flat_noted, to_flat_noted, of_below_noted, to_below_noted}
+use Rattle.shunt_audit.proofs.Lists.{of_flat_noted, to_flat_noted, of_below_noted, to_below_noted}
 use Rattle.shunt_audit.proofs.ById.{id_of, apart, moves, there, ascends, range_permuted}
 use Rattle.shunt_audit.proofs.Standing.{stay_number, of_some, to_some, ascending_stays, load_permuted}
 use Rattle.shunt_audit.proofs.Order.{Rising, in_order, of_order, unique, IsStretch, one_kind, joined, below_rises, flat_rises, flat_noted_rises}
@@ -134,7 +134,7 @@ module _ (night : Night) (blocks : List Block) where
       let d = c.item in
       subst (λ (n : ℕ). In (Crossing n j) (crossings standing)) h.named
       (subst (λ (n : ℕ). In (Crossing b.id n) (crossings standing)) c.named
-      (to_flat (crossings_of standing) standing b (Crossing b.id d.id) ((stays_there night blocks b).1 h.there)
+      (in_flat (crossings_of standing) standing b (Crossing b.id d.id) ((stays_there night blocks b).1 h.there)
       (to_flat_noted (crosses b) (λ c. Crossing b.id c.id) standing d ((stays_there night blocks d).1 c.there) ((crosses_is b d).1 c.holds))))
 
   over : (id load : ℕ) → IsFinding night blocks (TooLong id load) → In (TooLong id load) (too_longs lengths standing)

@@ -3,8 +3,8 @@ use Rattle.std.proofs.Common.{◌≡◌, ◌⊎◌, inl, inr, ⊎_elim, ℕ, zer
 use Rattle.std.specs.List.{flat_map}
 use Rattle.std.proofs.lemmas.Bool.{cases_lt}
 use Rattle.std.proofs.lemmas.List.Concat.{flat_map-cons}
-use Rattle.shunt_stays.specs.defs.Members.{In}
-use Rattle.shunt_stays.proofs.Members.{in_left, in_right, in_cases}
+use Rattle.shunt_lists.proofs.Members.{in_left, in_right, in_cases, of_flat, in_flat}
+use Rattle.shunt_lists.specs.defs.Members.{In}
 use Rattle.shunt_audit.specs.declared.types.Finding.{Finding}
 use Rattle.shunt_audit.specs.defs.Listed.{noted, noted_below}
 
@@ -16,16 +16,6 @@ of_noted false f g h = absurd h
 pub to_noted : (t : Bool) (f : Finding) → t ≡ true → In f (noted t f)
 to_noted true f e = inl refl
 to_noted false f e = absurd (cc)
-
-pub of_flat : {X Y : Type 0} (g : X → List Y) (xs : List X) (y : Y) → In y (flat_map g xs) → (x : X) × In x xs × In y (g x)
-of_flat g [] y h = absurd h
-of_flat {X} {Y} g (x ∷ xs) y h =
-    ⊎_elim (λ i. (x, inl refl, i)) (λ i. let r = of_flat g xs y i in (r.0, inr r.1, r.2)) (in_cases (g x) (flat_map g xs) y (subst (λ (l : List Y). In y l) (flat_map-cons g x xs) h))
-
-pub to_flat : {X Y : Type 0} (g : X → List Y) (xs : List X) (x : X) (y : Y) → In x xs → In y (g x) → In y (flat_map g xs)
-to_flat g [] x y h i = absurd h
-to_flat {X} {Y} g (z ∷ xs) x y (inl e) i = subst (λ (l : List Y). In y l) (sym (flat_map-cons g z xs)) (in_left (g z) (flat_map g xs) y (subst (λ (w : X). In y (g w)) e i))
-to_flat {X} {Y} g (z ∷ xs) x y (inr h) i = subst (λ (l : List Y). In y l) (sym (flat_map-cons g z xs)) (in_right (g z) (flat_map g xs) y (to_flat g xs x y h i))
 
 pub of_below : (n : ℕ) (note : ℕ → List Finding) (f : Finding) → In f (noted_below n note) → (k : ℕ) × (k < n) × In f (note k)
 of_below zero note f h = absurd h
@@ -46,7 +36,7 @@ pub of_flat_noted : {X : Type 0} (t : X → Bool) (note : X → Finding) (xs : L
 of_flat_noted t note xs f h = let r = of_flat (λ x. noted (t x) (note x)) xs f h in let n = of_noted (t r.0) (note r.0) f r.2 in (r.0, r.1, n.0, n.1)
 
 pub to_flat_noted : {X : Type 0} (t : X → Bool) (note : X → Finding) (xs : List X) (x : X) → In x xs → t x ≡ true → In (note x) (flat_map (λ x. noted (t x) (note x)) xs)
-to_flat_noted t note xs x h e = to_flat (λ x. noted (t x) (note x)) xs x (note x) h (to_noted (t x) (note x) e)
+to_flat_noted t note xs x h e = in_flat (λ x. noted (t x) (note x)) xs x (note x) h (to_noted (t x) (note x) e)
 
 pub of_below_noted : (n : ℕ) (t : ℕ → Bool) (note : ℕ → Finding) (f : Finding) → In f (noted_below n (λ k. noted (t k) (note k))) → (k : ℕ) × (k < n) × (t k ≡ true) × (f ≡ note k)
 of_below_noted n t note f h = let r = of_below n (λ k. noted (t k) (note k)) f h in let m = of_noted (t r.0) (note r.0) f r.2 in (r.0, r.1, m.0, m.1)

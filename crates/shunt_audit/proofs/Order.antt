@@ -4,13 +4,13 @@ use Rattle.std.specs.List.{AllByRecursion, flat_map}
 use Rattle.std.proofs.lemmas.List.Concat.{flat_map-cons}
 use Rattle.std.proofs.lemmas.List.Elements.{All-from_recursion, recursion_from_All}
 use Rattle.std.proofs.lemmas.List.Kept.{AllPairs-cons}
-use Rattle.shunt_stays.specs.defs.Members.{In}
-use Rattle.shunt_stays.proofs.Members.{all_in, all_from, in_cases}
+use Rattle.shunt_lists.proofs.Members.{all_in, all_from, in_cases, of_flat}
+use Rattle.shunt_lists.specs.defs.Members.{In}
 use Rattle.shunt_stays.proofs.Ascending.{Ascends}
 use Rattle.shunt_audit.specs.declared.types.Finding.{Finding}
 use Rattle.shunt_audit.specs.defs.Findings.{kind_of, first_of, second_of, FindingBefore, AreInOrder}
 use Rattle.shunt_audit.specs.defs.Listed.{noted, noted_below}
-use Rattle.shunt_audit.proofs.Lists.{of_noted, of_flat, of_below_noted}
+use Rattle.shunt_audit.proofs.Lists.{of_noted, of_below_noted}
 
 -- the order by recursion
 abbrev pub Rising : List Finding → Type 0

@@ -5,8 +5,8 @@ use Rattle.std.specs.List.{count_by}
 use Rattle.std.proofs.lemmas.Bool.{cases_lt, and_parts, leb-true, ltb-true, false_from_ne_true, true≢false, not-true, not_from_false}
 use Rattle.std.proofs.lemmas.Bool.Decides.{nat_tests}
 use Rattle.std.proofs.lemmas.List.Sums.{sum_by-cons}
-use Rattle.shunt_stays.specs.defs.Members.{In}
-use Rattle.shunt_stays.proofs.Members.{in_place, filter_from, filter_to}
+use Rattle.shunt_lists.proofs.Members.{in_place, filter_from, filter_to}
+use Rattle.shunt_lists.specs.defs.Members.{In}
 use Rattle.shunt_instance.specs.defs.Instance.{Night, IsInstance, unit_total, position_total}
 use Rattle.shunt_blocks.specs.declared.records.Block.{Block}
 use Rattle.shunt_blocks.specs.declared.records.Shape.{Shape}

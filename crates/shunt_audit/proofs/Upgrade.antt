@@ -1,7 +1,7 @@
 -- Without standing trains and permits, the findings are those of version 1.
 use Rattle.std.specs.Prelude.{◌↔◌, IsTrue, IsSome, None}
 use Rattle.std.proofs.Common.{◌≡◌, ℕ, List}
-use Rattle.shunt_stays.specs.defs.Members.{In}
+use Rattle.shunt_lists.specs.defs.Members.{In}
 use Rattle.shunt_instance.specs.defs.Instance.{Night}
 use Rattle.shunt_blocks.specs.declared.records.Block.{Block}
 use Rattle.shunt_blocks.specs.defs.Shapes.{IsWithinTrains}

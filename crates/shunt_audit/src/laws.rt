@@ -1,6 +1,6 @@
 //! What follows from the definitions of this crate.
 ghost use Rattle.std.specs.Prelude.{◌≡◌, ◌↔◌, List, [], IsPermutation};
-ghost use Rattle.shunt_stays.specs.defs.Members.{In};
+ghost use Rattle.shunt_lists.specs.defs.Members.{In};
 ghost use Rattle.shunt_instance.specs.defs.Instance.{Night, IsInstance};
 ghost use Rattle.shunt_blocks.specs.declared.records.Block.{Block};
 ghost use Rattle.shunt_blocks.specs.defs.Lists.{AreInRange, IsFeasible, total_cost};

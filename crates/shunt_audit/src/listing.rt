@@ -1,6 +1,6 @@
 // All findings of a list of blocks.
 ghost use Rattle.std.specs.Prelude.{◌≡◌, ◌↔◌, [], All, map, IfOk};
-ghost use Rattle.shunt_instance.specs.defs.Words.{AreDistinct};
+ghost use Rattle.shunt_lists.specs.defs.Members.{AreDistinct};
 ghost use Rattle.shunt_instance.specs.defs.Instance.{IsInstance};
 ghost use Rattle.shunt_blocks.specs.defs.Lists.{AreInRange, IsFeasible};
 ghost use Rattle.shunt_audit.specs.defs.Findings.{IsOfNight, AreFindings};

@@ -1,7 +1,8 @@
 // The findings of small nights, counted by hand.
 ghost use Rattle.std.specs.Prelude.{◌≡◌, ◌<◌, ◌≤◌, [], ◌∷◌, false, length, map, All, IfOk};
+ghost use Rattle.shunt_lists.specs.defs.Members.{AreDistinct};
 ghost use Rattle.shunt_base.specs.defs.Spelling.{IsName};
-ghost use Rattle.shunt_instance.specs.defs.Words.{AreDistinct, is_standing};
+ghost use Rattle.shunt_instance.specs.defs.Words.{is_standing};
 ghost use Rattle.shunt_instance.specs.defs.Wellformed.{IsUnitType, AreTrains, IsTimetable};
 ghost use Rattle.shunt_audit.specs.Samples.{IsSmallStation, IsSmallTrain};
 

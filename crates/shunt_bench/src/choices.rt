@@ -1,11 +1,11 @@
 // The choices for each unit of a night, and how long a walk over them takes.
 ghost use Rattle.std.specs.Prelude.{◌≡◌, ◌<◌, ◌+◌, ◌-◌, ◌^◌, ℕ, IfOk, length, min};
 ghost use Rattle.std.specs.List.{AllByRecursion};
+ghost use Rattle.shunt_lists.specs.defs.Below.{sum_below};
 ghost use Rattle.shunt_instance.specs.defs.Instance.{unit_total};
 ghost use Rattle.shunt_choices.specs.defs.Free.{AreMasksOf};
 ghost use Rattle.shunt_blocks.specs.defs.Shapes.{AreRunsWithin};
 ghost use Rattle.shunt_choices.specs.defs.Choices.{choices_of, options_of, shapes_of};
-ghost use Rattle.shunt_blocks.specs.defs.Below.{sum_below};
 ghost use Rattle.shunt_blocks.specs.defs.Costs.{IsCheapest};
 
 use crate::nights::{read_night, times};

@@ -1,4 +1,3 @@
-pub mod Passing
 pub mod Held
 mod Places
 mod Few

@@ -7,9 +7,11 @@ use Rattle.std.proofs.lemmas.Bool.Decides.{nat_tests}
 use Rattle.std.proofs.lemmas.List.{length-map, get_or_past}
 use Rattle.std.proofs.lemmas.List.Sums.{sum_by-cons}
 use Rattle.std.proofs.lemmas.List.FromFn.{get_or-map-range_with_len, length-map-range_with_len}
-use Rattle.shunt_stays.specs.defs.Members.{In}
+use Rattle.shunt_lists.proofs.CountsBelow.{count_below-same}
+use Rattle.shunt_lists.specs.defs.Below.{count_below}
+use Rattle.shunt_lists.specs.defs.Members.{In}
 use Rattle.shunt_instance.specs.defs.Instance.{Night, IsInstance, units_of, positions_of, unit_total, position_total}
-use Rattle.shunt_instance.specs.defs.Matching.{entry_at, is_in_rest, IsMatchable, count_below, place_of, IsMatching, IsMatchingOfRest, unit_entries, position_entries}
+use Rattle.shunt_instance.specs.defs.Matching.{entry_at, is_in_rest, IsMatchable, place_of, IsMatching, IsMatchingOfRest, unit_entries, position_entries}
 use Rattle.shunt_instance.proofs.Facts.{unit_entry_is, position_entry_is}
 use Rattle.shunt_blocks.specs.declared.records.Block.{Block}
 use Rattle.shunt_blocks.specs.defs.Shapes.{shape_of, unit_from, position_from, unit_entry, IsPair, HasUnit, HasPosition}
@@ -20,7 +22,6 @@ use Rattle.shunt_blocks.proofs.Places.{unit_in, position_in}
 use Rattle.shunt_blocks.proofs.Held.{held, holder, one_holder}
 use Rattle.shunt_blocks.proofs.StaysOf.{each_one}
 use Rattle.shunt_blocks.proofs.Feasible.{has_from, has_position_from, but_ids}
-use Rattle.shunt_blocks.proofs.Opening.{same_counts}
 use Rattle.shunt_blocks.proofs.Started.{one_counted, opening_feasible}
 
 -- ---- the value at the only element that passes
@@ -130,7 +131,7 @@ matched night blocks each covers = record {
 
     once : (v : ℕ) → v < position_total night → count_below (length (unit_entries night)) (λ u. is_in_rest [] u && (place_of (partners night blocks) u == v)) ≡ 1
     once v lt = ap (λ n. count_below n (λ u. is_in_rest [] u && (place_of (partners night blocks) u == v))) units
-        ∙ same_counts (unit_total night) _ (λ u. true && (u == first)) (λ u below. ap (λ t. t && (place_of (partners night blocks) u == v)) (ap not (get_or_past [] u false (omega arith))) ∙ same_test _ _ _ _ (to u below) (back u))
+        ∙ count_below-same (unit_total night) _ (λ u. true && (u == first)) (λ u below. ap (λ t. t && (place_of (partners night blocks) u == v)) (ap not (get_or_past [] u false (omega arith))) ∙ same_test _ _ _ _ (to u below) (back u))
         ∙ one_counted (unit_total night) first (λ u. true) first_in
       where
         of : (b : Block) × In b blocks × (has_position night (shape_of b) v ≡ true)

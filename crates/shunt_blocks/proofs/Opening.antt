@@ -7,31 +7,21 @@ use Rattle.std.proofs.Math.Nat.{mul-suc}
 use Rattle.std.proofs.lemmas.List.{length-map}
 use Rattle.std.proofs.lemmas.List.Sums.{sum_by-append}
 use Rattle.std.proofs.lemmas.List.FromFn.{get_or-map-range_with_len}
+use Rattle.shunt_lists.proofs.CountsBelow.{count_below-same}
+use Rattle.shunt_lists.proofs.SumsBelow.{sum_below-same, sum_below-add, exchange}
+use Rattle.shunt_lists.specs.defs.Below.{count_below, sum_below}
 use Rattle.shunt_instance.specs.defs.Instance.{Night, units_of, positions_of, unit_total, position_total}
-use Rattle.shunt_instance.specs.defs.Matching.{is_in_rest, count_below, place_of, IsMatchingOfRest, unit_entries, position_entries}
+use Rattle.shunt_instance.specs.defs.Matching.{is_in_rest, place_of, IsMatchingOfRest, unit_entries, position_entries}
 use Rattle.shunt_blocks.specs.declared.records.Block.{Block}
-use Rattle.shunt_blocks.specs.defs.Below.{sum_below}
 use Rattle.shunt_blocks.specs.defs.Costs.{block_cost}
 use Rattle.shunt_blocks.specs.defs.Lists.{times_unit, times_position, total_cost, units_taken, positions_taken}
 use Rattle.shunt_blocks.specs.defs.Pins.{unit_price, position_price, opening_cost, single, singles_below, singles}
 
 -- ---- sums of numbers below one
 
-pub same_sums : (n : ℕ) (f g : ℕ → ℕ) → ((i : ℕ) → i < n → f i ≡ g i) → sum_below n f ≡ sum_below n g
-same_sums zero f g h = refl
-same_sums (suc n) f g h = omega (arith, same_sums n f g (λ i lt. h i (omega (arith, lt))), h n (omega arith))
-
-pub sum_of_sums : (n : ℕ) (f g : ℕ → ℕ) → sum_below n (λ i. f i + g i) ≡ sum_below n f + sum_below n g
-sum_of_sums zero f g = refl
-sum_of_sums (suc n) f g = omega (arith, sum_of_sums n f g)
-
 pub no_sum : (n : ℕ) → sum_below n (λ i. 0) ≡ 0
 no_sum zero = refl
 no_sum (suc n) = omega (arith, no_sum n)
-
-exchanged : (n m : ℕ) (g : ℕ → ℕ → ℕ) → sum_below n (λ i. sum_below m (g i)) ≡ sum_below m (λ j. sum_below n (λ i. g i j))
-exchanged zero m g = sym (no_sum m)
-exchanged (suc n) m g = ap (λ t. t + sum_below m (g n)) (exchanged n m g) ∙ sym (sum_of_sums m (λ j. sum_below n (λ i. g i j)) (g n))
 
 -- of the numbers below n only w counts
 past_pick : (n w : ℕ) (f : ℕ → ℕ) → n ≤ w → sum_below n (λ v. cond (w == v) (f v) 0) ≡ 0
@@ -62,9 +52,9 @@ bijection : (n m : ℕ) (from to : ℕ → Bool) (place : ℕ → ℕ) (f : ℕ 
     → ((j : ℕ) → j < m → to j ≡ true → count_below n (λ i. from i && (place i == j)) ≡ 1)
     → sum_below n (λ i. cond (from i) (f (place i)) 0) ≡ sum_below m (λ j. cond (to j) (f j) 0)
 bijection n m from to place f given once =
-    same_sums n _ _ spread
-    ∙ exchanged n m (λ i j. cond (from i && (place i == j)) (f j) 0)
-    ∙ same_sums m _ _ gathered
+    sum_below-same n _ _ spread
+    ∙ exchange n m (λ i j. cond (from i && (place i == j)) (f j) 0)
+    ∙ sum_below-same m _ _ gathered
   where
     spread_at : (t : Bool) (i : ℕ) → from i ≡ t → i < n → cond t (f (place i)) 0 ≡ sum_below m (λ j. cond (t && (place i == j)) (f j) 0)
     spread_at true i e lt = sym (pick m (place i) f (given i lt e).0)
@@ -106,7 +96,7 @@ singles_cost night pins place (suc n) = omega (arith, sum_by-append (block_cost 
     costs false = refl
 
 pub parted : (n : ℕ) (test : ℕ → Bool) (f g : ℕ → ℕ) → sum_below n (λ u. cond (test u) (f u + g u) 0) ≡ sum_below n (λ u. cond (test u) (f u) 0) + sum_below n (λ u. cond (test u) (g u) 0)
-parted n test f g = same_sums n _ _ (λ u lt. each (test u) (f u) (g u)) ∙ sum_of_sums n (λ u. cond (test u) (f u) 0) (λ u. cond (test u) (g u) 0)
+parted n test f g = sum_below-same n _ _ (λ u lt. each (test u) (f u) (g u)) ∙ sum_below-add n (λ u. cond (test u) (f u) 0) (λ u. cond (test u) (g u) 0)
   where
     each : (t : Bool) (x y : ℕ) → cond t (x + y) 0 ≡ cond t x 0 + cond t y 0
     each true x y = refl
@@ -126,10 +116,6 @@ rest_positions night pins v lt = ap not (get_or-map-range_with_len (λ k. not (t
     twice : (b : Bool) → not (not b) ≡ b
     twice true = refl
     twice false = refl
-
-pub same_counts : (n : ℕ) (f g : ℕ → Bool) → ((i : ℕ) → i < n → f i ≡ g i) → count_below n f ≡ count_below n g
-same_counts zero f g h = refl
-same_counts (suc n) f g h = omega (arith, same_counts n f g (λ i lt. h i (omega (arith, lt))), ap {B = ℕ} (λ t. cond t 1 0) (h n (omega arith)))
 
 pub one_cost : (night : Night) (pins : List Block) (place : List ℕ) → IsMatchingOfRest (unit_entries night) (position_entries night) (units_taken night pins) (positions_taken night pins) place → total_cost night (pins ++ singles night pins place) ≡ opening_cost night pins
 one_cost night pins place m =
@@ -161,6 +147,6 @@ one_cost night pins place m =
 
     once : (v : ℕ) → v < position_total night → free_position v ≡ true → count_below (unit_total night) (λ u. free_unit u && (place_of place u == v)) ≡ 1
     once v lt free =
-        same_counts (unit_total night) _ _ (λ u in_night. ap (λ t. t && (place_of place u == v)) (sym (rest_units night pins u in_night)))
+        count_below-same (unit_total night) _ _ (λ u in_night. ap (λ t. t && (place_of place u == v)) (sym (rest_units night pins u in_night)))
         ∙ ap (λ n. count_below n (λ u. is_in_rest (units_taken night pins) u && (place_of place u == v))) (sym units)
         ∙ m.once v (record { there = omega (arith, lt, positions); left = rest_positions night pins v lt ∙ free })

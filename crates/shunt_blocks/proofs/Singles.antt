@@ -3,20 +3,21 @@ use Rattle.std.specs.Prelude.{All, ◌==◌, cond, sum_by, count_by}
 use Rattle.std.proofs.Common.{◌≡◌, inl, inr, ℕ, zero, suc, ◌+◌, ◌<◌, Bool, true, false, List, [], ◌∷◌, ◌++◌, refl, sym, ap, ◌∙◌, arith}
 use Rattle.std.proofs.lemmas.Bool.Decides.{nat_tests}
 use Rattle.std.proofs.lemmas.List.Sums.{sum_by-cons, sum_by-append}
-use Rattle.shunt_stays.specs.defs.Members.{In}
+use Rattle.shunt_lists.proofs.SumsBelow.{sum_below-same, sum_below-add}
+use Rattle.shunt_lists.specs.defs.Below.{sum_below}
+use Rattle.shunt_lists.specs.defs.Members.{In}
 use Rattle.shunt_instance.specs.declared.records.Unit.{Unit as TrainUnit}
 use Rattle.shunt_instance.specs.declared.records.Position.{Position}
 use Rattle.shunt_instance.specs.defs.Instance.{Night, unit_total, position_total, unit_at, position_at}
 use Rattle.shunt_instance.proofs.Facts.{unit_there, position_there}
 use Rattle.shunt_blocks.specs.declared.records.Block.{Block}
-use Rattle.shunt_blocks.specs.defs.Below.{sum_below}
 use Rattle.shunt_blocks.specs.defs.Shapes.{shape_of, begins_at, position_from, IsWithinTrains}
 use Rattle.shunt_blocks.specs.defs.Costs.{option_cost, block_cost}
 use Rattle.shunt_blocks.specs.defs.Lists.{has_unit, has_position, times_unit, times_position, Covers, total_cost}
 use Rattle.shunt_blocks.specs.defs.Pins.{IsSingle, unit_price, position_price, opening_cost}
 use Rattle.shunt_blocks.proofs.Places.{unit_in, position_in}
 use Rattle.shunt_blocks.proofs.StaysOf.{each_one}
-use Rattle.shunt_blocks.proofs.Opening.{same_sums, sum_of_sums, no_sum, pick}
+use Rattle.shunt_blocks.proofs.Opening.{no_sum, pick}
 
 -- ---- sums over lists
 
@@ -55,12 +56,12 @@ one_passes (x ∷ xs) test c one = at (test x) refl (λ rest. one_passes xs test
 gathered : {X : Type 0} (n : ℕ) (f : ℕ → ℕ) (xs : List X) (has : X → ℕ → Bool) (place : X → ℕ) → ((x : X) → In x xs → place x < n) → ((x : X) (i : ℕ) → In x xs → has x i ≡ (place x == i)) → sum_below n (λ i. sum_by (λ x. cond (has x i) (f i) 0) xs) ≡ sum_by (λ x. f (place x)) xs
 gathered n f [] has place low same = no_sum n
 gathered n f (x ∷ xs) has place low same =
-    let parts = same_sums n (λ i. sum_by (λ y. cond (has y i) (f i) 0) (x ∷ xs)) (λ i. cond (has x i) (f i) 0 + sum_by (λ y. cond (has y i) (f i) 0) xs) (λ i lt. sum_by-cons (λ y. cond (has y i) (f i) 0) x xs) in
-    let first = same_sums n (λ i. cond (has x i) (f i) 0) (λ i. cond (place x == i) (f i) 0) (λ i lt. ap (λ t. cond t (f i) 0) (same x i (inl refl))) in
+    let parts = sum_below-same n (λ i. sum_by (λ y. cond (has y i) (f i) 0) (x ∷ xs)) (λ i. cond (has x i) (f i) 0 + sum_by (λ y. cond (has y i) (f i) 0) xs) (λ i lt. sum_by-cons (λ y. cond (has y i) (f i) 0) x xs) in
+    let first = sum_below-same n (λ i. cond (has x i) (f i) 0) (λ i. cond (place x == i) (f i) 0) (λ i lt. ap (λ t. cond t (f i) 0) (same x i (inl refl))) in
     omega (
       arith,
       parts,
-      sum_of_sums n (λ i. cond (has x i) (f i) 0) (λ i. sum_by (λ y. cond (has y i) (f i) 0) xs),
+      sum_below-add n (λ i. cond (has x i) (f i) 0) (λ i. sum_by (λ y. cond (has y i) (f i) 0) xs),
       first,
       pick n (place x) f (low x (inl refl)),
       gathered n f xs has place (λ y there. low y (inr there)) (λ y i there. same y i (inr there)),
@@ -111,7 +112,7 @@ any_singles night pins others within single covers =
         sym (gathered (unit_total night) (unit_price night) others (λ b u. has_unit night (shape_of b) u) (begins_at night)
         (λ b there. unit_in night (shape_of b) (begins_at night b) (inside b there).runs (record { from = omega arith; to = omega (arith, (inside b there).runs.n) }))
         (λ b u there. one_unit night b u (alone b there).one))
-        ∙ same_sums (unit_total night) _ _ (λ u lt. left (times_unit night pins u) (times_unit night others u) (unit_price night u) _ (sym (sum_by-append _ pins others) ∙ covers.units u lt)
+        ∙ sum_below-same (unit_total night) _ _ (λ u lt. left (times_unit night pins u) (times_unit night others u) (unit_price night u) _ (sym (sum_by-append _ pins others) ∙ covers.units u lt)
         (none_pass others (λ b. has_unit night (shape_of b) u) (unit_price night u)) (one_passes others (λ b. has_unit night (shape_of b) u) (unit_price night u)))
 
     positions : sum_by (λ b. position_price night (position_from night (shape_of b))) others ≡ sum_below (position_total night) (λ v. cond (times_position night pins v == 0) (position_price night v) 0)
@@ -119,5 +120,5 @@ any_singles night pins others within single covers =
         sym (gathered (position_total night) (position_price night) others (λ b v. has_position night (shape_of b) v) (λ b. position_from night (shape_of b))
         (λ b there. position_in night (shape_of b) (position_from night (shape_of b)) (inside b there).runs (record { from = omega arith; to = omega (arith, (inside b there).runs.n) }))
         (λ b v there. one_position night b v (alone b there).one))
-        ∙ same_sums (position_total night) _ _ (λ v lt. left (times_position night pins v) (times_position night others v) (position_price night v) _ (sym (sum_by-append _ pins others) ∙ covers.positions v lt)
+        ∙ sum_below-same (position_total night) _ _ (λ v lt. left (times_position night pins v) (times_position night others v) (position_price night v) _ (sym (sum_by-append _ pins others) ∙ covers.positions v lt)
         (none_pass others (λ b. has_position night (shape_of b) v) (position_price night v)) (one_passes others (λ b. has_position night (shape_of b) v) (position_price night v)))

@@ -4,6 +4,8 @@ use Rattle.std.proofs.Common.{◌≡◌, ◌≢◌, ℕ, ◌<◌, ◌≤◌, tru
 use Rattle.std.proofs.lemmas.Bool.{false≢true}
 use Rattle.std.proofs.lemmas.List.Elements.{All-nil, All-cons}
 use Rattle.std.proofs.lemmas.List.Kept.{AllPairs-cons}
+use Rattle.shunt_lists.proofs.Lists.{all_one}
+use Rattle.shunt_lists.specs.defs.Members.{AreDistinct}
 use Rattle.shunt_base.specs.declared.ids.TypeId.{TypeId}
 use Rattle.shunt_base.specs.declared.ids.Side.TheVariants.{A}
 use Rattle.shunt_base.specs.defs.Spelling.{IsName}
@@ -14,14 +16,11 @@ use Rattle.shunt_instance.specs.declared.records.Station.{Station}
 use Rattle.shunt_instance.specs.declared.records.Track.{Track}
 use Rattle.shunt_instance.specs.declared.records.UnitType.{UnitType}
 use Rattle.shunt_instance.specs.declared.records.Train.{Train}
-use Rattle.shunt_instance.specs.defs.Words.{AreDistinct, is_standing}
+use Rattle.shunt_instance.specs.defs.Words.{is_standing}
 use Rattle.shunt_instance.specs.defs.Wellformed.{IsUnitType, IsTrack, IsRoute, IsPermit, IsStation, IsTrain, IsTimetable}
 
-pub only : {X : Type 0} (P : X → Type 0) (x : X) → P x → All P (x ∷ [])
-only P x p = All-cons P x [] p (All-nil P)
-
 pub both : {X : Type 0} (P : X → Type 0) (x y : X) → P x → P y → All P (x ∷ y ∷ [])
-both P x y p q = All-cons P x (y ∷ []) p (only P y q)
+both P x y p q = All-cons P x (y ∷ []) p (all_one P y q)
 
 nobody : {X : Type 0} → AreDistinct {X = X} []
 nobody i j d before within = absurd (omega arith)
@@ -30,7 +29,7 @@ pub alone : {X : Type 0} (x : X) → AreDistinct (x ∷ [])
 alone x i j d before within = absurd (omega arith)
 
 pub apart : {X : Type 0} (x y : X) → x ≢ y → AreDistinct (x ∷ y ∷ [])
-apart x y ne = AllPairs-cons (λ a b. a ≢ b) x (y ∷ []) (only (λ b. x ≢ b) y ne) (alone y)
+apart x y ne = AllPairs-cons (λ a b. a ≢ b) x (y ∷ []) (all_one (λ b. x ≢ b) y ne) (alone y)
 
 abbrev pub small_type : List ℕ → UnitType
 small_type name = record { name = name; length = 500; turn = 10 }
@@ -58,12 +57,12 @@ station_is n x y p t nn xx yy ne pp tt' = record {
   types = both IsUnitType (small_type x) (small_type y) (type_is x xx) (type_is y yy);
   type_names = apart x y ne;
   few_platforms = omega arith;
-  platforms = only IsName p pp;
+  platforms = all_one IsName p pp;
   platform_names = alone p;
   few_tracks = omega arith;
-  tracks = only IsTrack _ (record { name = tt'; some = omega arith; long = omega arith; open_at = refl });
+  tracks = all_one IsTrack _ (record { name = tt'; some = omega arith; long = omega arith; open_at = refl });
   track_names = alone _;
-  routes = only (IsRoute (small_station n x y p t)) _ (record { platform = omega arith; track = omega arith; open_at = refl; cost = omega arith });
+  routes = all_one (IsRoute (small_station n x y p t)) _ (record { platform = omega arith; track = omega arith; open_at = refl; cost = omega arith });
   ways = alone _;
   permits = All-nil (IsPermit (small_station n x y p t));
   permits_differ = nobody;
@@ -113,13 +112,13 @@ timetable_is s a d e aa dd ee ne types platforms =
     let x : P type_x = omega arith in
     let y : P type_y = omega arith in
     let first = train_is s a 1320 (type_x ∷ type_y ∷ []) platforms aa (omega arith) (omega arith) (omega arith) (both P type_x type_y x y) in
-    let second = train_is s d 1740 (type_y ∷ []) platforms dd (omega arith) (omega arith) (omega arith) (only P type_y y) in
-    let third = train_is s e 1800 (type_x ∷ []) platforms ee (omega arith) (omega arith) (omega arith) (only P type_x x) in
+    let second = train_is s d 1740 (type_y ∷ []) platforms dd (omega arith) (omega arith) (omega arith) (all_one P type_y y) in
+    let third = train_is s e 1800 (type_x ∷ []) platforms ee (omega arith) (omega arith) (omega arith) (all_one P type_x x) in
     record {
-      arrive = record { few = omega arith; units = omega arith; each = only (IsTrain s) (come a) first; names = alone a };
+      arrive = record { few = omega arith; units = omega arith; each = all_one (IsTrain s) (come a) first; names = alone a };
       depart = record { few = omega arith; units = omega arith; each = both (IsTrain s) (sooner d) (later e) second third; names = apart d e ne };
       first = refl;
-      at_start = only (λ r. IsTrue (is_standing r) → r.minute ≡ 0) (come a) (λ stands. absurd (false≢true stands));
+      at_start = all_one (λ r. IsTrue (is_standing r) → r.minute ≡ 0) (come a) (λ stands. absurd (false≢true stands));
       from_platform = both (λ r. is_standing r ≡ false) (sooner d) (later e) refl refl;
     }
 

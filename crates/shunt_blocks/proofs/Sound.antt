@@ -1,8 +1,9 @@
 -- What makes a shape and a block, said by faults.
 use Rattle.std.specs.Prelude.{◌↔◌, IsSome, IfSome, not, nat_le, ◌||◌, ◌==◌, Option, Some, None}
 use Rattle.std.proofs.Common.{◌≡◌, ℕ, ◌+◌, ◌≤◌, Bool, true, false, refl, sym, ap, arith}
-use Rattle.std.proofs.lemmas.Bool.{true≢false}
+use Rattle.std.proofs.lemmas.Bool.{true≢false, eq-eqb, eqb-true, le-leb, not_from_true, not-false}
 use Rattle.std.proofs.lemmas.Bool.Decides.{nat_tests}
+use Rattle.shunt_lists.proofs.TestsBelow.{all_pass, each_passes}
 use Rattle.shunt_instance.specs.defs.Instance.{Night, unit_at, position_at, ready}
 use Rattle.shunt_blocks.specs.declared.records.Shape.{Shape}
 use Rattle.shunt_blocks.specs.declared.records.Block.{Block}
@@ -11,34 +12,21 @@ use Rattle.shunt_blocks.specs.defs.Shapes.{shape_of, AreRunsWithin, IsOnTrack, I
 use Rattle.shunt_blocks.specs.defs.Ways.{park_way_in, park_way_out}
 use Rattle.shunt_blocks.specs.defs.Blocks.{IsOption, IsBlock, have_one_type, is_forbidden}
 use Rattle.shunt_blocks.specs.defs.Standing.{leave_minute, is_too_soon, IsSound}
-use Rattle.shunt_blocks.proofs.Passing.{all_pass, each_passes}
 use Rattle.shunt_blocks.proofs.Times.{leaves_is, ready_in_time}
-
-equal : (a b : ℕ) → a ≡ b → (a == b) ≡ true
-equal a b e = grind (arith, nat_tests)
-
-is_equal : (a b : ℕ) → (a == b) ≡ true → a ≡ b
-is_equal a b e = grind (arith, nat_tests)
-
-at_most : (a b : ℕ) → a ≤ b → nat_le a b ≡ true
-at_most a b le = grind (arith, nat_tests)
-
-negated : (a : Bool) → a ≡ true → not a ≡ false
-negated a e = ap not e
 
 -- ---- shapes
 
 pub one_type : (night : Night) (s : Shape) → IsShape night s → have_one_type night s ≡ true
-one_type night s h = all_pass s.n _ (λ k lt. equal _ _ (h.pairs k lt).kind)
+one_type night s h = all_pass s.n _ (λ k lt. eq-eqb _ _ (h.pairs k lt).kind)
 
 pub in_time : (night : Night) (s : Shape) → IsShape night s → is_too_soon night s ≡ false
-in_time night s h = negated _ (all_pass s.n _ (λ k lt. at_most (ready night (unit_from night s + k)) (leave_minute night s) (omega (arith, (h.pairs k lt).ready, leaves_is night s k h.within lt))))
+in_time night s h = not_from_true _ (all_pass s.n _ (λ k lt. le-leb (ready night (unit_from night s + k)) (leave_minute night s) (omega (arith, (h.pairs k lt).ready, leaves_is night s k h.within lt))))
 
 pub shape_made : (night : Night) (s : Shape) → AreRunsWithin night s → have_one_type night s ≡ true → is_too_soon night s ≡ false → IsShape night s
 shape_made night s h types soon = record {
   within = h;
   pairs = λ k lt. record {
-    kind = is_equal (unit_at night (unit_from night s + k)).kind.0 (position_at night (position_from night s + k)).kind.0 (each_passes s.n _ types k lt);
+    kind = eqb-true (unit_at night (unit_from night s + k)).kind.0 (position_at night (position_from night s + k)).kind.0 (each_passes s.n _ types k lt);
     ready = omega (arith, ready_in_time night s k soon lt, leaves_is night s k h lt);
   };
 }
@@ -59,7 +47,7 @@ second_false false b e = absurd (true≢false e)
 
 unforbidden : (night : Night) (s : Shape) (o : Option Park) → IsOption night s o → is_forbidden night s o ≡ false
 unforbidden night s None h = refl
-unforbidden night s (Some k) h = negated _ h.permitted
+unforbidden night s (Some k) h = not_from_true _ h.permitted
 
 has_way_in : (night : Night) (s : Shape) (o : Option Park) → IsOption night s o → IfSome o (λ k. IsSome (park_way_in night s.arr k))
 has_way_in night s None h = tt
@@ -69,13 +57,9 @@ has_way_out : (night : Night) (s : Shape) (o : Option Park) → IsOption night s
 has_way_out night s None h = tt
 has_way_out night s (Some k) h = h.way_out
 
-not_false : (a : Bool) → not a ≡ false → a ≡ true
-not_false true e = refl
-not_false false e = sym e
-
 option_made : (night : Night) (s : Shape) (o : Option Park) → IsOnTrack night.station o → is_forbidden night s o ≡ false → IfSome o (λ k. IsSome (park_way_in night s.arr k)) → IfSome o (λ k. IsSome (park_way_out night s.dep k)) → IsOption night s o
 option_made night s None t f i u = tt
-option_made night s (Some k) t f i u = record { track = t; permitted = not_false _ f; way_in = i; way_out = u }
+option_made night s (Some k) t f i u = record { track = t; permitted = not-false _ f; way_in = i; way_out = u }
 
 block_sound : (night : Night) (b : Block) → IsBlock night b → IsSound night b
 block_sound night b h = record {

@@ -7,11 +7,13 @@ use Rattle.std.proofs.lemmas.Bool.Decides.{nat_tests}
 use Rattle.std.proofs.lemmas.List.{length-map}
 use Rattle.std.proofs.lemmas.List.Elements.{All-append, All-cons, All-nil}
 use Rattle.std.proofs.lemmas.List.Sums.{sum_by-append}
-use Rattle.shunt_stays.specs.defs.Members.{In}
+use Rattle.shunt_lists.proofs.CountsBelow.{count_below-same, count_below-none}
+use Rattle.shunt_lists.specs.defs.Below.{count_below}
+use Rattle.shunt_lists.proofs.Members.{in_left, in_cases, in_place}
+use Rattle.shunt_lists.specs.defs.Members.{In}
 use Rattle.shunt_stays.specs.defs.Run.{GoesThrough}
-use Rattle.shunt_stays.proofs.Members.{in_left, in_cases, in_place}
 use Rattle.shunt_instance.specs.defs.Instance.{Night, IsInstance, IsOrderedNight, units_of, positions_of, unit_total, position_total}
-use Rattle.shunt_instance.specs.defs.Matching.{entry_at, is_in_rest, IsMatchable, count_below, place_of, IsMatchingOfRest, unit_entries, position_entries}
+use Rattle.shunt_instance.specs.defs.Matching.{entry_at, is_in_rest, IsMatchable, place_of, IsMatchingOfRest, unit_entries, position_entries}
 use Rattle.shunt_instance.proofs.Orders.{opened}
 use Rattle.shunt_instance.proofs.Facts.{unit_at_is, position_at_is, unit_entry_is, position_entry_is}
 use Rattle.shunt_blocks.specs.declared.records.Block.{Block}
@@ -22,7 +24,7 @@ use Rattle.shunt_blocks.specs.defs.Lists.{has_unit, has_position, times_unit, ti
 use Rattle.shunt_blocks.specs.defs.Pins.{AreUsable, Keeps, single, singles_below, singles}
 use Rattle.shunt_blocks.proofs.StaysOf.{placed_runs, in_placed}
 use Rattle.shunt_blocks.proofs.Feasible.{but_ids, placed_feasible}
-use Rattle.shunt_blocks.proofs.Opening.{rest_units, rest_positions, same_counts}
+use Rattle.shunt_blocks.proofs.Opening.{rest_units, rest_positions}
 
 -- ---- a matching of what the pins leave
 
@@ -54,7 +56,7 @@ rest_matched night pins place m = record { given = given; pair = pair; once = on
 
     once : (v : ℕ) → v < position_total night → (times_position night pins v == 0) ≡ true → count_below (unit_total night) (λ u. (times_unit night pins u == 0) && (place_of place u == v)) ≡ 1
     once v lt free =
-        same_counts (unit_total night) _ _ (λ u in_night. ap (λ t. t && (place_of place u == v)) (sym (rest_units night pins u in_night)))
+        count_below-same (unit_total night) _ _ (λ u in_night. ap (λ t. t && (place_of place u == v)) (sym (rest_units night pins u in_night)))
         ∙ ap (λ n. count_below n (λ u. is_in_rest (units_taken night pins) u && (place_of place u == v))) (sym units)
         ∙ m.once v (record { there = omega (arith, lt, positions); left = rest_positions night pins v lt ∙ free })
 
@@ -119,10 +121,6 @@ singles_positions night pins place (suc n) w h m le = omega (arith, sum_by-appen
 
 -- ---- counts
 
-none_counted : (n : ℕ) (test : ℕ → Bool) → ((k : ℕ) → k < n → test k ≡ false) → count_below n test ≡ 0
-none_counted zero test h = refl
-none_counted (suc n) test h = let none : cond (test n) 1 0 ≡ 0 = ap {B = ℕ} (λ t. cond t 1 0) (h n (omega arith)) in omega (arith, none, none_counted n test (λ k lt. h k (omega (arith, lt))))
-
 unequal : (t : Bool) (k w : ℕ) → (k ≡ w → ⊥) → (t && (k == w)) ≡ false
 unequal true k w ne = at (k == w) refl
   where
@@ -140,7 +138,7 @@ one_counted (suc n) w test lt = ⊎_elim
     (λ ge.
     let same : w ≡ n = omega (arith, ge, lt) in
     let here : cond (test n && (n == w)) 1 0 ≡ cond (test w) 1 0 = ap {B = ℕ} (λ t. cond t 1 0) (at (test n) refl same) in
-    omega (arith, here, none_counted n (λ k. test k && (k == w)) (λ k below. unequal (test k) k w (λ e. omega (arith, e, below, same)))))
+    omega (arith, here, count_below-none n (λ k. test k && (k == w)) (λ k below. unequal (test k) k w (λ e. omega (arith, e, below, same)))))
     (cases_lt w n)
   where
     at : (t : Bool) → test n ≡ t → w ≡ n → (t && (n == w)) ≡ test w
@@ -200,7 +198,7 @@ covered night pins place h usable m = record { units = units; positions = positi
       where
         at : (t : Bool) → (times_position night pins v == 0) ≡ t → count_below (unit_total night) (λ k. (times_unit night pins k == 0) && (place_of place k == v)) ≡ cond t 1 0
         at true e = m.once v lt e
-        at false e = none_counted (unit_total night) _ (λ k below. given_elsewhere v k below e)
+        at false e = count_below-none (unit_total night) _ (λ k below. given_elsewhere v k below e)
 
 pub opening_feasible : (night : Night) (pins : List Block) (place : List ℕ) → IsInstance night → AreUsable night pins
     → IsMatchingOfRest (unit_entries night) (position_entries night) (units_taken night pins) (positions_taken night pins) place

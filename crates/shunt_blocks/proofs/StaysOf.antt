@@ -9,14 +9,13 @@ use Rattle.std.proofs.lemmas.List.Elements.{All-tail, All-cons, All-nil}
 use Rattle.std.proofs.lemmas.List.FromFn.{get_or-range_with_len, length-range_with_len}
 use Rattle.std.proofs.lemmas.List.Sums.{sum_by-cons}
 use Rattle.std.proofs.lemmas.Bool.Decides.{nat_tests}
+use Rattle.shunt_lists.proofs.Members.{in_place, all_from, in_map, of_map}
+use Rattle.shunt_lists.specs.defs.Members.{In, AreDistinct}
 use Rattle.shunt_base.specs.declared.keys.Stay.{Stay}
 use Rattle.shunt_base.specs.defs.Keys.{IsWellFormed, AreStays}
-use Rattle.shunt_stays.specs.defs.Members.{In}
 use Rattle.shunt_stays.specs.defs.Events.{renamed, SameButId, DifferBeforeId, AllDifferBeforeId}
 use Rattle.shunt_stays.proofs.Renaming.{finds_from, found_through}
 use Rattle.shunt_stays.specs.defs.Run.{AreOnTracks}
-use Rattle.shunt_stays.proofs.Members.{in_place, all_from, in_map, of_map}
-use Rattle.shunt_instance.specs.defs.Words.{AreDistinct}
 use Rattle.shunt_instance.specs.defs.Instance.{Night, IsInstance, IsOrderedNight, first_unit, first_position}
 use Rattle.shunt_instance.proofs.Orders.{opened}
 use Rattle.shunt_instance.proofs.Looked.{units_few}

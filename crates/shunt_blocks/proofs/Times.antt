@@ -4,9 +4,11 @@ use Rattle.std.specs.Ordering.{nat_cmp, bool_cmp, ordering_then}
 use Rattle.std.specs.declared.cmp.Ordering.{Ordering}
 use Rattle.std.specs.declared.cmp.Ordering.TheVariants.{Less}
 use Rattle.std.proofs.Common.{◌≡◌, ⊎_elim, ℕ, ◌+◌, ◌-◌, ◌*◌, ◌^◌, ◌<◌, ◌≤◌, Bool, true, false, List, [], length, refl, sym, ap, subst, ◌∙◌, arith}
-use Rattle.std.proofs.lemmas.Bool.{cases_lt}
+use Rattle.std.proofs.lemmas.Bool.{cases_lt, leb-true, not-false}
 use Rattle.std.proofs.lemmas.Bool.Decides.{nat_tests}
 use Rattle.std.proofs.lemmas.List.{get_or-map, get_or_past, length-map}
+use Rattle.shunt_lists.proofs.SumsBelow.{sum_below-small}
+use Rattle.shunt_lists.proofs.TestsBelow.{each_passes}
 use Rattle.shunt_base.specs.declared.ids.TypeId.{TypeId}
 use Rattle.shunt_base.specs.declared.keys.EventKey.{EventKey}
 use Rattle.shunt_base.specs.declared.keys.Stay.{Stay}
@@ -25,7 +27,6 @@ use Rattle.shunt_blocks.specs.declared.records.Block.{Block}
 use Rattle.shunt_blocks.specs.declared.records.Park.{Park}
 use Rattle.shunt_blocks.specs.defs.Shapes.{shape_of, AreRunsWithin, IsOnTrack, IsWithinTrains, unit_from, position_from}
 use Rattle.shunt_blocks.specs.defs.Standing.{length_of, shape_length, leave_minute, is_too_soon, enter_key, leave_key, parked_stay, stay_with, stay_of}
-use Rattle.shunt_blocks.proofs.Passing.{each_passes, sum_small}
 
 -- ---- trains, units and positions
 
@@ -63,15 +64,8 @@ ready_is night s k h lt = ap (λ (u : TrainUnit). minute_at night.arrive u.train
 kind_there : (night : Night) (s : Shape) (k : ℕ) → IsOrderedNight night → AreRunsWithin night s → k < s.n → (kind_at (train_at night.arrive s.arr.0) (s.p + k)).0 < length night.station.types
 kind_there night s k h r lt = (arrival night s.arr.0 h r.arr).kinds (s.p + k - 1) _ (omega (arith, r.p, r.units, lt))
 
-le_true : (a b : ℕ) → nat_le a b ≡ true → a ≤ b
-le_true a b e = grind (arith, nat_tests)
-
-not_false : (a : Bool) → not a ≡ false → a ≡ true
-not_false true e = refl
-not_false false e = sym e
-
 pub ready_in_time : (night : Night) (s : Shape) (k : ℕ) → is_too_soon night s ≡ false → k < s.n → ready night (unit_from night s + k) ≤ leave_minute night s
-ready_in_time night s k soon lt = le_true _ _ (each_passes s.n _ (not_false _ soon) k lt)
+ready_in_time night s k soon lt = leb-true _ _ (each_passes s.n _ (not-false _ soon) k lt)
 
 enters_first : (night : Night) (s : Shape) → IsOrderedNight night → AreRunsWithin night s → is_too_soon night s ≡ false → (train_at night.arrive s.arr.0).minute < leave_minute night s
 enters_first night s h r soon = omega (arith, ready_in_time night s 0 soon (omega (arith, r.n)), ready_is night s 0 r (omega (arith, r.n)), turn_some night.station (kind_at (train_at night.arrive s.arr.0) (s.p + 0)) h.station (kind_there night s 0 h r (omega (arith, r.n))))
@@ -85,7 +79,7 @@ length_small s kind h = ⊎_elim
     (cases_lt kind.0 (length s.types))
 
 block_small : (night : Night) (b : Block) → IsOrderedNight night → shape_length night (shape_of b) ≤ 5000 * b.n
-block_small night b h = sum_small b.n 5000 _ (λ k. length_small night.station (unit_at night (unit_from night (shape_of b) + k)).kind h.station)
+block_small night b h = sum_below-small b.n 5000 _ (λ k. length_small night.station (unit_at night (unit_from night (shape_of b) + k)).kind h.station)
 
 -- ---- stays
 

@@ -7,6 +7,8 @@ use Rattle.std.proofs.lemmas.Bool.Decides.{nat_tests}
 use Rattle.std.proofs.lemmas.Option.{none-some}
 use Rattle.std.proofs.lemmas.List.Sums.{sum_by-cons}
 use Rattle.std.proofs.lemmas.List.Elements.{All-tail}
+use Rattle.shunt_lists.proofs.TestsBelow.{all_pass, each_passes}
+use Rattle.shunt_lists.specs.defs.Below.{all_below}
 use Rattle.shunt_base.specs.declared.ids.TypeId.{TypeId}
 use Rattle.shunt_base.specs.declared.ids.TrackId.{TrackId}
 use Rattle.shunt_base.specs.declared.ids.Side.{Side}
@@ -22,14 +24,12 @@ use Rattle.shunt_instance.specs.defs.Instance.{Night, unit_at, position_at}
 use Rattle.shunt_blocks.specs.declared.records.Shape.{Shape}
 use Rattle.shunt_blocks.specs.declared.records.Block.{Block}
 use Rattle.shunt_blocks.specs.declared.records.Park.{Park}
-use Rattle.shunt_blocks.specs.defs.Below.{all_below}
 use Rattle.shunt_blocks.specs.defs.Shapes.{shape_of, AreRunsWithin, IsOnTrack, IsWithinTrains, IsShape, unit_from, position_from}
 use Rattle.shunt_blocks.specs.defs.Ways.{option_way_in, option_way_out, way_in, way_out, way_from, way_to, park_way_in, park_way_out}
 use Rattle.shunt_blocks.specs.defs.Blocks.{IsOption, IsBlock, have_one_type, is_forbidden, type_fault}
 use Rattle.shunt_blocks.specs.defs.Costs.{option_cost, block_cost}
 use Rattle.shunt_blocks.specs.defs.Lists.{IsFeasible, total_cost}
 use Rattle.shunt_blocks.specs.defs.v1.{HasTwoTypes, LacksRouteIn, LacksRouteOut, IsPlain, HasShape, route, route_in, route_out, HasOption, IsBlock as IsFirstBlock, option_cost as first_option_cost, block_cost as first_block_cost, total_cost as first_total_cost, IsFeasible as IsFirstFeasible}
-use Rattle.shunt_blocks.proofs.Passing.{all_pass, each_passes}
 use Rattle.shunt_blocks.proofs.Times.{unit_is, position_is, leaves_is, ready_is}
 
 -- ---- shapes

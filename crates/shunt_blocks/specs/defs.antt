@@ -1,5 +1,4 @@
 -- The definitions of this crate.
-pub mod Below
 pub mod Shapes
 pub mod Ways
 pub mod Blocks

@@ -1,17 +1,17 @@
 //! What follows from the definitions of this crate.
 ghost use Rattle.std.specs.Prelude.{◌≡◌, ◌+◌, ◌<◌, ◌≤◌, ◌↔◌, length, ◌^◌, ℕ, Bool, true, false, IsTrue, IsSome, Some, None, IfSome, All, AllPairs, Option, List, ◌++◌, map};
+ghost use Rattle.shunt_lists.specs.defs.Below.{all_below};
+ghost use Rattle.shunt_lists.specs.defs.Members.{In, AreDistinct};
 ghost use Rattle.shunt_base.specs.declared.keys.Stay.{Stay};
 ghost use Rattle.shunt_base.specs.defs.Keys.{IsWellFormed, AreStays};
-ghost use Rattle.shunt_stays.specs.defs.Members.{In};
 ghost use Rattle.shunt_stays.specs.defs.Events.{AllDifferBeforeId};
 ghost use Rattle.shunt_stays.specs.defs.Run.{AreOnTracks};
-ghost use Rattle.shunt_instance.specs.defs.Words.{train_at, kind_at, AreDistinct};
+ghost use Rattle.shunt_instance.specs.defs.Words.{train_at, kind_at};
 ghost use Rattle.shunt_instance.specs.defs.Instance.{Night, IsInstance, make_unit, make_position, unit_at, position_at, unit_total, position_total};
 ghost use Rattle.shunt_instance.specs.defs.Matching.{IsMatching, IsMatchingOfRest, unit_entries, position_entries};
 ghost use Rattle.shunt_blocks.specs.declared.records.Shape.{Shape};
 ghost use Rattle.shunt_blocks.specs.declared.records.Block.{Block};
 ghost use Rattle.shunt_blocks.specs.declared.records.Park.{Park};
-ghost use Rattle.shunt_blocks.specs.defs.Below.{all_below};
 ghost use Rattle.shunt_blocks.specs.defs.Shapes.{AreRunsWithin, IsWithinTrains, IsInRange, IsShape, IsPair, IsOnTrack, HasUnit, HasPosition, is_pair, begins_at, unit_from, position_from};
 ghost use Rattle.shunt_blocks.specs.defs.Ways.{way_in, way_out};
 ghost use Rattle.shunt_blocks.specs.defs.Blocks.{IsBlock, IsBlockButId, IsOption, is_option, have_one_type, type_fault};

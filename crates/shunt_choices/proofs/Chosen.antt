@@ -2,10 +2,11 @@
 use Rattle.std.specs.Prelude.{◌↔◌, ◌&&◌, ◌==◌, not, nat_le, slice_index_or}
 use Rattle.std.specs.List.{range_with_len}
 use Rattle.std.proofs.Common.{◌≡◌, ◌⊎◌, ⊎_elim, inl, inr, ℕ, ◌+◌, ◌-◌, ◌<◌, ◌≤◌, Bool, true, false, length, refl, sym, ap, subst, ◌∙◌, arith}
-use Rattle.std.proofs.lemmas.Bool.{cases_lt, true≢false}
+use Rattle.std.proofs.lemmas.Bool.{cases_lt, true≢false, and_parts, and_from, not-true, not_from_false, leb-true, le-leb, eqb-true, eq-eqb}
 use Rattle.std.proofs.lemmas.Bool.Decides.{nat_tests}
-use Rattle.shunt_stays.specs.defs.Members.{In}
-use Rattle.shunt_stays.proofs.Members.{in_map, of_map, filter_from, filter_to}
+use Rattle.shunt_lists.proofs.TestsBelow.{each_passes, all_pass}
+use Rattle.shunt_lists.proofs.Members.{in_map, of_map, filter_from, filter_to, of_flat, in_flat}
+use Rattle.shunt_lists.specs.defs.Members.{In}
 use Rattle.shunt_instance.specs.declared.records.Unit.{Unit as TrainUnit}
 use Rattle.shunt_instance.specs.declared.records.Position.{Position}
 use Rattle.shunt_instance.specs.defs.Words.{train_at, kind_at}
@@ -18,19 +19,10 @@ use Rattle.shunt_choices.specs.defs.Paths.{Masks}
 use Rattle.shunt_blocks.specs.defs.Shapes.{AreRunsWithin, IsPair, unit_from, position_from, is_pair}
 use Rattle.shunt_choices.specs.defs.Free.{is_bare, is_free_pair, is_free_run, has_units, has_positions}
 use Rattle.shunt_choices.specs.defs.Choices.{IsFreeShape, ShapeBefore, shape_at, shapes_of_length, shapes_of}
-use Rattle.shunt_blocks.proofs.Passing.{each_passes, all_pass}
 use Rattle.shunt_choices.proofs.Given.{PlaceLaws}
-use Rattle.shunt_choices.proofs.Ordered.{Follows, follows_map, follows_filter, follows_flat, follows_range, of_flat, in_flat, range_in, in_range}
+use Rattle.shunt_choices.proofs.Ordered.{Follows, follows_map, follows_filter, follows_flat, follows_range, range_in, in_range}
 
 -- ---- tests and what they tell
-
-both_true : (a b : Bool) → (a && b) ≡ true → (a ≡ true) × (b ≡ true)
-both_true true b e = (refl, e)
-both_true false b e = absurd (true≢false (sym e))
-
-from_both : (a b : Bool) → a ≡ true → b ≡ true → (a && b) ≡ true
-from_both true b e f = f
-from_both false b e f = e
 
 pub three_true : (a b c : Bool) → (a && b && c) ≡ true → (a ≡ true) × (b ≡ true) × (c ≡ true)
 three_true true true c e = (refl, refl, e)
@@ -42,34 +34,15 @@ from_three true true c e f g = g
 from_three true false c e f g = f
 from_three false b c e f g = e
 
-is_false : (a : Bool) → not a ≡ true → a ≡ false
-is_false true e = sym e
-is_false false e = refl
-
-not_true : (a : Bool) → a ≡ false → not a ≡ true
-not_true a e = ap not e
-
-le_from : (a b : ℕ) → nat_le a b ≡ true → a ≤ b
-le_from a b t = grind (arith, nat_tests)
-
-le_to : (a b : ℕ) → a ≤ b → nat_le a b ≡ true
-le_to a b le = grind (arith, nat_tests)
-
-eq_from : (a b : ℕ) → (a == b) ≡ true → a ≡ b
-eq_from a b t = grind (arith, nat_tests)
-
-eq_to : (a b : ℕ) → a ≡ b → (a == b) ≡ true
-eq_to a b e = grind (arith, nat_tests)
-
 -- ---- pairs
 
 pair_from : (night : Night) (u v : ℕ) → is_pair night u v ≡ true → IsPair night u v
 pair_from night u v t =
-    let two = both_true ((unit_at night u).kind.0 == (position_at night v).kind.0) (nat_le (ready night u) (leaves night v)) t in
-    record { kind = eq_from _ _ two.0; ready = le_from (ready night u) (leaves night v) two.1 }
+    let two = and_parts ((unit_at night u).kind.0 == (position_at night v).kind.0) (nat_le (ready night u) (leaves night v)) t in
+    record { kind = eqb-true _ _ two.0; ready = leb-true (ready night u) (leaves night v) two.1 }
 
 pair_to : (night : Night) (u v : ℕ) → IsPair night u v → is_pair night u v ≡ true
-pair_to night u v h = from_both ((unit_at night u).kind.0 == (position_at night v).kind.0) (nat_le (ready night u) (leaves night v)) (eq_to _ _ h.kind) (le_to (ready night u) (leaves night v) h.ready)
+pair_to night u v h = and_from ((unit_at night u).kind.0 == (position_at night v).kind.0) (nat_le (ready night u) (leaves night v)) (eq-eqb _ _ h.kind) (le-leb (ready night u) (leaves night v) h.ready)
 
 record IsFreePair (night : Night) (covered : Masks) (u v : ℕ) : Type 0 where
   unit : slice_index_or covered.units u true ≡ false
@@ -79,16 +52,16 @@ record IsFreePair (night : Night) (covered : Masks) (u v : ℕ) : Type 0 where
 free_from : (night : Night) (covered : Masks) (u v : ℕ) → is_free_pair night covered u v ≡ true → IsFreePair night covered u v
 unfolding is_free_pair
 free_from night covered u v t =
-    let two = both_true (is_pair night u v) (is_bare covered u v) t in
-    let bare = both_true (not (slice_index_or covered.units u true)) (not (slice_index_or covered.places v true)) two.1 in
-    record { unit = is_false _ bare.0; position = is_false _ bare.1; pair = pair_from night u v two.0 }
+    let two = and_parts (is_pair night u v) (is_bare covered u v) t in
+    let bare = and_parts (not (slice_index_or covered.units u true)) (not (slice_index_or covered.places v true)) two.1 in
+    record { unit = not-true _ bare.0; position = not-true _ bare.1; pair = pair_from night u v two.0 }
 
 free_to : (night : Night) (covered : Masks) (u v : ℕ) → IsFreePair night covered u v → is_free_pair night covered u v ≡ true
 unfolding is_free_pair
 free_to night covered u v h =
-    from_both (is_pair night u v) (is_bare covered u v)
+    and_from (is_pair night u v) (is_bare covered u v)
     (pair_to night u v h.pair)
-    (from_both (not (slice_index_or covered.units u true)) (not (slice_index_or covered.places v true)) (not_true _ h.unit) (not_true _ h.position))
+    (and_from (not (slice_index_or covered.units u true)) (not (slice_index_or covered.places v true)) (not_from_false _ h.unit) (not_from_false _ h.position))
 
 -- ---- a run of free pairs is a free shape
 
@@ -102,7 +75,7 @@ within : (night : Night) (u n v : ℕ) → IsOrderedNight night → u < unit_tot
 within night u n v h lu lv some units positions =
     let x = unit_at_is night u h lu in
     let y = position_at_is night v h lv in
-    record { arr = x.train; dep = y.train; p = x.placed; n = some; q = y.placed; units = le_from _ _ units; positions = le_from _ _ positions }
+    record { arr = x.train; dep = y.train; p = x.placed; n = some; q = y.placed; units = leb-true _ _ units; positions = leb-true _ _ positions }
 
 run_free : (night : Night) (covered : Masks) (u n v : ℕ) → IsOrderedNight night → u < unit_total night → v < position_total night → 1 ≤ n → is_free_run night covered u n v ≡ true → IsFreeShape night covered u (shape_at night u n v)
 unfolding is_free_run
@@ -146,8 +119,8 @@ free_run night covered u s h =
     let x = unit_there night s.arr.0 s.p w.arr w.p (omega (arith, w.units, w.n)) in
     let y = position_there night s.dep.0 s.q w.dep w.q (omega (arith, w.positions, w.n)) in
     from_three (has_units night (unit_from night s) s.n) (has_positions night (position_from night s) s.n) _
-    (ap (λ (x : TrainUnit). nat_le (x.place + s.n) (length (train_at night.arrive x.train.0).units + 1)) x ∙ le_to _ _ w.units)
-    (ap (λ (y : Position). nat_le (y.place + s.n) (length (train_at night.depart y.train.0).units + 1)) y ∙ le_to _ _ w.positions)
+    (ap (λ (x : TrainUnit). nat_le (x.place + s.n) (length (train_at night.arrive x.train.0).units + 1)) x ∙ le-leb _ _ w.units)
+    (ap (λ (y : Position). nat_le (y.place + s.n) (length (train_at night.depart y.train.0).units + 1)) y ∙ le-leb _ _ w.positions)
     (all_pass s.n _ (λ k lt. free_to night covered (unit_from night s + k) (position_from night s + k) (record {
       unit = h.units (unit_from night s + k) (record { from = omega arith; to = omega arith });
       position = h.positions (position_from night s + k) (record { from = omega arith; to = omega arith });

@@ -6,7 +6,7 @@ use Rattle.std.proofs.lemmas.List.{length-append}
 use Rattle.std.proofs.lemmas.List.Elements.{All-push}
 use Rattle.std.proofs.lemmas.List.Sums.{sum_by-cons}
 use Rattle.std.proofs.lemmas.List.Sorted.{All-permutation, sum_by-IsPermutation, length_permutation, IsPermutation-append_left, IsPermutation-sym}
-use Rattle.shunt_stays.specs.defs.Members.{In}
+use Rattle.shunt_lists.specs.defs.Members.{In}
 use Rattle.shunt_stays.proofs.Sorting.{of_permuted}
 use Rattle.shunt_instance.specs.defs.Instance.{Night, IsInstance, unit_total, position_total}
 use Rattle.shunt_blocks.specs.declared.records.Block.{Block}

@@ -2,8 +2,7 @@
 use Rattle.std.specs.Prelude.{◌↔◌, All, map, Option, Some, None}
 use Rattle.std.proofs.Common.{◌≡◌, ⊎_elim, ℕ, suc, ◌<◌, ◌≤◌, true, List, [], ◌∷◌, length, get_or, sym, subst, arith}
 use Rattle.std.proofs.lemmas.Bool.Decides.{nat_tests}
-use Rattle.shunt_stays.specs.defs.Members.{In}
-use Rattle.shunt_instance.specs.defs.Words.{AreDistinct}
+use Rattle.shunt_lists.specs.defs.Members.{In, AreDistinct}
 use Rattle.shunt_instance.specs.defs.Instance.{Night, IsInstance, unit_total, position_total}
 use Rattle.shunt_blocks.specs.declared.records.Shape.{Shape}
 use Rattle.shunt_blocks.specs.declared.records.Block.{Block}

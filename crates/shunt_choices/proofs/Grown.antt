@@ -2,7 +2,7 @@
 use Rattle.std.specs.Prelude.{not, ◌==◌, map, All, slice_index_or, position, Option, Some, None}
 use Rattle.std.specs.List.{range_with_len, position_or_len}
 use Rattle.std.proofs.Common.{◌≡◌, ⊎_elim, ℕ, ◌<◌, ◌≤◌, Bool, true, false, List, [], ◌∷◌, ◌++◌, length, get_or, refl, sym, ap, ◌∙◌, arith}
-use Rattle.std.proofs.lemmas.Bool.{cases_lt, true≢false}
+use Rattle.std.proofs.lemmas.Bool.{cases_lt, true≢false, not-true, not-false}
 use Rattle.std.proofs.lemmas.Bool.Decides.{nat_tests}
 use Rattle.std.proofs.lemmas.Grind.{common_steps}
 use Rattle.std.proofs.lemmas.List.Elements.{All-push}
@@ -45,22 +45,14 @@ left_free count total i d lt e =
     none : (n : ℕ) → n ≡ 0 → not (n == 0) ≡ false
     none n h = grind (arith, nat_tests)
 
-off : (b : Bool) → not b ≡ true → b ≡ false
-off true e = absurd (true≢false (sym e))
-off false e = refl
-
-on : (b : Bool) → not b ≡ false → b ≡ true
-on true e = refl
-on false e = absurd (true≢false e)
-
 pub next_is : (night : Night) (blocks : List Block) (u : ℕ) → next_of (masks_of night blocks) ≡ Some u → IsNext night blocks u
 next_is night blocks u e =
     let found = position-Some (λ c. not c) (masks_of night blocks).units u false e in
     let lt : u < unit_total night = omega (arith, found.0, length_units night blocks) in
     record {
       there = lt;
-      free = not_taken (times_unit night blocks) (unit_total night) u false lt (off _ found.1);
-      before = λ w less. taken (times_unit night blocks) (unit_total night) w false (omega (arith, less, lt)) (on _ (found.2 w less));
+      free = not_taken (times_unit night blocks) (unit_total night) u false lt (not-true _ found.1);
+      before = λ w less. taken (times_unit night blocks) (unit_total night) w false (omega (arith, less, lt)) (not-false _ (found.2 w less));
     }
 
 none_passes : {X : Type 0} (p : X → Bool) (xs : List X) (k : ℕ) (d : X) → position p xs ≡ None → k < length xs → p (get_or xs k d) ≡ false
@@ -74,7 +66,7 @@ next_at night blocks u h = at (next_of (masks_of night blocks)) refl
     at : (o : Option ℕ) → next_of (masks_of night blocks) ≡ o → next_of (masks_of night blocks) ≡ Some u
     at None e =
         let fails = none_passes (λ c. not c) (masks_of night blocks).units u false e (omega (arith, h.there, length_units night blocks)) in
-        absurd (omega (arith, taken (times_unit night blocks) (unit_total night) u false h.there (on _ fails), h.free))
+        absurd (omega (arith, taken (times_unit night blocks) (unit_total night) u false h.there (not-false _ fails), h.free))
     at (Some w) e =
         let x = next_is night blocks w e in
         let same : w ≡ u = ⊎_elim
@@ -120,9 +112,6 @@ free_choice places night blocks b fits free = record {
   };
   option = fits.option;
 }
-
-pub grown_all : {X : Type 0} (P : X → Type 0) (xs : List X) (x : X) → All P xs → P x → All P (xs ++ x ∷ [])
-grown_all P xs x all p = All-push P xs x all p
 
 pub alone_apart : (night : Night) (b : Block) → ShareNothing night (b ∷ [])
 alone_apart night b = grown_apart night [] b (record { units = λ u. omega arith; positions = λ v. omega arith }) (record { units = λ w has. refl; positions = λ v has. refl })

@@ -3,11 +3,11 @@ use Rattle.std.specs.Prelude.{◌↔◌, ◌≢◌, is_some, IfSome, AllPairs, O
 use Rattle.std.specs.List.{range_with_len}
 use Rattle.std.proofs.Common.{◌≡◌, inl, inr, ℕ, ◌<◌, true, List, [], ◌∷◌, map, length, get_or, refl, sym, ap, subst, ◌∙◌, arith}
 use Rattle.std.proofs.lemmas.Bool.{true≢false}
+use Rattle.shunt_base.specs.defs.Sides.{same_side}
+use Rattle.shunt_lists.proofs.Members.{in_map, of_map, filter_from, filter_to, of_flat, in_flat}
+use Rattle.shunt_lists.specs.defs.Members.{In, AreDistinct}
 use Rattle.shunt_base.specs.declared.ids.Side.{Side}
 use Rattle.shunt_base.specs.declared.ids.Side.TheVariants.{A, B}
-use Rattle.shunt_stays.specs.defs.Members.{In}
-use Rattle.shunt_stays.proofs.Members.{in_map, of_map, filter_from, filter_to}
-use Rattle.shunt_instance.specs.defs.Words.{AreDistinct, same_side}
 use Rattle.shunt_instance.specs.defs.Instance.{Night, IsInstance, unit_total}
 use Rattle.shunt_blocks.specs.declared.records.Shape.{Shape}
 use Rattle.shunt_blocks.specs.declared.records.Park.{Park}
@@ -16,7 +16,7 @@ use Rattle.shunt_blocks.specs.defs.Ways.{park_way_in, park_way_out, permits_unit
 use Rattle.shunt_blocks.specs.defs.Blocks.{IsOption, IsParkable, can_park, is_option}
 use Rattle.shunt_choices.specs.defs.Choices.{ShapeBefore, ParkBefore, OptionBefore, Choice, ChoiceBefore, IsChoice, parks_on, parks_below, candidates, options_of, shapes_of, choices_with, choices_of}
 use Rattle.shunt_choices.proofs.Given.{PlaceLaws}
-use Rattle.shunt_choices.proofs.Ordered.{Follows, all_pairs, follows_map, follows_filter, follows_flat, follows_range, of_flat, in_flat, range_in, in_range}
+use Rattle.shunt_choices.proofs.Ordered.{Follows, all_pairs, follows_map, follows_filter, follows_flat, follows_range, range_in, in_range}
 use Rattle.shunt_choices.proofs.Chosen.{three_true, from_three, shapes_are, shapes_follow}
 
 -- ---- tracks with sides

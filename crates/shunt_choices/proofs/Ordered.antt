@@ -4,8 +4,8 @@ use Rattle.std.specs.List.{flat_map, range_with_len}
 use Rattle.std.proofs.Common.{◌≡◌, ◌⊎◌, ⊎_elim, inl, inr, ℕ, zero, suc, ◌+◌, ◌<◌, ◌≤◌, Bool, List, [], ◌∷◌, ◌++◌, map, refl, sym, subst, arith}
 use Rattle.std.proofs.lemmas.Bool.{cases_Bool}
 use Rattle.std.proofs.lemmas.List.Kept.{AllPairs-cons}
-use Rattle.shunt_stays.specs.defs.Members.{In}
-use Rattle.shunt_stays.proofs.Members.{in_left, in_right, in_cases, in_place, of_map, filter_yes, filter_no, filter_from}
+use Rattle.shunt_lists.proofs.Members.{in_left, in_right, in_cases, in_place, of_map, filter_yes, filter_no, filter_from, of_flat, in_flat}
+use Rattle.shunt_lists.specs.defs.Members.{In}
 
 -- each element comes before all after it
 abbrev pub Follows : {X : Type 0} → (X → X → Type 0) → List X → Type 0
@@ -35,15 +35,6 @@ follows_filter R p (x ∷ xs) f =
     (cases_Bool (p x))
 
 -- ---- a list for each element
-
-pub of_flat : {X Y : Type 0} (f : X → List Y) (xs : List X) (y : Y) → In y (flat_map f xs) → (x : X) × In x xs × In y (f x)
-of_flat f [] y h = absurd h
-of_flat f (x ∷ xs) y h = ⊎_elim (λ l. (x, inl refl, l)) (λ r. let m = of_flat f xs y r in (m.0, inr m.1, m.2)) (in_cases (f x) (flat_map f xs) y h)
-
-pub in_flat : {X Y : Type 0} (f : X → List Y) (xs : List X) (x : X) (y : Y) → In x xs → In y (f x) → In y (flat_map f xs)
-in_flat f [] x y h i = absurd h
-in_flat f (z ∷ xs) x y (inl e) i = in_left (f z) (flat_map f xs) y (subst (λ w. In y (f w)) e i)
-in_flat f (z ∷ xs) x y (inr h) i = in_right (f z) (flat_map f xs) y (in_flat f xs x y h i)
 
 pub follows_flat : {X Y : Type 0} (S : X → X → Type 0) (R : Y → Y → Type 0) (f : X → List Y) (xs : List X) → Follows S xs → ((x : X) → In x xs → Follows R (f x)) → ((x y : X) → In x xs → In y xs → S x y → (a b : Y) → In a (f x) → In b (f y) → R a b) → Follows R (flat_map f xs)
 follows_flat S R f [] s each between = tt

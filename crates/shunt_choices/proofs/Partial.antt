@@ -7,8 +7,9 @@ use Rattle.std.proofs.lemmas.Bool.Decides.{nat_tests}
 use Rattle.std.proofs.lemmas.List.{append-nil, append_assoc, map-append, same_from_push, length-append, get_or_append_left, get_or_push}
 use Rattle.std.proofs.lemmas.List.Sums.{sum_by-append}
 use Rattle.std.proofs.lemmas.List.Sorted.{All-permutation, sum_by-IsPermutation}
-use Rattle.shunt_stays.specs.defs.Members.{In}
-use Rattle.shunt_stays.proofs.Members.{in_place, in_left, in_right}
+use Rattle.std.proofs.lemmas.List.Elements.{All-push}
+use Rattle.shunt_lists.proofs.Members.{in_place, in_left, in_right}
+use Rattle.shunt_lists.specs.defs.Members.{In}
 use Rattle.shunt_stays.proofs.Sorting.{of_permuted}
 use Rattle.shunt_instance.specs.defs.Instance.{Night, IsInstance, unit_total}
 use Rattle.shunt_blocks.specs.declared.records.Block.{Block}
@@ -23,7 +24,7 @@ use Rattle.shunt_choices.proofs.Masks.{unit_more, position_more}
 use Rattle.shunt_choices.proofs.Trails.{has_from, front_apart}
 use Rattle.shunt_choices.proofs.Rising.{share_nothing}
 use Rattle.shunt_blocks.proofs.Held.{held, holder, ends}
-use Rattle.shunt_choices.proofs.Grown.{IsNext, next_is, next_at, IsFreeBlock, grown_apart, choice_free, choice_fits, choice_of, free_choice, grown_all}
+use Rattle.shunt_choices.proofs.Grown.{IsNext, next_is, next_at, IsFreeBlock, grown_apart, choice_free, choice_fits, choice_of, free_choice}
 
 -- ---- the pins alone
 
@@ -128,7 +129,7 @@ grown laws night pins blocks b h next fits free through = record {
   pinned = h.pinned;
   pins_rise = h.pins_rise;
   found_rise = rises_more (λ c d. begins_at night c < begins_at night d) h.found b h.found_rise earlier;
-  each = grown_all (IsBlockButId night) blocks b h.each fits;
+  each = All-push (IsBlockButId night) blocks b h.each fits;
   exactly = λ w lt. (forth w lt, back w lt);
   apart = grown_apart night blocks b h.apart free;
   through = through;

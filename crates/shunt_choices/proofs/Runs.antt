@@ -2,33 +2,23 @@
 use Rattle.std.specs.Prelude.{◌&&◌, nat_le, filter}
 use Rattle.std.specs.List.{flat_map, range_with_len}
 use Rattle.std.proofs.Common.{◌≡◌, ⊎_elim, ℕ, zero, suc, ◌+◌, ◌-◌, ◌<◌, ◌≤◌, Bool, true, false, List, [], ◌∷◌, ◌++◌, map, length, get_or, slice_set, replicate, refl, sym, ap, subst, ◌∙◌, arith}
-use Rattle.std.proofs.lemmas.Bool.{cases_lt, cases_eq, cases_Bool, true≢false}
+use Rattle.std.proofs.lemmas.Bool.{cases_lt, cases_eq, cases_Bool, true≢false, le-leb, lt-leb, false_from_ne_true}
 use Rattle.std.proofs.lemmas.Bool.Decides.{nat_tests}
 use Rattle.std.proofs.lemmas.List.{get_or-set_same, get_or-set_other}
-use Rattle.shunt_stays.proofs.Members.{filter_yes, filter_no}
+use Rattle.shunt_lists.proofs.TestsBelow.{each_passes, all_pass}
+use Rattle.shunt_lists.specs.defs.Below.{all_below}
+use Rattle.shunt_lists.proofs.Members.{filter_yes, filter_no}
 use Rattle.shunt_instance.specs.defs.Instance.{Night, position_total}
 use Rattle.shunt_blocks.specs.declared.records.Shape.{Shape}
-use Rattle.shunt_blocks.specs.defs.Below.{all_below}
 use Rattle.shunt_choices.specs.defs.Paths.{Masks}
 use Rattle.shunt_choices.specs.defs.Free.{is_free_pair, is_free_run, has_units, has_positions}
 use Rattle.shunt_choices.specs.defs.Choices.{shape_at, shapes_of_length, shapes_of}
 use Rattle.shunt_choices.specs.defs.Cursors.{row_left, rows_left, shapes_left}
-use Rattle.shunt_blocks.proofs.Passing.{each_passes, all_pass}
 
 -- ---- the run from a unit and a position
 
-le_true : (a b : ℕ) → a ≤ b → nat_le a b ≡ true
-le_true a b le = grind (arith, nat_tests)
-
-le_false : (a b : ℕ) → b < a → nat_le a b ≡ false
-le_false a b lt = grind (arith, nat_tests)
-
-of_false : (test : Bool) → (test ≡ true → ⊥) → test ≡ false
-of_false true h = absurd (h refl)
-of_false false h = refl
-
 fails_at : (n k : ℕ) (test : ℕ → Bool) → k < n → test k ≡ false → all_below n test ≡ false
-fails_at n k test lt no' = of_false (all_below n test) (λ all. true≢false (sym (each_passes n test all k lt) ∙ no'))
+fails_at n k test lt no' = false_from_ne_true (all_below n test) (λ all. true≢false (sym (each_passes n test all k lt) ∙ no'))
 
 all_three : (a b c : Bool) → (a && b) ≡ true → c ≡ true → (a && b && c) ≡ true
 all_three true true true e f = refl
@@ -49,7 +39,7 @@ not_two false b c e = refl
 inside : (night : Night) (covered : Masks) (u v n room k : ℕ) → nat_le n room ≡ (has_units night u n && has_positions night v n) → k ≤ room → all_below k (λ k. is_free_pair night covered (u + k) (v + k)) ≡ true → n ≤ k → is_free_run night covered u n v ≡ true
 unfolding is_free_run
 inside night covered u v n room k fits within all le =
-    all_three (has_units night u n) (has_positions night v n) _ (sym fits ∙ le_true n room (omega arith))
+    all_three (has_units night u n) (has_positions night v n) _ (sym fits ∙ le-leb n room (omega arith))
     (all_pass n _ (λ j lt. each_passes k (λ k. is_free_pair night covered (u + k) (v + k)) all j (omega arith)))
 
 blocked : (night : Night) (covered : Masks) (u v n k : ℕ) → is_free_pair night covered (u + k) (v + k) ≡ false → k < n → is_free_run night covered u n v ≡ false
@@ -58,22 +48,22 @@ blocked night covered u v n k no' lt = not_third (has_units night u n) (has_posi
 
 outside : (night : Night) (covered : Masks) (u v n room : ℕ) → nat_le n room ≡ (has_units night u n && has_positions night v n) → room < n → is_free_run night covered u n v ≡ false
 unfolding is_free_run
-outside night covered u v n room fits lt = not_two (has_units night u n) (has_positions night v n) _ (sym fits ∙ le_false n room lt)
+outside night covered u v n room fits lt = not_two (has_units night u n) (has_positions night v n) _ (sym fits ∙ lt-leb n room lt)
 
 -- the first pair that isn't free ends it
 pub stops : (night : Night) (covered : Masks) (u v room k : ℕ) → ((n : ℕ) → nat_le n room ≡ (has_units night u n && has_positions night v n)) → k < room → all_below k (λ k. is_free_pair night covered (u + k) (v + k)) ≡ true → is_free_pair night covered (u + k) (v + k) ≡ false → (n : ℕ) → nat_le n k ≡ is_free_run night covered u n v
 stops night covered u v room k fits lt all no' n =
     ⊎_elim
-    (λ more. le_false n k more ∙ sym (blocked night covered u v n k no' more))
-    (λ le. le_true n k le ∙ sym (inside night covered u v n room k (fits n) (omega arith) all le))
+    (λ more. lt-leb n k more ∙ sym (blocked night covered u v n k no' more))
+    (λ le. le-leb n k le ∙ sym (inside night covered u v n room k (fits n) (omega arith) all le))
     (cases_lt k n)
 
 -- or the end of a train
 pub goes_on : (night : Night) (covered : Masks) (u v room : ℕ) → ((n : ℕ) → nat_le n room ≡ (has_units night u n && has_positions night v n)) → all_below room (λ k. is_free_pair night covered (u + k) (v + k)) ≡ true → (n : ℕ) → nat_le n room ≡ is_free_run night covered u n v
 goes_on night covered u v room fits all n =
     ⊎_elim
-    (λ more. le_false n room more ∙ sym (outside night covered u v n room (fits n) more))
-    (λ le. le_true n room le ∙ sym (inside night covered u v n room room (fits n) (omega arith) all le))
+    (λ more. lt-leb n room more ∙ sym (outside night covered u v n room (fits n) more))
+    (λ le. le-leb n room le ∙ sym (inside night covered u v n room room (fits n) (omega arith) all le))
     (cases_lt room n)
 
 -- where the first pair isn't free there is none
@@ -81,7 +71,7 @@ pub starts_blocked : (night : Night) (covered : Masks) (u v : ℕ) → is_free_p
 starts_blocked night covered u v no' n some =
     let here : u ≡ u + 0 = omega arith in
     let there : v ≡ v + 0 = omega arith in
-    le_false n 0 some ∙ sym (blocked night covered u v n 0 (subst (λ (a : ℕ). is_free_pair night covered a (v + 0) ≡ false) here (subst (λ (b : ℕ). is_free_pair night covered u b ≡ false) there no')) some)
+    lt-leb n 0 some ∙ sym (blocked night covered u v n 0 (subst (λ (a : ℕ). is_free_pair night covered a (v + 0) ≡ false) here (subst (λ (b : ℕ). is_free_pair night covered u b ≡ false) there no')) some)
 
 -- ---- the table of these lengths
 
@@ -142,7 +132,7 @@ rows_are night covered u reach n (suc many) some tells =
     ∙ ap (λ (xs : List Shape). shapes_of_length night covered u n ++ xs) (rows_are night covered u reach (n + 1) many (omega arith) tells)
 
 row_past : (night : Night) (u : ℕ) (reach : List ℕ) (most n : ℕ) → ((v : ℕ) → get_or reach v 0 ≤ most) → most < n → row_left night u reach n 0 (position_total night) ≡ []
-row_past night u reach most n small past = ap (map (shape_at night u n)) (filter_none (λ w. nat_le n (get_or reach w 0)) (range_with_len 0 (position_total night)) (λ v. le_false n (get_or reach v 0) (omega (arith, small v))))
+row_past night u reach most n small past = ap (map (shape_at night u n)) (filter_none (λ w. nat_le n (get_or reach w 0)) (range_with_len 0 (position_total night)) (λ v. lt-leb n (get_or reach v 0) (omega (arith, small v))))
 
 rows_past : (night : Night) (u : ℕ) (reach : List ℕ) (most n many : ℕ) → ((v : ℕ) → get_or reach v 0 ≤ most) → most < n → rows_left night u reach n many ≡ []
 rows_past night u reach most n zero small past = refl

@@ -2,7 +2,7 @@
 use Rattle.std.specs.Prelude.{not, ◌==◌, map, cond, All, slice_index_or, Some}
 use Rattle.std.specs.List.{range_with_len}
 use Rattle.std.proofs.Common.{◌≡◌, ℕ, ◌+◌, ◌-◌, ◌<◌, ◌≤◌, Bool, true, false, List, [], ◌∷◌, ◌++◌, length, take, get_or, refl, sym, ap, subst, ◌∙◌, arith}
-use Rattle.std.proofs.lemmas.Bool.{true≢false}
+use Rattle.std.proofs.lemmas.Bool.{true≢false, not-true}
 use Rattle.std.proofs.lemmas.Bool.Decides.{nat_tests}
 use Rattle.std.proofs.lemmas.List.{length-append, get_or_append_left, take_more}
 use Rattle.std.proofs.Math.Seq.{get_or-append_seam}
@@ -132,15 +132,11 @@ popped numbered night t front b m is e units places =
 
 -- ---- blocks of one unit
 
-off_where_not : (b : Bool) → not b ≡ true → b ≡ false
-off_where_not true e = absurd (true≢false (sym e))
-off_where_not false e = refl
-
 -- the next unit isn't covered
 pub next_free : (night : Night) (b : Block) (covered : Masks) → b.n ≡ 1 → next_of covered ≡ Some (begins_at night b) → (u : ℕ) → HasUnit night (shape_of b) u → slice_index_or covered.units u true ≡ false
 next_free night b covered one next u has =
     let same : begins_at night b ≡ u = omega (arith, one, has.from, has.to) in
-    subst (λ v. slice_index_or covered.units v true ≡ false) same (off_where_not _ (position-Some (λ c. not c) covered.units (begins_at night b) true next).1)
+    subst (λ v. slice_index_or covered.units v true ≡ false) same (not-true _ (position-Some (λ c. not c) covered.units (begins_at night b) true next).1)
 
 pub only_position : (night : Night) (b : Block) (covered : Masks) → b.n ≡ 1 → slice_index_or covered.places (position_from night (shape_of b)) true ≡ false → (v : ℕ) → HasPosition night (shape_of b) v → slice_index_or covered.places v true ≡ false
 only_position night b covered one free v has =

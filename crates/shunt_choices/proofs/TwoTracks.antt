@@ -4,6 +4,9 @@ use Rattle.std.proofs.Common.{◌≡◌, ◌≢◌, ℕ, ◌<◌, ◌≤◌, get
 use Rattle.std.proofs.lemmas.Bool.{true≢false, false≢true}
 use Rattle.std.proofs.lemmas.List.Elements.{All-cons, All-nil}
 use Rattle.std.proofs.lemmas.List.Kept.{AllPairs-cons}
+use Rattle.shunt_lists.proofs.Lists.{all_one}
+use Rattle.shunt_base.specs.defs.Sides.{same_side}
+use Rattle.shunt_lists.specs.defs.Members.{AreDistinct}
 use Rattle.shunt_base.specs.declared.ids.PlatformId.{PlatformId}
 use Rattle.shunt_base.specs.declared.ids.TrackId.{TrackId}
 use Rattle.shunt_base.specs.declared.ids.TypeId.{TypeId}
@@ -17,20 +20,17 @@ use Rattle.shunt_instance.specs.declared.records.Station.{Station}
 use Rattle.shunt_instance.specs.declared.records.Track.{Track}
 use Rattle.shunt_instance.specs.declared.records.UnitType.{UnitType}
 use Rattle.shunt_instance.specs.declared.records.Train.{Train}
-use Rattle.shunt_instance.specs.defs.Words.{AreDistinct, is_standing, same_side}
+use Rattle.shunt_instance.specs.defs.Words.{is_standing}
 use Rattle.shunt_instance.specs.defs.Wellformed.{IsUnitType, IsTrack, IsRoute, IsPermit, IsStation, IsTrain, IsTimetable}
 
-only : {X : Type 0} (P : X → Type 0) (x : X) → P x → All P (x ∷ [])
-only P x p = All-cons P x [] p (All-nil P)
-
 both : {X : Type 0} (P : X → Type 0) (x y : X) → P x → P y → All P (x ∷ y ∷ [])
-both P x y p q = All-cons P x (y ∷ []) p (only P y q)
+both P x y p q = All-cons P x (y ∷ []) p (all_one P y q)
 
 alone : {X : Type 0} (x : X) → AreDistinct (x ∷ [])
 alone x i j d before within = absurd (omega arith)
 
 apart : {X : Type 0} (x y : X) → x ≢ y → AreDistinct (x ∷ y ∷ [])
-apart x y ne = AllPairs-cons (λ a b. a ≢ b) x (y ∷ []) (only (λ b. x ≢ b) y ne) (alone y)
+apart x y ne = AllPairs-cons (λ a b. a ≢ b) x (y ∷ []) (all_one (λ b. x ≢ b) y ne) (alone y)
 
 abbrev pub small_type : List ℕ → UnitType
 small_type name = record { name = name; length = 500; turn = 10 }
@@ -103,14 +103,14 @@ yard_is n x y p t u nn xx yy ne pp tt' uu nt = record {
   types = both IsUnitType (small_type x) (small_type y) (type_is x xx) (type_is y yy);
   type_names = apart x y ne;
   few_platforms = omega arith;
-  platforms = only IsName p pp;
+  platforms = all_one IsName p pp;
   platform_names = alone p;
   few_tracks = omega arith;
   tracks = both IsTrack (track_with t true) (track_with u false) (record { name = tt'; some = omega arith; long = omega arith; open_at = refl }) (record { name = uu; some = omega arith; long = omega arith; open_at = refl });
   track_names = apart t u nt;
   routes = all_three (IsRoute (yard_station n x y p t u)) (route_to 0 A 3) (route_to 0 B 3) (route_to 1 A 2) (record { platform = omega arith; track = omega arith; open_at = refl; cost = omega arith }) (record { platform = omega arith; track = omega arith; open_at = refl; cost = omega arith }) (record { platform = omega arith; track = omega arith; open_at = refl; cost = omega arith });
   ways = three_apart (way_to 0 A) (way_to 0 B) (way_to 1 A) a_way_by_b (another_track A A) (another_track B A);
-  permits = only (IsPermit (yard_station n x y p t u)) x_on_second (record { track = omega arith; kind = omega arith });
+  permits = all_one (IsPermit (yard_station n x y p t u)) x_on_second (record { track = omega arith; kind = omega arith });
   permits_differ = alone x_on_second;
   split = omega arith;
   couple = omega arith;
@@ -139,7 +139,7 @@ trains_are s z a d e zz aa dd ee nz ne types platforms tracks =
     let P = λ (k : TypeId). k.0 < length s.types in
     let x : P type_x = omega arith in
     let y : P type_y = omega arith in
-    let zeroth : IsTrain s (stands z) = record { name = zz; minute = omega arith; origin = omega arith; some = omega arith; few = omega arith; kinds = only P type_x x } in
+    let zeroth : IsTrain s (stands z) = record { name = zz; minute = omega arith; origin = omega arith; some = omega arith; few = omega arith; kinds = all_one P type_x x } in
     let first = train_is s a 1320 (type_x ∷ type_y ∷ []) platforms aa (omega arith) (omega arith) (omega arith) (both P type_x type_y x y) in
     let second = train_is s d 1740 (type_x ∷ type_y ∷ []) platforms dd (omega arith) (omega arith) (omega arith) (both P type_x type_y x y) in
     let third = train_is s e 1800 (type_y ∷ type_x ∷ []) platforms ee (omega arith) (omega arith) (omega arith) (both P type_y type_x y x) in

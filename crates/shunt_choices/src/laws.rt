@@ -1,7 +1,6 @@
 //! What follows from the definitions of this crate.
 ghost use Rattle.std.specs.Prelude.{◌≡◌, ◌⊎◌, ◌+◌, ◌<◌, ◌↔◌, ℕ, if◌then◌else◌, All, AllPairs, map, sum_by, Some, Option, List, IsPermutation};
-ghost use Rattle.shunt_stays.specs.defs.Members.{In};
-ghost use Rattle.shunt_instance.specs.defs.Words.{AreDistinct};
+ghost use Rattle.shunt_lists.specs.defs.Members.{In, AreDistinct};
 ghost use Rattle.shunt_instance.specs.defs.Instance.{Night, IsInstance, unit_total};
 ghost use Rattle.shunt_blocks.specs.declared.records.Shape.{Shape};
 ghost use Rattle.shunt_blocks.specs.declared.records.Block.{Block};

@@ -4,6 +4,7 @@ use Rattle.std.specs.Prelude.{Ok, bytes_eq, ◌==◌, Some, if◌then◌else◌,
 use Rattle.std.specs.Option.{is_some, unwrap_or}
 use Rattle.std.proofs.lemmas.List.Elements.{All-nil, All-push}
 use Rattle.std.proofs.lemmas.Bool.{ltb-true, not-true, eq-eqb}
+use Rattle.shunt_lists.proofs.Lists.{no_pairs}
 use Rattle.shunt_base.specs.declared.ids.ArrId.{ArrId}
 use Rattle.shunt_base.specs.declared.ids.DepId.{DepId}
 use Rattle.shunt_base.specs.declared.ids.TrackId.{TrackId}
@@ -13,7 +14,7 @@ use Rattle.shunt_rows.specs.defs.Fields.{is_word}
 use Rattle.shunt_rows.specs.defs.Formats.{in_state, reading}
 use Rattle.shunt_rows.proofs.Holding.{says, hold_first, in_either}
 use Rattle.shunt_rows.proofs.Keeping.{formed}
-use Rattle.shunt_rows.proofs.Named.{distinct_push, no_pairs, number_found}
+use Rattle.shunt_rows.proofs.Named.{distinct_push, number_found}
 use Rattle.shunt_rows.proofs.Spelled.{there, within}
 use Rattle.shunt_instance.specs.declared.records.Station.{Station}
 use Rattle.shunt_instance.specs.declared.records.Train.{Train}

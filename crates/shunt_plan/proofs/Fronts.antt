@@ -5,9 +5,9 @@ use Rattle.std.specs.List.{list_any}
 use Rattle.std.proofs.lemmas.Bool.{true≢false, eqb-true, eq-eqb, or_cases}
 use Rattle.std.proofs.lemmas.List.{take_all, take_more, drop_more, take-append-drop, length-map}
 use Rattle.std.proofs.lemmas.List.Elements.{All-more}
+use Rattle.shunt_lists.proofs.Members.{in_place}
+use Rattle.shunt_lists.specs.defs.Members.{In, AreDistinct}
 use Rattle.shunt_rows.proofs.Named.{distinct_push}
-use Rattle.shunt_stays.specs.defs.Members.{In}
-use Rattle.shunt_instance.specs.defs.Words.{AreDistinct}
 use Rattle.shunt_blocks.specs.declared.records.Block.{Block}
 use Rattle.shunt_blocks.specs.defs.Pins.{IsKept, Keeps, without_id}
 use Rattle.shunt_plan.specs.defs.BlockRecords.{has_id}
@@ -57,14 +57,8 @@ in_last : {X : Type 0} (x y : X) (xs : List X) → In x (xs ++ y ∷ []) → In 
 in_last x y [] i = ⊎_elim (λ e. inr e) (λ n. absurd n) i
 in_last x y (z ∷ xs) i = ⊎_elim (λ e. inl (inl e)) (λ j. ⊎_elim (λ k. inl (inr k)) (λ e. inr e) (in_last x y xs j)) i
 
--- the one at a place is a member
-is_in : {X : Type 0} (xs : List X) (i : ℕ) (d : X) → i < length xs → In (get_or xs i d) xs
-is_in [] i d lt = absurd (omega arith)
-is_in (x ∷ xs) zero d lt = inl refl
-is_in (x ∷ xs) (suc i) d lt = inr (is_in xs i d (omega arith))
-
 pub kept_here : (blocks : List Block) (pin : Block) (i : ℕ) (d : Block) → i < length blocks → without_id (get_or blocks i d) ≡ without_id pin → (IsTrue true → IsKept blocks pin) × (IsKept blocks pin → IsTrue true)
-kept_here blocks pin i d lt same = (λ _. record { block = get_or blocks i d; there = is_in blocks i d lt; same = same }, λ _. refl)
+kept_here blocks pin i d lt same = (λ _. record { block = get_or blocks i d; there = in_place blocks i d lt; same = same }, λ _. refl)
 
 pub not_yet : (blocks : List Block) (pin : Block) (i : ℕ) (d : Block) → i < length blocks → (IsKept (take i blocks) pin → ⊥) → (without_id (get_or blocks i d) ≡ without_id pin → IsTrue false) → IsKept (take (i + 1) blocks) pin → ⊥
 not_yet blocks pin i d lt none differs kept =

@@ -1,6 +1,6 @@
 // Which plans are in range, and what their blocks cost.
 ghost use Rattle.std.specs.Prelude.{◌≡◌, ◌≤◌, ◌↔◌, IsTrue, All, length, map};
-ghost use Rattle.shunt_instance.specs.defs.Words.{AreDistinct};
+ghost use Rattle.shunt_lists.specs.defs.Members.{AreDistinct};
 ghost use Rattle.shunt_blocks.specs.defs.Shapes.{IsInRange};
 ghost use Rattle.shunt_blocks.specs.defs.Lists.{AreInRange, total_cost};
 ghost use Rattle.shunt_plan.specs.defs.Plans.{IsPlanInRange};

@@ -1,21 +1,18 @@
 -- What an answer says of the checks of a record and of its value.
 use Rattle.std.proofs.Common.{◌≡◌, ℕ, Bool, true, false, List, [], ◌∷◌, ◌++◌, refl, ap, ◌∙◌}
 use Rattle.std.specs.Prelude.{Result, Ok, Err, if◌then◌else◌}
+use Rattle.std.proofs.lemmas.Bool.{cond-true}
 use Rattle.shunt_rows.specs.declared.fault.RowFault.{RowFault}
 use Rattle.shunt_rows.specs.defs.Checks.{Check, Judged, passes, answer, AllHold, Says}
 
-pub yes_is : {X : Type 0} (b : Bool) (r s : X) → b ≡ true → (if b then r else s) ≡ r
-yes_is true r s e = refl
-yes_is false r s e = absurd cc
-
 -- one check that holds, and what the rest says
 pub passes_on : {A : Type 0} (b : Bool) (r q : Result A RowFault) (e : RowFault) → b ≡ true → r ≡ q → (if b then r else Err e) ≡ q
-passes_on b r q e is same = yes_is b r (Err e) is ∙ same
+passes_on b r q e is same = cond-true b r (Err e) is ∙ same
 
 -- where all checks hold, the record says its value
 pub holding : {X : Type 0} (n : ℕ) (checks : List Check) (x : X) → AllHold checks → passes n checks x ≡ Ok x
 holding n [] x all = refl
-holding n (c ∷ checks) x all = yes_is c.holds (passes n checks x) (Err record { row = n; field = c.field; kind = c.kind }) all.0 ∙ holding n checks x all.1
+holding n (c ∷ checks) x all = cond-true c.holds (passes n checks x) (Err record { row = n; field = c.field; kind = c.kind }) all.0 ∙ holding n checks x all.1
 
 pub answered : {A : Type 0} (n : ℕ) (m : Judged A) (x : A) → Says m x → answer n m ≡ Ok x
 answered n m x says = holding n m.checks m.value says.0 ∙ ap Ok says.1

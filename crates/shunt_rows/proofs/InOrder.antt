@@ -1,11 +1,10 @@
 -- Tables whose checks stand in order.
 use Rattle.std.proofs.Common.{ℕ, ◌≤◌, Bool, true, false, List, [], ◌∷◌, refl, ap, ◌∙◌, arith, IsTrue}
 use Rattle.std.specs.Prelude.{if◌then◌else◌, nat_le, ◌&&◌}
-use Rattle.std.proofs.lemmas.Bool.{le-leb, leb-true}
+use Rattle.std.proofs.lemmas.Bool.{le-leb, leb-true, and_parts}
 use Rattle.shunt_rows.specs.defs.Checks.{Check, Judged}
 use Rattle.shunt_rows.specs.defs.Fields.{no_word}
 use Rattle.shunt_rows.specs.defs.FirstFault.{rank, ascends_from, AreInOrder}
-use Rattle.shunt_rows.proofs.Least.{both}
 
 -- a choice of two tables
 pub in_if : {A : Type 0} (b : Bool) {m n : Judged A} → AreInOrder m → AreInOrder n → AreInOrder (if b then m else n)
@@ -31,5 +30,5 @@ one_before {least} {c} {checks} le more = record { up = ap (λ b. b && ascends_f
 pub from_before : (least from : ℕ) (checks : List Check) → least ≤ from → Ascends from checks → Ascends least checks
 from_before least from [] le a = none_left
 from_before least from (c ∷ checks) le a =
-    let p = both (nat_le from (rank c)) (ascends_from (rank c) checks) a.up in
+    let p = and_parts (nat_le from (rank c)) (ascends_from (rank c) checks) a.up in
     one_before (let l = leb-true from (rank c) p.0 in omega (arith, l, le)) (record { up = p.1 })

@@ -10,28 +10,21 @@ use Rattle.shunt_rows.specs.declared.fault.ReadError.{ReadError}
 use Rattle.shunt_rows.specs.declared.fault.ReadError.TheVariants as errors
 use Rattle.shunt_rows.specs.defs.Given.{Fails, Gives}
 use Rattle.std.specs.Result.{IsErrAnd}
+use Rattle.std.proofs.lemmas.Bool.{cond-true, cond-false}
 use Rattle.shunt_rows.proofs.Least.{choice}
-
-yes_is : {X : Type 0} (b : Bool) (r s : X) → b ≡ true → (if b then r else s) ≡ r
-yes_is true r s e = refl
-yes_is false r s e = absurd cc
-
-never_is : {X : Type 0} (b : Bool) (r s : X) → b ≡ false → (if b then r else s) ≡ s
-never_is true r s e = absurd cc
-never_is false r s e = refl
 
 append_ok : {A B : Type 0} (n : ℕ) (checks more : List Check) (x : A) (y : B) (z : A) → passes n checks x ≡ Ok z → passes n (checks ++ more) y ≡ passes n more y
 append_ok n [] more x y z is = refl
 append_ok n (c ∷ checks) more x y z is = ⊎_elim
-    (λ p. yes_is c.holds (passes n (checks ++ more) y) (Err record { row = n; field = c.field; kind = c.kind }) p.0 ∙ append_ok n checks more x y z (sym p.1 ∙ is))
+    (λ p. cond-true c.holds (passes n (checks ++ more) y) (Err record { row = n; field = c.field; kind = c.kind }) p.0 ∙ append_ok n checks more x y z (sym p.1 ∙ is))
     (λ p. absurd (let e = sym p.1 ∙ is in cc))
     (choice c.holds (passes n checks x) (Err record { row = n; field = c.field; kind = c.kind }))
 
 append_err : {A B : Type 0} (n : ℕ) (checks more : List Check) (x : A) (y : B) (e : RowFault) → passes n checks x ≡ Err e → passes n (checks ++ more) y ≡ Err e
 append_err n [] more x y e is = absurd cc
 append_err {B = B} n (c ∷ checks) more x y e is = ⊎_elim
-    (λ p. yes_is c.holds (passes n (checks ++ more) y) (Err record { row = n; field = c.field; kind = c.kind }) p.0 ∙ append_err n checks more x y e (sym p.1 ∙ is))
-    (λ p. never_is c.holds (passes n (checks ++ more) y) (Err record { row = n; field = c.field; kind = c.kind }) p.0
+    (λ p. cond-true c.holds (passes n (checks ++ more) y) (Err record { row = n; field = c.field; kind = c.kind }) p.0 ∙ append_err n checks more x y e (sym p.1 ∙ is))
+    (λ p. cond-false c.holds (passes n (checks ++ more) y) (Err record { row = n; field = c.field; kind = c.kind }) p.0
     ∙ ap (λ (f : RowFault). let r : Result B RowFault = Err f in r) (let same = sym p.1 ∙ is in cc))
     (choice c.holds (passes n checks x) (Err record { row = n; field = c.field; kind = c.kind }))
 

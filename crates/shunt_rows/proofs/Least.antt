@@ -1,7 +1,7 @@
 -- The first check that fails is the least fault of a record.
 use Rattle.std.proofs.Common.{◌≡◌, ◌⊎◌, inl, inr, ⊎_elim, ℕ, ◌+◌, ◌*◌, ◌≤◌, Bool, true, false, ◌==◌, List, [], ◌∷◌, refl, sym, ap, ◌∙◌, arith, IsTrue, subst}
 use Rattle.std.specs.Prelude.{Ok, Err, if◌then◌else◌, nat_le, ◌&&◌}
-use Rattle.std.proofs.lemmas.Bool.{leb-true, cases_lt}
+use Rattle.std.proofs.lemmas.Bool.{leb-true, cases_lt, and_parts}
 use Rattle.shunt_rows.specs.declared.fault.RowFault.{RowFault}
 use Rattle.shunt_rows.specs.declared.fault.RowKind.{RowKind}
 use Rattle.shunt_rows.specs.declared.fault.RowKind.TheVariants as kinds
@@ -62,18 +62,14 @@ passed n (c ∷ checks) x y e = ⊎_elim
     (λ p. absurd (let f = sym p.1 ∙ e in cc))
     (choice c.holds (passes n checks x) (Err record { row = n; field = c.field; kind = c.kind }))
 
-pub both : (a b : Bool) → (a && b) ≡ true → (a ≡ true) × (b ≡ true)
-both true b e = (refl, e)
-both false b e = absurd cc
-
 -- no check is before the place from which they ascend
 pub later : (least : ℕ) (checks : List Check) → IsTrue (ascends_from least checks) → (field : ℕ) (k : RowKind) → Finds checks field k → least ≤ 12 * field + kind_number k
 later least [] up field k found = absurd found
 later least (c ∷ checks) up field k found =
-    let le = leb-true least (rank c) (both (nat_le least (rank c)) (ascends_from (rank c) checks) up).0 in
+    let le = leb-true least (rank c) (and_parts (nat_le least (rank c)) (ascends_from (rank c) checks) up).0 in
     ⊎_elim
     (λ is. let e : rank c ≡ 12 * field + kind_number k = ap rank is in omega (arith, le, e))
-    (λ more. let l = later (rank c) checks (both (nat_le least (rank c)) (ascends_from (rank c) checks) up).1 field k more in omega (arith, le, l))
+    (λ more. let l = later (rank c) checks (and_parts (nat_le least (rank c)) (ascends_from (rank c) checks) up).1 field k more in omega (arith, le, l))
     found
 
 pub record IsLeast (checks : List Check) (e : RowFault) : Type 0 where
@@ -93,7 +89,7 @@ first_fails n (c ∷ checks) x e is = ⊎_elim
         found = inr rest.1.found;
         least = λ from up field k found. ⊎_elim
             (λ same. absurd (let f = ap (λ (d : Check). d.holds) same in cc))
-            (λ more. rest.1.least (rank c) (both (nat_le from (rank c)) (ascends_from (rank c) checks) up).1 field k more)
+            (λ more. rest.1.least (rank c) (and_parts (nat_le from (rank c)) (ascends_from (rank c) checks) up).1 field k more)
             found;
       },
     ))
@@ -105,7 +101,7 @@ first_fails n (c ∷ checks) x e is = ⊎_elim
         found = subst (λ (g : RowFault). Finds (c ∷ checks) g.field g.kind) (sym at) (fails_here c checks p.0);
         least = λ from up field k found. ⊎_elim
             (λ same. let r : rank c ≡ 12 * field + kind_number k = ap rank same in omega (arith, here, r))
-            (λ more. let l = later (rank c) checks (both (nat_le from (rank c)) (ascends_from (rank c) checks) up).1 field k more in omega (arith, here, l))
+            (λ more. let l = later (rank c) checks (and_parts (nat_le from (rank c)) (ascends_from (rank c) checks) up).1 field k more in omega (arith, here, l))
             found;
       },
     ))

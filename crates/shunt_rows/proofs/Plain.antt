@@ -4,9 +4,10 @@ use Rattle.std.specs.Prelude.{All, codes, nat_lt, Some}
 use Rattle.std.specs.List.{list_all, AllByRecursion}
 use Rattle.std.specs.Fmt.{decimal, signed_decimal}
 use Rattle.std.specs.Char.{is_ascii_digit}
-use Rattle.std.proofs.lemmas.Bool.{ltb-true, true≢false}
+use Rattle.std.proofs.lemmas.Bool.{ltb-true, true≢false, and_parts}
 use Rattle.std.proofs.lemmas.Bool.Decides.{nat_tests}
 use Rattle.std.proofs.lemmas.Int.{ints}
+use Rattle.shunt_lists.proofs.Lists.{by_places}
 use Rattle.shunt_base.specs.declared.ids.Side.{Side}
 use Rattle.shunt_base.specs.declared.ids.Side.TheVariants.{A, B}
 use Rattle.shunt_base.specs.defs.Spelling.{IsName, IsSigned, is_name_byte, minute_text}
@@ -17,10 +18,6 @@ use Rattle.shunt_rows.specs.defs.Written.{side_text}
 
 abbrev ArePlainBytes : List ℕ → Type 0
 ArePlainBytes field = AllByRecursion (λ b. IsTrue (is_plain b)) field
-
-pub by_places : {X : Type 0} (P Q : X → Type 0) (xs : List X) → ((x : X) → P x → Q x) → All P xs → AllByRecursion Q xs
-by_places P Q [] h all = tt
-by_places P Q (x ∷ xs) h all = (h x (all 0 x (omega arith)), by_places P Q xs h (λ k d lt. all (suc k) d (omega arith)))
 
 name_byte : (b : ℕ) → IsTrue (is_name_byte b) → IsTrue (is_plain b)
 name_byte b is = cc
@@ -34,13 +31,9 @@ plain_name name is = (is.0, by_places (λ b. IsTrue (is_name_byte b)) (λ b. IsT
 pub plain_number : (x : ℕ) → x < 10 ^ 18 → IsPlainField (decimal x)
 plain_number x lt = let d = spelled x lt in (d.nonempty, by_places (λ b. IsTrue (is_ascii_digit b)) (λ b. IsTrue (is_plain b)) (decimal x) digit_byte d.digits)
 
-both : (a b : Bool) → (a && b) ≡ true → (a ≡ true) × (b ≡ true)
-both true b e = (refl, e)
-both false b e = absurd (true≢false (sym e))
-
 plain_bytes : (field : List ℕ) → list_all is_plain field ≡ true → ArePlainBytes field
 plain_bytes [] e = tt
-plain_bytes (b ∷ field) e = let p = both (is_plain b) (list_all is_plain field) e in (p.0, plain_bytes field p.1)
+plain_bytes (b ∷ field) e = let p = and_parts (is_plain b) (list_all is_plain field) e in (p.0, plain_bytes field p.1)
 
 pub plain_word : (word : List ℕ) → nat_lt 0 (length word) ≡ true → list_all is_plain word ≡ true → IsPlainField word
 plain_word word some e = (ltb-true 0 (length word) some, plain_bytes word e)

@@ -2,9 +2,9 @@
 use Rattle.std.proofs.Common.{◌≡◌, ℕ, ◌+◌, true, List, [], ◌∷◌, ◌++◌, length, map, refl, sym, ap, ◌∙◌}
 use Rattle.std.specs.Prelude.{Ok}
 use Rattle.std.proofs.lemmas.List.{append-nil, append_assoc}
+use Rattle.std.proofs.lemmas.Bool.{cond-true}
 use Rattle.shunt_rows.specs.defs.Checks.{answer}
 use Rattle.shunt_rows.specs.defs.Formats.{Format, in_state, IsReadByEach, ends, reads, reading, ◌>>=◌}
-use Rattle.shunt_rows.proofs.Holding.{yes_is}
 use Rattle.shunt_rows.proofs.Joins.{reads_more, reading_is}
 
 -- a list of things is read from its records, where each of them adds its own behind those before it
@@ -37,4 +37,4 @@ all_read f head rows s t first rest whole =
     reading_is f head rows
     ∙ ap (λ r. r >>= (λ d. reads f d 2 rows >>= (λ u. ends f u (length rows + 2)))) first
     ∙ ap (λ r. r >>= (λ u. ends f u (length rows + 2))) rest
-    ∙ yes_is (f.is_whole t) _ _ whole
+    ∙ cond-true (f.is_whole t) _ _ whole

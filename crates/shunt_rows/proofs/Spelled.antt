@@ -5,15 +5,15 @@ use Rattle.std.specs.Option.{is_some, unwrap_or}
 use Rattle.std.specs.Fmt.{decimal, signed_decimal}
 use Rattle.std.specs.Char.{is_ascii_digit}
 use Rattle.std.specs.Str.Parse.{digits_value}
-use Rattle.std.proofs.lemmas.Bool.{ltb-true, leb-true, lt-ltb, le-leb, cases_Bool, and_parts, and_from, or_left, cond-false, ne_eqb}
+use Rattle.std.proofs.lemmas.Bool.{ltb-true, leb-true, lt-ltb, le-leb, cases_Bool, and_parts, and_from, or_left, cond-false, ne_eqb, cond-true}
 use Rattle.std.proofs.lemmas.Int.{ints}
 use Rattle.std.proofs.lemmas.Bool.Decides.{nat_tests}
 use Rattle.std.proofs.lemmas.List.Sums.{AllPass-from_list_all, list_all-from_AllPass}
+use Rattle.shunt_base.proofs.Names.{name_from, name_read}
 use Rattle.shunt_base.specs.defs.Spelling.{IsName, IsDecimal, IsSigned, is_name_byte, is_name_text, is_decimal_text, decimal_of, negative_of, signed_of, minute_of, is_minute_text, minute_value}
 use Rattle.shunt_base.proofs.Decimal.{spelled, value_again, digit_in}
 use Rattle.shunt_base.proofs.Minutes as minutes
 use Rattle.shunt_rows.specs.defs.Fields.{is_within}
-use Rattle.shunt_rows.proofs.Holding.{yes_is}
 
 -- what is found is there
 pub there : {X : Type 0} (nothing : X) (o : Option X) → is_some o ≡ true → o ≡ Some (unwrap_or o nothing)
@@ -29,16 +29,6 @@ pub in_range : (least most x : ℕ) → least ≤ x → x ≤ most → is_within
 unfolding is_within
 in_range least most x le ge = and_from _ _ (le-leb least x le) (le-leb x most ge)
 
--- the test of a name
-pub name_from : (text : List ℕ) → is_name_text text ≡ true → IsName text
-name_from text t =
-    let parts = and_parts _ _ t in
-    let first = and_parts _ _ parts.0 in
-    (ltb-true _ _ first.0, leb-true _ _ first.1, AllPass-from_list_all is_name_byte text parts.1)
-
-pub name_read : (name : List ℕ) → IsName name → is_name_text name ≡ true
-name_read name is = and_from _ _ (and_from _ _ (lt-ltb 0 (length name) is.0) (le-leb (length name) 16 is.1)) (list_all-from_AllPass is_name_byte name is.2)
-
 lead : (a n : ℕ) → (a ≡ 48 → n ≡ 1) → (not (a == 48) || n == 1) ≡ true
 lead a n h = ⊎_elim (λ t. let m = h (eq_of a t) in grind (arith, nat_tests)) (λ f. or_left _ _ (ap not f)) (cases_Bool (a == 48))
   where
@@ -51,7 +41,7 @@ decimal_test bytes is = and_from _ _ (and_from _ _ (and_from _ _ (lt-ltb 0 (leng
 -- a number is read from what is printed of it
 pub number_again : (x : ℕ) → x < 10 ^ 18 → decimal_of (decimal x) ≡ Some x
 unfolding decimal_of
-number_again x lt = yes_is (is_decimal_text (decimal x)) (Some (digits_value 10 (decimal x))) None (decimal_test (decimal x) (spelled x lt)) ∙ ap (λ y. Some y) (value_again x lt)
+number_again x lt = cond-true (is_decimal_text (decimal x)) (Some (digits_value 10 (decimal x))) None (decimal_test (decimal x) (spelled x lt)) ∙ ap (λ y. Some y) (value_again x lt)
 
 -- a number from the one to the other is read from what is printed of it
 pub record IsRead (least most x : ℕ) : Type 0 where

@@ -5,6 +5,11 @@ use Rattle.std.specs.Option.{unwrap_or}
 use Rattle.std.proofs.lemmas.List.Elements.{All-nil, All-push, All-weaker}
 use Rattle.std.proofs.lemmas.Bool.{true≢false, ltb-true, not-true, and_from}
 use Rattle.std.proofs.lemmas.Bool.Decides.{nat_tests}
+use Rattle.shunt_base.proofs.Sides.{same_side_itself}
+use Rattle.shunt_base.specs.defs.Sides.{same_side}
+use Rattle.shunt_lists.specs.defs.Members.{AreDistinct}
+use Rattle.shunt_base.proofs.Names.{name_from}
+use Rattle.shunt_lists.proofs.Lists.{no_pairs}
 use Rattle.shunt_base.specs.declared.ids.PlatformId.{PlatformId}
 use Rattle.shunt_base.specs.declared.ids.TrackId.{TrackId}
 use Rattle.shunt_base.specs.declared.ids.TypeId.{TypeId}
@@ -18,14 +23,14 @@ use Rattle.shunt_rows.specs.defs.Fields.{is_word, number_in, side_in}
 use Rattle.shunt_rows.specs.defs.Formats.{reading}
 use Rattle.shunt_rows.proofs.Holding.{says, in_either}
 use Rattle.shunt_rows.proofs.Keeping.{formed}
-use Rattle.shunt_rows.proofs.Named.{distinct_push, plain_push, same_name, number_found, no_pairs}
-use Rattle.shunt_rows.proofs.Spelled.{there, within, name_from}
+use Rattle.shunt_rows.proofs.Named.{distinct_push, plain_push, same_name, number_found}
+use Rattle.shunt_rows.proofs.Spelled.{there, within}
 use Rattle.shunt_instance.specs.declared.records.UnitType.{UnitType}
 use Rattle.shunt_instance.specs.declared.records.Track.{Track}
 use Rattle.shunt_instance.specs.declared.records.Route.{Route}
 use Rattle.shunt_instance.specs.declared.records.Permit.{Permit}
 use Rattle.shunt_instance.specs.declared.records.Station.{Station}
-use Rattle.shunt_instance.specs.defs.Words.{AreDistinct, is_open, is_open_at, joins, same_side, way_of}
+use Rattle.shunt_instance.specs.defs.Words.{is_open, is_open_at, joins, way_of}
 use Rattle.shunt_instance.specs.defs.Wellformed.{IsUnitType, IsTrack, IsRoute, IsPermit, IsStation}
 use Rattle.shunt_station.specs.defs.Stating.{Draft, Ends, empty_station, first_of, type_of_name, platform_of_name, track_number, ends_of, type_of, platform_of, track_of, opens, stands, route_of, is_permitted, permit_of, cost_of, later_of, station_format}
 
@@ -225,14 +230,10 @@ type_within s name i e = number_found (λ t. bytes_eq t.name name) s.types (reco
 same_number : (k : ℕ) → (k == k) ≡ true
 same_number k = grind (arith, nat_tests)
 
-same_side_is : (s : Side) → same_side s s ≡ true
-same_side_is A = refl
-same_side_is B = refl
-
 joins_own : (r q : Route) → way_of q ≡ way_of r → joins r.platform r.track r.side q ≡ true
 joins_own r q e =
     subst (λ (w : PlatformId × (TrackId × Side)). (q.platform.0 == w.0.0 && q.track.0 == w.1.0.0 && same_side q.side w.1.1) ≡ true) e
-    (and_from _ _ (and_from _ _ (same_number q.platform.0) (same_number q.track.0)) (same_side_is q.side))
+    (and_from _ _ (and_from _ _ (same_number q.platform.0) (same_number q.track.0)) (same_side_itself q.side))
 
 names_own : (p q : Permit) → q ≡ p → (q.track.0 == p.track.0 && q.kind.0 == p.kind.0) ≡ true
 names_own p q e = subst (λ (w : Permit). (q.track.0 == w.track.0 && q.kind.0 == w.kind.0) ≡ true) e (and_from _ _ (same_number q.track.0) (same_number q.kind.0))

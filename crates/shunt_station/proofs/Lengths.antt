@@ -8,6 +8,7 @@ use Rattle.std.proofs.lemmas.Fmt.{length-decimal-le}
 use Rattle.std.proofs.lemmas.Map.Keys.{IsDistinct-from_apart}
 use Rattle.std.proofs.lemmas.Map.Steps.{length-le_from_distinct_below}
 use Rattle.std.proofs.Math.Dec.{eqb}
+use Rattle.shunt_lists.specs.defs.Members.{AreDistinct}
 use Rattle.shunt_base.specs.declared.ids.Side.{Side}
 use Rattle.shunt_base.specs.declared.ids.Side.TheVariants.{A, B}
 use Rattle.shunt_base.specs.declared.ids.PlatformId.{PlatformId}
@@ -22,7 +23,7 @@ use Rattle.shunt_instance.specs.declared.records.Track.{Track}
 use Rattle.shunt_instance.specs.declared.records.Route.{Route}
 use Rattle.shunt_instance.specs.declared.records.Permit.{Permit}
 use Rattle.shunt_instance.specs.declared.records.Station.{Station}
-use Rattle.shunt_instance.specs.defs.Words.{AreDistinct, way_of}
+use Rattle.shunt_instance.specs.defs.Words.{way_of}
 use Rattle.shunt_instance.specs.defs.Wellformed.{IsUnitType, IsTrack, IsRoute, IsPermit, IsStation}
 use Rattle.shunt_rows.proofs.Plain.{side_short}
 use Rattle.shunt_rows.proofs.Texts.{join_short, one_short, row_written, rows_written}

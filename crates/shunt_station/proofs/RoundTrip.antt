@@ -7,6 +7,10 @@ use Rattle.std.specs.Fmt.{decimal}
 use Rattle.std.proofs.lemmas.List.{map-id, length-map}
 use Rattle.std.proofs.lemmas.Bool.{true≢false, and_parts, eqb-true}
 use Rattle.std.proofs.lemmas.Option.{slice_get-get_or}
+use Rattle.shunt_base.proofs.Sides.{same_side_tells}
+use Rattle.shunt_base.specs.defs.Sides.{same_side}
+use Rattle.shunt_lists.specs.defs.Members.{AreDistinct}
+use Rattle.shunt_base.proofs.Names.{name_read}
 use Rattle.shunt_base.specs.declared.ids.PlatformId.{PlatformId}
 use Rattle.shunt_base.specs.declared.ids.TrackId.{TrackId}
 use Rattle.shunt_base.specs.declared.ids.TypeId.{TypeId}
@@ -23,13 +27,13 @@ use Rattle.shunt_rows.proofs.Holding.{holding}
 use Rattle.shunt_rows.proofs.Named.{by_name, not_before, of_middle, fewer}
 use Rattle.shunt_rows.proofs.Plain.{side_read}
 use Rattle.shunt_rows.proofs.Sections.{section_then, one_reads, all_read}
-use Rattle.shunt_rows.proofs.Spelled.{name_read, number_read}
+use Rattle.shunt_rows.proofs.Spelled.{number_read}
 use Rattle.shunt_instance.specs.declared.records.UnitType.{UnitType}
 use Rattle.shunt_instance.specs.declared.records.Track.{Track}
 use Rattle.shunt_instance.specs.declared.records.Route.{Route}
 use Rattle.shunt_instance.specs.declared.records.Permit.{Permit}
 use Rattle.shunt_instance.specs.declared.records.Station.{Station}
-use Rattle.shunt_instance.specs.defs.Words.{AreDistinct, is_open_at, joins, same_side, way_of}
+use Rattle.shunt_instance.specs.defs.Words.{is_open_at, joins, way_of}
 use Rattle.shunt_instance.specs.defs.Wellformed.{IsUnitType, IsTrack, IsRoute, IsPermit, IsStation}
 use Rattle.shunt_instance.proofs.Found.{found_there}
 use Rattle.shunt_station.specs.defs.Stating.{Draft, Ends, empty_station, first_of, type_of_name, platform_of_name, track_number, ends_of, type_of, platform_of, track_of, opens, stands, route_of, is_permitted, permit_of, cost_of, later_of, station_format}
@@ -93,12 +97,6 @@ track_read s f n xs y zs e =
     holding n m.checks m.value (refl, (fewer s.tracks xs zs y 60 f.few_tracks e, (name_read y.name is.name, (ap not new, (size.there, (size.range, (ap is_some sides, tt)))))))
     ∙ ap (λ (t : Track). Ok (partial s s.types s.platforms (xs ++ t ∷ []) [] [])) same
 
-same_way : (s q : Side) → same_side s q ≡ true → s ≡ q
-same_way A A e = refl
-same_way A B e = absurd (true≢false (sym e))
-same_way B A e = absurd (true≢false (sym e))
-same_way B B e = refl
-
 abbrev platform_id : ℕ → PlatformId
 platform_id k = record { 0 = k }
 
@@ -117,7 +115,7 @@ joins_tells y r e =
     let d = and_parts (r.platform.0 == y.platform.0) _ c.0 in
     ap (λ k. way_from (platform_id k) r.track r.side) (eqb-true r.platform.0 y.platform.0 d.0)
     ∙ ap (λ k. way_from y.platform (track_id k) r.side) (eqb-true r.track.0 y.track.0 d.1)
-    ∙ ap (λ q. way_from y.platform y.track q) (same_way r.side y.side c.1)
+    ∙ ap (λ q. way_from y.platform y.track q) (same_side_tells r.side y.side c.1)
 
 abbrev permit_from : TrackId → TypeId → Permit
 permit_from t k = record { track = t; kind = k }

@@ -1,9 +1,10 @@
 // The station that the records so far state.
 ghost use Rattle.std.specs.Prelude.{◌≡◌, ◌&&◌, ◌==◌};
 ghost use Rattle.std.specs.List.{list_any};
+ghost use Rattle.shunt_base.specs.defs.Sides.{same_side};
 ghost use Rattle.shunt_rows.specs.defs.Checks.{answer};
 ghost use Rattle.shunt_rows.specs.defs.Given.{Gives};
-ghost use Rattle.shunt_instance.specs.defs.Words.{is_open, joins, same_side};
+ghost use Rattle.shunt_instance.specs.defs.Words.{is_open, joins};
 ghost use Rattle.shunt_station.specs.defs.Stating.{Draft, Ends, first_of, type_of_name, platform_of_name, track_number, opens, stands, is_permitted, ends_of, type_of, platform_of, track_of, route_of, permit_of, cost_of, later_of, station_format};
 
 use shunt_base::{Name, PlatformId, Side, TrackId, TypeId, is_name};

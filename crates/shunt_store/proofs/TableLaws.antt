@@ -7,7 +7,7 @@ use Rattle.std.specs.Str.{bytes_eq}
 use Rattle.std.specs.Cmp.Lexicographic.{slice_cmp}
 use Rattle.std.specs.FinMap.{get, insert, find, from_entries, get-from_entries, get-insert, same_map, slice_cmp-IsAntisymmetric, nat_cmp-IsAntisymmetric, IsAntisymmetric, from_entries_push}
 use Rattle.std.proofs.lemmas.Cmp.{nat_list_cmp_total}
-use Rattle.std.proofs.lemmas.Bool.{false_from_ne_true}
+use Rattle.std.proofs.lemmas.Bool.{false_from_ne_true, cond-true}
 use Rattle.std.proofs.lemmas.Slice.Eq.{bytes_eq-Decides}
 use Rattle.std.proofs.lemmas.Map.Text.{is_eq-slice_cmp}
 use Rattle.std.proofs.lemmas.List.{map-append, get_or_default, get_or-map, get_or-set_same, take-set}
@@ -37,9 +37,6 @@ find_none (f ∷ files) name lacks =
 
 pub named : (q name : List ℕ) → at_name q name ≡ true → q ≡ name
 named q name e = (bytes_eq-Decides q name).0 (sym (is_eq-slice_cmp q name) ∙ e)
-
-pub found_first : {V : Type 0} (a : Bool) (x y : V) → a ≡ true → cond a x y ≡ x
-found_first a x y e = ap (λ b. cond b x y) e
 
 find_there : (files : List File) (i : ℕ) (f : File) (name : List ℕ) → Lacks name (take i files) → i < length files → f ≡ get_or files i f → f.name.items ≡ name → find (slice_cmp nat_cmp) name (map entry files) ≡ Some f.bytes.items
 find_there [] i f name lacks lt is here = absurd (omega arith)
@@ -123,7 +120,7 @@ overwrites files name v w = same_map nat_list_cmp_total same_names _ _ (λ q.
     ∙ sym (once (at_name q name) (Some w) (Some v) (get files q)) ∙ sym (get-insert nat_list_cmp_total files name w q))
 
 pub get_here : (files : Files) (name v : List ℕ) → get (insert files name v) name ≡ Some v
-get_here files name v = get-insert nat_list_cmp_total files name v name ∙ found_first (at_name name name) (Some v) (get files name) (equals name name refl)
+get_here files name v = get-insert nat_list_cmp_total files name v name ∙ cond-true (at_name name name) (Some v) (get files name) (equals name name refl)
 
 kept_at : (files : Files) (name v q : List ℕ) (b : Bool) → (b ≡ true → q ≡ name) → get files name ≡ Some v → cond b (Some v) (get files q) ≡ get files q
 kept_at files name v q true h e = sym e ∙ ap (get files) (sym (h refl))

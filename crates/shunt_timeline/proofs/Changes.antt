@@ -5,13 +5,14 @@ use Rattle.std.specs.Ordering.{nat_cmp, is_le}
 use Rattle.std.proofs.lemmas.Bool.{eqb-true, eq-eqb, cases_Bool, and_parts, false_from_ne_true}
 use Rattle.std.proofs.lemmas.Bool.Decides.{nat_tests}
 use Rattle.std.proofs.lemmas.List.Sums.{sum_by-cons}
+use Rattle.shunt_base.specs.defs.Sides.{same_side}
+use Rattle.shunt_lists.specs.defs.Members.{In}
 use Rattle.shunt_base.specs.declared.keys.EventKey.{EventKey}
 use Rattle.shunt_base.specs.declared.keys.Stay.{Stay}
 use Rattle.shunt_base.specs.defs.Keys.{rank, IsKey, IsWellFormed}
 use Rattle.shunt_base.proofs.Ranks.{key_cmp_is}
-use Rattle.shunt_stays.specs.defs.Members.{In}
 use Rattle.shunt_stays.specs.defs.Events.{key_before}
-use Rattle.shunt_stays.specs.defs.Crossing.{crosses, in_the_way, stands_at, load_at, same_side}
+use Rattle.shunt_stays.specs.defs.Crossing.{crosses, in_the_way, stands_at, load_at}
 use Rattle.shunt_stays.proofs.Halves.{before_is, ids_apart}
 use Rattle.shunt_timeline.specs.declared.events.Event.{Event}
 use Rattle.shunt_timeline.specs.defs.Levels.{key_of, at, is_crossed, raised, lowered}

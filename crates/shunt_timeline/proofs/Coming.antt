@@ -3,11 +3,11 @@ use Rattle.std.proofs.Common.{◌≡◌, ◌≢◌, ⊎_elim, ℕ, ◌+◌, ◌<
 use Rattle.std.specs.List.{count_by}
 use Rattle.std.proofs.lemmas.Bool.{eq-eqb, cases_Bool, cases_eq}
 use Rattle.std.proofs.lemmas.List.Sums.{sum_by-cons, sum_by-append}
+use Rattle.shunt_lists.proofs.Members.{in_left, in_right}
+use Rattle.shunt_lists.specs.defs.Members.{In}
 use Rattle.shunt_base.specs.declared.keys.Stay.{Stay}
 use Rattle.shunt_base.specs.defs.Keys.{rank, IsWellFormed, AreStays}
-use Rattle.shunt_stays.specs.defs.Members.{In}
 use Rattle.shunt_stays.specs.defs.Crossing.{crosses, stands_at, load_at, load_after, pairs_in, overs_in}
-use Rattle.shunt_stays.proofs.Members.{in_left, in_right}
 use Rattle.shunt_stays.proofs.Halves.{formed}
 use Rattle.shunt_timeline.specs.declared.events.Event.{Event}
 use Rattle.shunt_timeline.specs.defs.Levels.{key_of, at, is_crossed, gets_over}

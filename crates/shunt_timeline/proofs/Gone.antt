@@ -4,11 +4,11 @@ use Rattle.std.specs.List.{All, remove}
 use Rattle.std.proofs.lemmas.List.Edits.{length-remove}
 use Rattle.std.proofs.lemmas.List.Elements.{All-tail}
 use Rattle.std.proofs.lemmas.List.Sorted.{All-permutation, IsPermutation-remove}
+use Rattle.shunt_lists.proofs.Members.{all_in, in_place}
 use Rattle.shunt_base.specs.declared.keys.Stay.{Stay}
 use Rattle.shunt_base.specs.defs.Keys.{AreStays}
 use Rattle.shunt_stays.specs.defs.Run.{AreOnTracks}
 use Rattle.shunt_stays.specs.defs.Crossing.{pairs_in, overs_in}
-use Rattle.shunt_stays.proofs.Members.{all_in, in_place}
 use Rattle.shunt_stays.proofs.Sorting.{stays_permuted}
 use Rattle.shunt_stays.proofs.Crossings.{pairs_permuted, overs_permuted}
 use Rattle.shunt_timeline.specs.declared.track.Track.{Track}

@@ -3,10 +3,11 @@ use Rattle.std.proofs.Common.{◌≡◌, ℕ, ◌+◌, ◌-◌, ◌<◌, ◌≤�
 use Rattle.std.specs.List.{count_by}
 use Rattle.std.proofs.lemmas.List.{length-take-le, length-drop, length-map}
 use Rattle.std.proofs.lemmas.List.Sums.{count_by-le-length}
+use Rattle.shunt_base.specs.defs.Sides.{same_side}
+use Rattle.shunt_lists.specs.defs.Members.{In}
 use Rattle.shunt_base.specs.declared.keys.Stay.{Stay}
 use Rattle.shunt_base.specs.defs.Keys.{AreStays}
-use Rattle.shunt_stays.specs.defs.Members.{In}
-use Rattle.shunt_stays.specs.defs.Crossing.{crosses, load_at, load_after, same_side, pairs_in, overs_in}
+use Rattle.shunt_stays.specs.defs.Crossing.{crosses, load_at, load_after, pairs_in, overs_in}
 use Rattle.shunt_timeline.specs.declared.events.Event.{Event}
 use Rattle.shunt_timeline.specs.declared.events.Met.{Met}
 use Rattle.shunt_timeline.specs.declared.track.Arrival.{Arrival}

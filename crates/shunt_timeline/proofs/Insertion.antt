@@ -2,10 +2,10 @@
 use Rattle.std.proofs.Common.{◌≡◌, ◌≢◌, ◌⊎◌, inl, inr, ⊎_elim, ℕ, ◌+◌, ◌<◌, eqb, Bool, true, false, cond, List, ◌∷◌, ◌++◌, map, refl, sym, subst, ap, ◌∙◌, arith, sum_by}
 use Rattle.std.proofs.lemmas.Bool.{eq-eqb, cases_Bool}
 use Rattle.std.proofs.lemmas.List.Sums.{sum_by-cons, sum_by-append}
+use Rattle.shunt_lists.proofs.Members.{all_in, all_from, in_left, in_right, in_cases, of_map}
+use Rattle.shunt_lists.specs.defs.Members.{In}
 use Rattle.shunt_base.specs.declared.keys.Stay.{Stay}
 use Rattle.shunt_base.specs.defs.Keys.{rank, IsKey, IsWellFormed, AreStays}
-use Rattle.shunt_stays.specs.defs.Members.{In}
-use Rattle.shunt_stays.proofs.Members.{all_in, all_from, in_left, in_right, in_cases, of_map}
 use Rattle.shunt_stays.proofs.Halves.{later_rank, formed}
 use Rattle.shunt_timeline.specs.declared.events.Event.{Event}
 use Rattle.shunt_timeline.specs.defs.Levels.{key_of, at, raised, lowered}

@@ -2,8 +2,8 @@
 use Rattle.std.proofs.Common.{◌≡◌, inl, inr, ⊎_elim, ℕ, zero, suc, ◌+◌, ◌*◌, ◌<◌, ◌≤◌, List, [], ◌∷◌, ◌++◌, length, get_or, take, drop, map, refl, sym, ap, arith, sum_by}
 use Rattle.std.specs.List.{AllByRecursion}
 use Rattle.std.proofs.lemmas.List.Sums.{sum_by-cons}
-use Rattle.shunt_stays.specs.defs.Members.{In}
-use Rattle.shunt_stays.proofs.Members.{all_in, all_from, in_place, in_left, in_right, in_cases}
+use Rattle.shunt_lists.proofs.Members.{all_in, all_from, in_place, in_left, in_right, in_cases}
+use Rattle.shunt_lists.specs.defs.Members.{In}
 use Rattle.shunt_timeline.specs.defs.Kept.{Ascends}
 
 -- sums

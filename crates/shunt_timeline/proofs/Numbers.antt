@@ -1,6 +1,6 @@
 -- Tests of two stays by the numbers of their keys alone.
 use Rattle.std.proofs.Common.{◌≡◌, ◌≢◌, ℕ, ◌+◌, ◌≤◌, ltb, leb, Bool, true, false, cond, not, ◌&&◌, ◌||◌, refl, arith}
-use Rattle.std.proofs.lemmas.Bool.{ltb-true}
+use Rattle.std.proofs.lemmas.Bool.{ltb-true, le-ltb}
 use Rattle.std.proofs.lemmas.Bool.Decides.{nat_tests}
 use Rattle.shunt_timeline.proofs.Steps.{flag}
 
@@ -15,9 +15,6 @@ parts be bl xe xl = ltb be xe && (ltb xe bl && ltb bl xl)
 -- b came before x and leaves after it
 abbrev pub covers : (be bl xe xl : ℕ) → Bool
 covers be bl xe xl = ltb be xe && (ltb xe bl && ltb xl bl)
-
-pub nlt : (a b : ℕ) → b ≤ a → ltb a b ≡ false
-nlt a b le = grind (arith, nat_tests)
 
 ways : (a b c d o p : Bool) → (c ≡ true → d ≡ true → ⊥) → flag (a && (b && ((c && not o) || (d && p)))) ≡ flag ((a && (b && d)) && p) + cond o 0 (flag (a && (b && c)))
 ways false b c d true p h = refl

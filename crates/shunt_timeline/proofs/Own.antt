@@ -3,12 +3,13 @@ use Rattle.std.proofs.Common.{◌≡◌, ◌≢◌, ⊎_elim, ℕ, ◌+◌, ◌-
 use Rattle.std.specs.List.{count_by}
 use Rattle.std.proofs.lemmas.Bool.{cases_Bool}
 use Rattle.std.proofs.lemmas.Bool.Decides.{nat_tests}
+use Rattle.shunt_lists.proofs.Members.{all_in}
+use Rattle.shunt_base.specs.defs.Sides.{same_side}
+use Rattle.shunt_lists.specs.defs.Members.{In}
 use Rattle.shunt_base.specs.declared.keys.Stay.{Stay}
 use Rattle.shunt_base.specs.defs.Keys.{rank, IsWellFormed}
-use Rattle.shunt_stays.specs.defs.Members.{In}
 use Rattle.shunt_stays.specs.defs.Events.{key_before}
-use Rattle.shunt_stays.specs.defs.Crossing.{crosses, stands_at, same_side}
-use Rattle.shunt_stays.proofs.Members.{all_in}
+use Rattle.shunt_stays.specs.defs.Crossing.{crosses, stands_at}
 use Rattle.shunt_stays.proofs.Halves.{before_is, formed, ids_apart}
 use Rattle.shunt_timeline.specs.declared.events.Event.{Event}
 use Rattle.shunt_timeline.specs.defs.Levels.{has_left, has_blocked}

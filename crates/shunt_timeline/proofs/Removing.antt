@@ -4,13 +4,13 @@ use Rattle.std.specs.List.{count_by}
 use Rattle.std.proofs.lemmas.Bool.{cases_Bool, cases_eq, true≢false}
 use Rattle.std.proofs.lemmas.List.{take-append-drop, length-take-le, length-drop, take_at, drop_at, length-append, length-map}
 use Rattle.std.proofs.lemmas.List.Sums.{count_by-le-length}
+use Rattle.shunt_lists.proofs.Members.{in_place, in_right, in_cases}
+use Rattle.shunt_lists.specs.defs.Members.{In}
 use Rattle.shunt_base.specs.declared.keys.EventKey.{EventKey}
 use Rattle.shunt_base.specs.declared.keys.Stay.{Stay}
 use Rattle.shunt_base.specs.defs.Keys.{rank, IsKey, IsWellFormed, AreStays}
 use Rattle.shunt_base.proofs.Ranks.{rank_tells}
-use Rattle.shunt_stays.specs.defs.Members.{In}
 use Rattle.shunt_stays.specs.defs.Crossing.{crosses, load_at, load_after, pairs_in, overs_in}
-use Rattle.shunt_stays.proofs.Members.{in_place, in_right, in_cases}
 use Rattle.shunt_stays.proofs.Halves.{later_rank, formed, same_id}
 use Rattle.shunt_timeline.specs.declared.events.Event.{Event}
 use Rattle.shunt_timeline.specs.declared.events.Met.{Met}

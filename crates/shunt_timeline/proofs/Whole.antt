@@ -6,12 +6,12 @@ use Rattle.std.proofs.lemmas.List.Edits.{length-insert}
 use Rattle.std.proofs.lemmas.List.Elements.{All-cons}
 use Rattle.std.proofs.lemmas.List.Sorted.{All-permutation, IsPermutation-insert}
 use Rattle.std.proofs.lemmas.List.Sums.{sum_by-cons, count_by-le-length}
+use Rattle.shunt_lists.proofs.Members.{all_from, in_to}
+use Rattle.shunt_lists.specs.defs.Members.{In}
 use Rattle.shunt_base.specs.declared.keys.Stay.{Stay}
 use Rattle.shunt_base.specs.defs.Keys.{AreStays, IsWellFormed}
-use Rattle.shunt_stays.specs.defs.Members.{In}
 use Rattle.shunt_stays.specs.defs.Run.{AreOnTracks, GoesThrough}
 use Rattle.shunt_stays.specs.defs.Crossing.{crosses, load_after, pairs_in, overs_in}
-use Rattle.shunt_stays.proofs.Members.{all_from, in_to}
 use Rattle.shunt_stays.proofs.Halves.{formed}
 use Rattle.shunt_stays.proofs.Sorting.{stays_permuted}
 use Rattle.shunt_stays.proofs.Crossings.{through_clear, clear_through, no_pairs, no_overs, pairs_permuted, overs_permuted}

@@ -1,9 +1,9 @@
 // The entries and leaves on one track in key order, each with what stands there just after it.
 ghost use Rattle.std.specs.Prelude.{◌≡◌, ℕ, ◌+◌, ◌-◌, ◌≤◌, ◌<◌, ◌++◌, Bool, List, if◌then◌else◌, length, map, count_by, slice_index_or, take, drop, vec_len, vec_capacity, ◌∷◌};
 ghost use Rattle.std.specs.List.{All};
+ghost use Rattle.shunt_lists.specs.defs.Members.{In};
 ghost use Rattle.shunt_base.specs.defs.Keys.{IsKey, IsWellFormed};
 ghost use Rattle.shunt_stays.specs.defs.Events.{key_before};
-ghost use Rattle.shunt_stays.specs.defs.Members.{In};
 ghost use Rattle.shunt_timeline.specs.defs.Levels.{key_of, at, is_crossed, gets_over, has_left, has_blocked, raised, lowered, IsSmall, IsPlace};
 ghost use Rattle.shunt_timeline.specs.defs.Kept.{Ascends};
 

@@ -1,9 +1,9 @@
 //! The clash of stays, kept while stays come and go.
 ghost use Rattle.std.specs.Prelude.{◌≡◌, ◌≢◌, ◌↔◌, ℕ, ◌+◌, ◌*◌, ◌^◌, ◌<◌, ◌≤◌, max, List, [], ◌∷◌, Option, Some, None, length, map, take, drop, slice_index_or, vec_len, vec_capacity, IsPermutation, IfOk, OnOk, OnErr, IfSome, OnSome, IfNone};
 ghost use Rattle.std.specs.List.{All};
+ghost use Rattle.shunt_lists.specs.defs.Members.{In};
 ghost use Rattle.shunt_base.specs.declared.keys.Stay.{Stay};
 ghost use Rattle.shunt_base.specs.defs.Keys.{AreStays, IsWellFormed};
-ghost use Rattle.shunt_stays.specs.defs.Members.{In};
 ghost use Rattle.shunt_stays.specs.defs.Run.{AreOnTracks, GoesThrough};
 ghost use Rattle.shunt_cross.specs.defs.Clashes.{clash_of};
 ghost use Rattle.shunt_timeline.specs.defs.Holdings.{Holding};

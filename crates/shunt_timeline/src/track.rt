@@ -1,10 +1,11 @@
 // The events of one track, while stays come and go.
 ghost use Rattle.std.specs.Prelude.{◌≡◌, ℕ, ◌+◌, ◌-◌, ◌*◌, ◌^◌, ◌≤◌, ◌<◌, ◌++◌, ◌∷◌, List, true, false, if◌then◌else◌, length, map, count_by, slice_index, slice_index_or, slice_range, take, drop, vec_len, vec_capacity, OnOk};
 ghost use Rattle.std.specs.List.{insert};
+ghost use Rattle.shunt_lists.specs.defs.Members.{In};
+ghost use Rattle.shunt_base.specs.defs.Sides.{same_side};
 ghost use Rattle.shunt_base.specs.declared.keys.Stay.{Stay};
 ghost use Rattle.shunt_base.specs.defs.Keys.{AreStays};
-ghost use Rattle.shunt_stays.specs.defs.Crossing.{same_side, pairs_in, overs_in};
-ghost use Rattle.shunt_stays.specs.defs.Members.{In};
+ghost use Rattle.shunt_stays.specs.defs.Crossing.{pairs_in, overs_in};
 ghost use Rattle.shunt_timeline.specs.defs.Levels.{is_crossed, gets_over, has_left, has_blocked, raised, lowered, IsSmall, IsPlace};
 ghost use Rattle.shunt_timeline.specs.defs.Kept.{IsKept, IsLevel};
 

@@ -7,6 +7,8 @@ use Rattle.std.proofs.lemmas.List.Elements.{All-nil, All-push, All-tail, filter-
 use Rattle.std.proofs.lemmas.List.Quantifiers.{position-Some}
 use Rattle.std.proofs.lemmas.Bool.{true≢false, ltb-true, and_parts, not-true}
 use Rattle.std.proofs.lemmas.List.Sums.{sum_by-append}
+use Rattle.shunt_base.proofs.Names.{name_from}
+use Rattle.shunt_lists.proofs.Lists.{no_pairs}
 use Rattle.shunt_base.specs.declared.ids.TypeId.{TypeId}
 use Rattle.shunt_base.specs.defs.Spelling.{IsName, decimal_of, minute_of}
 use Rattle.shunt_rows.specs.defs.Records.{at}
@@ -15,8 +17,8 @@ use Rattle.shunt_rows.specs.defs.Fields.{is_word}
 use Rattle.shunt_rows.specs.defs.Formats.{reading}
 use Rattle.shunt_rows.proofs.Holding.{says, answered, hold_first, next, in_either}
 use Rattle.shunt_rows.proofs.Keeping.{formed}
-use Rattle.shunt_rows.proofs.Named.{distinct_push, same_name, no_pairs}
-use Rattle.shunt_rows.proofs.Spelled.{there, within, name_from, minute_small}
+use Rattle.shunt_rows.proofs.Named.{distinct_push, same_name}
+use Rattle.shunt_rows.proofs.Spelled.{there, within, minute_small}
 use Rattle.shunt_instance.specs.declared.records.Station.{Station}
 use Rattle.shunt_instance.specs.declared.records.Timetable.{Timetable}
 use Rattle.shunt_instance.specs.declared.records.Train.{Train}

@@ -4,6 +4,7 @@ use Rattle.std.specs.Prelude.{All, codes, slice_index_or}
 use Rattle.std.proofs.lemmas.List.Concat.{flat_map-cons}
 use Rattle.std.proofs.lemmas.List.Elements.{All-tail, All-filter}
 use Rattle.std.proofs.lemmas.List.Sums.{sum_by-append, sum_by-cons}
+use Rattle.shunt_base.proofs.Names.{name_from}
 use Rattle.shunt_base.specs.declared.ids.TypeId.{TypeId}
 use Rattle.shunt_base.specs.defs.Spelling.{IsName}
 use Rattle.shunt_rows.specs.defs.Records.{text_of_row, text_of_rows, width}
@@ -17,7 +18,6 @@ use Rattle.shunt_timetable.specs.defs.WrittenRows.{type_names, standing_row, mov
 use Rattle.shunt_timetable.proofs.Plain.{place_is_name, moving_plain, standing_plain}
 use Rattle.shunt_rows.proofs.Named.{name_at}
 use Rattle.shunt_rows.proofs.Plain.{plain_name}
-use Rattle.shunt_rows.proofs.Spelled.{name_from}
 use Rattle.shunt_rows.proofs.Texts.{texts_join}
 
 units_wide : (station : Station) (units : List TypeId) → IsStation station → All (λ k. k.0 < length station.types) units → width (map (λ k. slice_index_or (type_names station) k.0 []) units) ≤ 17 * length units

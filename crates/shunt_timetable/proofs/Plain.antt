@@ -4,6 +4,7 @@ use Rattle.std.specs.Prelude.{All, slice_index_or, codes, Ok}
 use Rattle.std.specs.List.{AllByRecursion}
 use Rattle.std.proofs.lemmas.List.{append-nil, append_assoc}
 use Rattle.std.proofs.lemmas.List.Elements.{All-tail, All-filter}
+use Rattle.shunt_base.proofs.Names.{name_from}
 use Rattle.shunt_base.specs.declared.ids.TypeId.{TypeId}
 use Rattle.shunt_base.specs.defs.Spelling.{IsName}
 use Rattle.shunt_rows.specs.defs.Records.{IsPlainField, IsPlainRow, ArePlain, text_of_row, text_of_rows, records_of, ReadsBack}
@@ -11,7 +12,6 @@ use Rattle.shunt_rows.specs.defs.Formats.{reading}
 use Rattle.shunt_rows.specs.defs.Written.{Written}
 use Rattle.shunt_rows.proofs.Named.{name_at}
 use Rattle.shunt_rows.proofs.Plain.{plain_name, plain_minute, plain_map, plain_more}
-use Rattle.shunt_rows.proofs.Spelled.{name_from}
 use Rattle.shunt_rows.proofs.Texts.{row_written, rows_written}
 use Rattle.shunt_instance.specs.declared.records.Station.{Station}
 use Rattle.shunt_instance.specs.declared.records.Train.{Train}

@@ -7,6 +7,8 @@ use Rattle.std.proofs.lemmas.List.Elements.{All-tail, All-cons}
 use Rattle.std.proofs.lemmas.Option.{slice_get-get_or}
 use Rattle.std.proofs.lemmas.Bool.{true≢false, lt-ltb, not-true}
 use Rattle.std.proofs.lemmas.List.Sums.{sum_by-append, sum_by-cons}
+use Rattle.shunt_lists.specs.defs.Members.{AreDistinct}
+use Rattle.shunt_base.proofs.Names.{name_read}
 use Rattle.shunt_base.specs.declared.ids.TypeId.{TypeId}
 use Rattle.shunt_base.specs.declared.ids.PlatformId.{PlatformId}
 use Rattle.shunt_base.specs.declared.ids.TrackId.{TrackId}
@@ -19,13 +21,13 @@ use Rattle.shunt_rows.specs.defs.Formats.{reads, reading}
 use Rattle.shunt_rows.proofs.Holding.{passes_on}
 use Rattle.shunt_rows.proofs.Named.{by_name, not_before, of_middle}
 use Rattle.shunt_rows.proofs.Sections.{section, section_then, all_read}
-use Rattle.shunt_rows.proofs.Spelled.{in_range, name_read}
+use Rattle.shunt_rows.proofs.Spelled.{in_range}
 use Rattle.shunt_instance.specs.declared.records.Station.{Station}
 use Rattle.shunt_instance.specs.declared.records.Train.{Train}
 use Rattle.shunt_instance.specs.declared.records.Timetable.{Timetable}
 use Rattle.shunt_instance.specs.declared.records.Origin.{Origin}
 use Rattle.shunt_instance.specs.declared.records.Origin.TheVariants as origin
-use Rattle.shunt_instance.specs.defs.Words.{AreDistinct, is_standing, unit_count}
+use Rattle.shunt_instance.specs.defs.Words.{is_standing, unit_count}
 use Rattle.shunt_instance.specs.defs.Wellformed.{IsStation, IsTrain, AreTrains, IsTimetable}
 use Rattle.shunt_instance.proofs.Found.{found_there}
 use Rattle.shunt_timetable.specs.defs.TimetableFormat.{Listed, first_of, unit_of, units_from, empty_train, standing_of, moving_of, later_of, timetable_format}

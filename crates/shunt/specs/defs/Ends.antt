@@ -1,6 +1,7 @@
 -- How a run ends.
 use Rattle.std.specs.Prelude.{◌≡◌, ◌⊎◌, ℕ, ◌≤◌, List, [], ◌∷◌, ◌++◌, length, take, Option, None, Some}
 use Rattle.std.specs.FinMap as map
+use Rattle.shunt_lists.specs.defs.Members.{In}
 use Rattle.shunt_store.specs.defs.Files.{Files, BothTold, AddsFront}
 use Rattle.shunt_store.specs.defs.Causes.{Rose}
 use Rattle.shunt.specs.declared.delivering.Outcome.{Outcome}
@@ -24,11 +25,6 @@ seen files store_faults output sink_faults store out = record { files = files st
 abbrev pub written : List (List ℕ × List ℕ) → Files → Files
 written [] files = files
 written (w ∷ ws) files = written ws (map.insert files w.0 w.1)
-
--- x is one of the list
-abbrev pub In : {X : Type 0} → X → List X → Type 0
-In x [] = ⊥
-In x (y ∷ ys) = (x ≡ y) ⊎ In x ys
 
 -- a name holds what it held, nothing, or a front of a text that was to be written there
 abbrev pub MayHold : List (List ℕ × List ℕ) → Files → Files → List ℕ → Type 0

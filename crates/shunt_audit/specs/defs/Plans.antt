@@ -1,6 +1,6 @@
 -- The findings of a plan.
 use Rattle.std.specs.Prelude.{◌≡◌, ◌≢◌, ◌⊎◌, ◌↔◌, ◌==◌, not, List, ◌++◌}
-use Rattle.shunt_stays.specs.defs.Members.{In}
+use Rattle.shunt_lists.specs.defs.Members.{In}
 use Rattle.shunt_instance.specs.defs.Instance.{Night}
 use Rattle.shunt_blocks.specs.defs.Lists.{total_cost}
 use Rattle.shunt_plan.specs.declared.records.Plan.{Plan}

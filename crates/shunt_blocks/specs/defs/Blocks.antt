@@ -1,10 +1,10 @@
 -- Options, blocks, and wrong types.
 use Rattle.std.specs.Prelude.{◌+◌, ◌<◌, ◌==◌, Bool, true, false, not, ◌||◌, ◌&&◌, IsTrue, IsSome, is_some, length, Option, Some, None}
+use Rattle.shunt_lists.specs.defs.Below.{all_below}
 use Rattle.shunt_instance.specs.defs.Instance.{Night, unit_at, position_at}
 use Rattle.shunt_blocks.specs.declared.records.Shape.{Shape}
 use Rattle.shunt_blocks.specs.declared.records.Block.{Block}
 use Rattle.shunt_blocks.specs.declared.records.Park.{Park}
-use Rattle.shunt_blocks.specs.defs.Below.{all_below}
 use Rattle.shunt_blocks.specs.defs.Shapes.{shape_of, unit_from, position_from, IsShape, IsInRange}
 use Rattle.shunt_blocks.specs.defs.Ways.{park_way_in, park_way_out, permits_units}
 

@@ -1,10 +1,10 @@
 -- Pins: blocks that a plan has to keep, and the cost of the plan that parks nothing else.
 use Rattle.std.specs.Prelude.{◌≡◌, ℕ, zero, suc, ◌+◌, ◌==◌, cond, All, List, [], ◌∷◌, ◌++◌, None}
-use Rattle.shunt_stays.specs.defs.Members.{In}
+use Rattle.shunt_lists.specs.defs.Below.{sum_below}
+use Rattle.shunt_lists.specs.defs.Members.{In}
 use Rattle.shunt_instance.specs.defs.Instance.{Night, unit_total, position_total, unit_at, position_at}
 use Rattle.shunt_instance.specs.defs.Matching.{place_of}
 use Rattle.shunt_blocks.specs.declared.records.Block.{Block}
-use Rattle.shunt_blocks.specs.defs.Below.{sum_below}
 use Rattle.shunt_blocks.specs.defs.Blocks.{IsBlock}
 use Rattle.shunt_blocks.specs.defs.Lists.{times_unit, times_position, ShareNothing, AreInRange, RunsThrough, total_cost}
 

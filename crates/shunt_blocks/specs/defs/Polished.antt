@@ -1,6 +1,6 @@
 -- Plans whose cost no other option of one block lowers.
 use Rattle.std.specs.Prelude.{◌≤◌, ◌==◌, List, map, if◌then◌else◌, Option}
-use Rattle.shunt_stays.specs.defs.Members.{In}
+use Rattle.shunt_lists.specs.defs.Members.{In}
 use Rattle.shunt_instance.specs.defs.Instance.{Night}
 use Rattle.shunt_blocks.specs.declared.records.Block.{Block}
 use Rattle.shunt_blocks.specs.declared.records.Park.{Park}

@@ -1,5 +1,6 @@
 -- How long blocks are, and when they stand on a track.
 use Rattle.std.specs.Prelude.{◌≡◌, ℕ, IsSome, IfSome, ◌+◌, ◌-◌, Bool, true, false, not, map, nat_le, if◌then◌else◌, Option, Some, None, slice_index}
+use Rattle.shunt_lists.specs.defs.Below.{all_below, sum_below}
 use Rattle.shunt_base.specs.declared.ids.TypeId.{TypeId}
 use Rattle.shunt_base.specs.declared.keys.EventKey.{EventKey}
 use Rattle.shunt_base.specs.declared.keys.Stay.{Stay}
@@ -9,7 +10,6 @@ use Rattle.shunt_instance.specs.defs.Instance.{Night, unit_at, ready}
 use Rattle.shunt_blocks.specs.declared.records.Shape.{Shape}
 use Rattle.shunt_blocks.specs.declared.records.Block.{Block}
 use Rattle.shunt_blocks.specs.declared.records.Park.{Park}
-use Rattle.shunt_blocks.specs.defs.Below.{all_below, sum_below}
 use Rattle.shunt_blocks.specs.defs.Shapes.{shape_of, unit_from, IsInRange}
 use Rattle.shunt_blocks.specs.defs.Ways.{park_way_in, park_way_out}
 use Rattle.shunt_blocks.specs.defs.Blocks.{type_fault}

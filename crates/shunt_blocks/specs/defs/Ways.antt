@@ -1,5 +1,6 @@
 -- Ways between trains and tracks.
 use Rattle.std.specs.Prelude.{ℕ, ◌+◌, ◌==◌, Bool, Option, Some, None, if◌then◌else◌}
+use Rattle.shunt_lists.specs.defs.Below.{all_below}
 use Rattle.shunt_base.specs.declared.ids.ArrId.{ArrId}
 use Rattle.shunt_base.specs.declared.ids.DepId.{DepId}
 use Rattle.shunt_base.specs.declared.ids.TrackId.{TrackId}
@@ -13,7 +14,6 @@ use Rattle.shunt_instance.specs.defs.Instance.{Night, unit_at}
 use Rattle.shunt_blocks.specs.declared.records.Shape.{Shape}
 use Rattle.shunt_blocks.specs.declared.records.Block.{Block}
 use Rattle.shunt_blocks.specs.declared.records.Park.{Park}
-use Rattle.shunt_blocks.specs.defs.Below.{all_below}
 use Rattle.shunt_blocks.specs.defs.Shapes.{unit_from}
 
 -- the cost of the way from a train's origin to a track by a side: the route from its platform, or 0 by B to the track on which it stands

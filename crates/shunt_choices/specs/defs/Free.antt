@@ -1,8 +1,8 @@
 -- Which runs of units and positions are free, as tests.
 use Rattle.std.specs.Prelude.{◌≡◌, ℕ, ◌+◌, nat_le, ◌&&◌, Bool, true, not, length, slice_index_or}
+use Rattle.shunt_lists.specs.defs.Below.{all_below}
 use Rattle.shunt_instance.specs.defs.Words.{train_at}
 use Rattle.shunt_instance.specs.defs.Instance.{Night, unit_at, position_at, unit_total, position_total}
-use Rattle.shunt_blocks.specs.defs.Below.{all_below}
 use Rattle.shunt_blocks.specs.defs.Shapes.{is_pair}
 use Rattle.shunt_choices.specs.defs.Paths.{Masks}
 

@@ -1,8 +1,8 @@
 -- What is kept at the events of a track, each number as a fresh count of all stays.
 use Rattle.std.specs.Prelude.{◌≡◌, ℕ, ◌<◌, ◌==◌, true, false, sum_by, count_by, List, [], ◌∷◌, if◌then◌else◌}
 use Rattle.std.specs.List.{AllByRecursion}
+use Rattle.shunt_lists.specs.defs.Members.{In}
 use Rattle.shunt_base.specs.declared.keys.Stay.{Stay}
-use Rattle.shunt_stays.specs.defs.Members.{In}
 use Rattle.shunt_stays.specs.defs.Crossing.{crosses, stands_at, load_at}
 use Rattle.shunt_base.specs.declared.keys.EventKey.{EventKey}
 use Rattle.shunt_timeline.specs.declared.events.Event.{Event}

@@ -1,11 +1,12 @@
 -- One event, and what a stay changes at the events of its track.
 use Rattle.std.specs.Prelude.{ℕ, ◌+◌, ◌-◌, ◌*◌, ◌^◌, ◌≤◌, ◌<◌, Bool, not, ◌&&◌, nat_le, nat_lt, length, take, drop, List, if◌then◌else◌}
+use Rattle.shunt_base.specs.defs.Sides.{same_side}
+use Rattle.shunt_lists.specs.defs.Members.{In}
 use Rattle.shunt_base.specs.declared.keys.EventKey.{EventKey}
 use Rattle.shunt_base.specs.declared.keys.Stay.{Stay}
 use Rattle.shunt_base.specs.defs.Keys.{rank}
-use Rattle.shunt_stays.specs.defs.Members.{In}
 use Rattle.shunt_stays.specs.defs.Events.{key_before}
-use Rattle.shunt_stays.specs.defs.Crossing.{crosses, same_side}
+use Rattle.shunt_stays.specs.defs.Crossing.{crosses}
 use Rattle.shunt_timeline.specs.declared.events.Event.{Event}
 
 -- the key of an entry is its stay's first, that of a leave its second

@@ -1,6 +1,6 @@
 use Rattle.std.proofs.Common.{◌≡◌, rules, sym, subst, List, map}
 use Rattle.std.proofs.lemmas.List.Sorted.{answers_always, IsNonDecreasingBy-from_sort}
-use Rattle.shunt_instance.specs.defs.Words.{AreDistinct}
+use Rattle.shunt_lists.specs.defs.Members.{AreDistinct}
 use Rattle.shunt_blocks.specs.declared.records.Block.{Block}
 use Rattle.shunt_audit.specs.defs.Listed.{by_id}
 use Rattle.shunt_audit.proofs.ById.{id_of, sorted_is}

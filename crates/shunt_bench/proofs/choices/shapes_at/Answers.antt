@@ -1,6 +1,6 @@
 use Rattle.std.specs.List.{AllByRecursion}
 use Rattle.std.proofs.Common.{subst, sym}
-use Rattle.shunt_stays.proofs.Members.{all_from}
+use Rattle.shunt_lists.proofs.Members.{all_from}
 use Rattle.shunt_blocks.specs.defs.Shapes.{AreRunsWithin}
 use Rattle.shunt_choices.specs.defs.Choices.{shapes_of}
 use Rattle.shunt_bench.proofs.choices.shapes_at.Goals as goal

@@ -1,5 +1,5 @@
 use Rattle.std.proofs.Common.{◌≡◌, ◌-◌, ◌^◌, length, min}
-use Rattle.shunt_blocks.specs.defs.Below.{sum_below}
+use Rattle.shunt_lists.specs.defs.Below.{sum_below}
 use Rattle.shunt_choices.specs.defs.Choices.{choices_of}
 use Rattle.shunt_bench.proofs.choices.walk.Given as goal
 

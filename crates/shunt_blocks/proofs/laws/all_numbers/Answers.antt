@@ -1,4 +1,4 @@
-use Rattle.shunt_blocks.proofs.Passing.{tests}
+use Rattle.shunt_lists.proofs.TestsBelow.{tests}
 use Rattle.shunt_blocks.proofs.laws.all_numbers.Goals as goal
 
 pub returns : goal.returns

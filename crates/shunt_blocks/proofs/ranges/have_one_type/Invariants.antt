@@ -1,7 +1,7 @@
 use Rattle.std.specs.Prelude.{◌==◌}
 use Rattle.std.proofs.Common.{◌≡◌, ◌+◌}
+use Rattle.shunt_lists.specs.defs.Below.{all_below}
 use Rattle.shunt_instance.specs.defs.Instance.{unit_at, position_at}
-use Rattle.shunt_blocks.specs.defs.Below.{all_below}
 use Rattle.shunt_blocks.specs.defs.Shapes.{unit_from, position_from}
 use Rattle.shunt_blocks.proofs.ranges.have_one_type.Given as goal
 

@@ -1,7 +1,7 @@
 use Rattle.std.specs.Prelude.{nat_le}
 use Rattle.std.proofs.Common.{◌≡◌, ◌+◌}
+use Rattle.shunt_lists.specs.defs.Below.{all_below}
 use Rattle.shunt_instance.specs.defs.Instance.{ready}
-use Rattle.shunt_blocks.specs.defs.Below.{all_below}
 use Rattle.shunt_blocks.specs.defs.Shapes.{unit_from}
 use Rattle.shunt_blocks.specs.defs.Standing.{leave_minute}
 use Rattle.shunt_blocks.proofs.standing.leaves_too_soon.Given as goal

@@ -1,6 +1,6 @@
 use Rattle.std.proofs.Common.{◌≡◌, ◌≤◌, ◌+◌, ◌*◌}
+use Rattle.shunt_lists.specs.defs.Below.{sum_below}
 use Rattle.shunt_instance.specs.defs.Instance.{unit_at}
-use Rattle.shunt_blocks.specs.defs.Below.{sum_below}
 use Rattle.shunt_blocks.specs.defs.Shapes.{unit_from}
 use Rattle.shunt_blocks.specs.defs.Standing.{length_of}
 use Rattle.shunt_blocks.proofs.standing.shape_length.Given as goal

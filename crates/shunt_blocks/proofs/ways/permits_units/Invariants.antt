@@ -1,7 +1,7 @@
 use Rattle.std.proofs.Common.{◌≡◌, ◌+◌}
+use Rattle.shunt_lists.specs.defs.Below.{all_below}
 use Rattle.shunt_instance.specs.defs.Words.{permits}
 use Rattle.shunt_instance.specs.defs.Instance.{unit_at}
-use Rattle.shunt_blocks.specs.defs.Below.{all_below}
 use Rattle.shunt_blocks.specs.defs.Shapes.{unit_from}
 use Rattle.shunt_blocks.proofs.ways.permits_units.Given as goal
 

@@ -1,6 +1,6 @@
 use Rattle.std.specs.Prelude.{◌+◌}
 use Rattle.std.proofs.Common.{ℕ, ◌≡◌, true, arith, sym, subst, ◌∙◌}
-use Rattle.shunt_blocks.specs.defs.Below.{all_below}
+use Rattle.shunt_lists.specs.defs.Below.{all_below}
 use Rattle.shunt_choices.specs.defs.Free.{is_free_pair}
 use Rattle.shunt_choices.proofs.Runs.{stops, goes_on}
 use Rattle.shunt_choices.proofs.free.run_at.Goals as goal

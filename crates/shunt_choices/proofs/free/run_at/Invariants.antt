@@ -1,5 +1,5 @@
 use Rattle.std.proofs.Common.{◌≡◌, ◌+◌, true}
-use Rattle.shunt_blocks.specs.defs.Below.{all_below}
+use Rattle.shunt_lists.specs.defs.Below.{all_below}
 use Rattle.shunt_choices.specs.defs.Free.{is_free_pair}
 use Rattle.shunt_choices.proofs.free.run_at.Given as goal
 

@@ -1,5 +1,5 @@
 use Rattle.std.proofs.Common.{map, take}
-use Rattle.shunt_instance.specs.defs.Words.{AreDistinct}
+use Rattle.shunt_lists.specs.defs.Members.{AreDistinct}
 use Rattle.shunt_plan.proofs.ranges.have_own_ids.Given as goal
 
 abbrev pub invariant-loop-i : goal.invariant-loop-i

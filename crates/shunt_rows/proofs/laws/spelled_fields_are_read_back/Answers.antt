@@ -1,5 +1,6 @@
+use Rattle.shunt_base.proofs.Names.{name_read}
 use Rattle.shunt_base.proofs.Minutes.{read_again}
-use Rattle.shunt_rows.proofs.Spelled.{name_read, number_again, signed_again}
+use Rattle.shunt_rows.proofs.Spelled.{number_again, signed_again}
 use Rattle.shunt_rows.proofs.laws.spelled_fields_are_read_back.Goals as goal
 
 pub returns-clause-name : goal.returns-clause-name

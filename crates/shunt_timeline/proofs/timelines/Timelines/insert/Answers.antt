@@ -2,9 +2,9 @@ use Rattle.std.proofs.Common.{◌≡◌, ◌≢◌, ◌∙◌, ◌+◌, ◌-◌,
 use Rattle.std.specs.List.{All, insert}
 use Rattle.std.proofs.lemmas.List.Edits.{length-insert}
 use Rattle.std.proofs.lemmas.List.Sorted.{IsPermutation-insert}
+use Rattle.shunt_lists.specs.defs.Members.{In}
 use Rattle.shunt_base.specs.declared.keys.Stay.{Stay}
 use Rattle.shunt_base.specs.defs.Keys.{AreStays}
-use Rattle.shunt_stays.specs.defs.Members.{In}
 use Rattle.shunt_timeline.specs.defs.Holdings.{Holding}
 use Rattle.shunt_timeline.specs.defs.Kept.{IsKept}
 use Rattle.shunt_timeline.specs.defs.Sound.{lengths_of, IsSound}

@@ -9,8 +9,8 @@ ghost use Rattle.shunt_choices.specs.defs.Choices.{choices_of, options_of, shape
 ghost use Rattle.shunt_blocks.specs.defs.Costs.{IsCheapest};
 
 use crate::nights::{read_night, times};
-use shunt_choices::laws::free_shapes;
 use shunt_blocks::{Shape, cheapest};
+use shunt_choices::laws::free_shapes;
 use shunt_choices::{Covered, Path, Shapes, options, shapes_from};
 use shunt_instance::Instance;
 use std::alloc::{AllocError, Global};

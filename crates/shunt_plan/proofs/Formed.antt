@@ -1,9 +1,9 @@
--- What the records of a plan and of pins state is in range.
-use Rattle.std.proofs.Common.{◌≡◌, ◌≢◌, ℕ, ◌+◌, ◌-◌, ◌<◌, ◌≤◌, Bool, true, false, List, [], ◌∷◌, ◌++◌, length, length-append, refl, subst, arith}
-use Rattle.std.specs.Prelude.{Ok, bytes_eq, ◌==◌, Some, if◌then◌else◌, codes}
+-- What the records of a plan, of pins and of edits state is in range.
+use Rattle.std.proofs.Common.{◌≡◌, ◌≢◌, ℕ, ◌+◌, ◌-◌, ◌<◌, ◌≤◌, Bool, true, false, List, [], ◌∷◌, ◌++◌, length, length-append, refl, subst, arith, sym}
+use Rattle.std.specs.Prelude.{Ok, bytes_eq, ◌==◌, Some, if◌then◌else◌, codes, true, nat_lt}
 use Rattle.std.specs.Option.{is_some, unwrap_or}
 use Rattle.std.proofs.lemmas.List.Elements.{All-nil, All-push}
-use Rattle.std.proofs.lemmas.Bool.{ltb-true, not-true, eq-eqb}
+use Rattle.std.proofs.lemmas.Bool.{ltb-true, not-true, eq-eqb, true≢false}
 use Rattle.shunt_lists.proofs.Lists.{no_pairs}
 use Rattle.shunt_base.specs.declared.ids.ArrId.{ArrId}
 use Rattle.shunt_base.specs.declared.ids.DepId.{DepId}
@@ -12,24 +12,27 @@ use Rattle.shunt_rows.specs.defs.Records.{at}
 use Rattle.shunt_rows.specs.defs.Checks.{AllHold, Judged, answer}
 use Rattle.shunt_rows.specs.defs.Fields.{is_word}
 use Rattle.shunt_rows.specs.defs.Formats.{in_state, reading}
-use Rattle.shunt_rows.proofs.Holding.{says, hold_first, in_either}
+use Rattle.shunt_rows.proofs.Holding.{says, hold_first, in_either, hold_rest}
 use Rattle.shunt_rows.proofs.Keeping.{formed}
 use Rattle.shunt_rows.proofs.Named.{distinct_push, number_found}
 use Rattle.shunt_rows.proofs.Spelled.{there, within}
 use Rattle.shunt_instance.specs.declared.records.Station.{Station}
 use Rattle.shunt_instance.specs.declared.records.Train.{Train}
 use Rattle.shunt_instance.specs.declared.records.Track.{Track}
-use Rattle.shunt_instance.specs.declared.records.Origin.TheVariants as origin
 use Rattle.shunt_instance.specs.defs.Instance.{Night}
 use Rattle.shunt_blocks.specs.declared.records.Block.{Block}
 use Rattle.shunt_blocks.specs.defs.Shapes.{IsOnTrack, IsInRange}
 use Rattle.shunt_blocks.specs.defs.Lists.{AreInRange}
 use Rattle.shunt_plan.specs.declared.records.Plan.{Plan}
-use Rattle.shunt_plan.specs.defs.BlockRecords.{arr_number, dep_number, track_number, arr_units, dep_units, track_in, unparked_in, parked_in, option_in, has_id, runs_of, block_of, blocks_of}
-use Rattle.shunt_plan.specs.defs.PlanFormat as plan
+use Rattle.shunt_plan.specs.defs.BlockRecords.{arr_number, dep_number, track_number, arr_units, dep_units, track_in, unparked_in, parked_in, option_in, has_id, runs_of, block_of, blocks_of, arr_in, dep_in}
 use Rattle.shunt_plan.specs.defs.PlanFormat.{Draft, plan_format}
 use Rattle.shunt_plan.specs.defs.PinsFormat.{pins_first, pins_later, pins_format}
 use Rattle.shunt_plan.specs.defs.Plans.{IsPlanInRange}
+use Rattle.shunt_blocks.specs.declared.records.Shape.{Shape}
+use Rattle.shunt_plan.specs.declared.edits.Turn.{Turn}
+use Rattle.shunt_plan.specs.defs.Edits.{AreRunsStated, IsTurn, AreTurns, runs_in, add_of, drop_of, park_of, unpark_of, cut_of, join_of, undo_of, redo_of, turn_of, edits_first, edits_later, edits_format}
+use Rattle.shunt_instance.specs.declared.records.Origin.TheVariants as origin
+use Rattle.shunt_plan.specs.defs.PlanFormat as plan
 
 -- ---- what is found of names
 
@@ -189,3 +192,72 @@ pins_step n night pins more row are =
 
 pub pins_formed : (night : Night) (rows : List (List (List ℕ))) (pins : List Block) → reading (pins_format night) rows ≡ Ok pins → AreInRange night pins
 pins_formed night = formed (pins_format night) (AreInRange night) (AreInRange night) (pins_start night) (λ n s t row. pins_step n night s t row) (λ s is. is)
+
+arr_held : (night : Night) (row : List (List ℕ)) (k : ℕ) → AllHold (arr_in night row k).checks → (arr_in night row k).value.0 < length night.arrive
+arr_held night row k h = arr_within night (at row k) (arr_in night row k).value (there (record { 0 = 0 }) (arr_number night (at row k)) h.0)
+
+dep_held : (night : Night) (row : List (List ℕ)) (k : ℕ) → AllHold (dep_in night row k).checks → (dep_in night row k).value.0 < length night.depart
+dep_held night row k h = dep_within night (at row k) (dep_in night row k).value (there (record { 0 = 0 }) (dep_number night (at row k)) h.0)
+
+-- a turn that a file can state, where there was room for it
+abbrev Formed : Night → ℕ → Turn → Type 0
+Formed night before t = (before < 10000) × IsTurn night t
+
+abbrev RunsFormed : Night → ℕ → Shape → Type 0
+RunsFormed night before s = (before < 10000) × AreRunsStated night s
+
+runs_formed : (night : Night) (before : ℕ) (row : List (List ℕ)) → AllHold (runs_in night before row).checks → RunsFormed night before (runs_in night before row).value
+unfolding runs_in
+runs_formed night before row h = (
+  ltb-true before 10000 h.1.0,
+  record {
+    arr = arr_held night row 2 (h.1.1.0, tt);
+    p = (within 0 8 _ h.1.1.1.1.0).1;
+    n = (within 0 8 _ h.1.1.1.1.1.1.0).1;
+    dep = dep_held night row 5 (h.1.1.1.1.1.1.1.0, tt);
+    q = (within 0 8 _ h.1.1.1.1.1.1.1.1.1.0).1;
+  },
+)
+
+add_formed : (night : Night) (before : ℕ) (row : List (List ℕ)) → AllHold (add_of night before row).checks → Formed night before (add_of night before row).value
+unfolding add_of
+add_formed night before row h =
+    let runs = runs_in night before row in
+    let park = option_in night.station row 7 in
+    let r = runs_formed night before row (hold_first runs.checks (park.checks ++ []) h) in
+    (r.0, (r.1, option_holds night.station row 7 (hold_first park.checks [] (hold_rest runs.checks (park.checks ++ []) h))))
+
+turn_formed : (night : Night) (before : ℕ) (row : List (List ℕ)) → AllHold (turn_of night before row).checks → Formed night before (turn_of night before row).value
+unfolding turn_of drop_of park_of unpark_of cut_of join_of undo_of redo_of
+turn_formed night before row =
+    chosen (is_word row (codes "add")) _ _ (Formed night before) (add_formed night before row)
+    (chosen (is_word row (codes "drop")) _ _ (Formed night before) (λ h. (room h.1.0, within 1 1000000 _ h.1.1.1.0))
+    (chosen (is_word row (codes "park")) _ _ (Formed night before) (λ h. (room h.1.0, (within 1 1000000 _ h.1.1.1.0, track_held night.station row 3 (h.1.1.1.1.0, tt))))
+    (chosen (is_word row (codes "unpark")) _ _ (Formed night before) (λ h. (room h.1.0, within 1 1000000 _ h.1.1.1.0))
+    (chosen (is_word row (codes "cut")) _ _ (Formed night before) (λ h. (room h.1.0, (within 1 1000000 _ h.1.1.1.0, (within 0 8 _ h.1.1.1.1.1.0).1)))
+    (chosen (is_word row (codes "join")) _ _ (Formed night before) (λ h. (room h.1.0, (within 1 1000000 _ h.1.1.1.0, within 1 1000000 _ h.1.1.1.1.1.0)))
+    (chosen (is_word row (codes "undo")) _ _ (Formed night before) (λ h. (room h.1.0, tt))
+    (chosen (is_word row (codes "redo")) _ _ (Formed night before) (λ h. (room h.1.0, tt)) (λ h. absurd (true≢false (sym h.0))))))))))
+  where
+    room : nat_lt before 10000 ≡ true → before < 10000
+    room e = ltb-true before 10000 e
+
+later_formed : (n : ℕ) (night : Night) (before after : List Turn) (row : List (List ℕ)) → AreTurns night before → answer n (edits_later night before row) ≡ Ok after → AreTurns night after
+unfolding edits_later
+later_formed n night before after row are e =
+    let m = turn_of night (length before) row in
+    let s = says n (edits_later night before row) after e in
+    let f = turn_formed night (length before) row (hold_first m.checks [] s.0) in
+    subst (AreTurns night) s.1
+    (record {
+      few = omega (arith, f.0, length-append before (m.value ∷ []));
+      each = All-push (IsTurn night) before m.value are.each f.1;
+    })
+
+first_formed : (night : Night) (before : List Turn) (row : List (List ℕ)) → answer 1 (edits_first row) ≡ Ok before → AreTurns night before
+unfolding edits_first
+first_formed night before row e = subst (AreTurns night) (says 1 (edits_first row) before e).1 (record { few = omega arith; each = All-nil (IsTurn night) })
+
+-- what is stated is turns that a file can state
+pub turns_formed : (night : Night) (rows : List (List (List ℕ))) (all : List Turn) → reading (edits_format night) rows ≡ Ok all → AreTurns night all
+turns_formed night = formed (edits_format night) (AreTurns night) (AreTurns night) (first_formed night) (λ n s t row. later_formed n night s t row) (λ s is. is)

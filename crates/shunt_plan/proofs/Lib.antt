@@ -5,9 +5,3 @@ pub mod Parts
 pub mod Plain
 pub mod Lengths
 pub mod Tables
-pub mod Texts
-pub mod EditsFormed
-pub mod EditsParts
-pub mod EditsTables
-pub mod EditsRoundTrip
-pub mod EditsTexts

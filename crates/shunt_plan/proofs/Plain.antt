@@ -1,7 +1,8 @@
--- The records of a plan have plain fields.
-use Rattle.std.proofs.Common.{ℕ, ◌+◌, ◌<◌, ◌≤◌, length, map, refl, arith}
+-- The records of plans and of edits have plain fields.
+use Rattle.std.proofs.Common.{ℕ, ◌+◌, ◌<◌, ◌≤◌, length, map, refl, arith, List}
 use Rattle.std.specs.Prelude.{codes, Option, Some, None}
 use Rattle.std.specs.List.{AllByRecursion}
+use Rattle.std.specs.Fmt.{decimal}
 use Rattle.shunt_rows.proofs.Named.{name_at}
 use Rattle.shunt_base.specs.declared.ids.ArrId.{ArrId}
 use Rattle.shunt_base.specs.declared.ids.DepId.{DepId}
@@ -20,6 +21,11 @@ use Rattle.shunt_blocks.specs.defs.Shapes.{IsOnTrack, IsInRange}
 use Rattle.shunt_plan.specs.declared.records.Plan.{Plan}
 use Rattle.shunt_plan.specs.defs.Plans.{IsPlanInRange}
 use Rattle.shunt_plan.specs.defs.PlanRows.{arr_name, dep_name, track_name, option_fields, head_row, block_row, cost_row, rows_of}
+use Rattle.shunt_plan.specs.declared.edits.Turn.{Turn}
+use Rattle.shunt_plan.specs.defs.Edits.{IsId, IsTurn, AreTurns}
+use Rattle.shunt_plan.specs.defs.WrittenEdits.{park_fields, turn_row, edits_head, rows_of_edits}
+use Rattle.shunt_plan.specs.declared.edits.Edit.TheVariants as edits
+use Rattle.shunt_plan.specs.declared.edits.Turn.TheVariants as turns
 
 pub arr_named : (night : Night) (a : ArrId) → IsOrderedNight night → a.0 < length night.arrive → IsName (arr_name night a)
 arr_named night a h lt = name_at (λ (t : Train). t.name) night.arrive a.0 (λ k d le. (h.timetable.arrive.each k d le).name) lt
@@ -89,3 +95,30 @@ plan_plain night plan h is = (
   plain_head,
   plain_more (map (block_row night) plan.blocks) _ (plain_map (IsInRange night) (block_row night) plan.blocks (plain_block night h) is.blocks.each) (plain_cost plan.cost is.cost, tt),
 )
+
+plain_id : (id : ℕ) → IsId id → IsPlainField (decimal id)
+plain_id id is = let le = is.1 in plain_number id (omega arith)
+
+plain_count : (k : ℕ) → k ≤ 8 → IsPlainField (decimal k)
+plain_count k le = plain_number k (omega arith)
+
+park_plain : (s : Station) → IsStation s → (park : Park) → park.track.0 < length s.tracks → AllByRecursion IsPlainField (park_fields s park)
+park_plain s f park lt = (plain_name _ (track_named s park.track f lt), (plain_side park.side_in, (plain_side park.side_out, tt)))
+
+pub turn_plain : (night : Night) → IsOrderedNight night → (t : Turn) → IsTurn night t → IsPlainRow (turn_row night t)
+turn_plain night f (turns.Edit (edits.Add arr p n dep q park)) is =
+    let r = is.0 in
+    (omega arith, (plain_word (codes "add") refl refl, (plain_name _ (arr_named night arr f r.arr), (plain_count p r.p, (plain_count n r.n, (plain_name _ (dep_named night dep f r.dep), (plain_count q r.q, plain_option night.station park f.station is.1)))))))
+turn_plain night f (turns.Edit (edits.Drop id)) is = (omega arith, (plain_word (codes "drop") refl refl, (plain_id id is, tt)))
+turn_plain night f (turns.Edit (edits.Park id park)) is = (omega arith, (plain_word (codes "park") refl refl, (plain_id id is.0, park_plain night.station f.station park is.1)))
+turn_plain night f (turns.Edit (edits.Unpark id)) is = (omega arith, (plain_word (codes "unpark") refl refl, (plain_id id is, tt)))
+turn_plain night f (turns.Edit (edits.Cut id k)) is = (omega arith, (plain_word (codes "cut") refl refl, (plain_id id is.0, (plain_count k is.1, tt))))
+turn_plain night f (turns.Edit (edits.Join a b)) is = (omega arith, (plain_word (codes "join") refl refl, (plain_id a is.0, (plain_id b is.1, tt))))
+turn_plain night f turns.Undo is = (omega arith, (plain_word (codes "undo") refl refl, tt))
+turn_plain night f turns.Redo is = (omega arith, (plain_word (codes "redo") refl refl, tt))
+
+pub head_plain : IsPlainRow edits_head
+head_plain = (omega arith, (plain_word (codes "edits") refl refl, (plain_count 1 (omega arith), tt)))
+
+pub edits_plain : (night : Night) → IsOrderedNight night → (all : List Turn) → AreTurns night all → ArePlain (rows_of_edits night all)
+edits_plain night f all are = (head_plain, plain_map (IsTurn night) (turn_row night) all (turn_plain night f) are.each)

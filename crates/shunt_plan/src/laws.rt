@@ -49,7 +49,7 @@ pub fn stated_turns_are_in_range()
 {}
 
 /// The records of such turns state them, and their text reads back as them and has at most 700,008 bytes.
-#[tactic(auto, using(crate::proofs::EditsTexts::edits_again, crate::proofs::EditsTexts::text_back, crate::proofs::EditsTexts::edits_short))]
+#[tactic(auto, using(crate::proofs::RoundTrip::edits_again, crate::proofs::RoundTrip::edits_text_back, crate::proofs::Lengths::edits_short))]
 pub fn texts_of_turns()
     ensures rows { (night : Night) (turns : List Turn) → IsInstance night → AreTurns night turns → reading (edits_format night) (rows_of_edits night turns) ≡ Ok turns }
     ensures again { (night : Night) (turns : List Turn) → IsInstance night → AreTurns night turns → ReadsAsEdits night turns (text_of_rows (rows_of_edits night turns)) }

@@ -15,7 +15,7 @@ use Rattle.shunt_base.specs.declared.ids.PlatformId.{PlatformId}
 use Rattle.shunt_base.specs.declared.ids.TrackId.{TrackId}
 use Rattle.shunt_base.specs.declared.ids.TypeId.{TypeId}
 use Rattle.shunt_base.specs.declared.ids.Side.{Side}
-use Rattle.shunt_base.specs.declared.ids.Side.TheVariants.{A, B}
+use Rattle.shunt_base.specs.declared.ids.Side.TheVariants.{A}
 use Rattle.shunt_base.specs.defs.Spelling.{IsName, decimal_of}
 use Rattle.shunt_rows.specs.defs.Checks.{answer}
 use Rattle.shunt_rows.specs.defs.Fields.{is_within, side_of}

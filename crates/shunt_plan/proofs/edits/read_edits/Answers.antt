@@ -1,6 +1,6 @@
 use Rattle.std.proofs.Common.{sym, subst}
 use Rattle.shunt_plan.specs.defs.Edits.{AreTurns}
-use Rattle.shunt_plan.proofs.EditsFormed.{turns_formed}
+use Rattle.shunt_plan.proofs.Formed.{turns_formed}
 use Rattle.shunt_plan.proofs.edits.read_edits.Goals as goal
 
 pub returns-clause-formed : goal.returns-clause-formed

@@ -1,7 +1,7 @@
 use Rattle.std.proofs.Common.{◌∙◌}
 use Rattle.shunt_rows.specs.declared.fault.ReadError.TheVariants as errors
 use Rattle.shunt_rows.proofs.Joins.{gives_err}
-use Rattle.shunt_plan.proofs.EditsParts.{one_turn, no_turn}
+use Rattle.shunt_plan.proofs.Parts.{one_turn, no_turn}
 use Rattle.shunt_plan.proofs.edits.read_more.Goals as goal
 
 pub returns-in_err-turn : goal.returns-in_err-turn

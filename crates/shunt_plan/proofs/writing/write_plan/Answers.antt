@@ -4,7 +4,7 @@ use Rattle.shunt_rows.specs.defs.Records.{text_of_rows}
 use Rattle.shunt_plan.specs.defs.PlanRows.{rows_of}
 use Rattle.shunt_plan.proofs.RoundTrip.{back_from}
 use Rattle.shunt_plan.proofs.Lengths.{plan_short}
-use Rattle.shunt_plan.proofs.Texts.{plan_written}
+use Rattle.shunt_plan.proofs.Lengths.{plan_written}
 use Rattle.shunt_plan.proofs.writing.write_plan.Goals as goal
 
 whole : (c : goal.After-finish) → c.write_cost.new.writer.text ≡ text_of_rows (rows_of c.args.instance.now c.args.plan.now)

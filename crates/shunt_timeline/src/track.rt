@@ -8,7 +8,7 @@ ghost use Rattle.shunt_stays.specs.defs.Members.{In};
 ghost use Rattle.shunt_timeline.specs.defs.Levels.{is_crossed, gets_over, has_left, has_blocked, raised, lowered, IsSmall, IsPlace};
 ghost use Rattle.shunt_timeline.specs.defs.Kept.{IsKept, IsLevel};
 
-use crate::events::{Event, Level, Met, level_before, lower, place, raise};
+use crate::events::{Event, Level, Met, level_before, lower, meet, place, raise};
 use shunt_base::Stay;
 use std::alloc::AllocError;
 
@@ -41,6 +41,20 @@ struct Departure {
 pub struct Share {
     pub pairs: u32,
     pub over: u32,
+}
+
+// What a stay would meet at the events from one place to another.
+fn meet_between(events: &[Event], from: usize, to: usize, stay: &Stay, room: u32) -> Met
+    requires order { from ≤ to }
+    requires within { to ≤ length events.now }
+    requires small { (e : Event) → In e events.now → IsSmall e }
+    requires few { length events.now ≤ 131072 }
+    ensures crossed { result.crossed ≡ count_by (is_crossed stay.now) (slice_range events.now from to) }
+    ensures over { result.over ≡ count_by (gets_over stay.now room) (slice_range events.now from to) }
+    ensures left { result.left ≡ count_by (has_left stay.now) (slice_range events.now from to) }
+    ensures blocked { result.blocked ≡ count_by (has_blocked stay.now) (slice_range events.now from to) }
+{
+    meet(&events[from..to], stay, room)
 }
 
 // A stay comes to stand at the events from one place to another.
@@ -226,6 +240,30 @@ impl Track {
             over: met.over + u32::from(entry.load > u64::from(room)),
         }
     }
+    /// By how much a stay of this track would raise the totals if it came. It takes no memory.
+    pub fn share_with(&self, stay: &Stay) -> Share
+        requires { (stays : List Stay) × AreStays (stay.now ∷ stays) × (length stays < 65536) × IsKept stays stay.now.track.0 self.now.events.items }
+        ensures pairs { (stays : List Stay) → AreStays (stay.now ∷ stays) → IsKept stays stay.now.track.0 self.now.events.items →
+            pairs_in (stay.now ∷ stays) ≡ pairs_in stays + result.pairs }
+        ensures over { (stays : List Stay) (lengths : List ℕ) → AreStays (stay.now ∷ stays) → IsKept stays stay.now.track.0 self.now.events.items →
+            slice_index lengths stay.now.track.0 ≡ self.now.length → overs_in lengths (stay.now ∷ stays) ≡ overs_in lengths stays + result.over }
+    {
+        let room = self.length;
+        let Arrival {
+            from,
+            to,
+            before,
+            ..
+        } = arrival_of(&self.events, stay);
+        let met = meet_between(&self.events, from, to, stay, room);
+        let entry = entry_of(stay, before, met);
+        let own = entry.crossings;
+        Share {
+            pairs: own + met.crossed,
+            over: met.over + u32::from(entry.load > u64::from(room)),
+        }
+    }
+
     /// A stay of this track goes. It takes no memory.
     pub fn remove(&mut self, stay: &Stay) -> Share
         requires { (stays : List Stay) × AreStays (stay.now ∷ stays) × (length stays < 65536) × IsKept (stay.now ∷ stays) stay.now.track.0 self.old.events.items }

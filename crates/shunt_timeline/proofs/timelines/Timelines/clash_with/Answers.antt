@@ -1,8 +1,6 @@
-use Rattle.std.proofs.Common.{◌≡◌, ◌≢◌, ◌∙◌, ℕ, ◌+◌, ◌<◌, ◌∷◌, length, get_or, vec_capacity, ap, subst, sym, arith}
+use Rattle.std.proofs.Common.{◌≡◌, ◌≢◌, ◌∙◌, ◌<◌, ◌∷◌, length, get_or, vec_capacity, ap, subst, sym}
 use Rattle.std.specs.List.{All}
-use Rattle.shunt_base.specs.declared.keys.Stay.{Stay}
 use Rattle.shunt_base.specs.defs.Keys.{AreStays}
-use Rattle.shunt_cross.specs.declared.clash.Clash.{Clash}
 use Rattle.shunt_cross.specs.defs.Clashes.{clash_of}
 use Rattle.shunt_timeline.specs.defs.Holdings.{Holding}
 use Rattle.shunt_timeline.specs.defs.Kept.{IsKept}

@@ -1,9 +1,9 @@
-use Rattle.std.proofs.Common.{◌≡◌, ◌≤◌, ◌+◌, ◌-◌, ◌∙◌, ltb, false, List, take, drop, ap, subst, sym, refl, length, arith}
+use Rattle.std.proofs.Common.{◌≤◌, ◌+◌, ◌-◌, ◌∙◌, ltb, false, List, take, drop, ap, subst, sym, refl, length, arith}
 use Rattle.std.specs.List.{count_by}
 use Rattle.shunt_stays.specs.defs.Members.{In}
 use Rattle.shunt_stays.specs.defs.Crossing.{overs_in}
 use Rattle.shunt_timeline.specs.declared.events.Event.{Event}
-use Rattle.shunt_timeline.specs.defs.Levels.{IsSmall, is_crossed, gets_over, has_left, has_blocked}
+use Rattle.shunt_timeline.specs.defs.Levels.{is_crossed, gets_over, has_left, has_blocked}
 use Rattle.shunt_timeline.specs.defs.Kept.{IsKept, IsLevel}
 use Rattle.shunt_timeline.proofs.Places.{counted_within}
 use Rattle.shunt_timeline.proofs.Others.{load_bound}

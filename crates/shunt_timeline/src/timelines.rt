@@ -33,7 +33,7 @@ pub struct Timelines {
     over: u32,
 }
 
-/// More slots than this are never there.
+/// So many slots are never there, since the stays alone would fill more than the memory that can be named.
 const MOST_SLOTS: usize = 1 << 61;
 
 impl Model for Timelines {

@@ -126,7 +126,8 @@ fn take_pair(events: &mut Vec<Event>, from: usize, to: usize) -> Event
     events.remove(from)
 }
 
-// The entry of a stay, on what stands before it.
+// The entry of a stay, on what stands before it. Of those that stand there, one that leaves first crosses it where it leaves by the
+// side where the stay came; one that stays longer, where the stay leaves by the other side. So the latter need no look.
 fn entry_of(stay: &Stay, before: Level, met: Met) -> Event
     requires left { met.left ≤ before.standing }
     requires blocked { met.blocked ≤ 131072 }
@@ -167,6 +168,7 @@ fn leave_of(stay: &Stay, others: Level) -> Event
     }
 }
 
+// Where a new stay's events belong, by binary search.
 fn arrival_of(events: &[Event], stay: &Stay) -> Arrival
     requires { (stays : List Stay) × AreStays (stay.now ∷ stays) × IsKept stays stay.now.track.0 events.now }
     ensures from { IsPlace events.now stay.now.enter result.from }
@@ -187,6 +189,7 @@ fn arrival_of(events: &[Event], stay: &Stay) -> Arrival
     }
 }
 
+// Where the events of a stay that is there are, by binary search.
 fn departure_of(events: &[Event], stay: &Stay) -> Departure
     requires { (stays : List Stay) × AreStays (stay.now ∷ stays) × IsKept (stay.now ∷ stays) stay.now.track.0 events.now }
     ensures from { IsPlace events.now stay.now.enter result.from }
@@ -240,6 +243,7 @@ impl Track {
             over: met.over + u32::from(entry.load > u64::from(room)),
         }
     }
+
     /// By how much a stay of this track would raise the totals if it came. It takes no memory.
     pub fn share_with(&self, stay: &Stay) -> Share
         requires { (stays : List Stay) × AreStays (stay.now ∷ stays) × (length stays < 65536) × IsKept stays stay.now.track.0 self.now.events.items }

@@ -15,6 +15,8 @@ use Rattle.shunt_stays.specs.defs.Crossing.{crosses, load_after, pairs_in, overs
 use Rattle.shunt_stays.proofs.Halves.{formed}
 use Rattle.shunt_stays.proofs.Sorting.{stays_permuted}
 use Rattle.shunt_stays.proofs.Crossings.{through_clear, clear_through, no_pairs, no_overs, pairs_permuted, overs_permuted}
+use Rattle.shunt_cross.specs.declared.clash.Clash.{Clash}
+use Rattle.shunt_cross.specs.defs.Clashes.{clash_of}
 use Rattle.shunt_timeline.specs.declared.events.Event.{Event}
 use Rattle.shunt_timeline.specs.declared.track.Track.{Track}
 use Rattle.shunt_timeline.specs.defs.Kept.{IsKept}
@@ -84,6 +86,9 @@ module _ (stays : List Stay) (tracks : List Track) (spare room pairs over : ℕ)
 
       pub over_add : over + o < 4294967296
       over_add = let e = s.over_are in let f = overs_fit (lengths_of tracks) (x ∷ stays) few_more in omega arith
+
+      pub clash_more : ◌≡◌ {A = Clash} (record { pairs = pairs + p; over = over + o }) (clash_of (lengths_of tracks) (x ∷ stays))
+      clash_more = ap (λ n. record { pairs = n + p; over = over + o }) s.pairs_are ∙ ap (λ n. record { pairs = n; over = over + o }) (sym more_pairs) ∙ ap (λ n. record { pairs = pairs_in (x ∷ stays); over = n + o }) s.over_are ∙ ap (λ n. record { pairs = pairs_in (x ∷ stays); over = n }) (sym more_over)
 
       module _ (after : Track) (same : after.length ≡ old.length) (more : vec_capacity old.events ≤ vec_capacity after.events) (kept : IsKept (x ∷ stays) x.track.0 after.events.items) where
         pub lengths_after : lengths_of (set tracks x.track.0 after) ≡ lengths_of tracks

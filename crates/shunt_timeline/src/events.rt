@@ -178,6 +178,22 @@ pub fn level_before(events: &[Event], place: usize) -> Level
     }
 }
 
+/// What a stay would meet at these events, all of them between its entry and its leave.
+pub fn meet(events: &[Event], stay: &Stay, room: u32) -> Met
+    requires small { (e : Event) → In e events.now → IsSmall e }
+    requires few { length events.now ≤ 131072 }
+    ensures crossed { result.crossed ≡ count_by (is_crossed stay.now) events.now }
+    ensures over { result.over ≡ count_by (gets_over stay.now room) events.now }
+    ensures left { result.left ≡ count_by (has_left stay.now) events.now }
+    ensures blocked { result.blocked ≡ count_by (has_blocked stay.now) events.now }
+{
+    let mut met = Met::none();
+    for event in events {
+        met = met.with(event, stay, room);
+    }
+    met
+}
+
 /// Lets a stay stand at all of these events too.
 pub fn raise(events: &mut [Event], stay: &Stay, room: u32) -> Met
     requires small { (e : Event) → In e events.old → IsSmall e }

@@ -59,7 +59,9 @@ fn two_sided(rt: HostRuntime) -> Result<(), Fail> {
     come(&mut timelines, stay(2, 0, 500, Side::B, 1380, 1800));
     assert!(rt; are(timelines.clash(), 0, 0));
     assert!(rt; timelines.remove(2).is_some());
-    timelines.insert(stay(2, 0, 500, Side::A, 1380, 1800));
+    let again = stay(2, 0, 500, Side::A, 1380, 1800);
+    assert!(rt; are(timelines.clash_with(&again), 1, 0));
+    timelines.insert(again);
     assert!(rt; are(timelines.clash(), 1, 0));
     assert!(rt; timelines.remove(1).is_some());
     assert!(rt; are(timelines.clash(), 0, 0));

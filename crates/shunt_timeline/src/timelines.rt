@@ -20,8 +20,9 @@ use std::marker::Model;
 /// Stays on tracks, seen as their list in any order, the lengths of the tracks in dm, and how many stays more may come
 /// without memory.
 ///
-/// They keep the events of each track in key order, with what stands there just after each and how many cross at each entry,
-/// so that neither a coming nor a going of a stay costs more than a pass over the events of its own track.
+/// They keep the events of each track in key order, with what stands there just after each and how many cross at each entry. A
+/// coming or a going finds its places by binary search, reads and changes the events between them, and shifts what lies behind:
+/// events of its own track, and one list of all stays by id.
 #[derive(Debug, Drop)]
 pub struct Timelines {
     // By ascending id.
@@ -32,7 +33,7 @@ pub struct Timelines {
     over: u32,
 }
 
-/// More slots than this are never there.
+/// So many slots are never there, since the stays alone would fill more than the memory that can be named.
 const MOST_SLOTS: usize = 1 << 61;
 
 impl Model for Timelines {
@@ -131,6 +132,24 @@ impl Timelines {
         reserve_events(&mut self.tracks, 2 * (count + slots))?;
         self.spare = slots;
         Ok(())
+    }
+
+    /// How these stays would clash with one more, which is as for `insert` but needs no room.
+    ///
+    /// It takes no memory.
+    pub fn clash_with(&self, stay: &Stay) -> Clash
+        requires formed { IsWellFormed stay.now }
+        requires track { stay.now.track.0 < length self.now.lengths }
+        requires new { All (λ s. s.id ≢ stay.now.id) self.now.stays }
+        requires few { length self.now.stays < 65536 }
+        ensures { result ≡ clash_of self.now.lengths (stay.now ∷ self.now.stays) }
+    {
+        let track = &self.tracks[usize::from(stay.track.0)];
+        let share = track.share_with(stay);
+        Clash {
+            pairs: self.pairs + share.pairs,
+            over: self.over + share.over,
+        }
     }
 
     /// A stay comes to one of the tracks.

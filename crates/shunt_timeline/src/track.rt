@@ -9,7 +9,7 @@ ghost use Rattle.shunt_stays.specs.defs.Crossing.{pairs_in, overs_in};
 ghost use Rattle.shunt_timeline.specs.defs.Levels.{is_crossed, gets_over, has_left, has_blocked, raised, lowered, IsSmall, IsPlace};
 ghost use Rattle.shunt_timeline.specs.defs.Kept.{IsKept, IsLevel};
 
-use crate::events::{Event, Level, Met, level_before, lower, place, raise};
+use crate::events::{Event, Level, Met, level_before, lower, meet, place, raise};
 use shunt_base::Stay;
 use std::alloc::AllocError;
 
@@ -42,6 +42,20 @@ struct Departure {
 pub struct Share {
     pub pairs: u32,
     pub over: u32,
+}
+
+// What a stay would meet at the events from one place to another.
+fn meet_between(events: &[Event], from: usize, to: usize, stay: &Stay, room: u32) -> Met
+    requires order { from ≤ to }
+    requires within { to ≤ length events.now }
+    requires small { (e : Event) → In e events.now → IsSmall e }
+    requires few { length events.now ≤ 131072 }
+    ensures crossed { result.crossed ≡ count_by (is_crossed stay.now) (slice_range events.now from to) }
+    ensures over { result.over ≡ count_by (gets_over stay.now room) (slice_range events.now from to) }
+    ensures left { result.left ≡ count_by (has_left stay.now) (slice_range events.now from to) }
+    ensures blocked { result.blocked ≡ count_by (has_blocked stay.now) (slice_range events.now from to) }
+{
+    meet(&events[from..to], stay, room)
 }
 
 // A stay comes to stand at the events from one place to another.
@@ -113,7 +127,8 @@ fn take_pair(events: &mut Vec<Event>, from: usize, to: usize) -> Event
     events.remove(from)
 }
 
-// The entry of a stay, on what stands before it.
+// The entry of a stay, on what stands before it. Of those that stand there, one that leaves first crosses it where it leaves by the
+// side where the stay came; one that stays longer, where the stay leaves by the other side. So the latter need no look.
 fn entry_of(stay: &Stay, before: Level, met: Met) -> Event
     requires left { met.left ≤ before.standing }
     requires blocked { met.blocked ≤ 131072 }
@@ -154,6 +169,7 @@ fn leave_of(stay: &Stay, others: Level) -> Event
     }
 }
 
+// Where a new stay's events belong, by binary search.
 fn arrival_of(events: &[Event], stay: &Stay) -> Arrival
     requires { (stays : List Stay) × AreStays (stay.now ∷ stays) × IsKept stays stay.now.track.0 events.now }
     ensures from { IsPlace events.now stay.now.enter result.from }
@@ -174,6 +190,7 @@ fn arrival_of(events: &[Event], stay: &Stay) -> Arrival
     }
 }
 
+// Where the events of a stay that is there are, by binary search.
 fn departure_of(events: &[Event], stay: &Stay) -> Departure
     requires { (stays : List Stay) × AreStays (stay.now ∷ stays) × IsKept (stay.now ∷ stays) stay.now.track.0 events.now }
     ensures from { IsPlace events.now stay.now.enter result.from }
@@ -227,6 +244,31 @@ impl Track {
             over: met.over + u32::from(entry.load > u64::from(room)),
         }
     }
+
+    /// By how much a stay of this track would raise the totals if it came. It takes no memory.
+    pub fn share_with(&self, stay: &Stay) -> Share
+        requires { (stays : List Stay) × AreStays (stay.now ∷ stays) × (length stays < 65536) × IsKept stays stay.now.track.0 self.now.events.items }
+        ensures pairs { (stays : List Stay) → AreStays (stay.now ∷ stays) → IsKept stays stay.now.track.0 self.now.events.items →
+            pairs_in (stay.now ∷ stays) ≡ pairs_in stays + result.pairs }
+        ensures over { (stays : List Stay) (lengths : List ℕ) → AreStays (stay.now ∷ stays) → IsKept stays stay.now.track.0 self.now.events.items →
+            slice_index lengths stay.now.track.0 ≡ self.now.length → overs_in lengths (stay.now ∷ stays) ≡ overs_in lengths stays + result.over }
+    {
+        let room = self.length;
+        let Arrival {
+            from,
+            to,
+            before,
+            ..
+        } = arrival_of(&self.events, stay);
+        let met = meet_between(&self.events, from, to, stay, room);
+        let entry = entry_of(stay, before, met);
+        let own = entry.crossings;
+        Share {
+            pairs: own + met.crossed,
+            over: met.over + u32::from(entry.load > u64::from(room)),
+        }
+    }
+
     /// A stay of this track goes. It takes no memory.
     pub fn remove(&mut self, stay: &Stay) -> Share
         requires { (stays : List Stay) × AreStays (stay.now ∷ stays) × (length stays < 65536) × IsKept (stay.now ∷ stays) stay.now.track.0 self.old.events.items }

@@ -3,7 +3,6 @@ use Rattle.std.specs.Prelude.{◌↔◌, ◌&&◌, ◌==◌, not, nat_le, slice_
 use Rattle.std.specs.List.{range_with_len}
 use Rattle.std.proofs.Common.{◌≡◌, ◌⊎◌, ⊎_elim, inl, inr, ℕ, ◌+◌, ◌-◌, ◌<◌, ◌≤◌, Bool, true, false, length, refl, sym, ap, subst, ◌∙◌, arith}
 use Rattle.std.proofs.lemmas.Bool.{cases_lt, true≢false, and_parts, and_from, not-true, not_from_false, leb-true, le-leb, eqb-true, eq-eqb}
-use Rattle.std.proofs.lemmas.Bool.Decides.{nat_tests}
 use Rattle.shunt_lists.proofs.TestsBelow.{each_passes, all_pass}
 use Rattle.shunt_lists.proofs.Members.{in_map, of_map, filter_from, filter_to, of_flat, in_flat}
 use Rattle.shunt_lists.specs.defs.Members.{In}

@@ -1,11 +1,10 @@
 -- Lists of blocks that grow by a block of uncovered units and positions.
-use Rattle.std.specs.Prelude.{not, ◌==◌, map, All, slice_index_or, position, Option, Some, None}
+use Rattle.std.specs.Prelude.{not, ◌==◌, map, slice_index_or, position, Option, Some, None}
 use Rattle.std.specs.List.{range_with_len, position_or_len}
 use Rattle.std.proofs.Common.{◌≡◌, ⊎_elim, ℕ, ◌<◌, ◌≤◌, Bool, true, false, List, [], ◌∷◌, ◌++◌, length, get_or, refl, sym, ap, ◌∙◌, arith}
-use Rattle.std.proofs.lemmas.Bool.{cases_lt, true≢false, not-true, not-false}
+use Rattle.std.proofs.lemmas.Bool.{cases_lt, not-true, not-false}
 use Rattle.std.proofs.lemmas.Bool.Decides.{nat_tests}
 use Rattle.std.proofs.lemmas.Grind.{common_steps}
-use Rattle.std.proofs.lemmas.List.Elements.{All-push}
 use Rattle.std.proofs.lemmas.List.Quantifiers.{position-Some}
 use Rattle.std.proofs.lemmas.List.Sums.{fails_before_first}
 use Rattle.std.proofs.lemmas.List.FromFn.{get_or-map-range_with_len}

@@ -4,7 +4,7 @@ use Rattle.std.specs.List.{flat_map, range_with_len}
 use Rattle.std.proofs.Common.{◌≡◌, ◌⊎◌, ⊎_elim, inl, inr, ℕ, zero, suc, ◌+◌, ◌<◌, ◌≤◌, Bool, List, [], ◌∷◌, ◌++◌, map, refl, sym, subst, arith}
 use Rattle.std.proofs.lemmas.Bool.{cases_Bool}
 use Rattle.std.proofs.lemmas.List.Kept.{AllPairs-cons}
-use Rattle.shunt_lists.proofs.Members.{in_left, in_right, in_cases, in_place, of_map, filter_yes, filter_no, filter_from, of_flat, in_flat}
+use Rattle.shunt_lists.proofs.Members.{in_cases, in_place, of_map, filter_yes, filter_no, filter_from, of_flat}
 use Rattle.shunt_lists.specs.defs.Members.{In}
 
 -- each element comes before all after it

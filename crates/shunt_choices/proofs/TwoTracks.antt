@@ -2,7 +2,7 @@
 use Rattle.std.specs.Prelude.{All, IsTrue}
 use Rattle.std.proofs.Common.{◌≡◌, ◌≢◌, ℕ, ◌<◌, ◌≤◌, get_or, Bool, true, false, List, [], ◌∷◌, length, subst, sym, ap, arith, refl}
 use Rattle.std.proofs.lemmas.Bool.{true≢false, false≢true}
-use Rattle.std.proofs.lemmas.List.Elements.{All-cons, All-nil}
+use Rattle.std.proofs.lemmas.List.Elements.{All-cons}
 use Rattle.std.proofs.lemmas.List.Kept.{AllPairs-cons}
 use Rattle.shunt_lists.proofs.Lists.{all_one}
 use Rattle.shunt_base.specs.defs.Sides.{same_side}

@@ -1,6 +1,6 @@
 -- Records that are judged part by part, and lists of records that are read part by part.
-use Rattle.std.proofs.Common.{◌≡◌, ℕ, ◌+◌, Bool, true, false, List, [], ◌∷◌, ◌++◌, length, refl, sym, ap, ◌∙◌, arith, ⊎_elim, subst}
-use Rattle.std.specs.Prelude.{Result, Ok, Err, if◌then◌else◌}
+use Rattle.std.proofs.Common.{◌≡◌, ℕ, ◌+◌, List, [], ◌∷◌, ◌++◌, length, refl, sym, ap, ◌∙◌, arith, ⊎_elim, subst}
+use Rattle.std.specs.Prelude.{Result, Ok, Err}
 use Rattle.shunt_rows.specs.declared.fault.RowFault.{RowFault}
 use Rattle.shunt_rows.specs.defs.Checks.{Check, Judged, passes, answer}
 use Rattle.shunt_rows.specs.defs.Checks as judging

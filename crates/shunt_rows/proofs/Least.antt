@@ -1,6 +1,6 @@
 -- The first check that fails is the least fault of a record.
 use Rattle.std.proofs.Common.{◌≡◌, ◌⊎◌, inl, inr, ⊎_elim, ℕ, ◌+◌, ◌*◌, ◌≤◌, Bool, true, false, ◌==◌, List, [], ◌∷◌, refl, sym, ap, ◌∙◌, arith, IsTrue, subst}
-use Rattle.std.specs.Prelude.{Ok, Err, if◌then◌else◌, nat_le, ◌&&◌}
+use Rattle.std.specs.Prelude.{Ok, Err, if◌then◌else◌, nat_le}
 use Rattle.std.proofs.lemmas.Bool.{leb-true, cases_lt, and_parts}
 use Rattle.shunt_rows.specs.declared.fault.RowFault.{RowFault}
 use Rattle.shunt_rows.specs.declared.fault.RowKind.{RowKind}

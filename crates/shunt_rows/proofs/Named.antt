@@ -6,7 +6,6 @@ use Rattle.std.proofs.lemmas.List.{map-append, map-id, length-map}
 use Rattle.std.proofs.lemmas.List.Quantifiers.{all_pairs_push, position-Some}
 use Rattle.std.proofs.lemmas.Slice.Eq.{bytes_eq-Decides}
 use Rattle.std.proofs.lemmas.Bool.{true≢false, lt-ltb, or_parts, or_from, false_from_ne_true}
-use Rattle.shunt_lists.proofs.Lists.{no_pairs}
 use Rattle.shunt_base.specs.defs.Spelling.{IsName}
 
 abbrev Apart : {X : Type 0} → List X → Type 0

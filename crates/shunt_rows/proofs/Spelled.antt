@@ -5,12 +5,11 @@ use Rattle.std.specs.Option.{is_some, unwrap_or}
 use Rattle.std.specs.Fmt.{decimal, signed_decimal}
 use Rattle.std.specs.Char.{is_ascii_digit}
 use Rattle.std.specs.Str.Parse.{digits_value}
-use Rattle.std.proofs.lemmas.Bool.{ltb-true, leb-true, lt-ltb, le-leb, cases_Bool, and_parts, and_from, or_left, cond-false, ne_eqb, cond-true}
+use Rattle.std.proofs.lemmas.Bool.{lt-ltb, le-leb, cases_Bool, and_from, or_left, cond-false, ne_eqb, cond-true}
 use Rattle.std.proofs.lemmas.Int.{ints}
 use Rattle.std.proofs.lemmas.Bool.Decides.{nat_tests}
-use Rattle.std.proofs.lemmas.List.Sums.{AllPass-from_list_all, list_all-from_AllPass}
-use Rattle.shunt_base.proofs.Names.{name_from, name_read}
-use Rattle.shunt_base.specs.defs.Spelling.{IsName, IsDecimal, IsSigned, is_name_byte, is_name_text, is_decimal_text, decimal_of, negative_of, signed_of, minute_of, is_minute_text, minute_value}
+use Rattle.std.proofs.lemmas.List.Sums.{list_all-from_AllPass}
+use Rattle.shunt_base.specs.defs.Spelling.{IsDecimal, IsSigned, is_decimal_text, decimal_of, negative_of, signed_of, minute_of, is_minute_text, minute_value}
 use Rattle.shunt_base.proofs.Decimal.{spelled, value_again, digit_in}
 use Rattle.shunt_base.proofs.Minutes as minutes
 use Rattle.shunt_rows.specs.defs.Fields.{is_within}

@@ -11,7 +11,8 @@ use shunt_base::{Name, PlatformId, Side, TrackId, TypeId, is_name};
 use shunt_instance::{Permit, Route, Station, Track, UnitType};
 use shunt_lists::Items;
 use shunt_rows::{
-    FormatReader, Naming, Numbered, ReadError, Row, RowKind, fields_in, found, must, number_in, side_in,
+    FormatReader, Naming, Numbered, ReadError, Row, RowKind, fields_in, found, must, number_in,
+    side_in,
 };
 use std::alloc::Global;
 use std::marker::Model;

@@ -14,7 +14,6 @@ use Rattle.shunt_lists.proofs.Sums.{some_of, sum_filter}
 use Rattle.shunt_lists.proofs.Members.{filter_from, filter_to}
 use Rattle.shunt_lists.specs.defs.Members.{In}
 use Rattle.shunt_base.specs.declared.ids.Side.{Side}
-use Rattle.shunt_base.specs.declared.ids.Side.TheVariants.{A, B}
 use Rattle.shunt_base.specs.declared.keys.EventKey.{EventKey}
 use Rattle.shunt_base.specs.declared.keys.Stay.{Stay}
 use Rattle.shunt_base.specs.defs.Keys.{key_cmp, rank, IsBefore, IsKey, IsWellFormed, AreStays}

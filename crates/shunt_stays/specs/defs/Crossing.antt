@@ -1,10 +1,8 @@
 -- Stays in each other's way, and the lengths of those that stand together.
-use Rattle.std.specs.Prelude.{◌≡◌, ◌≢◌, ◌⊎◌, ℕ, ◌≤◌, ◌==◌, nat_lt, Bool, true, false, not, ◌&&◌, ◌||◌, sum_by, count_by, slice_index, List, if◌then◌else◌}
+use Rattle.std.specs.Prelude.{◌≡◌, ◌≢◌, ◌⊎◌, ℕ, ◌≤◌, ◌==◌, nat_lt, Bool, not, ◌&&◌, ◌||◌, sum_by, count_by, slice_index, List, if◌then◌else◌}
 use Rattle.std.specs.Ordering.{is_le}
 use Rattle.shunt_base.specs.defs.Sides.{same_side}
 use Rattle.shunt_lists.specs.defs.Members.{In}
-use Rattle.shunt_base.specs.declared.ids.Side.{Side}
-use Rattle.shunt_base.specs.declared.ids.Side.TheVariants.{A, B}
 use Rattle.shunt_base.specs.declared.keys.EventKey.{EventKey}
 use Rattle.shunt_base.specs.declared.keys.Stay.{Stay}
 use Rattle.shunt_base.specs.defs.Keys.{key_cmp, IsBefore}

@@ -12,13 +12,14 @@ use std::io;
 use std::time::CpuClock;
 
 /// The length of each track, in dm.
-const LENGTH: u32 = 5000;
+const LENGTH: u32 = 2000;
 
 /// The stays don't come in the order of their minutes, but with this step from one to the next.
 const STEP: u32 = 7919;
 
 // A stay of so many, the next in the order in which they come. On each track ten blocks enter by one side, minute after minute,
-// and leave by it in the opposite order; ten minutes after the first of them the next ten begin to enter by the other side.
+// and leave by A in the opposite order; ten minutes after the first of them the next ten begin to enter by the other side. So
+// there are crossings, and loads that are over, for the two counts to agree on.
 fn stay(number: u16, count: u16, tracks: u8) -> Stay
     requires few { number < count }
     requires most { count ≤ 10000 }
@@ -40,7 +41,7 @@ fn stay(number: u16, count: u16, tracks: u8) -> Stay
         id,
         track: TrackId((turn % u16::from(tracks)) as u8),
         side_in: side,
-        side_out: side,
+        side_out: Side::A,
         enter: EventKey {
             minute,
             enters: true,

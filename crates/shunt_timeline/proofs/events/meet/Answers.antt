@@ -1,5 +1,5 @@
-use Rattle.shunt_stays.proofs.Members.{in_place}
 use Rattle.std.proofs.Common.{arith}
+use Rattle.shunt_lists.proofs.Members.{in_place}
 use Rattle.shunt_timeline.proofs.events.meet.Goals as goal
 
 pub with-met-requires-clause-small : goal.with-met-requires-clause-small

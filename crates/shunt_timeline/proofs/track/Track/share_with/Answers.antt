@@ -1,6 +1,6 @@
 use Rattle.std.proofs.Common.{◌≤◌, ◌+◌, ◌-◌, ◌∙◌, ltb, false, List, take, drop, ap, subst, sym, refl, length, arith}
 use Rattle.std.specs.List.{count_by}
-use Rattle.shunt_stays.specs.defs.Members.{In}
+use Rattle.shunt_lists.specs.defs.Members.{In}
 use Rattle.shunt_stays.specs.defs.Crossing.{overs_in}
 use Rattle.shunt_timeline.specs.declared.events.Event.{Event}
 use Rattle.shunt_timeline.specs.defs.Levels.{is_crossed, gets_over, has_left, has_blocked}

@@ -8,6 +8,7 @@ use Rattle.shunt_rows.specs.defs.Formats.{Format, reading}
 use Rattle.shunt_rows.specs.defs.Records.{records_of}
 use Rattle.shunt_instance.specs.defs.Instance.{Night, night_of, IsInstance}
 use Rattle.shunt_instance.proofs.Orders.{night_is, closed}
+use Rattle.shunt_blocks.specs.defs.Lists.{AreInRange, IsFeasible, total_cost}
 use Rattle.shunt_plan.specs.declared.records.Plan.{Plan}
 use Rattle.shunt_plan.specs.defs.PlanFormat.{plan_format}
 use Rattle.shunt_plan.specs.defs.Plans.{IsPlanInRange}
@@ -21,7 +22,7 @@ use Rattle.shunt_report.specs.declared.words.FileWord.TheVariants as word
 use Rattle.shunt_report.specs.defs.Texts.{input_of}
 use Rattle.shunt_audit.specs.declared.types.Finding.{Finding}
 use Rattle.shunt_audit.specs.defs.Plans.{ArePlanFindings, plan_findings}
-use Rattle.shunt_audit.proofs.Stated.{plan_none, only_plan}
+use Rattle.shunt_audit.proofs.Stated.{only_plan}
 use Rattle.shunt.specs.declared.delivering.Outcome.{Outcome}
 use Rattle.shunt.specs.declared.delivering.Outcome.TheVariants as outcome
 use Rattle.shunt.specs.declared.running.Status.{Status}
@@ -73,8 +74,12 @@ plan_stated s t p y e =
 
 -- ---- exactly when each comes
 
-sound_where : (s t p : List ℕ) (y : Night × Plan) → stated_plans s t p ≡ Ok y → (plan_findings y.0 y.1 ≡ []) ↔ IsSound y
-sound_where s t p y e = let h = plan_stated s t p y e in plan_none y.0 y.1 h.0 h.1.blocks
+-- that a plan has no finding exactly where it is feasible and states its cost
+abbrev pub FoundNone : Type 0
+FoundNone = (night : Night) (plan : Plan) → IsInstance night → AreInRange night plan.blocks → (plan_findings night plan ≡ []) ↔ IsFeasible night plan.blocks × (plan.cost ≡ total_cost night plan.blocks)
+
+sound_where : (law : FoundNone) (s t p : List ℕ) (y : Night × Plan) → stated_plans s t p ≡ Ok y → (plan_findings y.0 y.1 ≡ []) ↔ IsSound y
+sound_where law s t p y e = let h = plan_stated s t p y e in law y.0 y.1 h.0 h.1.blocks
 
 -- the findings that are told are those that the audit computes
 told_is : (s t p : List ℕ) (y : Night × Plan) (fs : List Finding) → stated_plans s t p ≡ Ok y → ArePlanFindings y.0 y.1 fs → fs ≡ plan_findings y.0 y.1
@@ -95,19 +100,19 @@ found_some : (fs : List Finding) → audit_outcome fs ≡ outcome.Findings → f
 found_some [] e nil = absurd (let h : outcome.Done ≡ outcome.Findings = e in cc)
 found_some (f ∷ fs) e nil = absurd (let h : (f ∷ fs) ≡ [] = nil in cc)
 
-pub done_there : (s t p : List ℕ) (old new : Seen) (x : Status) (files : Files) (y : Night × Plan) → old.files ≡ Some files → plans_in s t p files ≡ Ok y → IsSound y → Ends (Audit s t p) old new x → (x ≡ status.Done) ⊎ Yields x
-done_there s t p old new x files y told ok sound e =
-    let none = (sound_where (content files s) (content files t) (content files p) y ok).1 sound in
+pub done_there : (law : FoundNone) (s t p : List ℕ) (old new : Seen) (x : Status) (files : Files) (y : Night × Plan) → old.files ≡ Some files → plans_in s t p files ≡ Ok y → IsSound y → Ends (Audit s t p) old new x → (x ≡ status.Done) ⊎ Yields x
+done_there law s t p old new x files y told ok sound e =
+    let none = (sound_where law (content files s) (content files t) (content files p) y ok).1 sound in
     decides (Audit s t p) outcome.Done old new x files told (λ r is.
     let a = audited (plans_in s t p files) y r ok is in
     told_outcome y r a ∙ ap audit_outcome (told_is (content files s) (content files t) (content files p) y a.findings ok a.told ∙ none)) e
 
-pub findings_there : (s t p : List ℕ) (old new : Seen) (x : Status) (files : Files) (y : Night × Plan) → old.files ≡ Some files → plans_in s t p files ≡ Ok y → (IsSound y → ⊥) → Ends (Audit s t p) old new x → (x ≡ status.Findings) ⊎ Yields x
-findings_there s t p old new x files y told ok unsound e =
+pub findings_there : (law : FoundNone) (s t p : List ℕ) (old new : Seen) (x : Status) (files : Files) (y : Night × Plan) → old.files ≡ Some files → plans_in s t p files ≡ Ok y → (IsSound y → ⊥) → Ends (Audit s t p) old new x → (x ≡ status.Findings) ⊎ Yields x
+findings_there law s t p old new x files y told ok unsound e =
     decides (Audit s t p) outcome.Findings old new x files told (λ r is.
     let a = audited (plans_in s t p files) y r ok is in
     let same = told_is (content files s) (content files t) (content files p) y a.findings ok a.told in
-    told_outcome y r a ∙ some_found a.findings (λ nil. unsound ((sound_where (content files s) (content files t) (content files p) y ok).0 (sym same ∙ nil)))) e
+    told_outcome y r a ∙ some_found a.findings (λ nil. unsound ((sound_where law (content files s) (content files t) (content files p) y ok).0 (sym same ∙ nil)))) e
 
 -- an outcome of an accepted plan is that of its findings
 record Tells (x : Result (Night × Plan) (List ℕ)) (o : Outcome) : Type 0 where
@@ -121,21 +126,21 @@ tells : (x : Result (Night × Plan) (List ℕ)) (r : Reply) (o : Outcome) → (o
 tells (Err text) r o other is e = absurd (other (sym e ∙ ap (λ (r : Reply). r.outcome) is))
 tells (Ok y) r o other is e = record { plan = y; ok = refl; findings = is.findings; told = is.told; outcome = sym (told_outcome y r is) ∙ e }
 
-pub done_only : (s t p : List ℕ) (old new : Seen) → Ends (Audit s t p) old new status.Done → (files : Files) × Agrees old.files files × ((y : Night × Plan) × (plans_in s t p files ≡ Ok y) × IsSound y)
-done_only s t p old new e =
+pub done_only : (law : FoundNone) (s t p : List ℕ) (old new : Seen) → Ends (Audit s t p) old new status.Done → (files : Files) × Agrees old.files files × ((y : Night × Plan) × (plans_in s t p files ≡ Ok y) × IsSound y)
+done_only law s t p old new e =
     let h = has_reply (Audit s t p) outcome.Done old new e in
     let files = h.1.0 in
     let at = tells (plans_in s t p files) h.0 outcome.Done (λ e. cc) h.1.2 h.2 in
     let same = told_is (content files s) (content files t) (content files p) at.plan at.findings at.ok at.told in
-    (files, h.1.1, (at.plan, at.ok, (sound_where (content files s) (content files t) (content files p) at.plan at.ok).0 (sym same ∙ none_found at.findings at.outcome)))
+    (files, h.1.1, (at.plan, at.ok, (sound_where law (content files s) (content files t) (content files p) at.plan at.ok).0 (sym same ∙ none_found at.findings at.outcome)))
 
-pub findings_only : (s t p : List ℕ) (old new : Seen) → Ends (Audit s t p) old new status.Findings → (files : Files) × Agrees old.files files × ((y : Night × Plan) × (plans_in s t p files ≡ Ok y) × (IsSound y → ⊥))
-findings_only s t p old new e =
+pub findings_only : (law : FoundNone) (s t p : List ℕ) (old new : Seen) → Ends (Audit s t p) old new status.Findings → (files : Files) × Agrees old.files files × ((y : Night × Plan) × (plans_in s t p files ≡ Ok y) × (IsSound y → ⊥))
+findings_only law s t p old new e =
     let h = has_reply (Audit s t p) outcome.Findings old new e in
     let files = h.1.0 in
     let at = tells (plans_in s t p files) h.0 outcome.Findings (λ e. cc) h.1.2 h.2 in
     let same = told_is (content files s) (content files t) (content files p) at.plan at.findings at.ok at.told in
-    (files, h.1.1, (at.plan, at.ok, λ sound. found_some at.findings at.outcome (same ∙ (sound_where (content files s) (content files t) (content files p) at.plan at.ok).1 sound)))
+    (files, h.1.1, (at.plan, at.ok, λ sound. found_some at.findings at.outcome (same ∙ (sound_where law (content files s) (content files t) (content files p) at.plan at.ok).1 sound)))
 
 neither : (fs : List Finding) (o : Outcome) → audit_outcome fs ≡ o → (o ≡ outcome.Done) ⊎ (o ≡ outcome.Findings)
 neither [] o e = inl (sym e)

@@ -87,6 +87,13 @@ err_of B e = Err e
 pub closed_failed : {A B : Type 0} (r : Result A Halt) (e : Halt) (P : Type 0) → FailsWith r e → ((IsErrOf (err_of B e) halt.Fault → ⊥) → P) → (IsErrOf r halt.Fault → ⊥) → P
 closed_failed {A = A} {B = B} r e P h closed other = closed (λ is. other (fails r e h ∙ ap Err (let h : err_of B e ≡ err_of B halt.Fault = is in cc)))
 
+-- a later step's cause is one of the whole
+pub cause_failed : {A B : Type 0} (before mid now : ℕ) (r : Result A Halt) (e : Halt) → FailsWith r e → before ≤ mid → HasCause halt.Fault mid now (err_of B e) → HasCause halt.Fault before now r
+cause_failed {B = B} before mid now r e h le cause = record {
+  later = let more = cause.later in omega (arith, le, more);
+  failed = λ is. ⊎_elim (λ lt. inl (omega (arith, le, lt))) (λ last. inr last) (cause.failed (ap (err_of B) (let same : err_of B e ≡ err_of B halt.Fault = cc (is, fails r e h) in cc)));
+}
+
 -- ---- from what was loaded to the reply
 
 pub halted : {X A : Type 0} (view : A → Reply) (h : Halt) (first : Result X (List ℕ)) (P : X → Reply → Type 0) → Loads {X = X} (Err h) first → Replies view (Err h) (Judged first P)

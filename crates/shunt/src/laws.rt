@@ -14,6 +14,8 @@ ghost use Rattle.shunt.specs.defs.Inputs.{Agrees, refused, stated_night, plans_i
 ghost use Rattle.shunt.specs.defs.Replies.{Reply, IsReply, IsReplyOver, IsSound, refusal};
 ghost use Rattle.shunt.specs.defs.Ends.{Ends, Seen, CutInText, IsWhole, Yields, the_status};
 
+use shunt_audit::laws;
+
 /// `Store` comes only where the store failed in the call, and `Sink` only where the sink did, so neither over a store or a
 /// sink whose count of faults is 0. `Words` never comes of words that spell a command.
 pub fn failures_have_causes()
@@ -80,7 +82,9 @@ pub fn audit_done_exactly()
     ensures findings_only { (s t p : List ℕ) (old new : Seen) → Ends (Audit s t p) old new Status.Findings → (files : Files) × Agrees old.files files × ((x : Night × Plan) × (plans_in s t p files ≡ Ok x) × (IsSound x → ⊥)) }
     ensures no_matching { (s t p : List ℕ) (old new : Seen) → Ends (Audit s t p) old new Status.NoMatching → ⊥ }
     ensures no_unfinished { (s t p : List ℕ) (old new : Seen) → Ends (Audit s t p) old new Status.Unfinished → ⊥ }
-{}
+{
+    laws::plan_findings();
+}
 
 /// Where the files are accepted and neither the store nor the sink fails, `audit` ends with `Done`, `Findings` or `Memory`.
 pub fn audit_completes()

@@ -1,8 +1,7 @@
 -- What makes a shape and a block, said by faults.
-use Rattle.std.specs.Prelude.{◌↔◌, IsSome, IfSome, not, nat_le, ◌||◌, ◌==◌, Option, Some, None}
-use Rattle.std.proofs.Common.{◌≡◌, ℕ, ◌+◌, ◌≤◌, Bool, true, false, refl, sym, ap, arith}
+use Rattle.std.specs.Prelude.{◌↔◌, IsSome, IfSome, not, ◌||◌, Option, Some, None}
+use Rattle.std.proofs.Common.{◌≡◌, ◌+◌, Bool, true, false, refl, sym, arith}
 use Rattle.std.proofs.lemmas.Bool.{true≢false, eq-eqb, eqb-true, le-leb, not_from_true, not-false}
-use Rattle.std.proofs.lemmas.Bool.Decides.{nat_tests}
 use Rattle.shunt_lists.proofs.TestsBelow.{all_pass, each_passes}
 use Rattle.shunt_instance.specs.defs.Instance.{Night, unit_at, position_at, ready}
 use Rattle.shunt_blocks.specs.declared.records.Shape.{Shape}

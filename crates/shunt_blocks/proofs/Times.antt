@@ -1,5 +1,5 @@
 -- Blocks that aren't too soon enter before they leave.
-use Rattle.std.specs.Prelude.{IfSome, not, nat_le, map, if◌then◌else◌, Option, Some, None}
+use Rattle.std.specs.Prelude.{IfSome, map, if◌then◌else◌, Option, Some, None}
 use Rattle.std.specs.Ordering.{nat_cmp, bool_cmp, ordering_then}
 use Rattle.std.specs.declared.cmp.Ordering.{Ordering}
 use Rattle.std.specs.declared.cmp.Ordering.TheVariants.{Less}

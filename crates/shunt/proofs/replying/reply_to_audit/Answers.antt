@@ -2,7 +2,7 @@ use Rattle.std.proofs.Common.{Err}
 use Rattle.shunt.specs.declared.delivering.Answer.{Answer}
 use Rattle.shunt.specs.defs.Inputs.{stated_night, stated_plan, stated_plans}
 use Rattle.shunt.specs.defs.Replies.{IsAudited, reply_of}
-use Rattle.shunt.proofs.Seeing.{some_bytes, holding_at, holding_map, replies_failed, closed_failed, first_refused, then_next, halted}
+use Rattle.shunt.proofs.Seeing.{some_bytes, holding_at, holding_map, replies_failed, closed_failed, cause_failed, first_refused, then_next, halted}
 use Rattle.shunt.proofs.replying.reply_to_audit.Goals as goal
 
 pub returns-in_err-instance-clause-told : goal.returns-in_err-instance-clause-told
@@ -18,3 +18,6 @@ returns-in_err-plan-clause-closed g c = closed_failed _ _ _ c.from_residual-in_e
 
 pub returns-in_err-audit_answer-clause-told : goal.returns-in_err-audit_answer-clause-told
 returns-in_err-audit_answer-clause-told g c = some_bytes _ _ _ (λ s. some_bytes _ _ _ (λ t. some_bytes _ _ _ (λ p. replies_failed _ _ _ _ c.from_residual-in_err-audit_answer.ensures tt)))
+
+pub returns-in_err-plan-clause-cause : goal.returns-in_err-plan-clause-cause
+returns-in_err-plan-clause-cause g c = cause_failed _ _ _ _ _ c.from_residual-in_err-plan.ensures c.in_ok-instance.ensures.cause.later c.in_err-plan.ensures.cause

@@ -1,5 +1,5 @@
 -- What the bytes that were read say of what the files hold.
-use Rattle.std.proofs.Common.{◌≡◌, ◌≢◌, ℕ, ◌<◌, List, [], ◌∷◌, length, suc, map, Option, Some, None, refl, sym, ap, subst, ◌∙◌, arith, Result, Ok, Err, Bool, true, false}
+use Rattle.std.proofs.Common.{◌≡◌, ◌≢◌, ℕ, ◌<◌, ◌≤◌, inl, inr, ⊎_elim, List, [], ◌∷◌, length, suc, map, Option, Some, None, refl, sym, ap, subst, ◌∙◌, arith, Result, Ok, Err, Bool, true, false}
 use Rattle.shunt_rows.specs.defs.Records.{records_of}
 use Rattle.std.proofs.lemmas.Bool.{lt-leb}
 use Rattle.std.proofs.lemmas.List.{length-replicate}
@@ -8,6 +8,7 @@ use Rattle.std.specs.Prelude.{IfSome, IsErr, nat_le, replicate, unwrap_or, if◌
 use Rattle.std.specs.Global.{Global}
 use Rattle.std.specs.List.{AllByRecursion}
 use Rattle.std.specs.FinMap as finmap
+use Rattle.shunt_store.specs.defs.Causes.{HasCause}
 use Rattle.shunt_store.specs.defs.Files.{Files, content}
 use Rattle.shunt_store.proofs.TableLaws.{get_here, same_elsewhere}
 use Rattle.shunt_rows.specs.declared.fault.RowFault.{RowFault}
@@ -89,10 +90,13 @@ closed_failed {A = A} {B = B} r e P h closed other = closed (λ is. other (fails
 
 -- a later step's cause is one of the whole
 pub cause_failed : {A B : Type 0} (before mid now : ℕ) (r : Result A Halt) (e : Halt) → FailsWith r e → before ≤ mid → HasCause halt.Fault mid now (err_of B e) → HasCause halt.Fault before now r
-cause_failed {B = B} before mid now r e h le cause = record {
+cause_failed {A = A} {B = B} before mid now r e h le cause = record {
   later = let more = cause.later in omega (arith, le, more);
-  failed = λ is. ⊎_elim (λ lt. inl (omega (arith, le, lt))) (λ last. inr last) (cause.failed (ap (err_of B) (let same : err_of B e ≡ err_of B halt.Fault = cc (is, fails r e h) in cc)));
+  failed = λ is. ⊎_elim (λ lt. inl (omega (arith, le, lt))) (λ last. inr last) (cause.failed (fault_of (sym (fails r e h) ∙ is)));
 }
+  where
+    fault_of : err_of A e ≡ err_of A halt.Fault → err_of B e ≡ err_of B halt.Fault
+    fault_of same = ap (err_of B) (let one : e ≡ halt.Fault = cc in one)
 
 -- ---- from what was loaded to the reply
 

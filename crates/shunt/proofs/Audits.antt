@@ -29,14 +29,14 @@ use Rattle.shunt.specs.declared.running.Status.{Status}
 use Rattle.shunt.specs.declared.running.Status.TheVariants as status
 use Rattle.shunt.specs.defs.Words.{Audit}
 use Rattle.shunt.specs.defs.Inputs.{Agrees, most_bytes_of, value_or, stated, then_stated, stated_station, stated_timetable, stated_night, stated_plan, stated_plans, plans_in}
-use Rattle.shunt.specs.defs.Replies.{Reply, IsAudited, Judged, IsSound, audit_outcome}
+use Rattle.shunt.specs.defs.Replies.{Reply, IsAudited, Decided, IsClean, audit_outcome}
 use Rattle.shunt.specs.defs.Ends.{Seen, Ends, Yields, the_status}
 use Rattle.shunt.proofs.Exactly.{decides, has_reply, completes, reply_at, EndsAs}
 
 -- ---- the outcome of a reply, by what the files state
 
-audited : (x : Result (Night × Plan) (List ℕ)) (y : Night × Plan) (r : Reply) → x ≡ Ok y → Judged x IsAudited r → IsAudited y r
-audited x y r e is = subst (λ x. Judged x IsAudited r) e is
+audited : (x : Result (Night × Plan) (List ℕ)) (y : Night × Plan) (r : Reply) → x ≡ Ok y → Decided x IsAudited r → IsAudited y r
+audited x y r e is = subst (λ x. Decided x IsAudited r) e is
 
 -- ---- what the files state is a night and a plan in it
 
@@ -78,7 +78,7 @@ plan_stated s t p y e =
 abbrev pub FoundNone : Type 0
 FoundNone = (night : Night) (plan : Plan) → IsInstance night → AreInRange night plan.blocks → (plan_findings night plan ≡ []) ↔ IsFeasible night plan.blocks × (plan.cost ≡ total_cost night plan.blocks)
 
-sound_where : (law : FoundNone) (s t p : List ℕ) (y : Night × Plan) → stated_plans s t p ≡ Ok y → (plan_findings y.0 y.1 ≡ []) ↔ IsSound y
+sound_where : (law : FoundNone) (s t p : List ℕ) (y : Night × Plan) → stated_plans s t p ≡ Ok y → (plan_findings y.0 y.1 ≡ []) ↔ IsClean y
 sound_where law s t p y e = let h = plan_stated s t p y e in law y.0 y.1 h.0 h.1.blocks
 
 -- the findings that are told are those that the audit computes
@@ -100,14 +100,14 @@ found_some : (fs : List Finding) → audit_outcome fs ≡ outcome.Findings → f
 found_some [] e nil = absurd (let h : outcome.Done ≡ outcome.Findings = e in cc)
 found_some (f ∷ fs) e nil = absurd (let h : (f ∷ fs) ≡ [] = nil in cc)
 
-pub done_there : (law : FoundNone) (s t p : List ℕ) (old new : Seen) (x : Status) (files : Files) (y : Night × Plan) → old.files ≡ Some files → plans_in s t p files ≡ Ok y → IsSound y → Ends (Audit s t p) old new x → (x ≡ status.Done) ⊎ Yields x
+pub done_there : (law : FoundNone) (s t p : List ℕ) (old new : Seen) (x : Status) (files : Files) (y : Night × Plan) → old.files ≡ Some files → plans_in s t p files ≡ Ok y → IsClean y → Ends (Audit s t p) old new x → (x ≡ status.Done) ⊎ Yields x
 done_there law s t p old new x files y told ok sound e =
     let none = (sound_where law (content files s) (content files t) (content files p) y ok).1 sound in
     decides (Audit s t p) outcome.Done old new x files told (λ r is.
     let a = audited (plans_in s t p files) y r ok is in
     told_outcome y r a ∙ ap audit_outcome (told_is (content files s) (content files t) (content files p) y a.findings ok a.told ∙ none)) e
 
-pub findings_there : (law : FoundNone) (s t p : List ℕ) (old new : Seen) (x : Status) (files : Files) (y : Night × Plan) → old.files ≡ Some files → plans_in s t p files ≡ Ok y → (IsSound y → ⊥) → Ends (Audit s t p) old new x → (x ≡ status.Findings) ⊎ Yields x
+pub findings_there : (law : FoundNone) (s t p : List ℕ) (old new : Seen) (x : Status) (files : Files) (y : Night × Plan) → old.files ≡ Some files → plans_in s t p files ≡ Ok y → (IsClean y → ⊥) → Ends (Audit s t p) old new x → (x ≡ status.Findings) ⊎ Yields x
 findings_there law s t p old new x files y told ok unsound e =
     decides (Audit s t p) outcome.Findings old new x files told (λ r is.
     let a = audited (plans_in s t p files) y r ok is in
@@ -122,11 +122,11 @@ record Tells (x : Result (Night × Plan) (List ℕ)) (o : Outcome) : Type 0 wher
   told : ArePlanFindings plan.0 plan.1 findings
   outcome : audit_outcome findings ≡ o
 
-tells : (x : Result (Night × Plan) (List ℕ)) (r : Reply) (o : Outcome) → (o ≡ outcome.Input → ⊥) → Judged x IsAudited r → r.outcome ≡ o → Tells x o
+tells : (x : Result (Night × Plan) (List ℕ)) (r : Reply) (o : Outcome) → (o ≡ outcome.Input → ⊥) → Decided x IsAudited r → r.outcome ≡ o → Tells x o
 tells (Err text) r o other is e = absurd (other (sym e ∙ ap (λ (r : Reply). r.outcome) is))
 tells (Ok y) r o other is e = record { plan = y; ok = refl; findings = is.findings; told = is.told; outcome = sym (told_outcome y r is) ∙ e }
 
-pub done_only : (law : FoundNone) (s t p : List ℕ) (old new : Seen) → Ends (Audit s t p) old new status.Done → (files : Files) × Agrees old.files files × ((y : Night × Plan) × (plans_in s t p files ≡ Ok y) × IsSound y)
+pub done_only : (law : FoundNone) (s t p : List ℕ) (old new : Seen) → Ends (Audit s t p) old new status.Done → (files : Files) × Agrees old.files files × ((y : Night × Plan) × (plans_in s t p files ≡ Ok y) × IsClean y)
 done_only law s t p old new e =
     let h = has_reply (Audit s t p) outcome.Done old new e in
     let files = h.1.0 in
@@ -134,7 +134,7 @@ done_only law s t p old new e =
     let same = told_is (content files s) (content files t) (content files p) at.plan at.findings at.ok at.told in
     (files, h.1.1, (at.plan, at.ok, (sound_where law (content files s) (content files t) (content files p) at.plan at.ok).0 (sym same ∙ none_found at.findings at.outcome)))
 
-pub findings_only : (law : FoundNone) (s t p : List ℕ) (old new : Seen) → Ends (Audit s t p) old new status.Findings → (files : Files) × Agrees old.files files × ((y : Night × Plan) × (plans_in s t p files ≡ Ok y) × (IsSound y → ⊥))
+pub findings_only : (law : FoundNone) (s t p : List ℕ) (old new : Seen) → Ends (Audit s t p) old new status.Findings → (files : Files) × Agrees old.files files × ((y : Night × Plan) × (plans_in s t p files ≡ Ok y) × (IsClean y → ⊥))
 findings_only law s t p old new e =
     let h = has_reply (Audit s t p) outcome.Findings old new e in
     let files = h.1.0 in

@@ -5,7 +5,7 @@ use Rattle.shunt.specs.declared.delivering.Answer.{Answer}
 use Rattle.shunt.specs.declared.loading.Halt.{Halt}
 use Rattle.shunt.specs.defs.Words.{Call, Match, Audit, IsUsable, words_of}
 use Rattle.shunt.specs.defs.Inputs.{Agrees, Holding, stated_night, stated_plans}
-use Rattle.shunt.specs.defs.Replies.{IsReply, Judged, IsMatched, IsAudited, reply_of}
+use Rattle.shunt.specs.defs.Replies.{IsReply, Decided, IsMatched, IsAudited, reply_of}
 use Rattle.shunt.specs.defs.Halts.{Replies}
 use Rattle.shunt.proofs.Seeing.{seen_all}
 
@@ -13,15 +13,15 @@ use Rattle.shunt.proofs.Seeing.{seen_all}
 abbrev pub IsAnswered : Option Files → Result Answer Halt → Call → Type 0
 IsAnswered told r c = (files : Files) × Agrees told files × Replies reply_of r (IsReply c files)
 
-pub match_answered : (told : Option Files) (c : Call) (s t : List ℕ) (r : Result Answer Halt) → c ≡ Match s t → IsUsable c → Holding told s (λ x. Holding told t (λ y. Replies reply_of r (Judged (stated_night x y) IsMatched))) → IsAnswered told r c
+pub match_answered : (told : Option Files) (c : Call) (s t : List ℕ) (r : Result Answer Halt) → c ≡ Match s t → IsUsable c → Holding told s (λ x. Holding told t (λ y. Replies reply_of r (Decided (stated_night x y) IsMatched))) → IsAnswered told r c
 match_answered told c s t r is usable h =
-    let P : List (List ℕ) → Type 0 = λ bs. Replies reply_of r (Judged (stated_night (get_or bs 0 []) (get_or bs 1 [])) IsMatched) in
+    let P : List (List ℕ) → Type 0 = λ bs. Replies reply_of r (Decided (stated_night (get_or bs 0 []) (get_or bs 1 [])) IsMatched) in
     let names : IsUsable (Match s t) = subst IsUsable is usable in
     subst (IsAnswered told r) (sym is) (seen_all told (s ∷ t ∷ []) P names h)
 
-pub audit_answered : (told : Option Files) (c : Call) (s t p : List ℕ) (r : Result Answer Halt) → c ≡ Audit s t p → IsUsable c → Holding told s (λ x. Holding told t (λ y. Holding told p (λ z. Replies reply_of r (Judged (stated_plans x y z) IsAudited)))) → IsAnswered told r c
+pub audit_answered : (told : Option Files) (c : Call) (s t p : List ℕ) (r : Result Answer Halt) → c ≡ Audit s t p → IsUsable c → Holding told s (λ x. Holding told t (λ y. Holding told p (λ z. Replies reply_of r (Decided (stated_plans x y z) IsAudited)))) → IsAnswered told r c
 audit_answered told c s t p r is usable h =
-    let P : List (List ℕ) → Type 0 = λ bs. Replies reply_of r (Judged (stated_plans (get_or bs 0 []) (get_or bs 1 []) (get_or bs 2 [])) IsAudited) in
+    let P : List (List ℕ) → Type 0 = λ bs. Replies reply_of r (Decided (stated_plans (get_or bs 0 []) (get_or bs 1 []) (get_or bs 2 [])) IsAudited) in
     let names : IsUsable (Audit s t p) = subst IsUsable is usable in
     subst (IsAnswered told r) (sym is) (seen_all told (s ∷ t ∷ p ∷ []) P names h)
 

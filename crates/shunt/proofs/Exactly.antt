@@ -16,7 +16,7 @@ use Rattle.shunt.specs.declared.running.Status.{Status}
 use Rattle.shunt.specs.declared.running.Status.TheVariants as status
 use Rattle.shunt.specs.defs.Words.{Call, Match, Audit, outputs_of}
 use Rattle.shunt.specs.defs.Inputs.{Agrees, Value, stated_in, refused}
-use Rattle.shunt.specs.defs.Replies.{Reply, IsReply, IsReplyOver, IsAnswer, IsPaired, IsShort, Judged, audit_outcome, refusal}
+use Rattle.shunt.specs.defs.Replies.{Reply, IsReply, IsReplyOver, IsAnswer, IsPaired, IsShort, Decided, audit_outcome, refusal}
 use Rattle.shunt.specs.defs.Ends.{Seen, CutInText, Delivers, StopsEarly, Ends, IsWhole, MayBegin, MayHold, MayWrite, Yields, the_status, written}
 
 -- ---- the status of a delivery
@@ -166,7 +166,7 @@ own_begins c a b name other e = ap (λ f. map.get f name) e
 
 -- ---- the first input that isn't accepted
 
-refused_reply : {X : Type 0} (x : Result X (List ℕ)) (P : X → Reply → Type 0) (text : List ℕ) (r : Reply) → result_err x ≡ Some text → Judged x P r → r ≡ refusal text
+refused_reply : {X : Type 0} (x : Result X (List ℕ)) (P : X → Reply → Type 0) (text : List ℕ) (r : Reply) → result_err x ≡ Some text → Decided x P r → r ≡ refusal text
 refused_reply (Ok y) P text r e is = absurd (let h : None ≡ Some text = e in cc)
 refused_reply (Err line) P text r e is = is ∙ ap refusal (let h : Some line ≡ Some text = e in cc)
 
@@ -184,7 +184,7 @@ input_there c old new s files text told e (inr h) = at (its_own h.0 old new s h.
 Refused : {X : Type 0} → Result X (List ℕ) → Reply → Type 0
 Refused x r = (text : List ℕ) × (result_err x ≡ Some text) × (r ≡ refusal text)
 
-input_tells : (c : Call) (x : Result (Value c) (List ℕ)) (r : Reply) → Judged x (IsAnswer c) r → r.outcome ≡ outcome.Input → Refused x r
+input_tells : (c : Call) (x : Result (Value c) (List ℕ)) (r : Reply) → Decided x (IsAnswer c) r → r.outcome ≡ outcome.Input → Refused x r
 unfolding Refused
 input_tells c (Err text) r is o = (text, refl, is)
 input_tells c (Ok v) r is o = absurd (no_input c v r is o)
@@ -204,7 +204,7 @@ written_same (w ∷ ws) a name other =
     written_same ws (map.insert a w.0 w.1) name (λ text is. other text (inr is))
     ∙ same_elsewhere a w.0 w.1 name (λ e. other w.1 (inl (ap (λ n. (n, w.1)) e)))
 
-reply_writes : (c : Call) (x : Result (Value c) (List ℕ)) (r : Reply) (name text : List ℕ) → Judged x (IsAnswer c) r → In (name, text) r.writes → In name (outputs_of c)
+reply_writes : (c : Call) (x : Result (Value c) (List ℕ)) (r : Reply) (name text : List ℕ) → Decided x (IsAnswer c) r → In (name, text) r.writes → In name (outputs_of c)
 reply_writes c (Ok v) r name text is w = own_writes c v r name text is w
 reply_writes c (Err line) r name text is w = absurd (subst (λ (q : Reply). In (name, text) q.writes) is w)
 

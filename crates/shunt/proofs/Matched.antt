@@ -11,12 +11,12 @@ use Rattle.shunt.specs.declared.running.Status.{Status}
 use Rattle.shunt.specs.declared.running.Status.TheVariants as status
 use Rattle.shunt.specs.defs.Words.{Match}
 use Rattle.shunt.specs.defs.Inputs.{Agrees, stated_night}
-use Rattle.shunt.specs.defs.Replies.{Reply, IsMatched, Judged}
+use Rattle.shunt.specs.defs.Replies.{Reply, IsMatched, Decided}
 use Rattle.shunt.specs.defs.Ends.{Seen, Ends, Yields, the_status}
 use Rattle.shunt.proofs.Exactly.{completes, decides, has_reply, reply_at, EndsAs, paired_outcome, short_outcome}
 
-judged_at : (x : Result Night (List ℕ)) (night : Night) (r : Reply) → x ≡ Ok night → Judged x IsMatched r → IsMatched night r
-judged_at x night r e is = subst (λ x. Judged x IsMatched r) e is
+judged_at : (x : Result Night (List ℕ)) (night : Night) (r : Reply) → x ≡ Ok night → Decided x IsMatched r → IsMatched night r
+judged_at x night r e is = subst (λ x. Decided x IsMatched r) e is
 
 none_outcome : (night : Night) (r : Reply) → ((place : List ℕ) → Matches night place → ⊥) → IsMatched night r → r.outcome ≡ outcome.NoMatching
 none_outcome night r none (inl p) = absurd (none _ p.matches)
@@ -33,17 +33,17 @@ pub done_there : (s t : List ℕ) (old new : Seen) (x : Status) (files : Files) 
 done_there s t old new x files night told ok some e = decides (Match s t) outcome.Done old new x files told (λ r is. some_outcome night r some.0 some.1 (judged_at (stated_night (content files s) (content files t)) night r ok is)) e
 
 -- what each outcome tells of the files
-none_tells : (x : Result Night (List ℕ)) (r : Reply) → Judged x IsMatched r → r.outcome ≡ outcome.NoMatching → (night : Night) × (x ≡ Ok night) × ((place : List ℕ) → Matches night place → ⊥)
+none_tells : (x : Result Night (List ℕ)) (r : Reply) → Decided x IsMatched r → r.outcome ≡ outcome.NoMatching → (night : Night) × (x ≡ Ok night) × ((place : List ℕ) → Matches night place → ⊥)
 none_tells (Err text) r is o = absurd (let e : outcome.Input ≡ outcome.NoMatching = sym (ap (λ (r : Reply). r.outcome) is) ∙ o in cc)
 none_tells (Ok night) r (inl p) o = absurd (let e : outcome.Done ≡ outcome.NoMatching = sym (paired_outcome night r p) ∙ o in cc)
 none_tells (Ok night) r (inr p) o = (night, refl, p.none)
 
-done_tells : (x : Result Night (List ℕ)) (r : Reply) → Judged x IsMatched r → r.outcome ≡ outcome.Done → (night : Night) × (x ≡ Ok night) × ((place : List ℕ) × Matches night place)
+done_tells : (x : Result Night (List ℕ)) (r : Reply) → Decided x IsMatched r → r.outcome ≡ outcome.Done → (night : Night) × (x ≡ Ok night) × ((place : List ℕ) × Matches night place)
 done_tells (Err text) r is o = absurd (let e : outcome.Input ≡ outcome.Done = sym (ap (λ (r : Reply). r.outcome) is) ∙ o in cc)
 done_tells (Ok night) r (inl p) o = (night, refl, (_, p.matches))
 done_tells (Ok night) r (inr p) o = absurd (let e : outcome.NoMatching ≡ outcome.Done = sym (short_outcome night r p) ∙ o in cc)
 
-other_tells : (x : Result Night (List ℕ)) (r : Reply) (o : Outcome) → Judged x IsMatched r → r.outcome ≡ o → (o ≡ outcome.Done) ⊎ ((o ≡ outcome.NoMatching) ⊎ (o ≡ outcome.Input))
+other_tells : (x : Result Night (List ℕ)) (r : Reply) (o : Outcome) → Decided x IsMatched r → r.outcome ≡ o → (o ≡ outcome.Done) ⊎ ((o ≡ outcome.NoMatching) ⊎ (o ≡ outcome.Input))
 other_tells (Err text) r o is e = inr (inr (sym e ∙ ap (λ (r : Reply). r.outcome) is))
 other_tells (Ok night) r o (inl p) e = inl (sym e ∙ paired_outcome night r p)
 other_tells (Ok night) r o (inr p) e = inr (inl (sym e ∙ short_outcome night r p))

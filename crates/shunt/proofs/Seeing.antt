@@ -18,7 +18,7 @@ use Rattle.shunt.specs.declared.loading.Halt.{Halt}
 use Rattle.shunt.specs.declared.loading.Halt.TheVariants as halt
 use Rattle.shunt.specs.defs.Words.{AreNames}
 use Rattle.shunt.specs.defs.Inputs.{Agrees, Holding, most_bytes_of, stated_by, value_or, then_stated}
-use Rattle.shunt.specs.defs.Replies.{Reply, Judged, refusal}
+use Rattle.shunt.specs.defs.Replies.{Reply, Decided, refusal}
 use Rattle.shunt.specs.defs.Halts.{IfInput, Loads, LoadsBytes, Replies}
 
 -- ---- one file
@@ -100,13 +100,13 @@ cause_failed {A = A} {B = B} before mid now r e h le cause = record {
 
 -- ---- from what was loaded to the reply
 
-pub halted : {X A : Type 0} (view : A → Reply) (h : Halt) (first : Result X (List ℕ)) (P : X → Reply → Type 0) → Loads {X = X} (Err h) first → Replies view (Err h) (Judged first P)
-halted view (halt.Input text) first P e = subst (λ f. Judged f P (refusal text.items)) (sym e) refl
+pub halted : {X A : Type 0} (view : A → Reply) (h : Halt) (first : Result X (List ℕ)) (P : X → Reply → Type 0) → Loads {X = X} (Err h) first → Replies view (Err h) (Decided first P)
+halted view (halt.Input text) first P e = subst (λ f. Decided f P (refusal text.items)) (sym e) refl
 halted view halt.Fault first P e = tt
 halted view halt.Memory first P e = tt
 
-pub answered : {X : Type 0} (r : Reply) (first : Result X (List ℕ)) (x : X) (P : X → Reply → Type 0) → first ≡ Ok x → P x r → Judged first P r
-answered r first x P e p = subst (λ f. Judged f P r) (sym e) p
+pub answered : {X : Type 0} (r : Reply) (first : Result X (List ℕ)) (x : X) (P : X → Reply → Type 0) → first ≡ Ok x → P x r → Decided first P r
+answered r first x P e p = subst (λ f. Decided f P r) (sym e) p
 
 -- ---- from what single files hold to all files
 

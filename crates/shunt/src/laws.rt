@@ -11,7 +11,7 @@ ghost use Rattle.shunt.specs.declared.delivering.Outcome.{Outcome};
 ghost use Rattle.shunt.specs.declared.running.Status.{Status};
 ghost use Rattle.shunt.specs.defs.Words.{Call, Match, Audit, outputs_of};
 ghost use Rattle.shunt.specs.defs.Inputs.{Agrees, refused, stated_night, plans_in};
-ghost use Rattle.shunt.specs.defs.Replies.{Reply, IsReply, IsReplyOver, IsSound, refusal};
+ghost use Rattle.shunt.specs.defs.Replies.{Reply, IsReply, IsReplyOver, IsClean, refusal};
 ghost use Rattle.shunt.specs.defs.Ends.{Ends, Seen, CutInText, IsWhole, Yields, the_status};
 
 use shunt_audit::laws;
@@ -76,10 +76,10 @@ pub fn match_completes()
 /// `Findings` exactly where they are accepted and it isn't so, unless the store, memory or the sink came first. It never ends
 /// with `NoMatching` or `Unfinished`.
 pub fn audit_done_exactly()
-    ensures done { (s t p : List ℕ) (old new : Seen) (status : Status) (files : Files) (x : Night × Plan) → old.files ≡ Some files → plans_in s t p files ≡ Ok x → IsSound x → Ends (Audit s t p) old new status → (status ≡ Status.Done) ⊎ Yields status }
-    ensures done_only { (s t p : List ℕ) (old new : Seen) → Ends (Audit s t p) old new Status.Done → (files : Files) × Agrees old.files files × ((x : Night × Plan) × (plans_in s t p files ≡ Ok x) × IsSound x) }
-    ensures findings { (s t p : List ℕ) (old new : Seen) (status : Status) (files : Files) (x : Night × Plan) → old.files ≡ Some files → plans_in s t p files ≡ Ok x → (IsSound x → ⊥) → Ends (Audit s t p) old new status → (status ≡ Status.Findings) ⊎ Yields status }
-    ensures findings_only { (s t p : List ℕ) (old new : Seen) → Ends (Audit s t p) old new Status.Findings → (files : Files) × Agrees old.files files × ((x : Night × Plan) × (plans_in s t p files ≡ Ok x) × (IsSound x → ⊥)) }
+    ensures done { (s t p : List ℕ) (old new : Seen) (status : Status) (files : Files) (x : Night × Plan) → old.files ≡ Some files → plans_in s t p files ≡ Ok x → IsClean x → Ends (Audit s t p) old new status → (status ≡ Status.Done) ⊎ Yields status }
+    ensures done_only { (s t p : List ℕ) (old new : Seen) → Ends (Audit s t p) old new Status.Done → (files : Files) × Agrees old.files files × ((x : Night × Plan) × (plans_in s t p files ≡ Ok x) × IsClean x) }
+    ensures findings { (s t p : List ℕ) (old new : Seen) (status : Status) (files : Files) (x : Night × Plan) → old.files ≡ Some files → plans_in s t p files ≡ Ok x → (IsClean x → ⊥) → Ends (Audit s t p) old new status → (status ≡ Status.Findings) ⊎ Yields status }
+    ensures findings_only { (s t p : List ℕ) (old new : Seen) → Ends (Audit s t p) old new Status.Findings → (files : Files) × Agrees old.files files × ((x : Night × Plan) × (plans_in s t p files ≡ Ok x) × (IsClean x → ⊥)) }
     ensures no_matching { (s t p : List ℕ) (old new : Seen) → Ends (Audit s t p) old new Status.NoMatching → ⊥ }
     ensures no_unfinished { (s t p : List ℕ) (old new : Seen) → Ends (Audit s t p) old new Status.Unfinished → ⊥ }
 {

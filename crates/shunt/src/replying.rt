@@ -5,7 +5,7 @@ ghost use Rattle.shunt_store.specs.defs.Causes.{HasCause};
 ghost use Rattle.shunt_plan.specs.defs.Plans.{IsPlanInRange};
 ghost use Rattle.shunt.specs.defs.Words.{call_of, IsUsable};
 ghost use Rattle.shunt.specs.defs.Inputs.{Agrees, Holding, stated_night, stated_plans};
-ghost use Rattle.shunt.specs.defs.Replies.{IsMatched, IsAudited, IsReply, Judged, reply_of};
+ghost use Rattle.shunt.specs.defs.Replies.{IsMatched, IsAudited, IsReply, Decided, reply_of};
 ghost use Rattle.shunt.specs.defs.Halts.{Replies};
 
 use crate::delivering::{Answer, Outcome};
@@ -45,7 +45,7 @@ fn reply_to_match<S: Store>(
     timetable: &str,
 ) -> Result<Answer, Halt>
     requires { S.stage store.old ≡ Closed }
-    ensures told { Holding (S.told store.old) station.now (λ s. Holding (S.told store.old) timetable.now (λ t. Replies reply_of result (Judged (stated_night s t) IsMatched))) }
+    ensures told { Holding (S.told store.old) station.now (λ s. Holding (S.told store.old) timetable.now (λ t. Replies reply_of result (Decided (stated_night s t) IsMatched))) }
     ensures files { S.told store.new ≡ S.told store.old }
     ensures closed { (IsErrOf result Halt.Fault → ⊥) → S.stage store.new ≡ Closed }
     ensures cause { HasCause Halt.Fault (S.faults store.old) (S.faults store.new) result }
@@ -62,7 +62,7 @@ fn reply_to_audit<S: Store>(
     plan: &str,
 ) -> Result<Answer, Halt>
     requires { S.stage store.old ≡ Closed }
-    ensures told { Holding (S.told store.old) station.now (λ s. Holding (S.told store.old) timetable.now (λ t. Holding (S.told store.old) plan.now (λ p. Replies reply_of result (Judged (stated_plans s t p) IsAudited)))) }
+    ensures told { Holding (S.told store.old) station.now (λ s. Holding (S.told store.old) timetable.now (λ t. Holding (S.told store.old) plan.now (λ p. Replies reply_of result (Decided (stated_plans s t p) IsAudited)))) }
     ensures files { S.told store.new ≡ S.told store.old }
     ensures closed { (IsErrOf result Halt.Fault → ⊥) → S.stage store.new ≡ Closed }
     ensures cause { HasCause Halt.Fault (S.faults store.old) (S.faults store.new) result }

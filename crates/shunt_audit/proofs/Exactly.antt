@@ -22,7 +22,7 @@ use Rattle.shunt_blocks.specs.defs.Standing.{is_too_soon, stay_of}
 use Rattle.shunt_blocks.specs.defs.Lists.{has_unit, has_position, times_unit, times_position, track_lengths, stays_of, AreInRange}
 use Rattle.shunt_audit.specs.declared.types.Finding.{Finding}
 use Rattle.shunt_audit.specs.declared.types.Finding.TheVariants.{UnitBare, UnitTwice, PlaceBare, PlaceTwice, WrongType, TooSoon, NoRouteIn, NoRouteOut, Crossing, TooLong, StatedCost}
-use Rattle.shunt_audit.specs.defs.Findings.{HasBlock, HasStay, IsOver, IsFinding, kind_of, FindingBefore, AreInOrder}
+use Rattle.shunt_audit.specs.defs.Findings.{HasBlock, HasStay, IsOver, IsFinding, kind_of, FindingBefore, AreSorted}
 use Rattle.shunt_audit.specs.defs.Listed.{noted, noted_below, by_id, lacks_way_in, lacks_way_out, bare_units, twice_units, bare_places, twice_places, wrong_types, too_soons, no_ways_in, no_ways_out, crossings_of, crossings, too_longs, cover_findings, block_findings, clash_findings, findings_in}
 use Rattle.shunt_audit.proofs.Lists.{of_flat_noted, to_flat_noted, of_below_noted, to_below_noted}
 use Rattle.shunt_audit.proofs.ById.{id_of, apart, moves, there, ascends, range_permuted}
@@ -238,10 +238,10 @@ listed_rises night blocks h = (listed_stretch night blocks h).rises
 pub exactly : (night : Night) (blocks : List Block) (f : Finding) → In f (findings_in night blocks) ↔ IsFinding night blocks f
 exactly night blocks f = (λ i. listed_from night blocks f i, λ h. listed_to night blocks f h)
 
-pub ordered : (night : Night) (blocks : List Block) → AreInRange night blocks → AreInOrder (findings_in night blocks)
+pub ordered : (night : Night) (blocks : List Block) → AreInRange night blocks → AreSorted (findings_in night blocks)
 ordered night blocks h = in_order (findings_in night blocks) (listed_rises night blocks h)
 
-pub only_one : (night : Night) (blocks : List Block) (fs : List Finding) → AreInRange night blocks → AreInOrder fs → ((f : Finding) → In f fs ↔ IsFinding night blocks f) → fs ≡ findings_in night blocks
+pub only_one : (night : Night) (blocks : List Block) (fs : List Finding) → AreInRange night blocks → AreSorted fs → ((f : Finding) → In f fs ↔ IsFinding night blocks f) → fs ≡ findings_in night blocks
 only_one night blocks fs h order same =
     unique fs (findings_in night blocks) (of_order fs order) (listed_rises night blocks h)
     (λ f. (λ i. listed_to night blocks f ((same f).0 i), λ i. (same f).1 (listed_from night blocks f i)))

@@ -8,7 +8,7 @@ use Rattle.shunt_lists.proofs.Members.{all_in, all_from, in_cases, of_flat}
 use Rattle.shunt_lists.specs.defs.Members.{In}
 use Rattle.shunt_stays.proofs.Ascending.{Ascends}
 use Rattle.shunt_audit.specs.declared.types.Finding.{Finding}
-use Rattle.shunt_audit.specs.defs.Findings.{kind_of, first_of, second_of, FindingBefore, AreInOrder}
+use Rattle.shunt_audit.specs.defs.Findings.{kind_of, first_of, second_of, FindingBefore, AreSorted}
 use Rattle.shunt_audit.specs.defs.Listed.{noted, noted_below}
 use Rattle.shunt_audit.proofs.Lists.{of_noted, of_below_noted}
 
@@ -17,11 +17,11 @@ abbrev pub Rising : List Finding → Type 0
 Rising [] = Unit {0}
 Rising (f ∷ fs) = AllByRecursion (FindingBefore f) fs × Rising fs
 
-pub in_order : (fs : List Finding) → Rising fs → AreInOrder fs
+pub in_order : (fs : List Finding) → Rising fs → AreSorted fs
 in_order [] a = λ i j d before within. absurd (omega arith)
 in_order (f ∷ fs) a = AllPairs-cons FindingBefore f fs (All-from_recursion (FindingBefore f) fs a.0) (in_order fs a.1)
 
-pub of_order : (fs : List Finding) → AreInOrder fs → Rising fs
+pub of_order : (fs : List Finding) → AreSorted fs → Rising fs
 of_order [] h = tt
 of_order (f ∷ fs) h = (recursion_from_All (FindingBefore f) fs (λ k d lt. h 0 (suc k) d (omega arith) (omega arith)), of_order fs (λ i j d before within. h (suc i) (suc j) d (omega arith) (omega arith)))
 

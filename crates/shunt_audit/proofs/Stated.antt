@@ -11,7 +11,7 @@ use Rattle.shunt_blocks.specs.defs.Lists.{AreInRange, IsFeasible, total_cost}
 use Rattle.shunt_plan.specs.declared.records.Plan.{Plan}
 use Rattle.shunt_audit.specs.declared.types.Finding.{Finding}
 use Rattle.shunt_audit.specs.declared.types.Finding.TheVariants.{UnitBare, UnitTwice, PlaceBare, PlaceTwice, WrongType, TooSoon, NoRouteIn, NoRouteOut, Crossing, TooLong, StatedCost}
-use Rattle.shunt_audit.specs.defs.Findings.{IsFinding, IsOfNight, AreFindings, AreInOrder, kind_of}
+use Rattle.shunt_audit.specs.defs.Findings.{IsFinding, IsOfNight, AreFindings, AreSorted, kind_of}
 use Rattle.shunt_audit.specs.defs.Listed.{noted, findings_in}
 use Rattle.shunt_audit.specs.defs.Plans.{IsPlanFinding, ArePlanFindings, plan_findings}
 use Rattle.shunt_audit.proofs.Lists.{of_noted, to_noted}
@@ -53,10 +53,10 @@ plan_rises night plan h =
     (joined 1 10 11 11 (findings_in night plan.blocks) (noted (misstated night plan) (stated night plan)) (omega arith) (omega arith) (omega arith) (listed_stretch night plan.blocks h)
     (one_kind 11 (noted (misstated night plan) (stated night plan)) (noted_rises (misstated night plan) (stated night plan)) (λ f i. ap kind_of (of_noted (misstated night plan) (stated night plan) f i).1))).rises
 
-pub plan_ordered : (night : Night) (plan : Plan) → AreInRange night plan.blocks → AreInOrder (plan_findings night plan)
+pub plan_ordered : (night : Night) (plan : Plan) → AreInRange night plan.blocks → AreSorted (plan_findings night plan)
 plan_ordered night plan h = in_order (plan_findings night plan) (plan_rises night plan h)
 
-pub only_plan : (night : Night) (plan : Plan) (fs : List Finding) → AreInRange night plan.blocks → AreInOrder fs → ((f : Finding) → In f fs ↔ IsPlanFinding night plan f) → fs ≡ plan_findings night plan
+pub only_plan : (night : Night) (plan : Plan) (fs : List Finding) → AreInRange night plan.blocks → AreSorted fs → ((f : Finding) → In f fs ↔ IsPlanFinding night plan f) → fs ≡ plan_findings night plan
 only_plan night plan fs h order same =
     unique fs (plan_findings night plan) (of_order fs order) (plan_rises night plan h)
     (λ f. (λ i. plan_to night plan f ((same f).0 i), λ i. (same f).1 (plan_from night plan f i)))

@@ -8,7 +8,7 @@ ghost use Rattle.shunt_blocks.specs.defs.Pins.{AreUsable};
 ghost use Rattle.shunt_blocks.specs.defs.v1.{IsPlain};
 ghost use Rattle.shunt_plan.specs.declared.records.Plan.{Plan};
 ghost use Rattle.shunt_audit.specs.declared.types.Finding.{Finding};
-ghost use Rattle.shunt_audit.specs.defs.Findings.{IsFinding, AreInOrder};
+ghost use Rattle.shunt_audit.specs.defs.Findings.{IsFinding, AreSorted};
 ghost use Rattle.shunt_audit.specs.defs.v1.{IsFinding as IsFirstFinding};
 ghost use Rattle.shunt_audit.specs.defs.Listed.{findings_in};
 ghost use Rattle.shunt_audit.specs.defs.Pins.{pin_findings};
@@ -20,8 +20,8 @@ use shunt_blocks::laws;
 /// order the blocks stand.
 pub fn findings()
     ensures exactly { (night : Night) (blocks : List Block) (f : Finding) → In f (findings_in night blocks) ↔ IsFinding night blocks f }
-    ensures in_order { (night : Night) (blocks : List Block) → AreInRange night blocks → AreInOrder (findings_in night blocks) }
-    ensures one { (night : Night) (blocks : List Block) (findings : List Finding) → AreInRange night blocks → AreInOrder findings →
+    ensures in_order { (night : Night) (blocks : List Block) → AreInRange night blocks → AreSorted (findings_in night blocks) }
+    ensures one { (night : Night) (blocks : List Block) (findings : List Finding) → AreInRange night blocks → AreSorted findings →
         ((f : Finding) → In f findings ↔ IsFinding night blocks f) → findings ≡ findings_in night blocks }
     ensures any_order { (night : Night) (blocks others : List Block) → AreInRange night blocks → IsPermutation blocks others →
         findings_in night others ≡ findings_in night blocks }
@@ -39,8 +39,8 @@ pub fn feasible()
 /// The same of a plan, which has no finding exactly where it is feasible and states its cost.
 pub fn plan_findings()
     ensures exactly { (night : Night) (plan : Plan) (f : Finding) → In f (plan_findings night plan) ↔ IsPlanFinding night plan f }
-    ensures in_order { (night : Night) (plan : Plan) → AreInRange night plan.blocks → AreInOrder (plan_findings night plan) }
-    ensures one { (night : Night) (plan : Plan) (findings : List Finding) → AreInRange night plan.blocks → AreInOrder findings →
+    ensures in_order { (night : Night) (plan : Plan) → AreInRange night plan.blocks → AreSorted (plan_findings night plan) }
+    ensures one { (night : Night) (plan : Plan) (findings : List Finding) → AreInRange night plan.blocks → AreSorted findings →
         ((f : Finding) → In f findings ↔ IsPlanFinding night plan f) → findings ≡ plan_findings night plan }
     ensures none { (night : Night) (plan : Plan) → IsInstance night → AreInRange night plan.blocks →
         (plan_findings night plan ≡ []) ↔ IsFeasible night plan.blocks × (plan.cost ≡ total_cost night plan.blocks) }

@@ -4,7 +4,7 @@ use Rattle.std.specs.Prelude.{codes, ◌==◌, if◌then◌else◌}
 use Rattle.std.proofs.lemmas.List.{append-nil}
 use Rattle.shunt_rows.specs.defs.Checks.{Check}
 use Rattle.shunt_rows.specs.defs.Fields.{is_word}
-use Rattle.shunt_rows.specs.defs.FirstFault.{AreInOrder, Tells}
+use Rattle.shunt_rows.specs.defs.FirstFault.{HasChecksInOrder, Tells}
 use Rattle.shunt_rows.proofs.InOrder.{in_if, no_word_up, Ascends}
 use Rattle.shunt_rows.proofs.Readings.{tells}
 use Rattle.shunt_instance.specs.declared.records.Station.{Station}
@@ -34,27 +34,27 @@ block_up night blocks row = record { up = (option_up night.station row).up }
 whole_up : (least : ℕ) (checks : List Check) → Ascends least checks → Ascends least (checks ++ [])
 whole_up least checks up = subst (Ascends least) (sym (append-nil checks)) up
 
-blocks_up : (night : Night) (blocks : List Block) (row : List (List ℕ)) → AreInOrder (blocks_of night blocks row)
+blocks_up : (night : Night) (blocks : List Block) (row : List (List ℕ)) → HasChecksInOrder (blocks_of night blocks row)
 unfolding blocks_of
 blocks_up night blocks row = record { up = (whole_up 13 (block_of night blocks row).checks (block_up night blocks row)).up }
 
-more_up : (night : Night) (d : Draft) (row : List (List ℕ)) → AreInOrder (plan.more_of night d row)
+more_up : (night : Night) (d : Draft) (row : List (List ℕ)) → HasChecksInOrder (plan.more_of night d row)
 unfolding plan.more_of
 more_up night d row = record { up = (whole_up 13 (blocks_of night d.blocks row).checks (record { up = (blocks_up night d.blocks row).up })).up }
 
-first_up : (row : List (List ℕ)) → AreInOrder (plan.first_of row)
+first_up : (row : List (List ℕ)) → HasChecksInOrder (plan.first_of row)
 unfolding plan.first_of
 first_up row = record { up = refl }
 
-later_up : (night : Night) (d : Draft) (row : List (List ℕ)) → AreInOrder (plan.later_of night d row)
+later_up : (night : Night) (d : Draft) (row : List (List ℕ)) → HasChecksInOrder (plan.later_of night d row)
 unfolding plan.later_of plan.cost_of
 later_up night d row = in_if (is_word row (codes "block")) (more_up night d row) (in_if (is_word row (codes "cost")) (record { up = refl }) (no_word_up d))
 
-pins_first_up : (row : List (List ℕ)) → AreInOrder (pins_first row)
+pins_first_up : (row : List (List ℕ)) → HasChecksInOrder (pins_first row)
 unfolding pins_first
 pins_first_up row = record { up = refl }
 
-pins_later_up : (night : Night) (blocks : List Block) (row : List (List ℕ)) → AreInOrder (pins_later night blocks row)
+pins_later_up : (night : Night) (blocks : List Block) (row : List (List ℕ)) → HasChecksInOrder (pins_later night blocks row)
 unfolding pins_later
 pins_later_up night blocks row = in_if (is_word row (codes "block")) (blocks_up night blocks row) (no_word_up blocks)
 
@@ -64,7 +64,7 @@ plans_tell night rows = tells (plan_format night) (record { first = first_up; la
 pub pins_tell : (night : Night) (rows : List (List (List ℕ))) → Tells (pins_format night) rows
 pins_tell night rows = tells (pins_format night) (record { first = pins_first_up; later = pins_later_up night }) rows
 
-edits_first_up : (row : List (List ℕ)) → AreInOrder (edits_first row)
+edits_first_up : (row : List (List ℕ)) → HasChecksInOrder (edits_first row)
 unfolding edits_first
 edits_first_up row = record { up = refl }
 
@@ -76,7 +76,7 @@ edit_option_up s row = by (length row == 7)
     by true = record { up = refl }
     by false = record { up = refl }
 
-turn_up : (night : Night) (before : ℕ) (row : List (List ℕ)) → AreInOrder (turn_of night before row)
+turn_up : (night : Night) (before : ℕ) (row : List (List ℕ)) → HasChecksInOrder (turn_of night before row)
 unfolding turn_of add_of runs_in drop_of park_of unpark_of cut_of join_of undo_of redo_of
 turn_up night before row =
     in_if (is_word row (codes "add")) (record { up = (edit_option_up night.station row).up })
@@ -89,7 +89,7 @@ turn_up night before row =
     (in_if (is_word row (codes "redo")) (record { up = refl }) (no_word_up turns.Undo))))))))
 
 -- behind the checks of a turn there are no more
-edits_later_up : (night : Night) (before : List Turn) (row : List (List ℕ)) → AreInOrder (edits_later night before row)
+edits_later_up : (night : Night) (before : List Turn) (row : List (List ℕ)) → HasChecksInOrder (edits_later night before row)
 unfolding edits_later
 edits_later_up night before row = record { up = (subst (Ascends 13) (sym (append-nil (turn_of night (length before) row).checks)) (record { up = (turn_up night (length before) row).up })).up }
 

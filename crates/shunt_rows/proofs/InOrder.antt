@@ -4,15 +4,15 @@ use Rattle.std.specs.Prelude.{if◌then◌else◌, nat_le, ◌&&◌}
 use Rattle.std.proofs.lemmas.Bool.{le-leb, leb-true, and_parts}
 use Rattle.shunt_rows.specs.defs.Checks.{Check, Judged}
 use Rattle.shunt_rows.specs.defs.Fields.{no_word}
-use Rattle.shunt_rows.specs.defs.FirstFault.{rank, ascends_from, AreInOrder}
+use Rattle.shunt_rows.specs.defs.FirstFault.{rank, ascends_from, HasChecksInOrder}
 
 -- a choice of two tables
-pub in_if : {A : Type 0} (b : Bool) {m n : Judged A} → AreInOrder m → AreInOrder n → AreInOrder (if b then m else n)
+pub in_if : {A : Type 0} (b : Bool) {m n : Judged A} → HasChecksInOrder m → HasChecksInOrder n → HasChecksInOrder (if b then m else n)
 in_if true p q = p
 in_if false p q = q
 
 -- a record of no known word
-pub no_word_up : {S : Type 0} (s : S) → AreInOrder (no_word s)
+pub no_word_up : {S : Type 0} (s : S) → HasChecksInOrder (no_word s)
 no_word_up s = record { up = refl }
 
 -- checks that ascend from a place

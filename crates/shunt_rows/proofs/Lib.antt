@@ -1,4 +1,5 @@
 pub mod Again
+pub mod Flexible
 pub mod Holding
 pub mod InOrder
 pub mod Joins

@@ -6,7 +6,7 @@ use Rattle.shunt_rows.specs.declared.fault.RowKind.{RowKind}
 use Rattle.shunt_rows.specs.declared.fault.RowKind.TheVariants as kinds
 use Rattle.shunt_rows.specs.defs.Checks.{Check, Judged, answer}
 use Rattle.shunt_rows.specs.defs.Formats.{Format, after_last, in_state, state_after, judged, ◌>>=◌, reads, ends, reading}
-use Rattle.shunt_rows.specs.defs.FirstFault.{IsBefore, IsFaulty, AtRecord, lacks, IsFirst, States, AreInOrder, IsInOrder, Tells}
+use Rattle.shunt_rows.specs.defs.FirstFault.{IsBefore, IsFaulty, AtRecord, lacks, IsFirst, States, HasChecksInOrder, IsInOrder, Tells}
 use Rattle.shunt_rows.proofs.Joins.{reading_is}
 use Rattle.shunt_rows.proofs.Least.{choice, all_hold, passed, first_fails, least_faulty, in_order}
 
@@ -23,10 +23,10 @@ ok_err : {A : Type 0} (r : Result A RowFault) (x : A) (e : RowFault) → r ≡ O
 ok_err r x e p q = absurd (let f = sym p ∙ q in cc)
 
 -- the tables of later records are in order, that after the last record too
-state_in_order : {S V : Type 0} (f : Format S V) → IsInOrder f → (s : S) (row : List (List ℕ)) → AreInOrder (in_state f s row)
+state_in_order : {S V : Type 0} (f : Format S V) → IsInOrder f → (s : S) (row : List (List ℕ)) → HasChecksInOrder (in_state f s row)
 state_in_order {S = S} f up s row = ⊎_elim
-    (λ p. subst (λ (m : Judged S). AreInOrder m) (sym p.1) (record { up = refl }))
-    (λ p. subst (λ (m : Judged S). AreInOrder m) (sym p.1) (up.later s row))
+    (λ p. subst (λ (m : Judged S). HasChecksInOrder m) (sym p.1) (record { up = refl }))
+    (λ p. subst (λ (m : Judged S). HasChecksInOrder m) (sym p.1) (up.later s row))
     (choice (f.has_ended s) (after_last s) (f.later s row))
 
 -- a record that is answered by its value has no fault
@@ -39,7 +39,7 @@ pub record IsLeastOf (n : ℕ) (checks : List Check) (e : RowFault) : Type 0 whe
   pub faulty : IsFaulty checks e.field e.kind
   pub least : (o : RowFault) → o.row ≡ n → IsFaulty checks o.field o.kind → (o ≡ e) ⊎ IsBefore e o
 
-faulty_first : {A : Type 0} (n : ℕ) (m : Judged A) (e : RowFault) → AreInOrder m → answer n m ≡ Err e → IsLeastOf n m.checks e
+faulty_first : {A : Type 0} (n : ℕ) (m : Judged A) (e : RowFault) → HasChecksInOrder m → answer n m ≡ Err e → IsLeastOf n m.checks e
 faulty_first n m e up is =
     let first = first_fails n m.checks m.value e is in
     record {

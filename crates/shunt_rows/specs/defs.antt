@@ -1,5 +1,6 @@
 -- The definitions of this crate.
 pub mod Records
+pub mod Rows
 pub mod Written
 pub mod Faults
 pub mod Checks

@@ -3,48 +3,68 @@ ghost use Rattle.std.specs.Prelude.{◌≡◌, ◌≢◌, [], ◌∷◌, ◌++�
 ghost use Rattle.std.specs.Fmt.{decimal};
 ghost use Rattle.csv.specs.Records.{fields_of};
 ghost use Rattle.shunt_rows.specs.defs.Records.{text_of_row, ReadsBack};
+ghost use Rattle.shunt_rows.specs.defs.Rows.{IsAtRow, rows_text};
 ghost use Rattle.shunt_rows.specs.defs.Written.{Written, side_text};
 
-use csv::{ByteRecord, WriterBuilder};
+use csv::{ByteRecord, Writer, WriterBuilder};
 use shunt_base::Side;
 use std::alloc::{AllocError, Global};
+use std::fmt::{self, Debug, Formatter, Write};
 use std::marker::Model;
 
-// The text of one record.
-fn row_bytes(alloc: Global, row: &ByteRecord) -> Result<Vec<u8>, AllocError>
-    ensures { IfOk result (λ v. v.items ≡ text_of_row (fields_of row.now)) }
+// A writer of rows of any lengths, before its first.
+fn no_rows(alloc: Global) -> Writer<Vec<u8>>
+    ensures text { rows_text result ≡ [] }
+    ensures at_row { IsAtRow result }
 {
-    let mut writer = WriterBuilder::new().from_writer(Vec::new(alloc));
-    if writer.write_byte_record(row).is_err() {
+    WriterBuilder::new()
+        .flexible(true)
+        .from_writer(Vec::new(alloc))
+}
+
+// Writes a row behind those that were written, or begins anew where there is no memory.
+#[tactic(auto, using(crate::proofs::Flexible::one_more))]
+fn write_row(alloc: Global, rows: &mut Writer<Vec<u8>>, row: &ByteRecord) -> Result<(), AllocError>
+    requires { IsAtRow rows.old }
+    ensures text { OnOk result (rows_text rows.new ≡ rows_text rows.old ++ text_of_row (fields_of row.now)) }
+    ensures at_row { IsAtRow rows.new }
+{
+    if rows.write_byte_record(row).is_err() {
+        *rows = no_rows(alloc);
         return Err(AllocError);
     }
-    match writer.into_inner() {
-        Ok(text) => Ok(text),
-        Err(_) => Err(AllocError),
-    }
+    Ok(())
 }
 
 /// Writes records one after the other, as `csv` does; seen as the text of the rows that were ended, and the open row.
 ///
-/// After an error it may hold part of a row, and is to be dropped.
-#[derive(Debug, Drop)]
+/// After an error it may have lost its rows, and is to be dropped.
+#[derive(Drop)]
 pub struct RowWriter {
     alloc: Global,
-    text: Vec<u8>,
+    rows: Writer<Vec<u8>>,
     row: ByteRecord,
 }
 
 impl Model for RowWriter {
     ghost use Rattle.std.specs.Prelude.{◌≡◌, []};
     ghost use Rattle.csv.specs.Records.{fields_of, partial_of};
-    ghost use Rattle.shunt_rows.specs.defs.Records.{text_of_row, ReadsBack};
+    ghost use Rattle.shunt_rows.specs.defs.Rows.{IsAtRow, rows_text};
     ghost use Rattle.shunt_rows.specs.defs.Written.{Written};
 
     ghost Value = { Written };
 
-    ghost view = { λ w. record { text = w.text.items; row = fields_of w.row } };
+    ghost view = { λ w. record { text = rows_text w.rows; row = fields_of w.row } };
 
-    ghost invariant = { λ w. partial_of w.row ≡ [] };
+    ghost invariant = { λ w. (partial_of w.row ≡ []) × IsAtRow w.rows };
+}
+
+impl Debug for RowWriter {
+    fn fmt<W: Write>(&self, f: &mut Formatter<W>) -> fmt::Result {
+        f.debug_struct("RowWriter")
+            .field("row", &self.row)
+            .finish_non_exhaustive()
+    }
 }
 
 impl RowWriter {
@@ -54,7 +74,7 @@ impl RowWriter {
     {
         Ok(RowWriter {
             alloc,
-            text: Vec::new(alloc),
+            rows: no_rows(alloc),
             row: ByteRecord::new(alloc),
         })
     }
@@ -93,8 +113,7 @@ impl RowWriter {
         requires { self.old.row ≢ [] }
         ensures { OnOk result (self.new ≡ record { text = self.old.text ++ text_of_row self.old.row; row = [] }) }
     {
-        let one = row_bytes(self.alloc, &self.row)?;
-        self.text.extend_from_slice(&one)?;
+        write_row(self.alloc, &mut self.rows, &self.row)?;
         self.row.clear();
         Ok(())
     }
@@ -106,6 +125,6 @@ impl RowWriter {
         ensures text { IfOk result (λ v. v.items ≡ self.text) }
         ensures again { IfOk result (λ v. ReadsBack self.text v.items) }
     {
-        Ok(self.text)
+        self.rows.into_inner().map_err(|_| AllocError)
     }
 }

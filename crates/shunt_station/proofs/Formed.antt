@@ -31,7 +31,7 @@ use Rattle.shunt_instance.specs.declared.records.Permit.{Permit}
 use Rattle.shunt_instance.specs.declared.records.Station.{Station}
 use Rattle.shunt_instance.specs.defs.Words.{is_open, is_open_at, joins, way_of}
 use Rattle.shunt_instance.specs.defs.Wellformed.{IsUnitType, IsTrack, IsRoute, IsPermit, IsStation}
-use Rattle.shunt_station.specs.defs.Stating.{Draft, Ends, empty_station, first_of, type_of_name, platform_of_name, track_number, ends_of, type_of, platform_of, track_of, opens, stands, route_of, is_permitted, permit_of, cost_of, later_of, station_format}
+use Rattle.shunt_station.specs.defs.Stating.{Draft, OpenSides, empty_station, first_of, type_of_name, platform_of_name, track_number, open_sides_of, type_of, platform_of, track_of, opens, stands, route_of, is_permitted, permit_of, cost_of, later_of, station_format}
 
 -- the lists of a station, each with what is true of it
 abbrev AreTypes : List UnitType → Type 0
@@ -181,11 +181,11 @@ if_is P true r s f g = f refl
 if_is P false r s f g = g refl
 
 -- sides that are named are open at one of them
-AreEnds : Option Ends → Type 0
-AreEnds o = (e : Ends) → o ≡ Some e → (e.side_a || e.side_b) ≡ true
+AreEnds : Option OpenSides → Type 0
+AreEnds o = (e : OpenSides) → o ≡ Some e → (e.side_a || e.side_b) ≡ true
 
-ends_open : (text : List ℕ) → AreEnds (ends_of text)
-unfolding ends_of AreEnds
+ends_open : (text : List ℕ) → AreEnds (open_sides_of text)
+unfolding open_sides_of AreEnds
 ends_open text =
     if_is AreEnds (bytes_eq text (codes "A")) _ _ (λ _. λ e is. cc)
     (λ _. if_is AreEnds (bytes_eq text (codes "B")) _ _ (λ _. λ e is. cc)
@@ -201,8 +201,8 @@ track_formed n d t row s e =
     let size = new.1.1 in
     let sides = size.1 in
     let long = within 1 50000 (number_in row 3 1 50000).value size.0 in
-    let all_open : Ends = record { side_a = true; side_b = true } in
-    let ends = (found all_open (ends_of (at row 4)) 4 kinds.Kind).value in
+    let all_open : OpenSides = record { side_a = true; side_b = true } in
+    let ends = (found all_open (open_sides_of (at row 4)) 4 kinds.Kind).value in
     let old = d.station in
     let t0 : Track = record { name = at row 2; length = (number_in row 3 1 50000).value; side_a = ends.side_a; side_b = ends.side_b } in
     let next : Station = record old { tracks = old.tracks ++ t0 ∷ [] } in

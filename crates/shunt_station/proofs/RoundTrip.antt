@@ -36,7 +36,7 @@ use Rattle.shunt_instance.specs.declared.records.Station.{Station}
 use Rattle.shunt_instance.specs.defs.Words.{is_open_at, joins, way_of}
 use Rattle.shunt_instance.specs.defs.Wellformed.{IsUnitType, IsTrack, IsRoute, IsPermit, IsStation}
 use Rattle.shunt_instance.proofs.Found.{found_there}
-use Rattle.shunt_station.specs.defs.Stating.{Draft, Ends, empty_station, first_of, type_of_name, platform_of_name, track_number, ends_of, type_of, platform_of, track_of, opens, stands, route_of, is_permitted, permit_of, cost_of, later_of, station_format}
+use Rattle.shunt_station.specs.defs.Stating.{Draft, OpenSides, empty_station, first_of, type_of_name, platform_of_name, track_number, open_sides_of, type_of, platform_of, track_of, opens, stands, route_of, is_permitted, permit_of, cost_of, later_of, station_format}
 use Rattle.shunt_station.specs.defs.Writing.{type_name, platform_name, track_name, ends_text, head_row, type_row, platform_row, track_row, route_row, permit_row, cost_row, rows_of, ReadsAsStation}
 use Rattle.shunt_station.proofs.Plain.{station_plain}
 
@@ -71,17 +71,17 @@ platform_read s f n xs y zs e =
     holding n m.checks m.value (refl, (fewer s.platforms xs zs y 30 f.few_platforms e, (name_read y is, (ap not new, tt))))
 
 -- what is open at a side is read from its letters
-ends_read : (a b : Bool) → (a || b) ≡ true → ends_of (ends_text a b) ≡ Some (record { side_a = a; side_b = b })
-unfolding ends_of
+ends_read : (a b : Bool) → (a || b) ≡ true → open_sides_of (ends_text a b) ≡ Some (record { side_a = a; side_b = b })
+unfolding open_sides_of
 ends_read true true e = refl
 ends_read true false e = refl
 ends_read false true e = refl
 ends_read false false e = absurd (true≢false (sym e))
 
-abbrev track_from : List ℕ → ℕ → Ends → Track
+abbrev track_from : List ℕ → ℕ → OpenSides → Track
 track_from name size sides = record { name = name; length = size; side_a = sides.side_a; side_b = sides.side_b }
 
-abbrev both_ends : Ends
+abbrev both_ends : OpenSides
 both_ends = record { side_a = true; side_b = true }
 
 track_read : (s : Station) → IsStation s → (n : ℕ) (xs : List Track) (y : Track) (zs : List Track) → s.tracks ≡ xs ++ y ∷ zs
@@ -93,7 +93,7 @@ track_read s f n xs y zs e =
     let sides = ends_read y.side_a y.side_b is.open_at in
     let new = not_before (λ t. t.name) (λ t. bytes_eq t.name y.name) xs zs y (λ t. by_name y.name t.name) (subst (λ (l : List Track). AreDistinct (map (λ t. t.name) l)) e f.track_names) in
     let m = track_of (partial s s.types s.platforms xs [] []) (track_row y) in
-    let same = ap (λ a. track_from y.name a (unwrap_or (ends_of (ends_text y.side_a y.side_b)) both_ends)) size.value ∙ ap (λ o. track_from y.name y.length (unwrap_or o both_ends)) sides in
+    let same = ap (λ a. track_from y.name a (unwrap_or (open_sides_of (ends_text y.side_a y.side_b)) both_ends)) size.value ∙ ap (λ o. track_from y.name y.length (unwrap_or o both_ends)) sides in
     holding n m.checks m.value (refl, (fewer s.tracks xs zs y 60 f.few_tracks e, (name_read y.name is.name, (ap not new, (size.there, (size.range, (ap is_some sides, tt)))))))
     ∙ ap (λ (t : Track). Ok (partial s s.types s.platforms (xs ++ t ∷ []) [] [])) same
 

@@ -5,7 +5,7 @@ ghost use Rattle.shunt_base.specs.defs.Sides.{same_side};
 ghost use Rattle.shunt_rows.specs.defs.Checks.{answer};
 ghost use Rattle.shunt_rows.specs.defs.Given.{Gives};
 ghost use Rattle.shunt_instance.specs.defs.Words.{is_open, joins};
-ghost use Rattle.shunt_station.specs.defs.Stating.{Draft, Ends, first_of, type_of_name, platform_of_name, track_number, opens, stands, is_permitted, ends_of, type_of, platform_of, track_of, route_of, permit_of, cost_of, later_of, station_format};
+ghost use Rattle.shunt_station.specs.defs.Stating.{Draft, OpenSides, first_of, type_of_name, platform_of_name, track_number, opens, stands, is_permitted, open_sides_of, type_of, platform_of, track_of, route_of, permit_of, cost_of, later_of, station_format};
 
 use shunt_base::{Name, PlatformId, Side, TrackId, TypeId, is_name};
 use shunt_instance::{Permit, Route, Station, Track, UnitType};
@@ -89,16 +89,16 @@ struct Sides {
 }
 
 impl Model for Sides {
-    ghost use Rattle.shunt_station.specs.defs.Stating.{Ends};
+    ghost use Rattle.shunt_station.specs.defs.Stating.{OpenSides};
 
-    ghost Value = { Ends };
+    ghost Value = { OpenSides };
 
     ghost view = { λ s. record { side_a = s.a; side_b = s.b } };
 }
 
-#[tactic(auto, unfolding(crate::specs::defs::Stating::ends_of))]
+#[tactic(auto, unfolding(crate::specs::defs::Stating::open_sides_of))]
 fn sides_named(text: &[u8]) -> Option<Sides>
-    ensures { result ≡ ends_of text.now }
+    ensures { result ≡ open_sides_of text.now }
 {
     if text == b"A".as_slice() {
         return Some(Sides { a: true, b: false });

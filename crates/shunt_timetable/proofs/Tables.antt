@@ -5,7 +5,7 @@ use Rattle.std.proofs.lemmas.List.{append-nil}
 use Rattle.shunt_rows.specs.defs.Checks.{Check}
 use Rattle.shunt_rows.specs.defs.Fields.{is_word}
 use Rattle.shunt_instance.specs.defs.Words.{unit_count}
-use Rattle.shunt_rows.specs.defs.FirstFault.{AreInOrder, Tells}
+use Rattle.shunt_rows.specs.defs.FirstFault.{HasChecksInOrder, Tells}
 use Rattle.shunt_instance.specs.declared.records.Station.{Station}
 use Rattle.shunt_instance.specs.declared.records.Train.{Train}
 use Rattle.shunt_rows.proofs.InOrder.{in_if, no_word_up, Ascends, none_left, one_before}
@@ -18,7 +18,7 @@ units_up station before t row k zero least le = none_left
 units_up station before t row k (suc more) least le =
     one_before le (one_before (omega arith) (units_up station before (unit_of station before t row k).value row (k + 1) more (12 * k + 8) (omega arith)))
 
-first_up : (row : List (List ℕ)) → AreInOrder (first_of row)
+first_up : (row : List (List ℕ)) → HasChecksInOrder (first_of row)
 unfolding first_of
 first_up row = record { up = refl }
 
@@ -34,19 +34,19 @@ moving_up station trains row = record { up = (units_up station (unit_count train
 whole_up : (least : ℕ) (checks : List Check) → Ascends least checks → Ascends least (checks ++ [])
 whole_up least checks up = subst (Ascends least) (sym (append-nil checks)) up
 
-stand_up : (station : Station) (s : Listed) (row : List (List ℕ)) → AreInOrder (stand_of station s row)
+stand_up : (station : Station) (s : Listed) (row : List (List ℕ)) → HasChecksInOrder (stand_of station s row)
 unfolding stand_of
 stand_up station s row = record { up = (whole_up 13 (standing_of station s.arrive row).checks (standing_up station s.arrive row)).up }
 
-arrive_up : (station : Station) (s : Listed) (row : List (List ℕ)) → AreInOrder (arrive_of station s row)
+arrive_up : (station : Station) (s : Listed) (row : List (List ℕ)) → HasChecksInOrder (arrive_of station s row)
 unfolding arrive_of
 arrive_up station s row = record { up = (whole_up 13 (moving_of station s.arrive row).checks (moving_up station s.arrive row)).up }
 
-depart_up : (station : Station) (s : Listed) (row : List (List ℕ)) → AreInOrder (depart_of station s row)
+depart_up : (station : Station) (s : Listed) (row : List (List ℕ)) → HasChecksInOrder (depart_of station s row)
 unfolding depart_of
 depart_up station s row = record { up = (whole_up 13 (moving_of station s.depart row).checks (moving_up station s.depart row)).up }
 
-later_up : (station : Station) (s : Listed) (row : List (List ℕ)) → AreInOrder (later_of station s row)
+later_up : (station : Station) (s : Listed) (row : List (List ℕ)) → HasChecksInOrder (later_of station s row)
 unfolding later_of
 later_up station s row = in_if (is_word row (codes "arrive")) (arrive_up station s row)
     (in_if (is_word row (codes "depart")) (depart_up station s row)

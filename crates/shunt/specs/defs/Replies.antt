@@ -40,9 +40,9 @@ abbrev pub refusal : List ℕ → Reply
 refusal text = says outcome.Input text
 
 -- the first input that isn't accepted decides, else what follows of its value
-abbrev pub Judged : {X : Type 0} → Result X (List ℕ) → (X → Reply → Type 0) → Reply → Type 0
-Judged (Ok x) P r = P x r
-Judged (Err text) P r = r ≡ refusal text
+abbrev pub Decided : {X : Type 0} → Result X (List ℕ) → (X → Reply → Type 0) → Reply → Type 0
+Decided (Ok x) P r = P x r
+Decided (Err text) P r = r ≡ refusal text
 
 -- the list that pairs the k-th unit of each type with the k-th position of that type
 abbrev pub paired : Night → List ℕ
@@ -63,8 +63,8 @@ abbrev pub IsMatched : Night → Reply → Type 0
 IsMatched night r = IsPaired night r ⊎ IsShort night r
 
 -- the plan is feasible in its night and states its cost
-abbrev pub IsSound : Night × Plan → Type 0
-IsSound x = IsFeasible x.0 x.1.blocks × (x.1.cost ≡ total_cost x.0 x.1.blocks)
+abbrev pub IsClean : Night × Plan → Type 0
+IsClean x = IsFeasible x.0 x.1.blocks × (x.1.cost ≡ total_cost x.0 x.1.blocks)
 
 -- an audit ends well where it finds nothing
 abbrev pub audit_outcome : List Finding → Outcome
@@ -84,7 +84,7 @@ IsAnswer (Audit s t p) x r = IsAudited x r
 
 -- the defined answer of a command: the first input file that isn't accepted decides, else the command's own answer
 abbrev pub IsReply : Call → Files → Reply → Type 0
-IsReply c files r = Judged (stated_in c files) (IsAnswer c) r
+IsReply c files r = Decided (stated_in c files) (IsAnswer c) r
 
 -- the reply is the defined answer over what the files hold, where that is told, or else over some contents of all files
 abbrev pub IsReplyOver : Call → Option Files → Reply → Type 0

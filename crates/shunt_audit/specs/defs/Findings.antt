@@ -109,10 +109,10 @@ abbrev pub FindingBefore : Finding → Finding → Type 0
 FindingBefore f g = (kind_of f < kind_of g) ⊎ ((kind_of f ≡ kind_of g) × ((first_of f < first_of g) ⊎ ((first_of f ≡ first_of g) × (second_of f < second_of g))))
 
 -- each comes before all later ones
-abbrev pub AreInOrder : List Finding → Type 0
-AreInOrder findings = AllPairs FindingBefore findings
+abbrev pub AreSorted : List Finding → Type 0
+AreSorted findings = AllPairs FindingBefore findings
 
 -- in order, exactly the findings of these blocks
 pub record AreFindings (night : Night) (blocks : List Block) (findings : List Finding) : Type 0 where
-  pub in_order : AreInOrder findings
+  pub in_order : AreSorted findings
   pub exactly : (f : Finding) → In f findings ↔ IsFinding night blocks f

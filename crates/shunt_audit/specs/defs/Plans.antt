@@ -6,7 +6,7 @@ use Rattle.shunt_blocks.specs.defs.Lists.{total_cost}
 use Rattle.shunt_plan.specs.declared.records.Plan.{Plan}
 use Rattle.shunt_audit.specs.declared.types.Finding.{Finding}
 use Rattle.shunt_audit.specs.declared.types.Finding.TheVariants.{StatedCost}
-use Rattle.shunt_audit.specs.defs.Findings.{IsFinding, AreInOrder}
+use Rattle.shunt_audit.specs.defs.Findings.{IsFinding, AreSorted}
 use Rattle.shunt_audit.specs.defs.Listed.{noted, findings_in}
 
 -- the plan states another cost than its blocks have
@@ -24,5 +24,5 @@ plan_findings night plan = findings_in night plan.blocks ++ noted (not (plan.cos
 
 -- in order, exactly the findings of this plan
 pub record ArePlanFindings (night : Night) (plan : Plan) (findings : List Finding) : Type 0 where
-  pub in_order : AreInOrder findings
+  pub in_order : AreSorted findings
   pub exactly : (f : Finding) → In f findings ↔ IsPlanFinding night plan f

@@ -72,13 +72,13 @@ ascends_from least [] = true
 ascends_from least (c ∷ checks) = nat_le least (rank c) && ascends_from (rank c) checks
 
 -- the checks of a record stand in the order of fields and then kinds, and look at no field 0
-pub record AreInOrder {A : Type 0} (m : Judged A) : Type 0 where
+pub record HasChecksInOrder {A : Type 0} (m : Judged A) : Type 0 where
   pub up : IsTrue (ascends_from 13 m.checks)
 
 -- each table of the format is in order
 pub record IsInOrder {S V : Type 0} (f : Format S V) : Type 0 where
-  pub first : (row : List (List ℕ)) → AreInOrder (f.first row)
-  pub later : (s : S) (row : List (List ℕ)) → AreInOrder (f.later s row)
+  pub first : (row : List (List ℕ)) → HasChecksInOrder (f.first row)
+  pub later : (s : S) (row : List (List ℕ)) → HasChecksInOrder (f.later s row)
 
 -- reading tells what records state: a value or a first fault, and never both
 pub record Tells {S V : Type 0} (f : Format S V) (rows : List (List (List ℕ))) : Type 0 where

@@ -56,7 +56,7 @@ unfoldable pub platform_of_name : Station → List ℕ → Option PlatformId
 platform_of_name s name = option_map (λ k. record { 0 = k }) (position (λ p. bytes_eq p name) s.platforms)
 
 -- At which sides a track is open.
-pub record Ends : Type 0 where
+pub record OpenSides : Type 0 where
   pub side_a : Bool
   pub side_b : Bool
 
@@ -65,8 +65,8 @@ unfoldable pub track_number : Station → List ℕ → Option TrackId
 track_number s name = track_of_name s name
 
 -- the sides that `A`, `B` and `AB` name
-unfoldable pub ends_of : List ℕ → Option Ends
-ends_of text =
+unfoldable pub open_sides_of : List ℕ → Option OpenSides
+open_sides_of text =
     if bytes_eq text (codes "A") then Some record { side_a = true; side_b = false }
     else if bytes_eq text (codes "B") then Some record { side_a = false; side_b = true }
     else if bytes_eq text (codes "AB") then Some record { side_a = true; side_b = true }
@@ -100,7 +100,7 @@ track_of d row = do
   _ ← must (is_name_text (at row 2)) 2 kinds.Name
   _ ← must (not (has_track d.station.tracks (at row 2))) 2 kinds.Repeat
   size ← number_in row 3 1 50000
-  sides ← found (record { side_a = true; side_b = true }) (ends_of (at row 4)) 4 kinds.Kind
+  sides ← found (record { side_a = true; side_b = true }) (open_sides_of (at row 4)) 4 kinds.Kind
   says record d { station = record d.station { tracks = d.station.tracks ++ record { name = at row 2; length = size; side_a = sides.side_a; side_b = sides.side_b } ∷ [] } }
 
 -- whether the track with a number is open at a side

@@ -1,0 +1,3 @@
+mod Parts
+mod Moments
+mod Capacity

@@ -1,7 +1,8 @@
 mod Parts
 mod Moments
 mod Capacity
-mod Signed
+pub mod Signed
 mod Longer
 mod Room
 mod Rising
+pub mod Sizes

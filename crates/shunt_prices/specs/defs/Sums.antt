@@ -1,5 +1,5 @@
 -- Sums of signed numbers.
-use Rattle.std.specs.Prelude.{ℕ, zero, suc, ℤ, pos, ◌+ℤ◌, List, [], ◌∷◌}
+use Rattle.std.specs.Prelude.{ℕ, zero, suc, ℤ, pos, ◌+ℤ◌, neg_ℤ, ◌≤ℤ◌, List, [], ◌∷◌}
 
 -- the values of these, added up
 abbrev pub sum_z : {X : Type 0} → (X → ℤ) → List X → ℤ
@@ -10,3 +10,8 @@ sum_z value (x ∷ xs) = value x +ℤ sum_z value xs
 abbrev pub sum_z_below : ℕ → (ℕ → ℤ) → ℤ
 sum_z_below zero value = pos 0
 sum_z_below (suc n) value = sum_z_below n value +ℤ value n
+
+-- within plus or minus a number
+pub record IsWithin (most : ℕ) (z : ℤ) : Type 0 where
+  pub low : neg_ℤ (pos most) ≤ℤ z
+  pub high : z ≤ℤ pos most

@@ -6,3 +6,6 @@ mod Longer
 mod Room
 mod Rising
 pub mod Sizes
+mod Whole
+mod Dual
+mod Ends

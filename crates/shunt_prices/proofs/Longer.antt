@@ -53,10 +53,10 @@ module _ (places : PlaceLaws) (night : Night) where
   position_end : (s : Shape) → AreRunsWithin night s → position_from night s + s.n ≤ position_total night
   position_end s r = let lt = places.position_in night s (position_from night s + (s.n - 1)) r (record { from = omega arith; to = omega (arith, r.n) }) in omega (arith, lt, r.n)
 
-  unit_mask : (path : List Block) (u : ℕ) → u < unit_total night → get_or (masks_of night path).units u true ≡ not (times_unit night path u == 0)
+  pub unit_mask : (path : List Block) (u : ℕ) → u < unit_total night → get_or (masks_of night path).units u true ≡ not (times_unit night path u == 0)
   unit_mask path u lt = get_or-map-range_with_len (λ w. not (times_unit night path w == 0)) 0 (unit_total night) u u true lt (omega arith)
 
-  place_mask : (path : List Block) (v : ℕ) → v < position_total night → get_or (masks_of night path).places v true ≡ not (times_position night path v == 0)
+  pub place_mask : (path : List Block) (v : ℕ) → v < position_total night → get_or (masks_of night path).places v true ≡ not (times_position night path v == 0)
   place_mask path v lt = get_or-map-range_with_len (λ w. not (times_position night path w == 0)) 0 (position_total night) v v true lt (omega arith)
 
   -- ---- cases still hold

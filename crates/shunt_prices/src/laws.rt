@@ -1,5 +1,5 @@
 //! What follows from the definitions of this crate.
-ghost use Rattle.std.specs.Prelude.{Option, ◌≡◌, ◌<◌, ◌≤◌, ℕ, ℤ, ◌+ℤ◌, ◌-ℤ◌, ◌≤ℤ◌, All, List, [], ◌∷◌, ◌++◌, length, sum_by};
+ghost use Rattle.std.specs.Prelude.{Option, pos, ◌+◌, ◌*◌, ◌*ℤ◌, ◌≡◌, ◌<◌, ◌≤◌, ℕ, ℤ, ◌+ℤ◌, ◌-ℤ◌, ◌≤ℤ◌, All, List, [], ◌∷◌, ◌++◌, length, sum_by};
 ghost use Rattle.shunt_lists.specs.defs.Members.{In};
 ghost use Rattle.shunt_base.specs.declared.duals.Price.{Price};
 ghost use Rattle.shunt_base.specs.declared.duals.Duals.{Duals};
@@ -10,26 +10,33 @@ ghost use Rattle.shunt_blocks.specs.declared.records.Block.{Block};
 ghost use Rattle.shunt_blocks.specs.declared.records.Park.{Park};
 ghost use Rattle.shunt_blocks.specs.defs.Shapes.{shape_of, AreRunsWithin, IsWithinTrains};
 ghost use Rattle.shunt_blocks.specs.defs.Blocks.{IsBlockButId};
-ghost use Rattle.shunt_blocks.specs.defs.Lists.{CanStand, ShareNothing, RunsThrough, placed};
+ghost use Rattle.shunt_blocks.specs.defs.Lists.{CanStand, ShareNothing, RunsThrough, placed, IsFeasible, total_cost};
+ghost use Rattle.shunt_blocks.specs.defs.Pins.{Keeps};
 ghost use Rattle.shunt_blocks.specs.defs.Costs.{cost_with};
 ghost use Rattle.shunt_choices.specs.defs.Paths.{Masks, masks_of};
-ghost use Rattle.shunt_prices.specs.defs.Sums.{IsWithin};
-ghost use Rattle.shunt_prices.specs.defs.Prices.{count, counted, most, price_part_with, paid_at_most};
-ghost use Rattle.shunt_prices.specs.defs.Limits.{IsPrice, ArePrices, IsValue, AreDuals, IsCase, AreCases, from_of};
-ghost use Rattle.shunt_prices.specs.defs.Cases.{IsFreeBlock, HasRoom, CasesHold, weight_with, weight, duals_over};
-ghost use Rattle.shunt_prices.specs.defs.Bounds.{uncovered_alphas, uncovered_betas, most_surcharge, sum_at, case_sum, IsOpenAt, IsBoundOf, IsCasesBound};
+ghost use Rattle.shunt_prices.specs.defs.Sums.{sum_z, IsWithin};
+ghost use Rattle.shunt_prices.specs.defs.Prices.{count, counted, most, price_part_with, price_part, paid_at_most};
+ghost use Rattle.shunt_prices.specs.defs.Limits.{IsPrice, ArePrices, IsValue, AreDuals, IsCase, AreCases, from_of, plain};
+ghost use Rattle.shunt_prices.specs.defs.Cases.{IsFreeBlock, HasRoom, CasesHold, DualsHold, weight_with, weight, duals_over};
+ghost use Rattle.shunt_prices.specs.defs.Bounds.{uncovered_alphas, uncovered_betas, most_surcharge, sum_at, case_sum, unparked_in, IsOpenAt, IsBoundOf, IsCasesBound, IsDualsBound};
 
-use shunt_blocks::laws::{places, shapes, stays_of_blocks};
-use shunt_instance::laws::instances;
+use shunt_blocks::laws::{
+    feasible_lists, few_blocks, ids_do_not_matter, places, shapes, stays_of_blocks,
+};
+use shunt_choices::laws::held_choices;
+use shunt_instance::laws::{instances, unit_numbers};
 use shunt_stays::laws::standing_together;
 
 /// Of blocks whose run goes through, what a price counts of those that stand at its moment adds up to at most its most:
-/// where the run takes their own ids, and where the blocks share nothing and it takes their places as ids.
+/// where the run takes their own ids, and where the blocks share nothing and it takes their places as ids. So their price parts
+/// add up to at most what the prices take at most.
 pub fn capacity()
     ensures own_ids { (night : Night) (blocks : List Block) (price : Price) → IsInstance night → CanStand night blocks → All (IsBlockButId night) blocks →
         RunsThrough night blocks → IsPrice night price → sum_by (counted night price) blocks ≤ most night price }
     ensures placed { (night : Night) (blocks : List Block) (price : Price) → IsInstance night → All (IsBlockButId night) blocks → ShareNothing night blocks →
         RunsThrough night (placed blocks) → IsPrice night price → sum_by (counted night price) blocks ≤ most night price }
+    ensures parts { (night : Night) (blocks : List Block) (prices : List Price) → IsInstance night → All (IsBlockButId night) blocks → ShareNothing night blocks →
+        RunsThrough night (placed blocks) → ArePrices night prices → sum_by (price_part night prices) blocks ≤ paid_at_most night prices }
 {
     instances();
     standing_together();
@@ -77,6 +84,33 @@ pub fn bounds_rise()
     shapes();
     places();
 }
+
+/// Weak duality: where cases hold at a path that shares nothing, each feasible plan that keeps the path costs at least its bound,
+/// and so it is with plain duals, which are one case.
+pub fn weak_duality()
+    ensures cases { (night : Night) (plan path : List Block) (cases : List Case) (bound : ℤ) → IsInstance night → IsFeasible night plan → ShareNothing night path →
+        Keeps plan path → AreCases night cases → CasesHold night path cases → IsCasesBound night path cases bound → bound ≤ℤ pos (total_cost night plan) }
+    ensures duals { (night : Night) (plan path : List Block) (d : Duals) (bound : ℤ) → IsInstance night → IsFeasible night plan → ShareNothing night path →
+        Keeps plan path → AreDuals night d → DualsHold night path d → IsDualsBound night path d bound → bound ≤ℤ pos (total_cost night plan) }
+    ensures one_case { (night : Night) (d : Duals) → AreDuals night d → AreCases night (plain d) }
+{
+    instances();
+    unit_numbers();
+    standing_together();
+    stays_of_blocks();
+    shapes();
+    places();
+    few_blocks();
+    feasible_lists();
+    ids_do_not_matter();
+    held_choices();
+}
+
+/// The weights of blocks add up to 1000 times their cost, their price parts, and the multiplier for each that is unparked.
+pub fn weights()
+    ensures { (night : Night) (c : Case) (path : List Block) → sum_z (weight night c) path ≡
+        pos (1000 * total_cost night path + sum_by (price_part night c.duals.prices) path) +ℤ (c.multiplier *ℤ pos (unparked_in path)) }
+{}
 
 /// Each sum has one bound, and a greater sum has no lesser bound. A path has at most one bound by cases.
 pub fn bounds()

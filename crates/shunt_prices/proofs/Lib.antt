@@ -9,3 +9,4 @@ pub mod Sizes
 mod Whole
 mod Dual
 mod Ends
+mod Examples

@@ -10,3 +10,4 @@ mod Whole
 mod Dual
 mod Ends
 mod Examples
+mod Raised

@@ -15,10 +15,11 @@ ghost use Rattle.shunt_blocks.specs.defs.Pins.{Keeps};
 ghost use Rattle.shunt_blocks.specs.defs.Costs.{cost_with};
 ghost use Rattle.shunt_choices.specs.defs.Paths.{Masks, masks_of};
 ghost use Rattle.shunt_prices.specs.defs.Sums.{sum_z, IsWithin};
-ghost use Rattle.shunt_prices.specs.defs.Prices.{count, counted, most, price_part_with, price_part, paid_at_most};
+ghost use Rattle.shunt_prices.specs.defs.Prices.{track_length, count, counted_with, counted, most, price_part_with, price_part, paid_at_most};
 ghost use Rattle.shunt_prices.specs.defs.Limits.{IsPrice, ArePrices, IsValue, AreDuals, IsCase, AreCases, from_of, plain};
 ghost use Rattle.shunt_prices.specs.defs.Cases.{IsFreeBlock, HasRoom, CasesHold, DualsHold, weight_with, weight, duals_over};
 ghost use Rattle.shunt_prices.specs.defs.Bounds.{uncovered_alphas, uncovered_betas, most_surcharge, sum_at, case_sum, unparked_in, IsOpenAt, IsBoundOf, IsCasesBound, IsDualsBound};
+ghost use Rattle.shunt_prices.specs.defs.Steps.{length_price, raised, IsPriceStep};
 
 use shunt_blocks::laws::{
     feasible_lists, few_blocks, ids_do_not_matter, places, shapes, stays_of_blocks,
@@ -110,6 +111,20 @@ pub fn weak_duality()
 pub fn weights()
     ensures { (night : Night) (c : Case) (path : List Block) → sum_z (weight night c) path ≡
         pos (1000 * total_cost night path + sum_by (price_part night c.duals.prices) path) +ℤ (c.multiplier *ℤ pos (unparked_in path)) }
+{}
+
+/// Where the price of kind length for a track and a train rises by 1, the price part of a shape grows by what that price counts of
+/// it, what the prices take at most grows by the track's length, and duals that hold still hold. A price step from duals within the
+/// limits gives duals within them that hold.
+pub fn price_steps()
+    ensures part { (night : Night) (track train : ℕ) (prices : List Price) (s : Shape) (park : Option Park) →
+        price_part_with night (raised track train prices) s park ≡ price_part_with night prices s park + counted_with night (length_price track train) s park }
+    ensures paid { (night : Night) (track train : ℕ) (prices : List Price) →
+        paid_at_most night (raised track train prices) ≡ paid_at_most night prices + track_length night track }
+    ensures raised { (night : Night) (path : List Block) (track train : ℕ) (d : Duals) → DualsHold night path d →
+        DualsHold night path (record d { prices = raised track train d.prices }) }
+    ensures step { (night : Night) (path : List Block) (old new : Duals) → AreDuals night old → IsPriceStep night path old new →
+        AreDuals night new × DualsHold night path new }
 {}
 
 /// Each sum has one bound, and a greater sum has no lesser bound. A path has at most one bound by cases.

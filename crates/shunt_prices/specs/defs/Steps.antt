@@ -19,9 +19,13 @@ is_by_length (kind.Parts r) = false
 abbrev pub is_length_price : ℕ → ℕ → Price → Bool
 is_length_price track train price = is_by_length price.kind && price.track.0 == track && price.train.0 == train
 
+-- the price of kind length for a track and a train, of value 1
+abbrev pub length_price : ℕ → ℕ → Price
+length_price track train = record { kind = kind.Length; track = record { 0 = track }; train = record { 0 = train }; value = 1 }
+
 -- prices of which the one of kind length for a track and a train has risen by 1; where none is listed it was 0
 abbrev pub raised : ℕ → ℕ → List Price → List Price
-raised track train [] = record { kind = kind.Length; track = record { 0 = track }; train = record { 0 = train }; value = 1 } ∷ []
+raised track train [] = length_price track train ∷ []
 raised track train (price ∷ prices) = if is_length_price track train price then record price { value = price.value + 1 } ∷ prices else price ∷ raised track train prices
 
 -- duals with another value of a unit

@@ -10,4 +10,5 @@ mod Whole
 mod Dual
 mod Ends
 mod Examples
+mod Open
 mod Raised

@@ -127,11 +127,12 @@ pub fn price_steps()
         AreDuals night new × DualsHold night path new }
 {}
 
-/// Each sum has one bound, and a greater sum has no lesser bound. A path has at most one bound by cases.
+/// Each sum has one bound, and a greater sum has no lesser bound. Where there are cases, a path has one bound by them.
 pub fn bounds()
     ensures there { (sum : ℤ) → (bound : ℤ) × IsBoundOf sum bound }
     ensures one { (sum bound other : ℤ) → IsBoundOf sum bound → IsBoundOf sum other → bound ≡ other }
     ensures rise { (sum more bound other : ℤ) → sum ≤ℤ more → IsBoundOf sum bound → IsBoundOf more other → bound ≤ℤ other }
+    ensures of_cases { (night : Night) (path : List Block) (cases : List Case) → 1 ≤ length cases → (bound : ℤ) × IsCasesBound night path cases bound }
     ensures one_of_cases { (night : Night) (path : List Block) (cases : List Case) (bound other : ℤ) → IsCasesBound night path cases bound →
         IsCasesBound night path cases other → bound ≡ other }
 {}

@@ -12,3 +12,4 @@ mod Ends
 mod Examples
 mod Open
 mod Raised
+mod Stepped

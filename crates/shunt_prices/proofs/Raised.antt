@@ -1,12 +1,17 @@
 -- Raised prices, and price steps.
-use Rattle.std.specs.Prelude.{◌==◌, ◌&&◌, All, cond, sum_by, Option}
+use Rattle.std.specs.Prelude.{◌≢◌, map, ◌==◌, ◌&&◌, All, cond, sum_by, Option}
 use Rattle.std.proofs.Common.{◌≡◌, ⊎_elim, ℕ, zero, suc, ◌+◌, ◌*◌, Bool, true, false, List, [], ◌∷◌, get_or, set, ℤ, refl, sym, subst, ap, ◌∙◌, arith}
 use Rattle.std.proofs.Math.Nat.{add-mul, one-mul}
 use Rattle.std.proofs.lemmas.Int.{ints}
-use Rattle.std.proofs.lemmas.Bool.{cases_Bool, cases_eq, eqb-true, false≢true}
+use Rattle.std.proofs.lemmas.Bool.{cases_Bool, cases_eq, eqb-true, eq-eqb, false≢true}
 use Rattle.std.proofs.lemmas.List.{length-set, get_or-set_same, get_or-set_other}
 use Rattle.std.proofs.lemmas.List.Sums.{sum_by-cons}
+use Rattle.std.proofs.lemmas.List.Elements.{All-cons, All-tail}
+use Rattle.std.proofs.lemmas.List.Kept.{AllPairs-cons}
+use Rattle.shunt_lists.specs.defs.Members.{AreDistinct}
 use Rattle.shunt_lists.proofs.Lists.{all_one}
+use Rattle.shunt_base.specs.declared.ids.ArrId.{ArrId}
+use Rattle.shunt_base.specs.declared.ids.TrackId.{TrackId}
 use Rattle.shunt_base.specs.declared.duals.PriceKind.{PriceKind}
 use Rattle.shunt_base.specs.declared.duals.PriceKind.TheVariants as kind
 use Rattle.shunt_base.specs.declared.duals.Price.{Price}
@@ -17,9 +22,12 @@ use Rattle.shunt_blocks.specs.declared.records.Block.{Block}
 use Rattle.shunt_blocks.specs.declared.records.Park.{Park}
 use Rattle.shunt_choices.specs.defs.Paths.{masks_of}
 use Rattle.shunt_prices.specs.defs.Prices.{track_length, most, counted_with, price_part_with, paid_at_most}
-use Rattle.shunt_prices.specs.defs.Limits.{IsValue, AreDuals, case_at, plain}
+use Rattle.shunt_prices.specs.defs.Limits.{IsValue, AreDuals, AreApart, place_of_price, case_at, plain}
 use Rattle.shunt_prices.specs.defs.Cases.{DualsHold, HoldsInCase}
 use Rattle.shunt_prices.specs.defs.Steps.{is_by_length, is_length_price, length_price, raised, with_alpha, IsGreatest, IsRefit, AreRefitted, IsPriceStep}
+
+abbrev PlaceOfPrice : Type 0
+PlaceOfPrice = PriceKind × (TrackId × ArrId)
 
 split : (x y : Bool) → (x && y) ≡ true → (x ≡ true) × (y ≡ true)
 split true y e = (refl, e)
@@ -91,6 +99,39 @@ module _ (night : Night) (t j : ℕ) where
   -- duals still hold
   pub still_hold : (path : List Block) (d : Duals) → DualsHold night path d → DualsHold night path (record d { prices = raised t j d.prices })
   still_hold path d all = all_one (HoldsInCase night (masks_of night path)) _ (record { holds = λ s park free room. let h = (all 0 (case_at (plain d) 0) (omega arith)).holds s park free room in omega (arith, ints, h, part_rises d.prices s park) })
+
+-- ---- no two alike
+
+abbrev Differ : PlaceOfPrice → PlaceOfPrice → Type 0
+Differ x y = x ≢ y
+
+-- a raised list has the same places, and at most that one more
+raised_places : (t j : ℕ) (prices : List Price) (P : PlaceOfPrice → Type 0) → All P (map place_of_price prices) → P (place_of_price (length_price t j)) → All P (map place_of_price (raised t j prices))
+raised_places t j [] P all own = all_one P (place_of_price (length_price t j)) own
+raised_places t j (price ∷ prices) P all own = ⊎_elim
+    (λ e. subst (λ (b : Bool). All P (map place_of_price (cond b (record price { value = price.value + 1 } ∷ prices) (price ∷ raised t j prices)))) (sym e) all)
+    (λ e. subst (λ (b : Bool). All P (map place_of_price (cond b (record price { value = price.value + 1 } ∷ prices) (price ∷ raised t j prices)))) (sym e)
+    (All-cons P (place_of_price price) (map place_of_price (raised t j prices)) (all 0 (place_of_price price) (omega arith)) (raised_places t j prices P (All-tail P (place_of_price price) (map place_of_price prices) all) own)))
+    (cases_Bool (is_length_price t j price))
+
+own_place : (t j : ℕ) (price : Price) → place_of_price price ≡ place_of_price (length_price t j) → is_length_price t j price ≡ true
+own_place t j price e = all_three (ap is_by_length (ap (λ (x : PlaceOfPrice). x.0) e)) (eq-eqb price.track.0 t (ap (λ (x : PlaceOfPrice). x.1.0.0) e)) (eq-eqb price.train.0 j (ap (λ (x : PlaceOfPrice). x.1.1.0) e))
+  where
+    all_three : {x y z : Bool} → x ≡ true → y ≡ true → z ≡ true → (x && y && z) ≡ true
+    all_three {x} {y} {z} e f g = cc
+
+pub still_apart : (t j : ℕ) (prices : List Price) → AreApart prices → AreApart (raised t j prices)
+still_apart t j [] apart = no_two (place_of_price (length_price t j))
+  where
+    no_two : (x : PlaceOfPrice) → AreDistinct (x ∷ [])
+    no_two x i k d before within = absurd (omega (arith, before, within))
+still_apart t j (price ∷ prices) apart = ⊎_elim
+    (λ e. subst (λ (b : Bool). AreApart (cond b (record price { value = price.value + 1 } ∷ prices) (price ∷ raised t j prices))) (sym e) apart)
+    (λ e. subst (λ (b : Bool). AreApart (cond b (record price { value = price.value + 1 } ∷ prices) (price ∷ raised t j prices))) (sym e)
+    (AllPairs-cons Differ (place_of_price price) (map place_of_price (raised t j prices))
+    (raised_places t j prices (Differ (place_of_price price)) (λ k d lt. apart 0 (suc k) d (omega arith) (omega (arith, lt))) (λ same. false≢true (sym e ∙ own_place t j price same)))
+    (still_apart t j prices (λ i k d before within. apart (suc i) (suc k) d (omega (arith, before)) (omega (arith, within))))))
+    (cases_Bool (is_length_price t j price))
 
 -- ---- price steps
 

@@ -54,7 +54,7 @@ sum_by-none : {X : Type 0} (xs : List X) → sum_by (λ x. 0) xs ≡ zero
 sum_by-none [] = refl
 sum_by-none (x ∷ xs) = omega (arith, sum_by-cons (λ y. 0) x xs, sum_by-none xs)
 
-sum_by-add : {X : Type 0} (f g : X → ℕ) (xs : List X) → sum_by (λ x. f x + g x) xs ≡ sum_by f xs + sum_by g xs
+pub sum_by-add : {X : Type 0} (f g : X → ℕ) (xs : List X) → sum_by (λ x. f x + g x) xs ≡ sum_by f xs + sum_by g xs
 sum_by-add f g [] = refl
 sum_by-add f g (x ∷ xs) = omega (arith, sum_by-cons (λ y. f y + g y) x xs, sum_by-cons f x xs, sum_by-cons g x xs, sum_by-add f g xs)
 
@@ -62,7 +62,7 @@ sum_by-times : {X : Type 0} (n : ℕ) (f : X → ℕ) (xs : List X) → sum_by (
 sum_by-times n f [] = sym (mul-zero n)
 sum_by-times n f (x ∷ xs) = omega (arith, sum_by-cons (λ y. n * f y) x xs, ap (λ k. n * k) (sum_by-cons f x xs), mul-add n (f x) (sum_by f xs), sum_by-times n f xs)
 
-sum_by-same : {X : Type 0} (f g : X → ℕ) (xs : List X) → ((x : X) → f x ≡ g x) → sum_by f xs ≡ sum_by g xs
+pub sum_by-same : {X : Type 0} (f g : X → ℕ) (xs : List X) → ((x : X) → f x ≡ g x) → sum_by f xs ≡ sum_by g xs
 sum_by-same f g [] h = refl
 sum_by-same f g (x ∷ xs) h = omega (arith, sum_by-cons f x xs, sum_by-cons g x xs, h x, sum_by-same f g xs h)
 

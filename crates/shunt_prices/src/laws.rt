@@ -1,10 +1,10 @@
 //! What follows from the definitions of this crate.
-ghost use Rattle.std.specs.Prelude.{Option, pos, ◌+◌, ◌*◌, ◌*ℤ◌, ◌≡◌, ◌<◌, ◌≤◌, ℕ, ℤ, ◌+ℤ◌, ◌-ℤ◌, ◌≤ℤ◌, All, List, [], ◌∷◌, ◌++◌, length, sum_by};
+ghost use Rattle.std.specs.Prelude.{Option, true, false, slice_index_or, pos, ◌+◌, ◌*◌, ◌*ℤ◌, ◌≡◌, ◌<◌, ◌≤◌, ℕ, ℤ, ◌+ℤ◌, ◌-ℤ◌, ◌≤ℤ◌, All, List, [], ◌∷◌, ◌++◌, length, sum_by};
 ghost use Rattle.shunt_lists.specs.defs.Members.{In};
 ghost use Rattle.shunt_base.specs.declared.duals.Price.{Price};
 ghost use Rattle.shunt_base.specs.declared.duals.Duals.{Duals};
 ghost use Rattle.shunt_base.specs.declared.duals.Case.{Case};
-ghost use Rattle.shunt_instance.specs.defs.Instance.{Night, IsInstance};
+ghost use Rattle.shunt_instance.specs.defs.Instance.{Night, IsInstance, unit_total};
 ghost use Rattle.shunt_blocks.specs.declared.records.Shape.{Shape};
 ghost use Rattle.shunt_blocks.specs.declared.records.Block.{Block};
 ghost use Rattle.shunt_blocks.specs.declared.records.Park.{Park};
@@ -16,10 +16,10 @@ ghost use Rattle.shunt_blocks.specs.defs.Costs.{cost_with};
 ghost use Rattle.shunt_choices.specs.defs.Paths.{Masks, masks_of};
 ghost use Rattle.shunt_prices.specs.defs.Sums.{sum_z, IsWithin};
 ghost use Rattle.shunt_prices.specs.defs.Prices.{track_length, count, counted_with, counted, most, price_part_with, price_part, paid_at_most};
-ghost use Rattle.shunt_prices.specs.defs.Limits.{IsPrice, ArePrices, IsValue, AreDuals, IsCase, AreCases, from_of, plain};
-ghost use Rattle.shunt_prices.specs.defs.Cases.{IsFreeBlock, HasRoom, CasesHold, DualsHold, weight_with, weight, duals_over};
-ghost use Rattle.shunt_prices.specs.defs.Bounds.{uncovered_alphas, uncovered_betas, most_surcharge, sum_at, case_sum, unparked_in, IsOpenAt, IsBoundOf, IsCasesBound, IsDualsBound};
-ghost use Rattle.shunt_prices.specs.defs.Steps.{length_price, raised, IsPriceStep};
+ghost use Rattle.shunt_prices.specs.defs.Limits.{IsPrice, ArePrices, IsValue, AreDuals, IsCase, AreCases, AreApart, from_of, plain};
+ghost use Rattle.shunt_prices.specs.defs.Cases.{IsFreeBlock, HasRoom, CasesHold, DualsHold, alpha_at, weight_with, weight, duals_over};
+ghost use Rattle.shunt_prices.specs.defs.Bounds.{duals_sum, uncovered_alphas, uncovered_betas, most_surcharge, sum_at, case_sum, unparked_in, IsOpenAt, IsBoundOf, IsCasesBound, IsDualsBound};
+ghost use Rattle.shunt_prices.specs.defs.Steps.{length_price, raised, with_alpha, IsPriceStep};
 
 use shunt_blocks::laws::{
     feasible_lists, few_blocks, ids_do_not_matter, places, shapes, stays_of_blocks,
@@ -114,8 +114,9 @@ pub fn weights()
 {}
 
 /// Where the price of kind length for a track and a train rises by 1, the price part of a shape grows by what that price counts of
-/// it, what the prices take at most grows by the track's length, and duals that hold still hold. A price step from duals within the
-/// limits gives duals within them that hold.
+/// it, what the prices take at most grows by the track's length, and duals that hold still hold; the sum of the duals grows by what
+/// that price counts of the path, less that length. Another value of an uncovered unit takes the place of the old one in the sum. A
+/// price step from duals within the limits gives duals within them that hold.
 pub fn price_steps()
     ensures part { (night : Night) (track train : ℕ) (prices : List Price) (s : Shape) (park : Option Park) →
         price_part_with night (raised track train prices) s park ≡ price_part_with night prices s park + counted_with night (length_price track train) s park }
@@ -123,6 +124,11 @@ pub fn price_steps()
         paid_at_most night (raised track train prices) ≡ paid_at_most night prices + track_length night track }
     ensures raised { (night : Night) (path : List Block) (track train : ℕ) (d : Duals) → DualsHold night path d →
         DualsHold night path (record d { prices = raised track train d.prices }) }
+    ensures apart { (track train : ℕ) (prices : List Price) → AreApart prices → AreApart (raised track train prices) }
+    ensures sum { (night : Night) (path : List Block) (track train : ℕ) (d : Duals) → duals_sum night path (record d { prices = raised track train d.prices }) ≡
+        duals_sum night path d +ℤ pos (sum_by (counted night (length_price track train)) path) -ℤ pos (track_length night track) }
+    ensures alpha { (night : Night) (path : List Block) (d : Duals) (u : ℕ) (z : ℤ) → u < unit_total night → length d.alpha ≡ unit_total night →
+        slice_index_or (masks_of night path).units u true ≡ false → duals_sum night path (with_alpha u z d) ≡ duals_sum night path d +ℤ z -ℤ alpha_at d u }
     ensures step { (night : Night) (path : List Block) (old new : Duals) → AreDuals night old → IsPriceStep night path old new →
         AreDuals night new × DualsHold night path new }
 {}

@@ -4,7 +4,7 @@ use Rattle.std.specs.List.{cons_option}
 use Rattle.std.specs.Ordering.{nat_cmp, bool_cmp, ordering_then, is_le, is_lt}
 use Rattle.std.specs.declared.cmp.Ordering.{Ordering}
 use Rattle.std.proofs.Common.{◌≡◌, ℕ, ◌+◌, ◌^◌, ◌<◌, ◌≤◌, Bool, true, false, List, [], ◌∷◌, length, refl, ap, arith}
-use Rattle.std.proofs.lemmas.Bool.{false≢true}
+use Rattle.std.proofs.lemmas.Bool.{false≢true, and_parts}
 use Rattle.std.proofs.lemmas.Bool.Decides.{nat_tests}
 use Rattle.std.proofs.lemmas.List.Sums.{sum_by-cons}
 use Rattle.std.proofs.lemmas.List.Elements.{All-tail}
@@ -29,10 +29,6 @@ use Rattle.shunt_prices.specs.defs.Prices.{is_there, stands_with, stands_at}
 
 both : {x y : Bool} → x ≡ true → y ≡ true → (x && y) ≡ true
 both {x} {y} e f = cc
-
-split : (x y : Bool) → (x && y) ≡ true → (x ≡ true) × (y ≡ true)
-split true y e = (refl, e)
-split false y e = absurd (false≢true e)
 
 flag_le : (x y : Bool) (n : ℕ) → (x ≡ true → y ≡ true) → cond x n 0 ≤ cond y n 0
 flag_le true y n h = let e : cond y n 0 ≡ n = ap (λ t. cond t n 0) (h refl) in omega arith
@@ -99,7 +95,7 @@ module _ (night : Night) (price : Price) (h : IsOrderedNight night) (p : IsPrice
   one_with b None c = omega arith
   one_with b (Some k) c =
       let shown : part (cond (is_too_soon night (shape_of b)) None (Some (parked_stay night b k))) ≡ part (Some (parked_stay night b k)) = ap (λ soon. part (cond soon None (Some (parked_stay night b k)))) c.in_time in
-      let le = flag_le (stands_with night price (shape_of b) (Some k)) (stands_then price.track.0 (moment night price) (parked_stay night b k)) (block_length night b) (λ t. let e = split (k.track.0 == price.track.0) (is_there night price (shape_of b)) t in both e.0 (there b c e.1)) in
+      let le = flag_le (stands_with night price (shape_of b) (Some k)) (stands_then price.track.0 (moment night price) (parked_stay night b k)) (block_length night b) (λ t. let e = and_parts (k.track.0 == price.track.0) (is_there night price (shape_of b)) t in both e.0 (there b c e.1)) in
       omega (arith, shown, le)
 
   one : (b : Block) → CanStay night b → standing b ≤ part (stay_of night b)

@@ -3,7 +3,7 @@ use Rattle.std.specs.Prelude.{◌≢◌, map, ◌==◌, ◌&&◌, All, cond, sum
 use Rattle.std.proofs.Common.{◌≡◌, ⊎_elim, ℕ, zero, suc, ◌+◌, ◌*◌, Bool, true, false, List, [], ◌∷◌, get_or, set, ℤ, refl, sym, subst, ap, ◌∙◌, arith}
 use Rattle.std.proofs.Math.Nat.{add-mul, one-mul}
 use Rattle.std.proofs.lemmas.Int.{ints}
-use Rattle.std.proofs.lemmas.Bool.{cases_Bool, cases_eq, eqb-true, eq-eqb, false≢true}
+use Rattle.std.proofs.lemmas.Bool.{cases_Bool, cases_eq, eqb-true, eq-eqb, false≢true, and_parts}
 use Rattle.std.proofs.lemmas.List.{length-set, get_or-set_same, get_or-set_other}
 use Rattle.std.proofs.lemmas.List.Sums.{sum_by-cons}
 use Rattle.std.proofs.lemmas.List.Elements.{All-cons, All-tail}
@@ -29,10 +29,6 @@ use Rattle.shunt_prices.specs.defs.Steps.{is_by_length, is_length_price, length_
 abbrev PlaceOfPrice : Type 0
 PlaceOfPrice = PriceKind × (TrackId × ArrId)
 
-split : (x y : Bool) → (x && y) ≡ true → (x ≡ true) × (y ≡ true)
-split true y e = (refl, e)
-split false y e = absurd (false≢true e)
-
 by_length : (k : PriceKind) → is_by_length k ≡ true → k ≡ kind.Length
 by_length kind.Length e = refl
 by_length (kind.Parts r) e = absurd (false≢true e)
@@ -45,8 +41,8 @@ record IsOf (t j : ℕ) (price : Price) : Type 0 where
 
 found : (t j : ℕ) (price : Price) → is_length_price t j price ≡ true → IsOf t j price
 found t j price e =
-    let first = split (is_by_length price.kind && price.track.0 == t) (price.train.0 == j) e in
-    let second = split (is_by_length price.kind) (price.track.0 == t) first.0 in
+    let first = and_parts (is_by_length price.kind && price.track.0 == t) (price.train.0 == j) e in
+    let second = and_parts (is_by_length price.kind) (price.track.0 == t) first.0 in
     record { kind = by_length price.kind second.0; track = eqb-true price.track.0 t second.1; train = eqb-true price.train.0 j first.1 }
 
 abbrev made : PriceKind → ℕ → ℕ → Price

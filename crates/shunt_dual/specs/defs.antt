@@ -1,0 +1,6 @@
+-- The definitions of this crate.
+pub mod Shares
+pub mod Around
+pub mod Tables
+pub mod Pairing
+pub mod Tree

@@ -1,0 +1,7 @@
+mod Parts
+mod Moments
+mod Capacity
+mod Signed
+mod Longer
+mod Room
+mod Rising

@@ -1,0 +1,13 @@
+use Rattle.std.proofs.Common.{arith}
+use Rattle.std.proofs.lemmas.Int.{ints}
+use Rattle.shunt_prices.proofs.Signed.{round_up, bound_rises}
+use Rattle.shunt_prices.proofs.Rising.{one_bound}
+use Rattle.shunt_prices.proofs.laws.bounds.Goals as goal
+
+pub returns : goal.returns
+returns c = record {
+  there = λ sum. round_up sum;
+  one = λ sum bound other h k. omega (arith, ints, h.enough, h.least, k.enough, k.least);
+  rise = λ sum more bound other le h k. bound_rises sum more bound other le h k;
+  one_of_cases = λ night path cases bound other h k. one_bound night path cases bound other h k;
+}

@@ -4,7 +4,7 @@ use Rattle.std.specs.List.{sum_by}
 use Rattle.std.proofs.lemmas.Int.{ints}
 use Rattle.std.proofs.lemmas.List.{map_more, length-map, get_or-map, append-nil, take_all, drop_all}
 use Rattle.std.proofs.lemmas.List.Sums.{sum_by-cons}
-use Rattle.shunt_dual.specs.defs.Tables.{at, times, total, IsPlace, IsAssigned, minus, sum_z}
+use Rattle.shunt_dual.specs.defs.Tables.{at, times, total, IsPlace, IsAssigned, minus, sum_of}
 use Rattle.shunt_dual.specs.defs.Pairing.{IsPaired, AreDuals}
 use Rattle.shunt_dual.proofs.Counts.{nowhere}
 use Rattle.shunt_dual.proofs.Sums.{entry_le, total_le, once, exact, least, span_sum, below_sum}
@@ -19,13 +19,11 @@ all_placed {n} {place} {owner} pl ol none p = record {
       (p.back c (omega arith) (λ e. omega arith));
 }
 
-sum_pos : (xs : List ℕ) → sum_z (map pos xs) ≡ pos (sum_by (λ x. x) xs)
-unfolding sum_z
+sum_pos : (xs : List ℕ) → sum_of (map pos xs) ≡ pos (sum_by (λ x. x) xs)
 sum_pos [] = refl
 sum_pos (x ∷ xs) = omega (arith, ints, sum_pos xs, sum_by-cons (λ y. y) x xs)
 
-sum_minus : (xs : List ℕ) → sum_z (map minus xs) +ℤ pos (sum_by (λ x. x) xs) ≡ pos 0
-unfolding sum_z
+sum_minus : (xs : List ℕ) → sum_of (map minus xs) +ℤ pos (sum_by (λ x. x) xs) ≡ pos 0
 sum_minus [] = refl
 sum_minus (x ∷ xs) = omega (arith, ints, sum_minus xs, sum_by-cons (λ y. y) x xs)
 

@@ -10,7 +10,7 @@ use Rattle.shunt_blocks.specs.defs.Costs.{IsCheapest, cost_with}
 use Rattle.shunt_dual.specs.defs.Shares.{part_with}
 use Rattle.shunt_dual.specs.defs.Around.{shape_around, IsPart, IsLeastPart, FromBack, FromSome}
 
-div_rises : (a b n : ℕ) → 0 < n → a ≤ b → a / n ≤ b / n
+pub div_rises : (a b n : ℕ) → 0 < n → a ≤ b → a / n ≤ b / n
 div_rises a b n some le = le-div (a / n) b n some (omega (arith, div-mul-le_self a n))
 
 -- the cheapest option gives the least part

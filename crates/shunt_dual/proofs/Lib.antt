@@ -8,3 +8,4 @@ pub mod Ending
 pub mod Around
 pub mod LeastPart
 pub mod Entries
+pub mod Paying

@@ -1,5 +1,6 @@
 -- The definitions of this crate.
 pub mod Shares
+pub mod Assignments
 pub mod Around
 pub mod Tables
 pub mod Pairing

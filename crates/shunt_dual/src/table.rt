@@ -1,5 +1,5 @@
 // The least choice of a column for each row of a full table, with dual values that show it.
-ghost use Rattle.std.specs.Prelude.{◌≡◌, ◌≢◌, ◌+◌, ◌<◌, ◌≤◌, ℕ, List, length, map, pos, replicate, slice_set, IfOk, IsTrue, EachIndex, ◌↔◌};
+ghost use Rattle.std.specs.Prelude.{◌≡◌, ◌≢◌, ◌+◌, ◌*◌, ◌<◌, ◌≤◌, ℕ, List, length, map, pos, replicate, slice_set, IfOk, IsTrue, EachIndex, ◌↔◌};
 ghost use Rattle.shunt_dual.specs.defs.Tables.{at, cost_at, top, IsTable, IsPlace, IsAssigned, total, times, minus};
 ghost use Rattle.shunt_dual.specs.defs.Pairing.{IsPaired, AreDuals};
 ghost use Rattle.shunt_dual.specs.defs.Tree.{IsGrown, IsEnd, IsTried};
@@ -178,7 +178,8 @@ pub(crate) struct Placed {
 fn cost_of(table: &[u64], n: usize, place: &[usize]) -> u64
     requires table { IsTable n table.now }
     requires place { IsPlace n place.now }
-    ensures { result ≡ total (cost_at table.now n) place.now }
+    ensures exact { result ≡ total (cost_at table.now n) place.now }
+    ensures small { result ≤ 160 * top }
 {
     let mut sum = 0;
     for r in 0..n {
@@ -207,6 +208,7 @@ fn answer(
     requires free { times (n + 1) owner.now ≡ 0 }
     ensures duals { IfOk result (λ a. IsAssigned n (cost_at table.now n) a.place.items a.alpha.items a.beta.items) }
     ensures total { IfOk result (λ a. a.total ≡ total (cost_at table.now n) a.place.items) }
+    ensures small { IfOk result (λ a. a.total ≤ 160 * top) }
     ensures least { IfOk result (λ a. (other : List ℕ) → IsPlace n other → a.total ≤ total (cost_at table.now n) other) }
     ensures unfilled { IfOk result (λ a. (other : List ℕ) → IsPlace n other → ((r : ℕ) → r < n → cost_at table.now n r (at other r) ≤ 3000000000) → (r : ℕ) → r < n → cost_at table.now n r (at a.place.items r) < top) }
 {
@@ -226,6 +228,7 @@ pub(crate) fn least_places(alloc: Global, table: &[u64], n: usize) -> Result<Pla
     requires { IsTable n table.now }
     ensures duals { IfOk result (λ a. IsAssigned n (cost_at table.now n) a.place.items a.alpha.items a.beta.items) }
     ensures total { IfOk result (λ a. a.total ≡ total (cost_at table.now n) a.place.items) }
+    ensures small { IfOk result (λ a. a.total ≤ 160 * top) }
     ensures least { IfOk result (λ a. (other : List ℕ) → IsPlace n other → a.total ≤ total (cost_at table.now n) other) }
     ensures unfilled { IfOk result (λ a. (other : List ℕ) → IsPlace n other → ((r : ℕ) → r < n → cost_at table.now n r (at other r) ≤ 3000000000) → (r : ℕ) → r < n → cost_at table.now n r (at a.place.items r) < top) }
 {

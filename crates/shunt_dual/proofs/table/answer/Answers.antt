@@ -16,7 +16,7 @@ returns-clause-least c other q =
     let k = no_less c.args.n top (cost_at c.args.table.now c.args.n) c.args.alpha.now c.args.debt.now c.args.place.items c.args.owner.now other
     (all_placed c.requires.place_len c.requires.owner_len c.requires.free c.requires.paired) c.requires.duals q in
     subst (λ (n : ℕ). n ≤ total (cost_at c.args.table.now c.args.n) other)
-    (sym (subst (λ xs. c.cost_of-total.result ≡ total (cost_at c.args.table.now c.args.n) xs) c.deref.ensures.value c.cost_of-total.ensures)) k
+    (sym (subst (λ xs. c.cost_of-total.result ≡ total (cost_at c.args.table.now c.args.n) xs) c.deref.ensures.value c.cost_of-total.ensures.exact)) k
 
 pub returns-clause-unfilled : goal.returns-clause-unfilled
 returns-clause-unfilled c other q low r k =

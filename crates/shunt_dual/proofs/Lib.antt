@@ -1,0 +1,11 @@
+pub mod Counts
+pub mod Walking
+pub mod Growing
+pub mod Shifting
+pub mod Seating
+pub mod Sums
+pub mod Ending
+pub mod Around
+pub mod LeastPart
+pub mod Entries
+pub mod Paying

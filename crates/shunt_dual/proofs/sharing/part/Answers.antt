@@ -1,0 +1,7 @@
+use Rattle.std.proofs.Common.{sym, subst, ℕ, arith}
+use Rattle.shunt_dual.specs.defs.Around.{IsPart}
+use Rattle.shunt_dual.proofs.LeastPart.{cheapest_part}
+use Rattle.shunt_dual.proofs.sharing.part.Goals as goal
+
+pub returns : goal.returns
+returns c = cheapest_part c.args.instance.now c.args.shape _ c.requires.n c.cheapest.ensures.least

@@ -5,3 +5,4 @@ pub mod Around
 pub mod Tables
 pub mod Pairing
 pub mod Tree
+pub mod Weighed

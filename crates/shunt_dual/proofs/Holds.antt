@@ -78,18 +78,22 @@ module _ (night : Night) (prices : List Price) (s : Shape) (sum : ℤ) (t : ℕ)
   part_is k e = subst (λ (w : ℕ). get_or parts w 0 ≡ price_part_with night prices s (Some k)) e (are k (omega arith))
 
   pub one_track : (n : ℕ) → t < n → TracksHold night prices s sum n → TrackHolds night s sum (get_or parts t 0) (record { 0 = t })
-  one_track n lt h = record { holds = λ k same le. 
-      let e : k.track.0 ≡ t = ap (λ (w : TrackId). w.0) same in
-      subst (λ (p : ℕ). ParkHolds night s sum p k) (sym (part_is k e)) (h.holds k (omega arith) (subst (λ (w : ℕ). shape_length night s ≤ track_length night w) (sym e) le)) }
+  one_track n lt h = record {
+    holds = λ k same le.
+        let e : k.track.0 ≡ t = ap (λ (w : TrackId). w.0) same in
+        subst (λ (p : ℕ). ParkHolds night s sum p k) (sym (part_is k e)) (h.holds k (omega arith) (subst (λ (w : ℕ). shape_length night s ≤ track_length night w) (sym e) le));
+  }
 
   pub more_tracks : TracksHold night prices s sum t → TrackHolds night s sum (get_or parts t 0) (record { 0 = t }) → TracksHold night prices s sum (t + 1)
-  more_tracks h now = record { holds = λ k lt le.
-      ⊎_elim
-      (λ (less : k.track.0 < t). h.holds k less le)
-      (λ (past : t ≤ k.track.0).
-          let e : k.track.0 ≡ t = omega arith in
-          subst (λ (p : ℕ). ParkHolds night s sum p k) (part_is k e) (now.holds k (ap (λ (w : ℕ). record { 0 = w }) e) (subst (λ (w : ℕ). shape_length night s ≤ track_length night w) e le)))
-      (cases_lt k.track.0 t) }
+  more_tracks h now = record {
+    holds = λ k lt le.
+        ⊎_elim
+        (λ (less : k.track.0 < t). h.holds k less le)
+        (λ (past : t ≤ k.track.0).
+        let e : k.track.0 ≡ t = omega arith in
+        subst (λ (p : ℕ). ParkHolds night s sum p k) (part_is k e) (now.holds k (ap (λ (w : ℕ). record { 0 = w }) e) (subst (λ (w : ℕ). shape_length night s ≤ track_length night w) e le)))
+        (cases_lt k.track.0 t);
+  }
 
 pub no_tracks : (night : Night) (prices : List Price) (s : Shape) (sum : ℤ) → TracksHold night prices s sum 0
 no_tracks night prices s sum = record { holds = λ k lt. absurd (omega arith) }
@@ -132,15 +136,19 @@ unit_of night covered c h u = record { holds = λ s free. record { holds = λ pa
 pub case_is : (night : Night) (covered : Masks) (c : Case) (n : ℕ) → unit_total night ≤ n
     → ((a : ℕ) → a < length night.arrive → first_unit night a + length (train_at night.arrive a).units ≤ unit_total night)
     → ((u : ℕ) → u < n → UnitHolds night covered c u) → HoldsInCase night covered c
-case_is night covered c n le rooms units = record { holds = λ s park free room.
-    let r = free.shape.shape.within in
-    ((units (unit_from night s) (omega (arith, rooms s.arr.0 r.arr, r.units, r.p, r.n, le))).holds s free.shape).holds park free.option room }
+case_is night covered c n le rooms units = record {
+  holds = λ s park free room.
+      let r = free.shape.shape.within in
+      ((units (unit_from night s) (omega (arith, rooms s.arr.0 r.arr, r.units, r.p, r.n, le))).holds s free.shape).holds park free.option room;
+}
 
 -- a case holds where its duals do with its multiplier, whatever its greatest number
 pub retold : (night : Night) (covered : Masks) (c d : Case) → c.multiplier ≡ d.multiplier → c.duals ≡ d.duals → HoldsInCase night covered c → HoldsInCase night covered d
-retold night covered c d me de h = record { holds = λ s park free room.
-    subst (λ (m : ℤ). duals_over night d.duals s ≤ℤ weight_with night (case_of m d.duals) s park) me
-    (subst (λ (x : Duals). duals_over night x s ≤ℤ weight_with night (case_of c.multiplier x) s park) de (h.holds s park free room)) }
+retold night covered c d me de h = record {
+  holds = λ s park free room.
+      subst (λ (m : ℤ). duals_over night d.duals s ≤ℤ weight_with night (case_of m d.duals) s park) me
+      (subst (λ (x : Duals). duals_over night x s ≤ℤ weight_with night (case_of c.multiplier x) s park) de (h.holds s park free room));
+}
 
 pub masks_fit : (night : Night) (path : Trail) (covered : Masks) → covered ≡ path.covered → IsTrailOf night path → AreMasksOf night covered
 masks_fit night path covered e of = subst (AreMasksOf night) (sym (e ∙ of.covered)) (record { units = length_units night path.blocks; places = length_places night path.blocks })

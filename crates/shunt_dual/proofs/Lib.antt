@@ -11,3 +11,5 @@ pub mod Entries
 pub mod Paying
 pub mod Charged
 pub mod Holds
+pub mod Summed
+pub mod Opening

@@ -6,3 +6,4 @@ pub mod Tables
 pub mod Pairing
 pub mod Tree
 pub mod Weighed
+pub mod Opened

@@ -50,6 +50,8 @@ returns-then-not-holds_in_case c =
     (case_on night (masks_of night c.args.path.now.blocks) c.args.cases.now c.loop-k.k case m c.get-case.ensures (omega (arith, ints, low, high)) (omega arith) all))
 
 pub returns : goal.returns
-returns c =
-    (λ t. All-from_get_or (HoldsInCase c.args.instance.now (masks_of c.args.instance.now c.args.path.now.blocks)) c.args.cases.now _
-    (λ i lt. subst (λ (w : Masks). HoldsInCase c.args.instance.now w (case_at c.args.cases.now i)) c.requires.path.covered (c.loop-k.invariant i (omega (arith, lt, c.loop-k-test.false, c.len-k-end.ensures.value)))), λ h. refl)
+returns c = (
+  λ t. All-from_get_or (HoldsInCase c.args.instance.now (masks_of c.args.instance.now c.args.path.now.blocks)) c.args.cases.now _
+      (λ i lt. subst (λ (w : Masks). HoldsInCase c.args.instance.now w (case_at c.args.cases.now i)) c.requires.path.covered (c.loop-k.invariant i (omega (arith, lt, c.loop-k-test.false, c.len-k-end.ensures.value)))),
+  λ h. refl,
+)

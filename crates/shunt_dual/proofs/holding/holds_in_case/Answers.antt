@@ -20,6 +20,8 @@ returns-then-not-unit_holds c =
     (λ h. unit_of c.args.instance.now c.args.covered.now k h c.loop-u.u))
 
 pub returns : goal.returns
-returns c =
-    (λ t. subst (λ (z : ℤ). HoldsInCase c.args.instance.now c.args.covered.now (case_of z c.args.duals.now)) (to_z-of_z w64 c.args.multiplier c.ranges.multiplier)
-    (case_is c.args.instance.now c.args.covered.now (case_of (to_z w64 (of_z w64 c.args.multiplier)) c.args.duals.now) c.loop-u.u (omega (arith, c.loop-u-test.false, c.units-u-end.ensures.exact)) (c.rooms_of_trains.ensures.unit c.args.instance.now) c.loop-u.invariant), λ h. refl)
+returns c = (
+  λ t. subst (λ (z : ℤ). HoldsInCase c.args.instance.now c.args.covered.now (case_of z c.args.duals.now)) (to_z-of_z w64 c.args.multiplier c.ranges.multiplier)
+      (case_is c.args.instance.now c.args.covered.now (case_of (to_z w64 (of_z w64 c.args.multiplier)) c.args.duals.now) c.loop-u.u (omega (arith, c.loop-u-test.false, c.units-u-end.ensures.exact)) (c.rooms_of_trains.ensures.unit c.args.instance.now) c.loop-u.invariant),
+  λ h. refl,
+)

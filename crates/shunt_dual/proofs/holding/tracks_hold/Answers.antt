@@ -31,6 +31,8 @@ pub returns : goal.returns
 returns c =
     let tracks = length c.args.instance.now.station.tracks in
     let len : c.len-t-end.result ≡ length c.args.instance.now.station.tracks = c.len-t-end.ensures ∙ ap (λ (s : Station). length s.tracks) c.station.ensures.exact in
-    let end : c.loop-t.t ≡ length c.args.instance.now.station.tracks = omega (arith, c.loop-t-test.false, c.loop-t.auto.t-end, len) in
-    (λ t. subst (λ (z : ℤ). TracksHold c.args.instance.now c.args.prices.now c.args.shape z tracks) (to_z-of_z w64 c.args.sum c.ranges.sum)
-    (subst (λ (n : ℕ). TracksHold c.args.instance.now c.args.prices.now c.args.shape (to_z w64 (of_z w64 c.args.sum)) n) end c.loop-t.invariant), λ h. refl)
+    let end : c.loop-t.t ≡ length c.args.instance.now.station.tracks = omega (arith, c.loop-t-test.false, c.loop-t.auto.t-end, len) in (
+      λ t. subst (λ (z : ℤ). TracksHold c.args.instance.now c.args.prices.now c.args.shape z tracks) (to_z-of_z w64 c.args.sum c.ranges.sum)
+          (subst (λ (n : ℕ). TracksHold c.args.instance.now c.args.prices.now c.args.shape (to_z w64 (of_z w64 c.args.sum)) n) end c.loop-t.invariant),
+      λ h. refl,
+    )

@@ -9,3 +9,5 @@ pub mod Around
 pub mod LeastPart
 pub mod Entries
 pub mod Paying
+pub mod Matched
+pub mod Shown

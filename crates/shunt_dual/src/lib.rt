@@ -1,6 +1,7 @@
 //! Shares of the cheapest blocks for units and positions, and the assignment of least sum.
 #![tactic(auto)]
 
+mod assigning;
 pub mod laws;
 mod sharing;
 mod steps;
@@ -8,4 +9,5 @@ mod table;
 mod tree;
 pub mod types;
 
+pub use assigning::{Assigned, assign};
 pub use sharing::shares;

@@ -1,7 +1,6 @@
 -- Matchings of a night as places of the filled table, and back.
-use Rattle.std.specs.Prelude.{Option, Some, None, unwrap_or, IfSome, ◌==◌, ◌&&◌, not, cond, count_by, map, slice_index_or}
-use Rattle.std.specs.List.{sum_by}
-use Rattle.std.proofs.Common.{◌≡◌, ℕ, zero, suc, ◌+◌, ◌*◌, ◌<◌, ◌≤◌, Bool, true, false, List, [], ◌∷◌, length, take, refl, sym, ap, ◌∙◌, subst, arith}
+use Rattle.std.specs.Prelude.{Option, Some, None, unwrap_or, ◌==◌, ◌&&◌, not, cond, map, slice_index_or}
+use Rattle.std.proofs.Common.{◌≡◌, ℕ, zero, suc, ◌+◌, ◌*◌, ◌<◌, ◌≤◌, Bool, true, false, List, [], length, take, refl, sym, ap, ◌∙◌, subst, arith}
 use Rattle.std.proofs.lemmas.List.{length-map, get_or-map, get_or_past, take_all}
 use Rattle.std.proofs.lemmas.List.Sums.{sum_by_more}
 use Rattle.std.proofs.lemmas.Nat.{mul-add-lt}
@@ -9,13 +8,13 @@ use Rattle.shunt_lists.specs.defs.Below.{count_below, sum_below}
 use Rattle.shunt_lists.proofs.CountsBelow.{count_below-same}
 use Rattle.shunt_lists.proofs.SumsBelow.{sum_below-same, count_of_places}
 use Rattle.shunt_instance.specs.defs.Instance.{Night, IsInstance, units_of, positions_of, unit_total, position_total}
-use Rattle.shunt_instance.specs.defs.Matching.{entry_at, is_in_rest, IsMatchable, place_of, IsMatching, IsMatchingOfRest, unit_entries, position_entries}
+use Rattle.shunt_instance.specs.defs.Matching.{entry_at, is_in_rest, IsMatchable, place_of, unit_entries, position_entries}
 use Rattle.shunt_instance.proofs.Facts.{unit_entry_is, position_entry_is}
 use Rattle.shunt_instance.proofs.Looked.{units_few}
 use Rattle.shunt_instance.proofs.Orders.{opened}
 use Rattle.shunt_blocks.specs.defs.Shapes.{IsPair, unit_entry, position_entry}
 use Rattle.shunt_matching.specs.defs.Nights.{Matches}
-use Rattle.shunt_dual.specs.defs.Shares.{Table, share_at, IsEntry, IsShare, AreShares}
+use Rattle.shunt_dual.specs.defs.Shares.{Table, share_at, IsEntry, AreShares}
 use Rattle.shunt_dual.specs.defs.Assignments.{share_total}
 use Rattle.shunt_dual.specs.defs.Tables.{at, cost_at, top, times, total, IsTable, IsPlace, or_top}
 use Rattle.shunt_dual.proofs.Sums.{total_none, total_more}
@@ -78,7 +77,7 @@ module _ (night : Night) (place : List ℕ) (m : Matches night place) where
   pub as_many : position_total night ≡ unit_total night
   as_many =
       let counts = count_of_places (unit_total night) (position_total night) (λ u. true) (λ v. true) (place_of place) (λ v. true)
-          (λ u lt is. (place_below u lt, refl)) (λ v lt is. once v lt) in
+      (λ u lt is. (place_below u lt, refl)) (λ v lt is. once v lt) in
       omega (arith, counts, all_counted (unit_total night), all_counted (position_total night))
 
   pub is_place : IsPlace (unit_total night) place
@@ -163,7 +162,7 @@ module _ (night : Night) (t : Table) (is : IsInstance night) (shares : AreShares
       let here = place_length night place m in
       totalled (cost_at table n) n place here
       ∙ (sum_below-same n _ _ (λ u lt. (pair_low u (place_of place u) lt (omega (arith, place_below night place m u lt, same)) (pair_of night place m u lt)).0)
-          ∙ sym (ap (λ (k : ℕ). sum_below k (λ u. unwrap_or (share_at t u (place_of place u)) 0)) here))
+      ∙ sym (ap (λ (k : ℕ). sum_below k (λ u. unwrap_or (share_at t u (place_of place u)) 0)) here))
 
   pub low_matching : (place : List ℕ) → Matches night place → (u : ℕ) → u < n → cost_at table n u (at place u) ≤ 3000000000
   low_matching place m u lt = (pair_low u (place_of place u) lt (omega (arith, place_below night place m u lt, same)) (pair_of night place m u lt)).1

@@ -1,21 +1,18 @@
 -- What the least choice in the filled table shows.
 use Rattle.std.specs.Prelude.{Option, Some, None, unwrap_or, IfSome, map, All, slice_index_or}
-use Rattle.std.proofs.Common.{◌≡◌, ℕ, ◌+◌, ◌*◌, ◌<◌, ◌≤◌, ℤ, pos, ◌+ℤ◌, ◌≤ℤ◌, List, [], length, refl, sym, ap, ◌∙◌, subst, arith}
+use Rattle.std.proofs.Common.{◌≡◌, ℕ, ◌<◌, ◌≤◌, ℤ, pos, ◌≤ℤ◌, List, [], length, refl, sym, ap, ◌∙◌, subst, arith}
 use Rattle.std.proofs.lemmas.Int.{ints}
 use Rattle.std.proofs.lemmas.List.{get_or_default}
 use Rattle.shunt_base.specs.declared.duals.Duals.{Duals}
 use Rattle.shunt_instance.specs.defs.Instance.{Night, IsInstance, unit_total, position_total}
 use Rattle.shunt_instance.specs.defs.Matching.{place_of}
-use Rattle.shunt_instance.proofs.Looked.{units_few}
-use Rattle.shunt_instance.proofs.Orders.{opened}
 use Rattle.shunt_matching.specs.defs.Nights.{Matches}
-use Rattle.shunt_prices.specs.defs.Sums.{sum_z}
 use Rattle.shunt_prices.specs.defs.Limits.{IsValue, AreDuals, ArePrices}
 use Rattle.shunt_prices.specs.defs.Bounds.{IsBoundOf}
 use Rattle.shunt_dual.specs.defs.Shares.{Table, share_at, IsEntry, IsShare, AreShares}
-use Rattle.shunt_dual.specs.defs.Assignments.{share_total, AreUnder, IsLeastTotal, IsAssignmentBound, IsShown}
+use Rattle.shunt_dual.specs.defs.Assignments.{share_total, IsAssignmentBound, IsShown}
 use Rattle.shunt_dual.specs.defs.Tables.{at, at_z, cost_at, top, total, IsTable, IsPlace, IsAssigned, or_top}
-use Rattle.shunt_dual.proofs.Matched.{place_below, as_many, is_place, of_place, is_table, low_pair, pair_low, same_total, low_matching}
+use Rattle.shunt_dual.proofs.Matched.{as_many, is_place, of_place, is_table, low_pair, pair_low, same_total, low_matching}
 
 -- the filled table is one
 pub filled_is : (night : Night) (t : Table) (n : ℕ) (table : List ℕ) → ((place : List ℕ) × Matches night place) → IsInstance night → AreShares night t
@@ -38,14 +35,14 @@ module _ (night : Night) (t : Table) (is : IsInstance night) (shares : AreShares
     (is_sum : sum ≡ total (cost_at (map or_top t.entries) (unit_total night)) place)
     (least : (other : List ℕ) → IsPlace (unit_total night) other → sum ≤ total (cost_at (map or_top t.entries) (unit_total night)) other)
     (unfilled : (other : List ℕ) → IsPlace (unit_total night) other → ((r : ℕ) → r < unit_total night → cost_at (map or_top t.entries) (unit_total night) r (at other r) ≤ 3000000000)
-        → (r : ℕ) → r < unit_total night → cost_at (map or_top t.entries) (unit_total night) r (at place r) < top) where
+    → (r : ℕ) → r < unit_total night → cost_at (map or_top t.entries) (unit_total night) r (at place r) < top) where
   same : position_total night ≡ unit_total night
   same = as_many night some.0 some.1
 
   matches : Matches night place
   matches = of_place night place same a.is_place
       (λ u lt. low_pair night t is shares same u (place_of place u) lt (a.is_place.below u lt)
-          (unfilled some.0 (is_place night some.0 some.1) (low_matching night t is shares same some.0 some.1) u lt))
+      (unfilled some.0 (is_place night some.0 some.1) (low_matching night t is shares same some.0 some.1) u lt))
 
   pub shown : IsShown night t place alpha beta (pos sum)
   shown = record {

@@ -61,11 +61,7 @@ struct Shown {
 }
 
 /// The least choice in the table of shares, filled where pairs aren't matchable.
-fn least_shown(
-    alloc: Global,
-    instance: &Instance,
-    shares: &Shares,
-) -> Result<Shown, AllocError>
+fn least_shown(alloc: Global, instance: &Instance, shares: &Shares) -> Result<Shown, AllocError>
     requires matching { (place : List ℕ) × Matches instance.now place }
     requires shares { AreShares instance.now shares.now }
     ensures { IfOk result (λ s. IsShown instance.now shares.now s.place s.alpha s.beta s.total) }
@@ -85,11 +81,7 @@ fn least_shown(
 /// A matching whose shares add up to the least total, and duals without prices that add up to the same: so no matching has
 /// less, and the duals hold at the empty path. It needs that there is a matching, which is where `shortage` is None, and the
 /// shares of the instance.
-pub fn assign(
-    alloc: Global,
-    instance: &Instance,
-    shares: &Shares,
-) -> Result<Assigned, AllocError>
+pub fn assign(alloc: Global, instance: &Instance, shares: &Shares) -> Result<Assigned, AllocError>
     requires matching { (place : List ℕ) × Matches instance.now place }
     requires shares { AreShares instance.now shares.now }
     ensures matching { IfOk result (λ a. Matches instance.now a.matching.place_of) }

@@ -1,5 +1,5 @@
 use Rattle.std.specs.Prelude.{map}
-use Rattle.std.proofs.Common.{ap, sym, ◌∙◌, arith}
+use Rattle.std.proofs.Common.{ap, ◌∙◌, arith}
 use Rattle.std.proofs.lemmas.Int.{ints}
 use Rattle.shunt_dual.specs.defs.Tables.{or_top}
 use Rattle.shunt_dual.proofs.Shown.{filled_is, small_places, shown_over, shown_alike}

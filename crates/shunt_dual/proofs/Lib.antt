@@ -11,3 +11,4 @@ pub mod Entries
 pub mod Paying
 pub mod Matched
 pub mod Shown
+pub mod Start

@@ -8,10 +8,11 @@ use Rattle.shunt_instance.specs.defs.Instance.{Night, IsInstance, unit_total, po
 use Rattle.shunt_instance.specs.defs.Matching.{place_of}
 use Rattle.shunt_matching.specs.defs.Nights.{Matches}
 use Rattle.shunt_prices.specs.defs.Limits.{IsValue, AreDuals, ArePrices}
-use Rattle.shunt_prices.specs.defs.Bounds.{IsBoundOf}
+use Rattle.shunt_prices.specs.defs.Bounds.{duals_sum, IsBoundOf}
 use Rattle.shunt_dual.specs.defs.Shares.{Table, share_at, IsEntry, IsShare, AreShares}
 use Rattle.shunt_dual.specs.defs.Assignments.{share_total, IsAssignmentBound, IsShown}
 use Rattle.shunt_dual.specs.defs.Tables.{at, at_z, cost_at, top, total, IsTable, IsPlace, IsAssigned, or_top}
+use Rattle.shunt_dual.proofs.Start.{starts}
 use Rattle.shunt_dual.proofs.Matched.{as_many, is_place, of_place, is_table, low_pair, pair_low, same_total, low_matching}
 
 -- the filled table is one
@@ -107,3 +108,6 @@ bounds_all night t place alpha beta total z shares h e b is = record {
   enough = omega (arith, ints, h.is, e, is.enough);
   rounded = omega (arith, ints, h.is, e, is.least);
 }
+
+pub starts_with : (night : Night) (t : Table) (place : List ℕ) (d : Duals) (total z : ℤ) → IsShown night t place d.alpha d.beta total → d.prices ≡ [] → z ≡ total → duals_sum night [] d ≡ z
+starts_with night t place d total z h none e = starts night d (are_duals night t place d total h none) none ∙ (h.sum ∙ sym e)

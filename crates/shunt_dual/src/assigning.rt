@@ -5,7 +5,7 @@ ghost use Rattle.shunt_matching.specs.defs.Nights.{Matches};
 ghost use Rattle.shunt_prices.specs.defs.Sums.{sum_z};
 ghost use Rattle.shunt_prices.specs.defs.Limits.{AreDuals};
 ghost use Rattle.shunt_prices.specs.defs.Cases.{DualsHold};
-ghost use Rattle.shunt_prices.specs.defs.Bounds.{IsBoundOf};
+ghost use Rattle.shunt_prices.specs.defs.Bounds.{duals_sum, IsBoundOf};
 ghost use Rattle.shunt_dual.specs.defs.Shares.{AreShares};
 ghost use Rattle.shunt_dual.specs.defs.Assignments.{share_total, AreUnder, IsAssignmentBound, IsShown};
 ghost use Rattle.shunt_dual.specs.defs.Tables.{or_top};
@@ -90,6 +90,7 @@ pub fn assign(alloc: Global, instance: &Instance, shares: &Shares) -> Result<Ass
     ensures no_prices { IfOk result (λ a. a.duals.prices ≡ []) }
     ensures under { IfOk result (λ a. AreUnder instance.now shares.now a.duals) }
     ensures sum { IfOk result (λ a. sum_z (λ z. z) a.duals.alpha +ℤ sum_z (λ z. z) a.duals.beta ≡ a.total) }
+    ensures at_start { IfOk result (λ a. duals_sum instance.now [] a.duals ≡ a.total) }
     ensures least { IfOk result (λ a. (place : List ℕ) → Matches instance.now place → a.total ≤ℤ pos (share_total shares.now place)) }
     ensures hold { IfOk result (λ a. DualsHold instance.now [] a.duals) }
     ensures bound { IfOk result (λ a. (b : ℕ) → IsBoundOf a.total (pos b) → IsAssignmentBound instance.now b) }

@@ -52,40 +52,47 @@ fn worked_rows(rt: HostRuntime) -> Result<(), Fail> {
     Ok(())
 }
 
-// The share of a unit and a position, where the table has them.
-fn share(shares: &Shares, night: &Instance, u: usize, v: usize) -> Option<u64>
+// The share of a unit and a position, 0 where there is none.
+fn share(shares: &Shares, night: &Instance, u: usize, v: usize) -> u64
     requires { AreShares night.now shares.now }
 {
-    if u >= night.units() || v >= night.positions() {
-        return None;
+    if u >= night.units() {
+        return 0;
     }
-    shares.share(u, v)
+    if v >= night.positions() {
+        return 0;
+    }
+    shares.share(u, v).unwrap_or(0)
 }
 
-/// Four units of one type: those of three in a row cost least with all four, those one place apart with three, rounded down.
+// Whether a unit has these shares with the first positions, 0 where there is none.
+fn are_shares(shares: &Shares, night: &Instance, u: usize, expected: &[u64]) -> bool
+    requires { AreShares night.now shares.now }
+{
+    for v in 0..expected.len() {
+        if share(shares, night, u, v) != expected[v] {
+            return false;
+        }
+    }
+    true
+}
+
+// Whether a unit of the base station's night has these shares.
+fn has_shares(alloc: Global, timetable: &str, u: usize, expected: &[u64]) -> Result<bool, Fail> {
+    let night = night(alloc, STATION, timetable)?;
+    let shares = shares(alloc, &night)?;
+    Ok(are_shares(&shares, &night, u, expected))
+}
+
+/// Three units of one type that may stay together: a run of three costs 6, one of two a place apart 10 or 11.
 #[test]
 fn shares_of_runs(rt: HostRuntime) -> Result<(), Fail> {
     let alloc = rt.alloc();
     let timetable =
         "timetable,1\narrive,a1,22:00,P,K,K,K,X\ndepart,d1,30:00,P,K,K,K,Y\narrive,a2,22:00,P,Y\ndepart,d2,30:00,P,X\n";
-    let night = night(alloc, STATION, timetable)?;
-    let shares = shares(alloc, &night)?;
-    for (u, v, expected) in [
-        // The run of three costs 6; so the unit in its middle has 2,000, though a run of two has 5,000 and it alone 15,000.
-        (1, 1, Some(2_000)),
-        (0, 0, Some(2_000)),
-        // A run of two that is first in one train alone.
-        (0, 1, Some(5_000)),
-        (2, 1, Some(5_500)),
-        (0, 2, Some(10_000)),
-        (3, 4, Some(11_000)),
-        (4, 3, Some(10_000)),
-        // Two types.
-        (3, 3, None),
-        (0, 4, None),
-    ] {
-        assert_eq!(rt; share(&shares, &night, u, v), expected, "{u} {v}");
-    }
+    assert!(rt; has_shares(alloc, timetable, 0, &[2_000, 5_000, 10_000, 0, 0])?);
+    assert!(rt; has_shares(alloc, timetable, 1, &[5_500, 2_000, 5_000, 0, 0])?);
+    assert!(rt; has_shares(alloc, timetable, 3, &[0, 0, 0, 0, 11_000])?);
     Ok(())
 }
 
@@ -94,10 +101,7 @@ fn shares_of_runs(rt: HostRuntime) -> Result<(), Fail> {
 fn shares_are_rounded_down(rt: HostRuntime) -> Result<(), Fail> {
     let alloc = rt.alloc();
     let timetable = "timetable,1\narrive,a1,22:00,P,K,K,K,K\ndepart,d1,30:00,P,K,K,K,K\n";
-    let night = night(alloc, STATION, timetable)?;
-    let shares = shares(alloc, &night)?;
-    assert_eq!(rt; share(&shares, &night, 2, 1), Some(3_666));
-    assert_eq!(rt; share(&shares, &night, 1, 1), Some(1_500));
+    assert!(rt; has_shares(alloc, timetable, 2, &[5_500, 3_666, 1_500, 3_333])?);
     Ok(())
 }
 

@@ -1,5 +1,5 @@
 -- The shapes around a pair are those that hold it.
-use Rattle.std.proofs.Common.{◌≡◌, ⊎_elim, ℕ, ◌+◌, ◌-◌, ◌<◌, ◌≤◌, length, refl, sym, ap, ◌∙◌, subst, arith}
+use Rattle.std.proofs.Common.{◌≡◌, ⊎_elim, ℕ, ◌+◌, ◌-◌, ◌<◌, ◌≤◌, length, sym, ap, ◌∙◌, subst, arith}
 use Rattle.std.proofs.lemmas.Bool.{cases_lt}
 use Rattle.shunt_base.specs.declared.ids.ArrId.{ArrId}
 use Rattle.shunt_base.specs.declared.ids.DepId.{DepId}
@@ -10,10 +10,10 @@ use Rattle.shunt_instance.specs.defs.Instance.{Night, IsInstance, unit_at, posit
 use Rattle.shunt_instance.proofs.Facts.{unit_at_is, position_at_is, unit_there, position_there}
 use Rattle.shunt_instance.proofs.Orders.{opened}
 use Rattle.shunt_blocks.specs.declared.records.Shape.{Shape}
-use Rattle.shunt_blocks.specs.defs.Shapes.{AreRunsWithin, IsPair, IsShape, unit_from, position_from}
+use Rattle.shunt_blocks.specs.defs.Shapes.{AreRunsWithin, IsPair, unit_from, position_from}
 use Rattle.shunt_blocks.specs.defs.Blocks.{IsOption}
 use Rattle.shunt_dual.specs.defs.Shares.{Holds, IsShare, part_with}
-use Rattle.shunt_dual.specs.defs.Around.{HaveAfter, AreAfter, AreBefore, shape_around, IsLeastPart, FromBack, FromSome}
+use Rattle.shunt_dual.specs.defs.Around.{AreAfter, AreBefore, shape_around, IsLeastPart, FromSome}
 
 module _ (night : Night) (u v back n : ℕ) (is : IsInstance night) (ul : u < unit_total night) (vl : v < position_total night)
     (before : AreBefore night u v (back + 1)) (after : AreAfter night u v (n - back)) (some : back < n) where

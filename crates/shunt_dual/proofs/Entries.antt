@@ -1,6 +1,6 @@
 -- The table of shares, from its entries in a row.
 use Rattle.std.specs.Prelude.{Option, None, slice_index_or}
-use Rattle.std.proofs.Common.{◌≡◌, ℕ, ◌+◌, ◌*◌, ◌/◌, ◌%◌, ◌<◌, ◌≤◌, List, length, refl, ◌∙◌, subst, arith}
+use Rattle.std.proofs.Common.{◌≡◌, ℕ, ◌+◌, ◌*◌, ◌/◌, ◌%◌, ◌<◌, List, length, refl, ◌∙◌, subst, arith}
 use Rattle.std.proofs.lemmas.Nat.{mul-add-lt, div-mul-add, mod-mul-add}
 use Rattle.shunt_instance.specs.defs.Instance.{Night, unit_total, position_total}
 use Rattle.shunt_dual.specs.defs.Shares.{IsEntry, AreShares}

@@ -13,3 +13,6 @@ pub mod Charged
 pub mod Holds
 pub mod Summed
 pub mod Opening
+pub mod Matched
+pub mod Shown
+pub mod Start

@@ -1,8 +1,7 @@
 -- Shares are small, and duals under them are paid by each block.
-use Rattle.std.specs.Prelude.{Option, Some, None, IfSome, ◌==◌, cond, All}
-use Rattle.std.proofs.Common.{◌≡◌, ℕ, zero, suc, ◌+◌, ◌*◌, ◌/◌, ◌<◌, ◌≤◌, Bool, true, false, ℤ, pos, ◌+ℤ◌, ◌≤ℤ◌, List, [], refl, sym, ap, ◌∙◌, subst, arith}
+use Rattle.std.specs.Prelude.{Option, Some, None, IfSome, ◌==◌, cond}
+use Rattle.std.proofs.Common.{◌≡◌, ℕ, zero, suc, ◌+◌, ◌*◌, ◌/◌, ◌<◌, ◌≤◌, Bool, true, false, ℤ, pos, ◌+ℤ◌, ◌≤ℤ◌, [], refl, ap, arith}
 use Rattle.std.proofs.lemmas.Int.{ints}
-use Rattle.std.proofs.lemmas.Nat.{le-div}
 use Rattle.std.proofs.Math.Nat.{div-le_self, div-mul-le_self}
 use Rattle.shunt_lists.proofs.Lists.{all_one}
 use Rattle.shunt_base.specs.declared.duals.Duals.{Duals}
@@ -14,12 +13,10 @@ use Rattle.shunt_blocks.specs.declared.records.Shape.{Shape}
 use Rattle.shunt_blocks.specs.declared.records.Park.{Park}
 use Rattle.shunt_blocks.specs.defs.Shapes.{IsShape, unit_from, position_from}
 use Rattle.shunt_blocks.specs.defs.Blocks.{IsOption}
-use Rattle.shunt_blocks.specs.defs.Costs.{IsCheapest, cost_with, shape_cost}
+use Rattle.shunt_blocks.specs.defs.Costs.{IsCheapest, cost_with}
 use Rattle.shunt_choices.specs.defs.Paths.{masks_of}
 use Rattle.shunt_prices.specs.defs.Sums.{sum_z_below}
-use Rattle.shunt_prices.specs.defs.Prices.{price_part_with}
-use Rattle.shunt_prices.specs.defs.Limits.{plain}
-use Rattle.shunt_prices.specs.defs.Cases.{alpha_at, beta_at, duals_over, surcharge, weight_with, HoldsInCase, DualsHold}
+use Rattle.shunt_prices.specs.defs.Cases.{alpha_at, beta_at, duals_over, surcharge, HoldsInCase, DualsHold}
 use Rattle.shunt_dual.specs.defs.Shares.{Holds, IsShare, IsEntry, Table, share_at, part_with, AreShares}
 use Rattle.shunt_dual.specs.defs.Assignments.{AreUnder}
 use Rattle.shunt_dual.proofs.LeastPart.{div_rises}

@@ -1,5 +1,3 @@
-use Rattle.std.proofs.Common.{sym, subst, ℕ, arith}
-use Rattle.shunt_dual.specs.defs.Around.{IsPart}
 use Rattle.shunt_dual.proofs.LeastPart.{cheapest_part}
 use Rattle.shunt_dual.proofs.sharing.part.Goals as goal
 

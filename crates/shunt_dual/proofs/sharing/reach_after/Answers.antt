@@ -1,4 +1,3 @@
-use Rattle.std.proofs.Common.{arith}
 use Rattle.shunt_dual.proofs.sharing.reach_after.Goals as goal
 
 pub returns-clause-most : goal.returns-clause-most

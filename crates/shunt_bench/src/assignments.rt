@@ -23,6 +23,11 @@ fn shares_of(alloc: Global, instance: &Instance) -> Option<Shares>
     }
 }
 
+// Whether there was memory for the table of shares.
+fn makes_shares(alloc: Global, instance: &Instance) -> bool {
+    shares(alloc, instance).is_ok()
+}
+
 // What the shares of the matching add up to. None where memory runs out.
 fn total_of(alloc: Global, instance: &Instance, shares: &Shares) -> Option<i64>
     requires matching { (place : List ℕ) × Matches instance.now place }
@@ -44,7 +49,9 @@ fn time_shares(
 {
     let start = rt.process_cpu_time()?;
     for _ in 0..runs {
-        let _shares = shares_of(rt.alloc(), instance);
+        if !makes_shares(rt.alloc(), instance) {
+            break;
+        }
     }
     let end = rt.process_cpu_time()?;
     let nanos = end.as_nanos().saturating_sub(start.as_nanos());
@@ -72,6 +79,41 @@ fn time_assignments(
     Ok((total, nanos / u128::from(runs)))
 }
 
+// What the least assignment adds up to, and the times of the table of shares and of the assignment in nanoseconds. None where
+// memory runs out.
+fn time_both(
+    rt: &(impl AllocGlobal + CpuClock),
+    instance: &Instance,
+    runs: u64,
+) -> io::Result<Option<(i64, u128, u128)>>
+    requires matching { (place : List ℕ) × Matches instance.now place }
+    requires runs { 0 < runs }
+{
+    let table = time_shares(rt, instance, runs)?;
+    let Some(shares) = shares_of(rt.alloc(), instance) else {
+        return Ok(None);
+    };
+    let (total, nanos) = time_assignments(rt, instance, &shares, runs)?;
+    match total {
+        Some(total) => Ok(Some((total, table, nanos))),
+        None => Ok(None),
+    }
+}
+
+// The same of a night, where it has a matching.
+fn time_matched(
+    rt: &(impl AllocGlobal + CpuClock),
+    instance: &Instance,
+    runs: u64,
+) -> io::Result<Option<(i64, u128, u128)>>
+    requires { 0 < runs }
+{
+    match shortage(instance) {
+        None => time_both(rt, instance, runs),
+        Some(_) => Ok(None),
+    }
+}
+
 /// Prints what the least assignment of a night adds up to, in thousandths of a cost unit, and the times of the table of
 /// shares and of the assignment, each the mean of so many, in nanoseconds.
 pub(crate) fn measure_assign(
@@ -87,16 +129,8 @@ pub(crate) fn measure_assign(
         Ok(instance) => instance,
         Err(refused) => return rt.println(refused.line()),
     };
-    let None = shortage(&instance) else {
-        return rt.println("there is no matching");
-    };
-    let Some(shares) = shares_of(rt.alloc(), &instance) else {
-        return rt.println("out of memory");
-    };
-    let table = time_shares(rt, &instance, runs)?;
-    let (total, nanos) = time_assignments(rt, &instance, &shares, runs)?;
-    let Some(total) = total else {
-        return rt.println("out of memory");
+    let Some((total, table, nanos)) = time_matched(rt, &instance, runs)? else {
+        return rt.println("there is no matching, or no memory");
     };
     println!(rt; "assign total {total} shares nanoseconds {table} nanoseconds {nanos}")
 }

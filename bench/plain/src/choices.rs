@@ -2,24 +2,24 @@
 
 use std::collections::HashMap;
 
-struct Train {
-    minute: u32,
-    platform: Option<usize>,
-    track: Option<usize>,
-    units: Vec<usize>,
+pub(crate) struct Train {
+    pub(crate) minute: u32,
+    pub(crate) platform: Option<usize>,
+    pub(crate) track: Option<usize>,
+    pub(crate) units: Vec<usize>,
 }
 
 #[derive(Default)]
-struct Night {
-    turns: Vec<u32>,
-    tracks: usize,
-    routes: HashMap<(usize, usize, usize), u64>,
-    permits: Vec<Vec<usize>>,
-    arrive: Vec<Train>,
-    depart: Vec<Train>,
-    split: u64,
-    couple: u64,
-    unparked: u64,
+pub(crate) struct Night {
+    pub(crate) turns: Vec<u32>,
+    pub(crate) tracks: usize,
+    pub(crate) routes: HashMap<(usize, usize, usize), u64>,
+    pub(crate) permits: Vec<Vec<usize>>,
+    pub(crate) arrive: Vec<Train>,
+    pub(crate) depart: Vec<Train>,
+    pub(crate) split: u64,
+    pub(crate) couple: u64,
+    pub(crate) unparked: u64,
 }
 
 fn minute(text: &str) -> u32 {
@@ -31,7 +31,7 @@ fn place(names: &[String], name: &str) -> usize {
     names.iter().position(|other| other == name).expect("a known name")
 }
 
-fn read(station: &str, timetable: &str) -> Night {
+pub(crate) fn read(station: &str, timetable: &str) -> Night {
     let mut night = Night::default();
     let (mut types, mut platforms, mut tracks) = (vec![], vec![], vec![]);
     for line in std::fs::read_to_string(station).expect("a station").lines() {
@@ -75,7 +75,7 @@ fn read(station: &str, timetable: &str) -> Night {
     night
 }
 
-fn way(night: &Night, train: &Train, track: usize, side: usize) -> Option<u64> {
+pub(crate) fn way(night: &Night, train: &Train, track: usize, side: usize) -> Option<u64> {
     match train.track {
         Some(own) => (own == track && side == 1).then_some(0),
         None => night.routes.get(&(train.platform?, track, side)).copied(),
@@ -125,7 +125,7 @@ fn choices(night: &Night, arriving: &Train, p: usize) -> (u64, u64) {
 }
 
 // How long this process had a processor so far, in nanoseconds.
-fn spent() -> u128 {
+pub(crate) fn spent() -> u128 {
     let text = std::fs::read_to_string("/proc/self/schedstat").expect("Linux");
     text.split_whitespace().next().and_then(|word| word.parse().ok()).expect("a time")
 }

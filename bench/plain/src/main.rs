@@ -3,8 +3,11 @@
 //! `plain make timetable SIZE` and `plain make certificate SIZE` print a file of about that many bytes;
 //! `plain largest station` and `plain largest timetable` print files that reach every limit and are accepted;
 //! `plain largest plan` prints a plan of 400 blocks over them; `plain split FILE..` splits each file at commas and line ends and
-//! keeps the fields; `plain choices STATION TIMETABLE WALKS` walks over the choices for each unit.
+//! keeps the fields; `plain choices STATION TIMETABLE WALKS` walks over the choices for each unit;
+//! `plain mixed station` and `plain mixed timetable UNITS` print a night of three types whose every unit may go with every
+//! position of its type; `plain assign STATION TIMETABLE RUNS` makes the shares and the least assignment of a night.
 
+mod assign;
 mod choices;
 
 use std::io::Write;
@@ -17,6 +20,9 @@ fn main() {
         ["largest", "station"] => print!("{}", largest_station()),
         ["largest", "timetable"] => print!("{}", largest_timetable()),
         ["largest", "plan"] => print!("{}", largest_plan()),
+        ["mixed", "station"] => print!("{}", assign::mixed_station()),
+        ["mixed", "timetable", units] => print!("{}", assign::mixed_timetable(units.parse().expect("a number"))),
+        ["assign", station, timetable, runs] => assign::measure(station, timetable, runs.parse().expect("a number")),
         ["split", ref names @ ..] if !names.is_empty() => names.iter().for_each(|name| split(name)),
         ["choices", station, timetable, walks] => choices::measure(station, timetable, walks.parse().expect("a number")),
         _ => std::process::exit(2),

@@ -1,13 +1,15 @@
-//! Measures, by the first word: `records FILE`, `tracks`, `timelines`, `choices STATION TIMETABLE WALKS` and `audit STATION
-//! TIMETABLE PLAN RUNS`. Without words it prints nothing.
+//! Measures, by the first word: `records FILE`, `tracks`, `timelines`, `choices STATION TIMETABLE WALKS`, `audit STATION
+//! TIMETABLE PLAN RUNS` and `assign STATION TIMETABLE RUNS`. Without words it prints nothing.
 #![tactic(auto)]
 
+mod assignments;
 mod audits;
 mod choices;
 mod nights;
 mod timelines;
 mod tracks;
 
+use assignments::measure_assign;
 use audits::measure_audit;
 use choices::measure_choices;
 use shunt_rows::records;
@@ -74,6 +76,9 @@ fn main(rt: HostRuntime) -> io::Result<()> {
                 plan.as_str(),
                 runs.as_str(),
             )
+        }
+        ("assign", (Some(station), Some(timetable), Some(runs), _)) => {
+            measure_assign(&rt, station.as_str(), timetable.as_str(), runs.as_str())
         }
         _ => Ok(()),
     }

@@ -282,14 +282,17 @@ fn place_after_400(alloc: Global, night: &Instance, last: &str) -> Result<String
     place_of_plan(alloc, night, &rows)
 }
 
+fn are_at_most_400(alloc: Global, night: &Instance) -> Result<bool, Fail> {
+    let whole = place_after_400(alloc, night, "cost,0")?;
+    let more = place_after_400(alloc, night, "block,400,a1,1,1,d1,1,unparked")?;
+    Ok(whole.as_str() == "ok" && more.as_str() == "402.1.8")
+}
+
 #[test]
 fn there_are_at_most_400_blocks(rt: HostRuntime) -> Result<(), Fail> {
     let alloc = rt.alloc();
     let night = night(alloc)?;
-    let whole = place_after_400(alloc, &night, "cost,0")?;
-    assert!(rt; whole.as_str() == "ok");
-    let more = place_after_400(alloc, &night, "block,400,a1,1,1,d1,1,unparked")?;
-    assert!(rt; more.as_str() == "402.1.8");
+    assert!(rt; are_at_most_400(alloc, &night)?);
     Ok(())
 }
 
@@ -305,13 +308,17 @@ fn plan(alloc: Global, night: &Instance, text: &str) -> Result<Plan, Fail>
     }
 }
 
+fn is_written_as_read(alloc: Global, night: &Instance) -> Result<bool, Fail> {
+    let plan = plan(alloc, night, PLAN)?;
+    let written = write_plan(alloc, night, &plan)?;
+    Ok(written.as_slice() == PLAN.as_bytes())
+}
+
 #[test]
 fn a_plan_is_written_as_it_was_read(rt: HostRuntime) -> Result<(), Fail> {
     let alloc = rt.alloc();
     let night = night(alloc)?;
-    let plan = plan(alloc, &night, PLAN)?;
-    let written = write_plan(alloc, &night, &plan)?;
-    assert!(rt; written.as_slice() == PLAN.as_bytes());
+    assert!(rt; is_written_as_read(alloc, &night)?);
     Ok(())
 }
 
@@ -329,22 +336,32 @@ fn is_first(block: &Block) -> bool {
     block.id == 2 && block.arr == ArrId(1) && block.p == 1 && block.n == 2 && block.q == 2
 }
 
+// The train a1 comes later than a2, and is numbered behind it.
+fn are_the_blocks(blocks: &[Block]) -> bool {
+    let [block, other] = blocks else {
+        return false;
+    };
+    is_first(block)
+        && is_parked_from_a_to_b(block)
+        && other.id == 1
+        && other.arr == ArrId(0)
+        && other.park.is_none()
+}
+
+// Coupling 2 and the way in 3, as there is no way out by B; and 20 for the unparked block.
+fn has_its_values(alloc: Global, night: &Instance) -> Result<bool, Fail> {
+    let mut plan = plan(alloc, night, PLAN)?;
+    let costs = are_the_blocks(plan.blocks.as_slice()) && plan_cost(night, &plan) == 25;
+    let within = plan_in_range(night, &plan);
+    plan.cost = 1_000_000_000_001;
+    Ok(costs && within && !plan_in_range(night, &plan))
+}
+
 #[test]
 fn a_plan_has_its_values(rt: HostRuntime) -> Result<(), Fail> {
     let alloc = rt.alloc();
     let night = night(alloc)?;
-    let mut plan = plan(alloc, &night, PLAN)?;
-    let [block, other] = plan.blocks.as_slice() else {
-        return Err("two blocks".into());
-    };
-    // The train a1 comes later than a2, and is numbered behind it.
-    assert!(rt; is_first(block) && is_parked_from_a_to_b(block));
-    assert!(rt; other.id == 1 && other.arr == ArrId(0) && other.park.is_none());
-    // Coupling 2 and the way in 3, as there is no way out by B; and 20 for the unparked block.
-    assert!(rt; plan_cost(&night, &plan) == 25);
-    assert!(rt; plan_in_range(&night, &plan));
-    plan.cost = 1_000_000_000_001;
-    assert!(rt; !plan_in_range(&night, &plan));
+    assert!(rt; has_its_values(alloc, &night)?);
     Ok(())
 }
 
@@ -362,14 +379,17 @@ fn first_lost(alloc: Global, night: &Instance, pins: &str) -> Result<u32, Fail> 
     }
 }
 
+fn are_kept_whatever_their_ids(alloc: Global, night: &Instance) -> Result<bool, Fail> {
+    let kept = first_lost(alloc, night, "block,8,a1,1,2,d1,2,park,T,A,B")?;
+    let two = "block,2,a1,1,2,d1,2,park,T,A,A\nblock,1,a2,1,1,d1,2,unparked";
+    let lost = first_lost(alloc, night, two)?;
+    Ok(kept == 0 && lost == 2)
+}
+
 #[test]
 fn pins_are_kept_whatever_their_ids(rt: HostRuntime) -> Result<(), Fail> {
     let alloc = rt.alloc();
     let night = night(alloc)?;
-    let kept = first_lost(alloc, &night, "block,8,a1,1,2,d1,2,park,T,A,B")?;
-    assert!(rt; kept == 0);
-    let two = "block,2,a1,1,2,d1,2,park,T,A,A\nblock,1,a2,1,1,d1,2,unparked";
-    let lost = first_lost(alloc, &night, two)?;
-    assert!(rt; lost == 2);
+    assert!(rt; are_kept_whatever_their_ids(alloc, &night)?);
     Ok(())
 }

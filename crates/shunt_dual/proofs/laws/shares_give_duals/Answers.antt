@@ -1,0 +1,5 @@
+use Rattle.shunt_dual.proofs.Paying.{duals_hold}
+use Rattle.shunt_dual.proofs.laws.shares_give_duals.Goals as goal
+
+pub returns : goal.returns
+returns c = duals_hold

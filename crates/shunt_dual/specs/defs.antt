@@ -1,0 +1,9 @@
+-- The definitions of this crate.
+pub mod Shares
+pub mod Assignments
+pub mod Around
+pub mod Tables
+pub mod Pairing
+pub mod Tree
+pub mod Weighed
+pub mod Opened

@@ -1,0 +1,19 @@
+//! Shares of the cheapest blocks for units and positions, the assignment of least sum, and whether duals and cases hold at a
+//! path and what they bound there.
+#![tactic(auto)]
+
+mod assigning;
+mod bounds;
+mod holding;
+pub mod laws;
+mod sharing;
+mod steps;
+mod table;
+mod tree;
+pub mod types;
+mod weighing;
+
+pub use assigning::{Assigned, assign};
+pub use bounds::{bound, cases_bound};
+pub use holding::{cases_hold, duals_hold};
+pub use sharing::shares;

@@ -348,13 +348,30 @@ fn are_the_blocks(blocks: &[Block]) -> bool {
         && other.park.is_none()
 }
 
+fn has_the_blocks(alloc: Global, night: &Instance) -> Result<bool, Fail> {
+    let plan = plan(alloc, night, PLAN)?;
+    Ok(are_the_blocks(plan.blocks.as_slice()))
+}
+
+fn cost(alloc: Global, night: &Instance) -> Result<u64, Fail> {
+    let plan = plan(alloc, night, PLAN)?;
+    Ok(plan_cost(night, &plan))
+}
+
+// Whether the plan with this stated cost is in range.
+fn is_in_range_at(alloc: Global, night: &Instance, cost: u64) -> Result<bool, Fail> {
+    let mut plan = plan(alloc, night, PLAN)?;
+    plan.cost = cost;
+    Ok(plan_in_range(night, &plan))
+}
+
 // Coupling 2 and the way in 3, as there is no way out by B; and 20 for the unparked block.
 fn has_its_values(alloc: Global, night: &Instance) -> Result<bool, Fail> {
-    let mut plan = plan(alloc, night, PLAN)?;
-    let costs = are_the_blocks(plan.blocks.as_slice()) && plan_cost(night, &plan) == 25;
-    let within = plan_in_range(night, &plan);
-    plan.cost = 1_000_000_000_001;
-    Ok(costs && within && !plan_in_range(night, &plan))
+    let blocks = has_the_blocks(alloc, night)?;
+    let costs = cost(alloc, night)? == 25;
+    let most = is_in_range_at(alloc, night, 1_000_000_000_000)?;
+    let more = is_in_range_at(alloc, night, 1_000_000_000_001)?;
+    Ok(blocks && costs && most && !more)
 }
 
 #[test]

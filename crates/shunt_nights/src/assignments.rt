@@ -2,17 +2,28 @@
 ghost use Rattle.std.specs.Prelude.{◌≡◌, IfOk};
 ghost use Rattle.shunt_dual.specs.defs.Shares.{AreShares};
 
-use super::*;
 use shunt_dual::types::Shares;
 use shunt_dual::{Assigned, assign, shares};
+use shunt_instance::Instance;
 use shunt_matching::shortage;
+use shunt_rows::records;
+use shunt_station::read_station;
+use shunt_timetable::read_timetable;
+use std::alloc::Global;
 use std::test::Fail;
 
 const STATION: &str =
     "station,1,Demo\ntype,K,500,10\ntype,X,500,10\ntype,Y,500,10\nplatform,P\ntrack,T,1000,A\nroute,P,T,A,3\ncost,5,4,100\n";
 
 fn night(alloc: Global, station: &str, timetable: &str) -> Result<Instance, Fail> {
-    Ok(night_of(alloc, station, timetable).ok_or("a night")?)
+    let Ok(station) = read_station(alloc, &records(alloc, station.as_bytes())?) else {
+        return Err("a station".into());
+    };
+    let Ok(timetable) = read_timetable(alloc, &station, &records(alloc, timetable.as_bytes())?)
+    else {
+        return Err("a timetable".into());
+    };
+    Ok(Instance::join(alloc, station, timetable)?)
 }
 
 fn assigned(alloc: Global, night: &Instance) -> Result<Assigned, Fail> {

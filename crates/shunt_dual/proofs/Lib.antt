@@ -16,3 +16,11 @@ pub mod Opening
 pub mod Matched
 pub mod Shown
 pub mod Start
+pub mod Asked
+pub mod Lightest
+pub mod Gathered
+pub mod Demands
+pub mod Refitted
+pub mod Raised
+pub mod Tried
+pub mod Swept

@@ -7,3 +7,6 @@ pub mod Pairing
 pub mod Tree
 pub mod Weighed
 pub mod Opened
+pub mod Refits
+pub mod Asks
+pub mod Raises

@@ -2,10 +2,13 @@
 //! path and what they bound there.
 #![tactic(auto)]
 
+mod asking;
 mod assigning;
 mod bounds;
 mod holding;
 pub mod laws;
+mod raising;
+mod refitting;
 mod sharing;
 mod steps;
 mod table;
@@ -16,4 +19,5 @@ mod weighing;
 pub use assigning::{Assigned, assign};
 pub use bounds::{bound, cases_bound};
 pub use holding::{cases_hold, duals_hold};
+pub use raising::raise_prices;
 pub use sharing::shares;

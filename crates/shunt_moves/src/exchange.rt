@@ -1,0 +1,71 @@
+// What is kept of an edit.
+ghost use Rattle.std.specs.Prelude.{◌≡◌};
+ghost use Rattle.shunt_moves.specs.defs.Exchanges.{none, one, two, flipped};
+
+use shunt_blocks::Block;
+
+/// At most two blocks.
+#[derive(Clone, Copy, Debug)]
+pub struct Pair {
+    pub first: Option<Block>,
+    pub second: Option<Block>,
+}
+
+/// Some blocks go, then others come, each the first before the second, and the next new block gets another id.
+#[derive(Clone, Copy, Debug)]
+pub struct Exchange {
+    pub gone: Pair,
+    pub come: Pair,
+    pub next: u32,
+}
+
+impl Pair {
+    pub fn none() -> Pair
+        ensures { result ≡ none }
+    {
+        Pair {
+            first: None,
+            second: None,
+        }
+    }
+
+    pub fn one(block: Block) -> Pair
+        ensures { result ≡ one block }
+    {
+        Pair {
+            first: Some(block),
+            second: None,
+        }
+    }
+
+    pub fn two(first: Block, second: Block) -> Pair
+        ensures { result ≡ two first second }
+    {
+        Pair {
+            first: Some(first),
+            second: Some(second),
+        }
+    }
+
+    fn turned(self) -> Pair
+        ensures { result ≡ record { first = self.second; second = self.first } }
+    {
+        Pair {
+            first: self.second,
+            second: self.first,
+        }
+    }
+}
+
+impl Exchange {
+    /// The exchange that leads back to a state with this next id.
+    pub fn flipped(&self, next: u32) -> Exchange
+        ensures { result ≡ flipped self.now next }
+    {
+        Exchange {
+            gone: self.come.turned(),
+            come: self.gone.turned(),
+            next,
+        }
+    }
+}

@@ -1,0 +1,15 @@
+//! The workbench: a plan's blocks that are changed by hand, with undo and redo, and what is wrong with them at each moment.
+#![tactic(auto)]
+
+mod bench;
+mod cover;
+mod exchange;
+mod faults;
+pub mod laws;
+mod moving;
+mod planning;
+mod present;
+mod types;
+
+pub use bench::Workbench;
+pub use types::{MoveError, Nothing, Tally};

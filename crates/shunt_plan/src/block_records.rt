@@ -12,8 +12,8 @@ use shunt_rows::{
     ReadError, Row, RowFault, RowKind, fields_in, found, is_within, must, number_in, side_in,
 };
 
-/// The first record of a file: this word, and version 1.
-pub(crate) fn read_first(row: &Row, word: &[u8]) -> Result<(), RowFault>
+/// The first record of a file: this word, and version 1. Else Kind or Fields at field 1, Number or Limit at field 2.
+pub fn read_first(row: &Row, word: &[u8]) -> Result<(), RowFault>
     ensures { result ≡ answer 1 (first_in word.now tt row.now) }
 {
     must(row.word() == word, 1, 1, RowKind::Kind)?;
@@ -32,9 +32,9 @@ fn unknown(n: u32, k: u32) -> RowFault
     }
 }
 
-// The arriving train at field `k`.
+/// The arriving train at field `k` of record `n`: else Unknown.
 #[tactic(auto, unfolding(crate::specs::defs::BlockRecords::arr_number))]
-pub(crate) fn read_arr(instance: &Instance, row: &Row, n: u32, k: u32) -> Result<ArrId, RowFault>
+pub fn read_arr(instance: &Instance, row: &Row, n: u32, k: u32) -> Result<ArrId, RowFault>
     requires first { 1 ≤ k }
     requires last { k ≤ length row.now }
     ensures answer { result ≡ answer n (arr_in instance.now row.now k) }
@@ -46,9 +46,9 @@ pub(crate) fn read_arr(instance: &Instance, row: &Row, n: u32, k: u32) -> Result
     }
 }
 
-// The departing train at field `k`.
+/// The departing train at field `k` of record `n`: else Unknown.
 #[tactic(auto, unfolding(crate::specs::defs::BlockRecords::dep_number))]
-pub(crate) fn read_dep(instance: &Instance, row: &Row, n: u32, k: u32) -> Result<DepId, RowFault>
+pub fn read_dep(instance: &Instance, row: &Row, n: u32, k: u32) -> Result<DepId, RowFault>
     requires first { 1 ≤ k }
     requires last { k ≤ length row.now }
     ensures answer { result ≡ answer n (dep_in instance.now row.now k) }
@@ -60,14 +60,9 @@ pub(crate) fn read_dep(instance: &Instance, row: &Row, n: u32, k: u32) -> Result
     }
 }
 
-// The track at field `k`.
+/// The track at field `k` of record `n`: else Unknown.
 #[tactic(auto, unfolding(crate::specs::defs::BlockRecords::track_number))]
-pub(crate) fn read_track(
-    instance: &Instance,
-    row: &Row,
-    n: u32,
-    k: u32,
-) -> Result<TrackId, RowFault>
+pub fn read_track(instance: &Instance, row: &Row, n: u32, k: u32) -> Result<TrackId, RowFault>
     requires first { 1 ≤ k }
     requires last { k ≤ length row.now }
     ensures { result ≡ answer n (track_in instance.now.station row.now k) }
@@ -136,14 +131,11 @@ fn read_parked(instance: &Instance, row: &Row, n: u32, k: u32) -> Result<Option<
     }))
 }
 
-/// The option from field `k` on: `unparked` where it is the last field, else `park,TRACK,IN,OUT`.
+/// The option from field `k` of record `n` on: `unparked` where it is the last field, else `park,TRACK,IN,OUT`.
+///
+/// Another word and a side that is none are Kind, a track that isn't the station's is Unknown.
 #[tactic(auto, unfolding(crate::specs::defs::BlockRecords::option_in))]
-pub(crate) fn read_option(
-    instance: &Instance,
-    row: &Row,
-    n: u32,
-    k: u32,
-) -> Result<Option<Park>, RowFault>
+pub fn read_option(instance: &Instance, row: &Row, n: u32, k: u32) -> Result<Option<Park>, RowFault>
     requires first { 1 ≤ k }
     requires small { k ≤ 8 }
     requires last { IsTrue (length row.now == k || length row.now == k + 3) }

@@ -16,7 +16,7 @@ use std::alloc::{AllocError, Global};
 const WRITTEN_VERSION: u64 = 1;
 
 /// The name of the arriving train with a number.
-pub(crate) fn arr_name(instance: &Instance, arr: ArrId) -> &[u8]
+pub fn arr_name(instance: &Instance, arr: ArrId) -> &[u8]
     requires { arr.0 < length instance.now.arrive }
     ensures { result.now ≡ arr_name instance.now arr }
 {
@@ -24,14 +24,15 @@ pub(crate) fn arr_name(instance: &Instance, arr: ArrId) -> &[u8]
 }
 
 /// The name of the departing train with a number.
-pub(crate) fn dep_name(instance: &Instance, dep: DepId) -> &[u8]
+pub fn dep_name(instance: &Instance, dep: DepId) -> &[u8]
     requires { dep.0 < length instance.now.depart }
     ensures { result.now ≡ dep_name instance.now dep }
 {
     instance.depart(dep).name.bytes()
 }
 
-pub(crate) fn track_name(instance: &Instance, track: TrackId) -> &[u8]
+/// The name of the track with a number.
+pub fn track_name(instance: &Instance, track: TrackId) -> &[u8]
     requires { track.0 < length instance.now.station.tracks }
     ensures { result.now ≡ track_name instance.now.station track }
 {
@@ -40,8 +41,8 @@ pub(crate) fn track_name(instance: &Instance, track: TrackId) -> &[u8]
         .bytes()
 }
 
-/// Adds the fields of an option to the open row.
-pub(crate) fn write_option(
+/// Adds the fields of an option to the open row: `unparked`, or `park,TRACK,IN,OUT`. The error is want of memory.
+pub fn write_option(
     writer: &mut RowWriter,
     instance: &Instance,
     park: Option<Park>,

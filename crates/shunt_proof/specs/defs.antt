@@ -1,0 +1,11 @@
+-- The definitions of this crate.
+pub mod Nodes
+pub mod Trees
+pub mod Proves
+pub mod Accepted
+pub mod Certificates
+pub mod CertificateFormat
+pub mod CertificateRows
+pub mod Recording
+pub mod Listing
+pub mod Streaming

@@ -12,6 +12,3 @@ pub mod types;
 
 pub use auditing::audit;
 pub use listing::findings_of;
-
-#[cfg(test)]
-mod tests;

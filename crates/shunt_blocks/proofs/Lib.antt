@@ -12,4 +12,3 @@ mod Matched
 mod Agreed
 mod Upgrade
 mod Leasts
-pub mod Small

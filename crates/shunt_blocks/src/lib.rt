@@ -18,6 +18,3 @@ pub use ranges::{
 pub use records::{Block, Park, Shape, shape_of};
 pub use standing::{block_length, is_too_soon, stay};
 pub use ways::{is_option, way_in, way_out};
-
-#[cfg(test)]
-mod tests;

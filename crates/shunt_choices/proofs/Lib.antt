@@ -13,4 +13,3 @@ pub mod Grown
 pub mod Partial
 pub mod Counted
 pub mod Begins
-mod TwoTracks

@@ -11,6 +11,3 @@ pub mod types;
 pub use choices::{Shapes, options, shapes_from};
 pub use covered::Covered;
 pub use paths::Path;
-
-#[cfg(test)]
-mod tests;

@@ -4,5 +4,4 @@ pub mod Orders
 pub mod Facts
 pub mod Found
 pub mod Looked
-pub mod Small
 pub mod Named

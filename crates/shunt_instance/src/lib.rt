@@ -12,6 +12,3 @@ pub use joined::Instance;
 pub use records::{
     Origin, Permit, Position, Route, Station, Timetable, Track, Train, Unit, UnitType,
 };
-
-#[cfg(test)]
-mod tests;

@@ -12,6 +12,3 @@ pub mod types;
 
 pub use pairing::{MatchError, Matching, first_fit, first_fit_rest};
 pub use shortages::{shortage, shortage_rest};
-
-#[cfg(test)]
-mod tests;

@@ -15,7 +15,7 @@ use std::test::Fail;
 const STATION: &str =
     "station,1,Demo\ntype,K,500,10\ntype,X,500,10\ntype,Y,500,10\nplatform,P\ntrack,T,1000,A\nroute,P,T,A,3\ncost,5,4,100\n";
 
-fn night(alloc: Global, station: &str, timetable: &str) -> Result<Instance, Fail> {
+pub(crate) fn night(alloc: Global, station: &str, timetable: &str) -> Result<Instance, Fail> {
     let Ok(station) = read_station(alloc, &records(alloc, station.as_bytes())?) else {
         return Err("a station".into());
     };

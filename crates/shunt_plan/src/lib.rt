@@ -4,24 +4,21 @@
 
 mod block_records;
 mod edits;
-#[cfg(test)]
-mod edits_tests;
 mod kept;
 pub mod laws;
 mod pins;
 mod plan;
 mod ranges;
 mod records;
-#[cfg(test)]
-mod tests;
 mod writing;
 mod writing_edits;
 
+pub use block_records::{read_arr, read_dep, read_first, read_option, read_track};
 pub use edits::{Edit, Turn, read_edits};
 pub use kept::lost_pin;
 pub use pins::read_pins;
 pub use plan::read_plan;
 pub use ranges::{plan_cost, plan_in_range};
 pub use records::Plan;
-pub use writing::write_plan;
+pub use writing::{arr_name, dep_name, track_name, write_option, write_plan};
 pub use writing_edits::write_edits;

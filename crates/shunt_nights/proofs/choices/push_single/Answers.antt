@@ -1,6 +1,6 @@
 use Rattle.std.proofs.Common.{rules}
 use Rattle.shunt_choices.proofs.Trails.{next_free, only_position}
-use Rattle.shunt_choices.proofs.tests.push_single.Goals as goal
+use Rattle.shunt_nights.proofs.choices.push_single.Goals as goal
 
 pub push-requires-clause-units : goal.push-requires-clause-units
 push-requires-clause-units c = search (rules, next_free)

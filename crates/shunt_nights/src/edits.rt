@@ -1,12 +1,12 @@
-// Files of edits in the small night of the other tests, whose values and first faults are worked out by hand.
+// Files of edits of a small night, whose values and first faults are worked out by hand.
 ghost use Rattle.std.specs.Prelude.{IfOk};
 ghost use Rattle.shunt_plan.specs.defs.Edits.{AreTurns};
 
-use super::*;
-use crate::tests::{joined, night, place};
+use crate::plans::{joined, place, small_night};
 use shunt_base::{ArrId, DepId, Side, TrackId};
 use shunt_blocks::Park;
 use shunt_instance::Instance;
+use shunt_plan::{Edit, Turn, read_edits, write_edits};
 use shunt_rows::{Row, records};
 use std::alloc::Global;
 use std::test::Fail;
@@ -17,18 +17,22 @@ fn place_of_edits(alloc: Global, night: &Instance, rows: &Vec<Row>) -> Result<St
 
 // Whether the files that begin with this text and go on as a table says have the first faults that it says. The table's
 // records are the place of a fault and what the file goes on with.
-fn have_places(alloc: Global, front: &str, table: &str) -> Result<bool, Fail> {
-    let night = night(alloc)?;
+fn have_places_in(alloc: Global, night: &Instance, front: &str, table: &str) -> Result<bool, Fail> {
     for case in records(alloc, table.as_bytes())? {
         if case.len() != 2 {
             return Ok(false);
         }
         let rows = joined(alloc, front, case.field(2))?;
-        if place_of_edits(alloc, &night, &rows)?.as_bytes() != case.field(1) {
+        if place_of_edits(alloc, night, &rows)?.as_bytes() != case.field(1) {
             return Ok(false);
         }
     }
     Ok(true)
+}
+
+fn have_places(alloc: Global, front: &str, table: &str) -> Result<bool, Fail> {
+    let night = small_night(alloc)?;
+    have_places_in(alloc, &night, front, table)
 }
 
 const ENDS: &str = r#"
@@ -148,38 +152,26 @@ fn turns(alloc: Global, night: &Instance) -> Result<Vec<Turn>, Fail>
     }
 }
 
-#[test]
-fn edits_are_written_as_they_were_read(rt: HostRuntime) -> Result<(), Fail> {
-    let alloc = rt.alloc();
-    let night = night(alloc)?;
-    let written = write_edits(alloc, &night, &turns(alloc, &night)?)?;
-    assert!(rt; written.as_slice() == EDITS.as_bytes());
-    Ok(())
-}
-
-fn parked(side_in: Side, side_out: Side) -> Park {
-    Park {
+fn parked(side_in: Side, side_out: Side) -> Option<Park> {
+    Some(Park {
         track: TrackId(0),
         side_in,
         side_out,
-    }
+    })
 }
 
-#[test]
-fn edits_have_their_values(rt: HostRuntime) -> Result<(), Fail> {
-    let alloc = rt.alloc();
-    let night = night(alloc)?;
-    // The train a1 comes later than a2, and is numbered behind it.
-    let expected = [
-        Turn::Edit(Edit::Add {
+// The train a1 comes later than a2, and is numbered behind it.
+fn expected(k: usize) -> Turn {
+    match k {
+        0 => Turn::Edit(Edit::Add {
             arr: ArrId(1),
             p: 1,
             n: 2,
             dep: DepId(0),
             q: 2,
-            park: Some(parked(Side::A, Side::B)),
+            park: parked(Side::A, Side::B),
         }),
-        Turn::Edit(Edit::Add {
+        1 => Turn::Edit(Edit::Add {
             arr: ArrId(0),
             p: 0,
             n: 8,
@@ -187,20 +179,59 @@ fn edits_have_their_values(rt: HostRuntime) -> Result<(), Fail> {
             q: 7,
             park: None,
         }),
-        Turn::Edit(Edit::Drop { id: 1 }),
-        Turn::Edit(Edit::Park {
+        2 => Turn::Edit(Edit::Drop { id: 1 }),
+        3 => Turn::Edit(Edit::Park {
             id: 1_000_000,
-            park: parked(Side::B, Side::A),
+            park: Park {
+                track: TrackId(0),
+                side_in: Side::B,
+                side_out: Side::A,
+            },
         }),
-        Turn::Edit(Edit::Unpark { id: 3 }),
-        Turn::Edit(Edit::Cut { id: 4, k: 8 }),
-        Turn::Edit(Edit::Join {
+        4 => Turn::Edit(Edit::Unpark { id: 3 }),
+        5 => Turn::Edit(Edit::Cut { id: 4, k: 8 }),
+        6 => Turn::Edit(Edit::Join {
             first: 6,
             second: 5,
         }),
-        Turn::Undo,
-        Turn::Redo,
-    ];
-    assert!(rt; turns(alloc, &night)?.as_slice() == expected.as_slice());
+        7 => Turn::Undo,
+        _ => Turn::Redo,
+    }
+}
+
+fn are_expected(turns: &[Turn]) -> bool {
+    if turns.len() != 9 {
+        return false;
+    }
+    for k in 0..9 {
+        if turns[k] != expected(k) {
+            return false;
+        }
+    }
+    true
+}
+
+fn has_the_turns(alloc: Global, night: &Instance) -> Result<bool, Fail> {
+    Ok(are_expected(&turns(alloc, night)?))
+}
+
+fn is_written_as_read(alloc: Global, night: &Instance) -> Result<bool, Fail> {
+    let written = write_edits(alloc, night, &turns(alloc, night)?)?;
+    Ok(written.as_slice() == EDITS.as_bytes())
+}
+
+#[test]
+fn edits_are_written_as_they_were_read(rt: HostRuntime) -> Result<(), Fail> {
+    let alloc = rt.alloc();
+    let night = small_night(alloc)?;
+    assert!(rt; is_written_as_read(alloc, &night)?);
+    Ok(())
+}
+
+#[test]
+fn edits_have_their_values(rt: HostRuntime) -> Result<(), Fail> {
+    let alloc = rt.alloc();
+    let night = small_night(alloc)?;
+    assert!(rt; has_the_turns(alloc, &night)?);
     Ok(())
 }

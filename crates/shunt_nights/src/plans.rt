@@ -1,116 +1,25 @@
-// Files of a small night, whose values and first faults are worked out by hand: a1 has two units, a2 has one, d1 has three.
-ghost use Rattle.std.specs.Prelude.{◌≡◌, IfOk, length, [], ◌∷◌};
-ghost use Rattle.shunt_base.specs.defs.Spelling.{IsName};
-ghost use Rattle.shunt_instance.specs.declared.records.Station.{Station};
-ghost use Rattle.shunt_instance.specs.defs.Wellformed.{IsStation, IsTimetable};
+// Files of plans and pins of a small night, whose values and first faults are worked out by hand: a1 has two units, a2 has one, d1
+// has three.
+ghost use Rattle.std.specs.Prelude.{IfOk};
 ghost use Rattle.shunt_plan.specs.defs.Plans.{IsPlanInRange};
 
-use super::*;
-use shunt_base::{ArrId, Minute, Name, PlatformId, Side, TrackId, TypeId, is_name};
+use crate::assignments::night;
+use shunt_base::{ArrId, Side, TrackId};
 use shunt_blocks::Block;
-use shunt_instance::{Instance, Origin, Permit, Route, Station, Timetable, Track, Train, UnitType};
-use shunt_lists::Items;
+use shunt_instance::Instance;
+use shunt_plan::{Plan, lost_pin, plan_cost, plan_in_range, read_pins, read_plan, write_plan};
 use shunt_rows::{ReadError, Row, records};
 use std::alloc::{AllocError, Global};
 use std::test::Fail;
 
-fn named(alloc: Global, text: &[u8]) -> Result<Name, Fail>
-    ensures value { IfOk result (λ n. n ≡ text.now) }
-    ensures name { IfOk result IsName }
-{
-    if !is_name(text) {
-        return Err("a name".into());
-    }
-    Ok(Name::new(alloc, text)?)
-}
+const STATION: &str =
+    "station,2,Demo\ntype,K,200,10\nplatform,P\ntrack,T,900,A\nroute,P,T,A,3\npermit,T,K\ncost,1,2,20\n";
 
-fn one<T: Drop>(alloc: Global, item: T) -> Result<Items<T>, Fail>
-    ensures { IfOk result (λ v. v ≡ item ∷ []) }
-{
-    let mut items = Vec::new(alloc);
-    items.push(item)?;
-    Ok(Items::from_vec(items))
-}
+const TIMETABLE: &str =
+    "timetable,2\narrive,a1,10:00,P,K,K\narrive,a2,08:20,P,K\ndepart,d1,15:00,P,K,K,K\n";
 
-fn two<T: Drop>(alloc: Global, first: T, second: T) -> Result<Items<T>, Fail>
-    ensures { IfOk result (λ v. v ≡ first ∷ second ∷ []) }
-{
-    let mut items = Vec::new(alloc);
-    items.push(first)?;
-    items.push(second)?;
-    Ok(Items::from_vec(items))
-}
-
-fn station(alloc: Global) -> Result<Station, Fail>
-    ensures formed { IfOk result IsStation }
-    ensures types { IfOk result (λ s. length s.types ≡ 1) }
-    ensures platforms { IfOk result (λ s. length s.platforms ≡ 1) }
-{
-    let name = named(alloc, b"Demo")?;
-    let kind = UnitType {
-        name: named(alloc, b"K")?,
-        length: 200,
-        turn: 10,
-    };
-    let types = one(alloc, kind)?;
-    let platforms = one(alloc, named(alloc, b"P")?)?;
-    let track = Track {
-        name: named(alloc, b"T")?,
-        length: 900,
-        side_a: true,
-        side_b: false,
-    };
-    let tracks = one(alloc, track)?;
-    let route = Route {
-        platform: PlatformId(0),
-        track: TrackId(0),
-        side: Side::A,
-        cost: 3,
-    };
-    let routes = one(alloc, route)?;
-    let permit = Permit {
-        track: TrackId(0),
-        kind: TypeId(0),
-    };
-    let permits = one(alloc, permit)?;
-    Ok(Station {
-        name,
-        types,
-        platforms,
-        tracks,
-        routes,
-        permits,
-        split: 1,
-        couple: 2,
-        unparked: 20,
-    })
-}
-
-fn train(alloc: Global, name: &[u8], minute: u16, units: &[TypeId]) -> Result<Train, Fail>
-    ensures name { IfOk result (λ t. IsName t.name) }
-    ensures value { IfOk result (λ t. t ≡ record { name = name.now; minute = minute; origin = Origin.Platform (record { 0 = 0 }); units = units.now }) }
-{
-    Ok(Train {
-        name: named(alloc, name)?,
-        minute: Minute::new(minute).ok_or("a minute")?,
-        origin: Origin::Platform(PlatformId(0)),
-        units: Items::from_vec(Vec::from_slice(alloc, units)?),
-    })
-}
-
-fn timetable(alloc: Global) -> Result<Timetable, Fail>
-    ensures { IfOk result (λ t. (s : Station) → length s.types ≡ 1 → length s.platforms ≡ 1 → IsTimetable s t) }
-{
-    let late = train(alloc, b"a1", 600, &[TypeId(0), TypeId(0)])?;
-    let early = train(alloc, b"a2", 500, &[TypeId(0)])?;
-    let arrive = two(alloc, late, early)?;
-    let out = train(alloc, b"d1", 900, &[TypeId(0), TypeId(0), TypeId(0)])?;
-    let depart = one(alloc, out)?;
-    Ok(Timetable { arrive, depart })
-}
-
-pub(crate) fn night(alloc: Global) -> Result<Instance, Fail> {
-    Ok(Instance::join(alloc, station(alloc)?, timetable(alloc)?)?)
+pub(crate) fn small_night(alloc: Global) -> Result<Instance, Fail> {
+    night(alloc, STATION, TIMETABLE)
 }
 
 pub(crate) fn joined(alloc: Global, front: &str, text: &[u8]) -> Result<Vec<Row>, AllocError> {
@@ -260,7 +169,7 @@ fn all_have_places(alloc: Global, night: &Instance) -> Result<bool, Fail> {
 #[test]
 fn files_have_first_faults(rt: HostRuntime) -> Result<(), Fail> {
     let alloc = rt.alloc();
-    let night = night(alloc)?;
+    let night = small_night(alloc)?;
     assert!(rt; all_have_places(alloc, &night)?);
     Ok(())
 }
@@ -291,7 +200,7 @@ fn are_at_most_400(alloc: Global, night: &Instance) -> Result<bool, Fail> {
 #[test]
 fn there_are_at_most_400_blocks(rt: HostRuntime) -> Result<(), Fail> {
     let alloc = rt.alloc();
-    let night = night(alloc)?;
+    let night = small_night(alloc)?;
     assert!(rt; are_at_most_400(alloc, &night)?);
     Ok(())
 }
@@ -317,7 +226,7 @@ fn is_written_as_read(alloc: Global, night: &Instance) -> Result<bool, Fail> {
 #[test]
 fn a_plan_is_written_as_it_was_read(rt: HostRuntime) -> Result<(), Fail> {
     let alloc = rt.alloc();
-    let night = night(alloc)?;
+    let night = small_night(alloc)?;
     assert!(rt; is_written_as_read(alloc, &night)?);
     Ok(())
 }
@@ -377,7 +286,7 @@ fn has_its_values(alloc: Global, night: &Instance) -> Result<bool, Fail> {
 #[test]
 fn a_plan_has_its_values(rt: HostRuntime) -> Result<(), Fail> {
     let alloc = rt.alloc();
-    let night = night(alloc)?;
+    let night = small_night(alloc)?;
     assert!(rt; has_its_values(alloc, &night)?);
     Ok(())
 }
@@ -406,7 +315,7 @@ fn are_kept_whatever_their_ids(alloc: Global, night: &Instance) -> Result<bool, 
 #[test]
 fn pins_are_kept_whatever_their_ids(rt: HostRuntime) -> Result<(), Fail> {
     let alloc = rt.alloc();
-    let night = night(alloc)?;
+    let night = small_night(alloc)?;
     assert!(rt; are_kept_whatever_their_ids(alloc, &night)?);
     Ok(())
 }

@@ -90,7 +90,7 @@ fn share(night: &Night, arriving: &Train, departing: &Train, p: usize, q: usize)
         .min()
 }
 
-fn shares(night: &Night) -> Vec<Option<u64>> {
+pub(crate) fn shares(night: &Night) -> Vec<Option<u64>> {
     let mut table = Vec::new();
     for arriving in &night.arrive {
         for p in 0..arriving.units.len() {
@@ -104,8 +104,9 @@ fn shares(night: &Night) -> Vec<Option<u64>> {
     table
 }
 
-// The least sum of shares: each row grows a tree of least slack up to a free column.
-fn assign(shares: &[Option<u64>], n: usize) -> u64 {
+// The least sum of shares, with what each row gives and each column owes: each row grows a tree of least slack up to a free
+// column.
+pub(crate) fn least_assignment(shares: &[Option<u64>], n: usize) -> (u64, Vec<u64>, Vec<u64>) {
     let table: Vec<u64> = shares.iter().map(|share| share.unwrap_or(ABSENT)).collect();
     let (mut alpha, mut debt) = (vec![0u64; n], vec![0u64; n]);
     let (mut place, mut owner) = (vec![n; n], vec![usize::MAX; n]);
@@ -152,7 +153,8 @@ fn assign(shares: &[Option<u64>], n: usize) -> u64 {
             }
         }
     }
-    (0..n).map(|r| table[r * n + place[r]]).sum()
+    let total = (0..n).map(|r| table[r * n + place[r]]).sum();
+    (total, alpha, debt)
 }
 
 /// Prints what the least assignment of a night adds up to, in thousandths of a cost unit, and the processor times of the
@@ -168,7 +170,7 @@ pub fn measure(station: &str, timetable: &str, runs: u32) {
     let middle = spent();
     let mut total = 0;
     for _ in 0..runs {
-        total = assign(&table, n);
+        total = least_assignment(&table, n).0;
     }
     let end = spent();
     let runs = u128::from(runs);

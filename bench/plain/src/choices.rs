@@ -12,7 +12,9 @@ pub(crate) struct Train {
 #[derive(Default)]
 pub(crate) struct Night {
     pub(crate) turns: Vec<u32>,
+    pub(crate) lengths: Vec<u64>,
     pub(crate) tracks: usize,
+    pub(crate) rooms: Vec<u64>,
     pub(crate) routes: HashMap<(usize, usize, usize), u64>,
     pub(crate) permits: Vec<Vec<usize>>,
     pub(crate) arrive: Vec<Train>,
@@ -39,11 +41,13 @@ pub(crate) fn read(station: &str, timetable: &str) -> Night {
         match row[0] {
             "type" => {
                 types.push(row[1].to_string());
+                night.lengths.push(row[2].parse().expect("a length"));
                 night.turns.push(row[3].parse().expect("a turn"));
             }
             "platform" => platforms.push(row[1].to_string()),
             "track" => {
                 tracks.push(row[1].to_string());
+                night.rooms.push(row[2].parse().expect("a length"));
                 night.permits.push(vec![]);
             }
             "route" => {

@@ -5,10 +5,12 @@
 //! `plain largest plan` prints a plan of 400 blocks over them; `plain split FILE..` splits each file at commas and line ends and
 //! keeps the fields; `plain choices STATION TIMETABLE WALKS` walks over the choices for each unit;
 //! `plain mixed station` and `plain mixed timetable UNITS` print a night of three types whose every unit may go with every
-//! position of its type; `plain assign STATION TIMETABLE RUNS` makes the shares and the least assignment of a night.
+//! position of its type; `plain assign STATION TIMETABLE RUNS` makes the shares and the least assignment of a night;
+//! `plain duals STATION TIMETABLE RUNS` sees whether two cases of 64 prices hold and what they bound.
 
 mod assign;
 mod choices;
+mod duals;
 
 use std::io::Write;
 use std::time::Instant;
@@ -23,6 +25,7 @@ fn main() {
         ["mixed", "station"] => print!("{}", assign::mixed_station()),
         ["mixed", "timetable", units] => print!("{}", assign::mixed_timetable(units.parse().expect("a number"))),
         ["assign", station, timetable, runs] => assign::measure(station, timetable, runs.parse().expect("a number")),
+        ["duals", station, timetable, runs] => duals::measure(station, timetable, runs.parse().expect("a number")),
         ["split", ref names @ ..] if !names.is_empty() => names.iter().for_each(|name| split(name)),
         ["choices", station, timetable, walks] => choices::measure(station, timetable, walks.parse().expect("a number")),
         _ => std::process::exit(2),

@@ -1,10 +1,13 @@
 //! Measures, by the first word: `records FILE`, `tracks`, `timelines`, `choices STATION TIMETABLE WALKS`, `audit STATION
-//! TIMETABLE PLAN RUNS` and `assign STATION TIMETABLE RUNS`. Without words it prints nothing.
+//! TIMETABLE PLAN RUNS`, `assign STATION TIMETABLE RUNS`, `duals STATION TIMETABLE RUNS` and `moves STATION TIMETABLE PLAN
+//! EDITS`. Without words it prints nothing.
 #![tactic(auto)]
 
 mod assignments;
 mod audits;
 mod choices;
+mod duals;
+mod moves;
 mod nights;
 mod timelines;
 mod tracks;
@@ -12,6 +15,8 @@ mod tracks;
 use assignments::measure_assign;
 use audits::measure_audit;
 use choices::measure_choices;
+use duals::measure_duals;
+use moves::measure_moves;
 use shunt_rows::records;
 use shunt_store::{DiskStore, read_all};
 use std::rt::{Clock, Env, Files};
@@ -79,6 +84,18 @@ fn main(rt: HostRuntime) -> io::Result<()> {
         }
         ("assign", (Some(station), Some(timetable), Some(runs), _)) => {
             measure_assign(&rt, station.as_str(), timetable.as_str(), runs.as_str())
+        }
+        ("moves", (Some(station), Some(timetable), Some(plan), Some(edits))) => {
+            measure_moves(
+                &rt,
+                station.as_str(),
+                timetable.as_str(),
+                plan.as_str(),
+                edits.as_str(),
+            )
+        }
+        ("duals", (Some(station), Some(timetable), Some(runs), _)) => {
+            measure_duals(&rt, station.as_str(), timetable.as_str(), runs.as_str())
         }
         _ => Ok(()),
     }

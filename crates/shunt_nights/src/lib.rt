@@ -12,8 +12,6 @@ mod certificates;
 #[cfg(test)]
 mod choices;
 #[cfg(test)]
-mod duals;
-#[cfg(test)]
 mod edits;
 #[cfg(test)]
 mod instances;

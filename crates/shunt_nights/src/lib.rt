@@ -12,6 +12,8 @@ mod certificates;
 #[cfg(test)]
 mod choices;
 #[cfg(test)]
+mod duals;
+#[cfg(test)]
 mod edits;
 #[cfg(test)]
 mod instances;

@@ -1,0 +1,171 @@
+// The moves of a plan.
+ghost use Rattle.std.specs.Prelude.{◌≡◌, ◌≤◌, ◌<◌, ◌*◌, All, map, filter, not, length, IfOk};
+ghost use Rattle.std.specs.List.{flat_map};
+ghost use Rattle.shunt_base.specs.defs.Keys.{AreStays};
+ghost use Rattle.shunt_stays.specs.defs.Events.{in_order};
+ghost use Rattle.shunt_instance.specs.defs.Words.{is_standing};
+ghost use Rattle.shunt_blocks.specs.defs.Shapes.{IsInRange};
+ghost use Rattle.shunt_blocks.specs.defs.Lists.{AreInRange, stays_of};
+ghost use Rattle.shunt_plan.specs.defs.Plans.{IsPlanInRange};
+ghost use Rattle.shunt_tracks.specs.defs.Answer.{event_of as told};
+ghost use Rattle.shunt_zones.specs.defs.Dues.{move_of, entry_due, leave_due, dues_of};
+ghost use Rattle.shunt_zones.specs.defs.Moves.{events_of, moves_of, trains_of, train_of, is_of_standing, IsMoveOf};
+
+use shunt_base::{ArrId, DepId, EventKey, Side, Stay, TrackId};
+use shunt_blocks::{Block, laws, stay};
+use shunt_instance::{Instance, Origin, Train};
+use shunt_plan::Plan;
+use shunt_tracks::Event;
+use std::alloc::{AllocError, Global};
+
+// An entry or a leave. They are sorted by their keys, as the key stands first.
+#[derive(Clone, Copy, Debug, PartialEq, Eq, PartialOrd, Ord)]
+struct Due {
+    key: EventKey,
+    track: TrackId,
+    side: Side,
+    length: u32,
+}
+
+fn entry_of(stay: &Stay) -> Due
+    ensures { result ≡ entry_due stay.now }
+{
+    Due {
+        key: stay.enter,
+        track: stay.track,
+        side: stay.side_in,
+        length: stay.length,
+    }
+}
+
+fn leave_of(stay: &Stay) -> Due
+    ensures { result ≡ leave_due stay.now }
+{
+    Due {
+        key: stay.leave,
+        track: stay.track,
+        side: stay.side_out,
+        length: stay.length,
+    }
+}
+
+fn event_of(due: &Due) -> Event
+    ensures { result ≡ told (move_of due.now) }
+{
+    Event {
+        key: due.key,
+        track: due.track,
+        side: due.side,
+    }
+}
+
+// The entries and leaves of the stays of these blocks.
+fn dues_in(alloc: Global, instance: &Instance, blocks: &[Block]) -> Result<Vec<Due>, AllocError>
+    requires { All (IsInRange instance.now) blocks.now }
+    ensures { IfOk result (λ v. v.items ≡ flat_map dues_of (stays_of instance.now blocks.now)) }
+{
+    let mut dues = Vec::new(alloc);
+    for block in blocks {
+        if let Some(stay) = stay(instance, block) {
+            dues.push(entry_of(&stay))?;
+            dues.push(leave_of(&stay))?;
+        }
+    }
+    Ok(dues)
+}
+
+// The same in the order of their keys.
+fn sorted_dues(alloc: Global, instance: &Instance, blocks: &[Block]) -> Result<Vec<Due>, AllocError>
+    requires each { All (IsInRange instance.now) blocks.now }
+    requires stays { AreStays (stays_of instance.now blocks.now) }
+    ensures { IfOk result (λ v. map move_of v.items ≡ in_order (stays_of instance.now blocks.now)) }
+{
+    let mut dues = dues_in(alloc, instance, blocks)?;
+    dues.sort_unstable();
+    Ok(dues)
+}
+
+fn events_from(alloc: Global, dues: &[Due]) -> Result<Vec<Event>, AllocError>
+    ensures { IfOk result (λ v. v.items ≡ map told (map move_of dues.now)) }
+{
+    let mut events = Vec::new(alloc);
+    for due in dues {
+        events.push(event_of(due))?;
+    }
+    Ok(events)
+}
+
+// The entries and leaves of blocks in range in key order.
+#[tactic(auto, unfolding(crate::specs::defs::Moves::events_of))]
+fn events_of(alloc: Global, instance: &Instance, blocks: &[Block]) -> Result<Vec<Event>, AllocError>
+    requires { AreInRange instance.now blocks.now }
+    ensures exact { IfOk result (λ v. v.items ≡ events_of instance.now blocks.now) }
+    ensures of_night { IfOk result (λ v. All (IsMoveOf instance.now) v.items) }
+    ensures few { IfOk result (λ v. length v.items ≤ 800) }
+{
+    // The calls tell that the night is well formed, and what its stays are.
+    instance.station();
+    laws::stays_of_blocks();
+    let dues = sorted_dues(alloc, instance, blocks)?;
+    events_from(alloc, &dues)
+}
+
+/// The train that a move's block comes from or goes to.
+pub(crate) fn train_of(instance: &Instance, key: EventKey) -> &Train
+    requires { key.train < length (trains_of instance.now key) }
+    ensures { result.now ≡ train_of instance.now key }
+{
+    if key.enters {
+        instance.arrive(ArrId(key.train))
+    } else {
+        instance.depart(DepId(key.train))
+    }
+}
+
+fn stands(train: &Train) -> bool
+    ensures { result ≡ is_standing train.now }
+{
+    match train.origin {
+        Origin::Platform(_) => false,
+        Origin::Track(_) => true,
+    }
+}
+
+// Whether it is the entry of a standing train.
+fn is_of_standing(instance: &Instance, key: EventKey) -> bool
+    requires { key.train < length (trains_of instance.now key) }
+    ensures { result ≡ is_of_standing instance.now key }
+{
+    key.enters && stands(train_of(instance, key))
+}
+
+// The events but the entries of standing trains.
+fn but_standing(
+    alloc: Global,
+    instance: &Instance,
+    events: &[Event],
+) -> Result<Vec<Event>, AllocError>
+    requires { All (IsMoveOf instance.now) events.now }
+    ensures { IfOk result (λ v. v.items ≡ filter (λ e. not (is_of_standing instance.now e.key)) events.now) }
+{
+    let mut moves = Vec::new(alloc);
+    for event in events {
+        if !is_of_standing(instance, event.key) {
+            moves.push(*event)?;
+        }
+    }
+    Ok(moves)
+}
+
+/// The moves of a plan in range, in key order: its events but the entries of standing trains, 800 at most. The error is want
+/// of memory.
+#[tactic(auto, unfolding(crate::specs::defs::Moves::moves_of))]
+pub fn moves_of(alloc: Global, instance: &Instance, plan: &Plan) -> Result<Vec<Event>, AllocError>
+    requires { IsPlanInRange instance.now plan.now }
+    ensures exact { IfOk result (λ v. v.items ≡ moves_of instance.now plan.now.blocks) }
+    ensures of_night { IfOk result (λ v. All (IsMoveOf instance.now) v.items) }
+    ensures few { IfOk result (λ v. length v.items ≤ 800) }
+{
+    let events = events_of(alloc, instance, plan.blocks.as_slice())?;
+    but_standing(alloc, instance, &events)
+}

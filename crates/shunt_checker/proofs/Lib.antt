@@ -1,0 +1,12 @@
+mod Firsts
+mod Taken
+mod Summed
+mod Parking
+mod Freeing
+mod Searching
+mod Stable
+mod Listed
+mod Chosen
+mod Refuted
+mod Accepting
+mod Exactly

@@ -1,0 +1,6 @@
+-- The definitions of this crate.
+pub mod PlanFaults
+pub mod NodeFaults
+pub mod Verdicts
+pub mod Firsts
+pub mod Lights

@@ -1,0 +1,91 @@
+-- Shapes with options that weigh less than their duals, and where they are looked for.
+use Rattle.std.specs.Prelude.{◌≡◌, ℕ, ◌+◌, ◌*◌, ◌≤◌, ◌<◌, ℤ, pos, ◌<ℤ◌, true, false, length, slice_index_or, List, Option, Some, None}
+use Rattle.shunt_base.specs.declared.ids.Side.{Side}
+use Rattle.shunt_base.specs.declared.ids.TrackId.{TrackId}
+use Rattle.shunt_base.specs.declared.duals.Price.{Price}
+use Rattle.shunt_base.specs.declared.duals.Case.{Case}
+use Rattle.shunt_instance.specs.defs.Instance.{Night, unit_at}
+use Rattle.shunt_blocks.specs.declared.records.Shape.{Shape}
+use Rattle.shunt_blocks.specs.declared.records.Park.{Park}
+use Rattle.shunt_blocks.specs.defs.Shapes.{unit_from, IsPair}
+use Rattle.shunt_blocks.specs.defs.Blocks.{IsOption, IsParkable}
+use Rattle.shunt_blocks.specs.defs.Costs.{cost_with}
+use Rattle.shunt_blocks.specs.defs.Standing.{shape_length}
+use Rattle.shunt_choices.specs.defs.Paths.{Masks}
+use Rattle.shunt_choices.specs.defs.Choices.{Choice as PathChoice, IsFreeShape}
+use Rattle.shunt_prices.specs.defs.Prices.{track_length, price_part_with}
+use Rattle.shunt_prices.specs.defs.Cases.{HasRoom, weight_with, duals_over}
+
+-- a shape can be parked so, and weighs less than a sum where the prices on the track come to a part
+pub record IsLightPark (night : Night) (s : Shape) (sum : ℤ) (part : ℕ) (k : Park) : Type 0 where
+  pub parkable : IsParkable night s k
+  pub light : pos (1000 * cost_with night s (Some k) + part) <ℤ sum
+
+-- the same on one track by one side in
+pub record IsLightBy (night : Night) (s : Shape) (sum : ℤ) (part : ℕ) (track : TrackId) (side_in : Side) (k : Park) : Type 0 where
+  pub on : k.track ≡ track
+  pub by : k.side_in ≡ side_in
+  pub light : IsLightPark night s sum part k
+
+-- the same on one track that is long enough
+pub record IsLightOn (night : Night) (s : Shape) (sum : ℤ) (part : ℕ) (track : TrackId) (k : Park) : Type 0 where
+  pub on : k.track ≡ track
+  pub room : shape_length night s ≤ track_length night track.0
+  pub light : IsLightPark night s sum part k
+
+-- the same on any track that is long enough, by the prices there
+pub record IsLightParked (night : Night) (prices : List Price) (s : Shape) (sum : ℤ) (k : Park) : Type 0 where
+  pub track : k.track.0 < length night.station.tracks
+  pub room : shape_length night s ≤ track_length night k.track.0
+  pub light : IsLightPark night s sum (price_part_with night prices s (Some k)) k
+
+-- a shape's option that has room weighs less in a case than the shape's duals
+pub record IsLight (night : Night) (case : Case) (c : PathChoice) : Type 0 where
+  pub option : IsOption night c.shape c.option
+  pub room : HasRoom night c.shape c.option
+  pub light : weight_with night case c.shape c.option <ℤ duals_over night case.duals c.shape
+
+-- the same of one shape
+pub record IsLightShape (night : Night) (case : Case) (s : Shape) (c : PathChoice) : Type 0 where
+  pub same : c.shape ≡ s
+  pub light : IsLight night case c
+
+-- the same of a free shape
+pub record IsFreeLight (night : Night) (covered : Masks) (case : Case) (c : PathChoice) : Type 0 where
+  pub shape : IsFreeShape night covered (unit_from night c.shape) c.shape
+  pub light : IsLight night case c
+
+-- the same of those that begin at a unit
+pub record IsLightAt (night : Night) (covered : Masks) (case : Case) (u : ℕ) (c : PathChoice) : Type 0 where
+  pub free : IsFreeLight night covered case c
+  pub unit : unit_from night c.shape ≡ u
+
+-- the same of those with so many units
+pub record IsLightOf (night : Night) (covered : Masks) (case : Case) (u n : ℕ) (c : PathChoice) : Type 0 where
+  pub at : IsLightAt night covered case u c
+  pub units : c.shape.n ≡ n
+
+-- the same of those that go with a departing train
+pub record IsLightWith (night : Night) (covered : Masks) (case : Case) (u n dep : ℕ) (c : PathChoice) : Type 0 where
+  pub of : IsLightOf night covered case u n c
+  pub train : c.shape.dep.0 ≡ dep
+
+-- the same of those from a place in it on
+pub record IsLightFrom (night : Night) (covered : Masks) (case : Case) (u n dep q : ℕ) (c : PathChoice) : Type 0 where
+  pub with : IsLightWith night covered case u n dep c
+  pub place : c.shape.q ≡ q
+
+-- the shape of so many units from a unit on that goes with a departing train from a place on
+abbrev pub shape_from : Night → ℕ → ℕ → ℕ → ℕ → Shape
+shape_from night u n dep q = record { arr = (unit_at night u).train; p = (unit_at night u).place; n = n; dep = record { 0 = dep }; q = q }
+
+-- neither is covered, and they are matchable
+pub record IsFreePair (night : Night) (covered : Masks) (u v : ℕ) : Type 0 where
+  pub unit : slice_index_or covered.units u true ≡ false
+  pub position : slice_index_or covered.places v true ≡ false
+  pub pair : IsPair night u v
+
+-- a shape's option that is parked, or none
+abbrev pub offered : Shape → Option Park → Option PathChoice
+offered s None = None
+offered s (Some k) = Some (record { shape = s; option = Some k })

@@ -1,0 +1,293 @@
+// Which shape with an option is the first that weighs less in a case than its duals.
+ghost use Rattle.std.specs.Prelude.{◌≡◌, ◌<◌, ◌≤◌, ◌+◌, ◌↔◌, IsTrue, length};
+ghost use Rattle.shunt_instance.specs.defs.Instance.{unit_total, position_total, unit_at};
+ghost use Rattle.shunt_instance.specs.defs.Words.{train_at};
+ghost use Rattle.shunt_blocks.specs.defs.Shapes.{AreRunsWithin, unit_from};
+ghost use Rattle.shunt_blocks.specs.defs.Standing.{shape_length};
+ghost use Rattle.shunt_choices.specs.defs.Free.{AreMasksOf};
+ghost use Rattle.shunt_choices.specs.defs.Choices.{IsFreeShape, ParkBefore};
+ghost use Rattle.shunt_prices.specs.defs.Limits.{ArePrices, IsCase};
+ghost use Rattle.shunt_checker.specs.defs.Firsts.{Finds};
+ghost use Rattle.shunt_checker.specs.defs.Lights.{IsLightPark, IsLightBy, IsLightOn, IsLightParked, IsLightShape, IsFreeLight, IsLightAt, IsLightOf, IsLightWith, IsLightFrom, shape_from, IsFreePair, offered};
+ghost use Rattle.shunt_checker.specs.defs.NodeFaults.{EarlierChoice};
+
+use crate::offer::Offer;
+use crate::pricing::{cost_with, length_of, room_on, sum_over, taken_on_tracks};
+use shunt_base::{Case, DepId, Price, Side, TrackId};
+use shunt_blocks::laws::places;
+use shunt_blocks::{Park, Shape, is_option, is_pair, position_from, unit_from};
+use shunt_choices::Covered;
+use shunt_instance::Instance;
+use shunt_instance::laws::rooms_of_trains;
+
+/// Whether a shape can be parked so, and weighs less than a sum where the prices on the track come to a part.
+fn is_light_park(instance: &Instance, shape: Shape, park: Park, sum: i64, part: u64) -> bool
+    requires within { AreRunsWithin instance.now shape }
+    requires track { park.track.0 < length instance.now.station.tracks }
+    requires part { part ≤ 23039936000000000 }
+    ensures { IsTrue result ↔ IsLightPark instance.now shape sum part park }
+{
+    let weight = 1000 * cost_with(instance, shape, Some(park)) + part;
+    if sum <= weight as i64 {
+        return false;
+    }
+    is_option(instance, shape, Some(park))
+}
+
+/// The first such way to park a shape on a track by one side in.
+fn light_by(
+    instance: &Instance,
+    shape: Shape,
+    track: TrackId,
+    side_in: Side,
+    sum: i64,
+    part: u64,
+) -> Option<Park>
+    requires within { AreRunsWithin instance.now shape }
+    requires track { track.0 < length instance.now.station.tracks }
+    requires part { part ≤ 23039936000000000 }
+    ensures { Finds (IsLightBy instance.now shape sum part track side_in) ParkBefore result }
+{
+    let by_a = Park {
+        track,
+        side_in,
+        side_out: Side::A,
+    };
+    if is_light_park(instance, shape, by_a, sum, part) {
+        return Some(by_a);
+    }
+    let by_b = Park {
+        track,
+        side_in,
+        side_out: Side::B,
+    };
+    if is_light_park(instance, shape, by_b, sum, part) {
+        return Some(by_b);
+    }
+    None
+}
+
+/// The first such way to park a shape on a track. A track that is too short has none.
+fn light_on(
+    instance: &Instance,
+    shape: Shape,
+    long: u32,
+    track: TrackId,
+    sum: i64,
+    part: u64,
+) -> Option<Park>
+    requires within { AreRunsWithin instance.now shape }
+    requires long { long ≡ shape_length instance.now shape }
+    requires track { track.0 < length instance.now.station.tracks }
+    requires part { part ≤ 23039936000000000 }
+    ensures { Finds (IsLightOn instance.now shape sum part track) ParkBefore result }
+{
+    if long > room_on(instance, track) {
+        return None;
+    }
+    if let Some(park) = light_by(instance, shape, track, Side::A, sum, part) {
+        return Some(park);
+    }
+    light_by(instance, shape, track, Side::B, sum, part)
+}
+
+/// The first such way to park a shape on a track that is long enough for it. Each track is priced once.
+fn light_parked(instance: &Instance, prices: &[Price], shape: Shape, sum: i64) -> Option<Park>
+    requires prices { ArePrices instance.now prices.now }
+    requires within { AreRunsWithin instance.now shape }
+    ensures { Finds (IsLightParked instance.now prices.now shape sum) ParkBefore result }
+{
+    let long = length_of(instance, shape);
+    let taken = taken_on_tracks(instance, prices, shape, long);
+    for t in 0..instance.station().tracks.len() {
+        let track = TrackId(t as u8);
+        if let Some(park) = light_on(instance, shape, long, track, sum, taken[t]) {
+            return Some(park);
+        }
+    }
+    None
+}
+
+/// A shape parked so, where it is.
+fn offered(shape: Shape, park: Option<Park>) -> Option<Offer>
+    ensures { result ≡ offered shape park }
+{
+    match park {
+        Some(park) => Some(Offer {
+            shape,
+            park: Some(park),
+        }),
+        None => None,
+    }
+}
+
+/// The first option of a shape that has room and weighs less in a case than the shape's duals.
+fn light_option(instance: &Instance, case: &Case, shape: Shape) -> Option<Offer>
+    requires case { IsCase instance.now case.now }
+    requires within { AreRunsWithin instance.now shape }
+    ensures { Finds (IsLightShape instance.now case.now shape) (EarlierChoice instance.now) result }
+{
+    let sum = sum_over(instance, &case.duals, shape);
+    let unparked = 1000 * cost_with(instance, shape, None);
+    if sum > unparked as i64 + case.multiplier {
+        return Some(Offer { shape, park: None });
+    }
+    let park = light_parked(instance, case.duals.prices.as_slice(), shape, sum);
+    offered(shape, park)
+}
+
+/// Whether neither is covered, and they are matchable.
+fn is_free_pair(instance: &Instance, covered: &Covered, u: usize, v: usize) -> bool
+    requires covered { AreMasksOf instance.now covered.now }
+    requires unit { u < unit_total instance.now }
+    requires position { v < position_total instance.now }
+    ensures { IsTrue result ↔ IsFreePair instance.now covered.now u v }
+{
+    if covered.units()[u] {
+        return false;
+    }
+    if covered.places()[v] {
+        return false;
+    }
+    is_pair(instance, u, v)
+}
+
+/// Whether a shape's units and positions are uncovered, and matchable pair by pair.
+fn is_free(instance: &Instance, covered: &Covered, shape: Shape) -> bool
+    requires covered { AreMasksOf instance.now covered.now }
+    requires within { AreRunsWithin instance.now shape }
+    ensures { IsTrue result ↔ IsFreeShape instance.now covered.now (unit_from instance.now shape) shape }
+{
+    let from = unit_from(instance, shape);
+    let to = position_from(instance, shape);
+    for k in 0..shape.n as usize {
+        if !is_free_pair(instance, covered, from + k, to + k) {
+            return false;
+        }
+    }
+    true
+}
+
+/// The first light option of the shape of so many units from a unit on that goes with a departing train from a place on, where
+/// that is free.
+fn light_from(
+    instance: &Instance,
+    covered: &Covered,
+    case: &Case,
+    u: usize,
+    n: u8,
+    dep: u8,
+    q: u8,
+) -> Option<Offer>
+    requires covered { AreMasksOf instance.now covered.now }
+    requires case { IsCase instance.now case.now }
+    requires unit { u < unit_total instance.now }
+    requires within { AreRunsWithin instance.now (shape_from instance.now u n dep q) }
+    ensures { Finds (IsLightFrom instance.now covered.now case.now u n dep q) (EarlierChoice instance.now) result }
+{
+    // The units of a shape are those of its train from its place on.
+    places();
+    let unit = instance.unit(u);
+    let shape = Shape {
+        arr: unit.train,
+        p: unit.place,
+        n,
+        dep: DepId(dep),
+        q,
+    };
+    if !is_free(instance, covered, shape) {
+        return None;
+    }
+    light_option(instance, case, shape)
+}
+
+/// The same of each place in the departing train.
+fn light_with(
+    instance: &Instance,
+    covered: &Covered,
+    case: &Case,
+    u: usize,
+    n: u8,
+    dep: u8,
+) -> Option<Offer>
+    requires covered { AreMasksOf instance.now covered.now }
+    requires case { IsCase instance.now case.now }
+    requires unit { u < unit_total instance.now }
+    requires some { 1 ≤ n }
+    requires units { (unit_at instance.now u).place + n ≤ length (train_at instance.now.arrive (unit_at instance.now u).train.0).units + 1 }
+    requires train { dep < length instance.now.depart }
+    ensures { Finds (IsLightWith instance.now covered.now case.now u n dep) (EarlierChoice instance.now) result }
+{
+    // The first call tells that the unit's train is there.
+    instance.unit(u);
+    let positions = instance.depart(DepId(dep)).units.len();
+    let starts = (positions + 1).saturating_sub(n as usize);
+    for q in 1..starts + 1 {
+        if let Some(offer) = light_from(instance, covered, case, u, n, dep, q as u8) {
+            return Some(offer);
+        }
+    }
+    None
+}
+
+/// The same of each departing train.
+fn light_of(
+    instance: &Instance,
+    covered: &Covered,
+    case: &Case,
+    u: usize,
+    n: u8,
+) -> Option<Offer>
+    requires covered { AreMasksOf instance.now covered.now }
+    requires case { IsCase instance.now case.now }
+    requires unit { u < unit_total instance.now }
+    requires some { 1 ≤ n }
+    requires units { (unit_at instance.now u).place + n ≤ length (train_at instance.now.arrive (unit_at instance.now u).train.0).units + 1 }
+    ensures { Finds (IsLightOf instance.now covered.now case.now u n) (EarlierChoice instance.now) result }
+{
+    for dep in 0..instance.departures() {
+        if let Some(offer) = light_with(instance, covered, case, u, n, dep as u8) {
+            return Some(offer);
+        }
+    }
+    None
+}
+
+/// The same of each number of units. A covered unit has none, and costs one test.
+fn light_at(instance: &Instance, covered: &Covered, case: &Case, u: usize) -> Option<Offer>
+    requires covered { AreMasksOf instance.now covered.now }
+    requires case { IsCase instance.now case.now }
+    requires unit { u < unit_total instance.now }
+    ensures { Finds (IsLightAt instance.now covered.now case.now u) (EarlierChoice instance.now) result }
+{
+    if covered.units()[u] {
+        return None;
+    }
+    // The units of a shape are those of its train from its place on.
+    places();
+    let unit = instance.unit(u);
+    let units = instance.arrive(unit.train).units.len();
+    for n in 1..units + 2 - unit.place as usize {
+        if let Some(offer) = light_of(instance, covered, case, u, n as u8) {
+            return Some(offer);
+        }
+    }
+    None
+}
+
+/// The first free shape with an option that has room and weighs less in a case than the shape's duals: by its first unit, then by
+/// the number of units, the departing train and the place there, then by option.
+pub(crate) fn first_light(instance: &Instance, covered: &Covered, case: &Case) -> Option<Offer>
+    requires covered { AreMasksOf instance.now covered.now }
+    requires case { IsCase instance.now case.now }
+    ensures { Finds (IsFreeLight instance.now covered.now case.now) (EarlierChoice instance.now) result }
+{
+    // Each shape of the night begins at one of its units.
+    rooms_of_trains();
+    for u in 0..instance.units() {
+        if let Some(offer) = light_at(instance, covered, case, u) {
+            return Some(offer);
+        }
+    }
+    None
+}

@@ -4,6 +4,11 @@ mod Summed
 mod Parking
 mod Freeing
 mod Searching
+mod Opened
+mod Counted
+mod Badness
+mod PlanOrder
+mod Breaking
 mod Stable
 mod Listed
 mod Chosen

@@ -39,9 +39,9 @@ park_from k l et ei eo =
 park : (k l : Park) → Decided (k ≡ l)
 park k l = ⊎_elim
     (λ et. ⊎_elim
-        (λ ei. ⊎_elim (λ eo. inl (park_from k l et ei eo)) (λ n. inr (λ e. n (ap (λ (w : Park). w.side_out) e))) (side k.side_out l.side_out))
-        (λ n. inr (λ e. n (ap (λ (w : Park). w.side_in) e)))
-        (side k.side_in l.side_in))
+    (λ ei. ⊎_elim (λ eo. inl (park_from k l et ei eo)) (λ n. inr (λ e. n (ap (λ (w : Park). w.side_out) e))) (side k.side_out l.side_out))
+    (λ n. inr (λ e. n (ap (λ (w : Park). w.side_in) e)))
+    (side k.side_in l.side_in))
     (λ n. inr (λ e. n (ap (λ (w : Park). w.track.0) e)))
     (cases_eq k.track.0 l.track.0)
 
@@ -79,21 +79,21 @@ choice_from_alike c d h =
 pub choice : (c d : PathChoice) → Decided (c ≡ d)
 choice c d = ⊎_elim
     (λ en. ⊎_elim
-        (λ ed. ⊎_elim
-            (λ eq. ⊎_elim
-                (λ ea. ⊎_elim
-                    (λ ep. ⊎_elim
-                        (λ eo. inl (choice_from_alike c d (record { n = en; dep = ed; q = eq; arr = ea; p = ep; option = eo })))
-                        (λ no_o. inr (λ e. no_o (ap (λ (w : PathChoice). w.option) e)))
-                        (option c.option d.option))
-                    (λ no_p. inr (λ e. no_p (ap (λ (w : PathChoice). w.shape.p) e)))
-                    (cases_eq c.shape.p d.shape.p))
-                (λ no_a. inr (λ e. no_a (ap (λ (w : PathChoice). w.shape.arr.0) e)))
-                (cases_eq c.shape.arr.0 d.shape.arr.0))
-            (λ no_q. inr (λ e. no_q (ap (λ (w : PathChoice). w.shape.q) e)))
-            (cases_eq c.shape.q d.shape.q))
-        (λ no_d. inr (λ e. no_d (ap (λ (w : PathChoice). w.shape.dep.0) e)))
-        (cases_eq c.shape.dep.0 d.shape.dep.0))
+    (λ ed. ⊎_elim
+    (λ eq. ⊎_elim
+    (λ ea. ⊎_elim
+    (λ ep. ⊎_elim
+    (λ eo. inl (choice_from_alike c d (record { n = en; dep = ed; q = eq; arr = ea; p = ep; option = eo })))
+    (λ no_o. inr (λ e. no_o (ap (λ (w : PathChoice). w.option) e)))
+    (option c.option d.option))
+    (λ no_p. inr (λ e. no_p (ap (λ (w : PathChoice). w.shape.p) e)))
+    (cases_eq c.shape.p d.shape.p))
+    (λ no_a. inr (λ e. no_a (ap (λ (w : PathChoice). w.shape.arr.0) e)))
+    (cases_eq c.shape.arr.0 d.shape.arr.0))
+    (λ no_q. inr (λ e. no_q (ap (λ (w : PathChoice). w.shape.q) e)))
+    (cases_eq c.shape.q d.shape.q))
+    (λ no_d. inr (λ e. no_d (ap (λ (w : PathChoice). w.shape.dep.0) e)))
+    (cases_eq c.shape.dep.0 d.shape.dep.0))
     (λ no_n. inr (λ e. no_n (ap (λ (w : PathChoice). w.shape.n) e)))
     (cases_eq c.shape.n d.shape.n)
 
@@ -106,12 +106,12 @@ stated night path (Some d) c = ⊎_elim (λ e. inl (ap (λ (w : PathChoice). Som
 below : (nodes : List Node) (k j : ℕ) → Decided (IsChildOf nodes k j)
 below nodes k j = ⊎_elim
     (λ lt. ⊎_elim
-        (λ ed. ⊎_elim
-            (λ ep. inl (record { there = lt; depth = ed; parent = ep }))
-            (λ n. inr (λ h. n h.parent))
-            (cases_eq (parent nodes j) k))
-        (λ n. inr (λ h. n h.depth))
-        (cases_eq (depth_at nodes j) (depth_at nodes k + 1)))
+    (λ ed. ⊎_elim
+    (λ ep. inl (record { there = lt; depth = ed; parent = ep }))
+    (λ n. inr (λ h. n h.parent))
+    (cases_eq (parent nodes j) k))
+    (λ n. inr (λ h. n h.depth))
+    (cases_eq (depth_at nodes j) (depth_at nodes k + 1)))
     (λ past. inr (λ h. let there = h.there in omega (arith, there, past)))
     (cases_lt j (length nodes))
 
@@ -123,9 +123,9 @@ record States (night : Night) (start : List Block) (nodes : List Node) (k : ℕ)
 states : (night : Night) (start : List Block) (nodes : List Node) (k : ℕ) (c : PathChoice) (j : ℕ) → Decided (States night start nodes k c j)
 states night start nodes k c j = ⊎_elim
     (λ b. ⊎_elim
-        (λ e. inl (record { below = b; states = e }))
-        (λ n. inr (λ h. n h.states))
-        (stated night (path_at night start nodes k) (node_at nodes j).choice c))
+    (λ e. inl (record { below = b; states = e }))
+    (λ n. inr (λ h. n h.states))
+    (stated night (path_at night start nodes k) (node_at nodes j).choice c))
     (λ n. inr (λ h. n h.below))
     (below nodes k j)
 
@@ -139,9 +139,9 @@ search_below P each zero = inr (λ j lt p. omega (arith, lt))
 search_below P each (suc n) = ⊎_elim
     (λ p. inl (record { at = n; holds = p }))
     (λ never. ⊎_elim
-        (λ found. inl found)
-        (λ none. inr (λ j lt p. ⊎_elim (λ less. none j less p) (λ past. let e : j ≡ n = omega (arith, lt, past) in never (subst P e p)) (cases_lt j n)))
-        (search_below P each n))
+    (λ found. inl found)
+    (λ none. inr (λ j lt p. ⊎_elim (λ less. none j less p) (λ past. let e : j ≡ n = omega (arith, lt, past) in never (subst P e p)) (cases_lt j n)))
+    (search_below P each n))
     (each n)
 
 pub listed : (night : Night) (start : List Block) (nodes : List Node) (k : ℕ) (c : PathChoice) → Stable (IsListed night start nodes k c)

@@ -135,11 +135,15 @@ module _ (night : Night) (case : Case) (s : Shape) (sum : ℤ) (is : sum ≡ dua
   -- a light option that isn't unparked is one that is parked
   parked_one : sum ≤ℤ (pos (1000 * cost_with night s None) +ℤ case.multiplier) → (o : Option Park) → IsLight night case (offer o) → (k : Park) × (o ≡ Some k) × IsLightParked night case.duals.prices s sum k
   parked_one le None h = absurd (let w = unparked_weight in let lt = h.light in omega (arith, ints, w, is, le, lt))
-  parked_one le (Some k) h = (k, refl, record {
-    track = h.option.track;
-    room = h.room;
-    light = record { parkable = h.option; light = let lt = h.light in omega (arith, ints, is, lt) };
-  })
+  parked_one le (Some k) h = (
+    k,
+    refl,
+    record {
+      track = h.option.track;
+      room = h.room;
+      light = record { parkable = h.option; light = let lt = h.light in omega (arith, ints, is, lt) };
+    },
+  )
 
   light_parked : (k : Park) → IsLightParked night case.duals.prices s sum k → IsLightShape night case s (offer (Some k))
   light_parked k h = record { same = refl; light = record { option = h.light.parkable; room = h.room; light = let lt = h.light.light in omega (arith, ints, is, lt) } }

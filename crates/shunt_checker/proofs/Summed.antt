@@ -23,4 +23,3 @@ over_is night d s u v n alpha beta a b eu ev ea eb en ha hb =
 pub no_part : (night : Night) (prices : List Price) (s : Shape) → price_part_with night prices s None ≡ 0
 no_part night [] s = refl
 no_part night (p ∷ ps) s = omega (arith, sum_by-cons (λ (q : Price). q.value * counted_with night q s None) p ps, no_part night ps s)
-

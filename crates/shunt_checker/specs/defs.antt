@@ -4,3 +4,6 @@ pub mod NodeFaults
 pub mod Verdicts
 pub mod Firsts
 pub mod Lights
+pub mod Opened
+pub mod Stops
+pub mod Breaks

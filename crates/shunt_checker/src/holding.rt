@@ -231,13 +231,7 @@ fn light_with(
 }
 
 /// The same of each departing train.
-fn light_of(
-    instance: &Instance,
-    covered: &Covered,
-    case: &Case,
-    u: usize,
-    n: u8,
-) -> Option<Offer>
+fn light_of(instance: &Instance, covered: &Covered, case: &Case, u: usize, n: u8) -> Option<Offer>
     requires covered { AreMasksOf instance.now covered.now }
     requires case { IsCase instance.now case.now }
     requires unit { u < unit_total instance.now }

@@ -17,6 +17,6 @@ returns c =
     light_in night (λ s k within lt. c.places.ensures.unit night s k within lt) covered c.args.case.now c.args.u c.args.n c.args.dep c.args.q
     (subst (λ (x : TrainUnit). IsUnitAt night c.args.u x) is c.unit-unit.ensures.facts)
     (subst (λ (x : TrainUnit). IsFreeShape night covered (unit_from night (record { arr = x.train; p = x.place; n = c.args.n; dep = record { 0 = c.args.dep }; q = c.args.q })) (record { arr = x.train; p = x.place; n = c.args.n; dep = record { 0 = c.args.dep }; q = c.args.q })) is
-        (c.is_free.ensures.0 c.if-not-is_free.false))
+    (c.is_free.ensures.0 c.if-not-is_free.false))
     c.light_option.result
     (subst (λ (x : TrainUnit). Finds (IsLightShape night c.args.case.now (record { arr = x.train; p = x.place; n = c.args.n; dep = record { 0 = c.args.dep }; q = c.args.q })) (EarlierChoice night) c.light_option.result) is c.light_option.ensures)

@@ -17,11 +17,11 @@ returns c =
       one_start = λ pins start other h k. c.starts.ensures.one night pins start other h k;
     } in
     record {
-  none = λ night pins start plan cert h range keeps is begins.
-      (accepted night (laws night) pins start plan cert range keeps is begins, nothing_wrong night (laws night) pins start plan cert range keeps is begins);
-  verdict = λ night pins plan cert v h range keeps is told. accepts night (laws night) pins plan cert range keeps is v told;
-  bound = λ night pins plan cert bound other h range keeps is usable told feasible kept.
-      let accepted = (accepts night (laws night) pins plan cert range keeps is (verdict.Accepted bound) told).0 tt in
-      let least = c.proved_bounds.ensures.accepted night pins plan.blocks plan.cost cert other h is.nodes usable.apart accepted feasible kept in
-      omega (arith, least, told.answers.0);
-}
+      none = λ night pins start plan cert h range keeps is begins.
+          (accepted night (laws night) pins start plan cert range keeps is begins, nothing_wrong night (laws night) pins start plan cert range keeps is begins);
+      verdict = λ night pins plan cert v h range keeps is told. accepts night (laws night) pins plan cert range keeps is v told;
+      bound = λ night pins plan cert bound other h range keeps is usable told feasible kept.
+          let accepted = (accepts night (laws night) pins plan cert range keeps is (verdict.Accepted bound) told).0 tt in
+          let least = c.proved_bounds.ensures.accepted night pins plan.blocks plan.cost cert other h is.nodes usable.apart accepted feasible kept in
+          omega (arith, least, told.answers.0);
+    }

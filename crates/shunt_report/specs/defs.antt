@@ -1,3 +1,4 @@
 -- The definitions of this crate.
 pub mod Texts
 pub mod FindingTexts
+pub mod TurnTexts

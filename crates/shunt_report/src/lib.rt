@@ -4,8 +4,10 @@
 mod found;
 mod matched;
 mod text;
+mod turns;
 mod words;
 
 pub use found::findings_text;
 pub use matched::{pairs_text, shortage_text};
+pub use turns::{Outcome, turn_text};
 pub use words::{FileWord, input_text};

@@ -44,7 +44,7 @@ ok_value : {X : Type 0} (file : FileWord) (x : Result X RowFault) (v : X) → va
 ok_value file (Ok y) v e = cc
 ok_value file (Err fault) v e = absurd (let h : Err (input_of file (Some fault)) ≡ Ok v = e in cc)
 
-stated_value : {S X : Type 0} (file : FileWord) (format : Format S X) (bytes : List ℕ) (v : X) → stated file format bytes ≡ Ok v → reading format (records_of bytes) ≡ Ok v
+pub stated_value : {S X : Type 0} (file : FileWord) (format : Format S X) (bytes : List ℕ) (v : X) → stated file format bytes ≡ Ok v → reading format (records_of bytes) ≡ Ok v
 stated_value file format bytes v e = at (nat_le (length bytes) (most_bytes_of file)) e
   where
     at : (short : Bool) → (if short then value_or file (reading format (records_of bytes)) else Err (input_of file None)) ≡ Ok v → reading format (records_of bytes) ≡ Ok v
@@ -88,15 +88,15 @@ told_is s t p y fs e told = only_plan y.0 y.1 fs (plan_stated s t p y e).1.block
 told_outcome : (y : Night × Plan) (r : Reply) (a : IsAudited y r) → r.outcome ≡ audit_outcome a.findings
 told_outcome y r a = ap (λ (r : Reply). r.outcome) a.reply
 
-some_found : (fs : List Finding) → (fs ≡ [] → ⊥) → audit_outcome fs ≡ outcome.Findings
+pub some_found : (fs : List Finding) → (fs ≡ [] → ⊥) → audit_outcome fs ≡ outcome.Findings
 some_found [] never_nil = absurd (never_nil refl)
 some_found (f ∷ fs) never_nil = refl
 
-none_found : (fs : List Finding) → audit_outcome fs ≡ outcome.Done → fs ≡ []
+pub none_found : (fs : List Finding) → audit_outcome fs ≡ outcome.Done → fs ≡ []
 none_found [] e = refl
 none_found (f ∷ fs) e = absurd (let h : outcome.Findings ≡ outcome.Done = e in cc)
 
-found_some : (fs : List Finding) → audit_outcome fs ≡ outcome.Findings → fs ≡ [] → ⊥
+pub found_some : (fs : List Finding) → audit_outcome fs ≡ outcome.Findings → fs ≡ [] → ⊥
 found_some [] e nil = absurd (let h : outcome.Done ≡ outcome.Findings = e in cc)
 found_some (f ∷ fs) e nil = absurd (let h : (f ∷ fs) ≡ [] = nil in cc)
 
@@ -142,7 +142,7 @@ findings_only law s t p old new e =
     let same = told_is (content files s) (content files t) (content files p) at.plan at.findings at.ok at.told in
     (files, h.1.1, (at.plan, at.ok, λ sound. found_some at.findings at.outcome (same ∙ (sound_where law (content files s) (content files t) (content files p) at.plan at.ok).1 sound)))
 
-neither : (fs : List Finding) (o : Outcome) → audit_outcome fs ≡ o → (o ≡ outcome.Done) ⊎ (o ≡ outcome.Findings)
+pub neither : (fs : List Finding) (o : Outcome) → audit_outcome fs ≡ o → (o ≡ outcome.Done) ⊎ (o ≡ outcome.Findings)
 neither [] o e = inl (sym e)
 neither (f ∷ fs) o e = inr (sym e)
 
@@ -160,10 +160,10 @@ no_unfinished s t p old new e = never s t p outcome.Unfinished old new (λ e. cc
 
 -- ---- completeness
 
-abbrev EndsWell : Status → Type 0
+abbrev pub EndsWell : Status → Type 0
 EndsWell x = (x ≡ status.Done) ⊎ ((x ≡ status.Findings) ⊎ (x ≡ status.Memory))
 
-well : (x : Status) (fs : List Finding) → x ≡ the_status (audit_outcome fs) → EndsWell x
+pub well : (x : Status) (fs : List Finding) → x ≡ the_status (audit_outcome fs) → EndsWell x
 well x [] e = inl e
 well x (f ∷ fs) e = inr (inl e)
 

@@ -1,9 +1,9 @@
 -- From what the files of a command hold to its defined answer.
-use Rattle.std.proofs.Common.{◌≡◌, ℕ, List, [], ◌∷◌, Option, get_or, subst, sym, Result}
+use Rattle.std.proofs.Common.{◌≡◌, ℕ, List, [], ◌∷◌, length, Option, get_or, subst, sym, ap, Result, arith}
 use Rattle.shunt_store.specs.defs.Files.{Files}
 use Rattle.shunt.specs.declared.delivering.Answer.{Answer}
 use Rattle.shunt.specs.declared.loading.Halt.{Halt}
-use Rattle.shunt.specs.defs.Words.{Call, Match, Audit, IsUsable, words_of}
+use Rattle.shunt.specs.defs.Words.{Call, Match, Audit, Replay, IsUsable, words_of}
 use Rattle.shunt.specs.defs.Inputs.{Agrees, Holding, stated_night, stated_plans}
 use Rattle.shunt.specs.defs.Replies.{IsReply, Decided, IsMatched, IsAudited, reply_of}
 use Rattle.shunt.specs.defs.Halts.{Replies}
@@ -29,4 +29,10 @@ audit_answered told c s t p r is usable h =
 pub same_call : (c d : Call) → words_of c ≡ words_of d → c ≡ d
 same_call (Match s t) (Match ss uu) e = cc
 same_call (Audit s t p) (Audit ss uu pp) e = cc
-same_call c d e = absurd (let h : words_of c ≡ words_of d = e in cc)
+same_call (Replay s t p e n) (Replay ss uu pp ee nn) is = cc
+same_call (Match s t) (Audit ss uu pp) e = absurd (let n : 3 ≡ 4 = ap (λ (l : List (List ℕ)). length l) e in omega (arith, n))
+same_call (Match s t) (Replay ss uu pp ee nn) e = absurd (let n : 3 ≡ 6 = ap (λ (l : List (List ℕ)). length l) e in omega (arith, n))
+same_call (Audit s t p) (Match ss uu) e = absurd (let n : 4 ≡ 3 = ap (λ (l : List (List ℕ)). length l) e in omega (arith, n))
+same_call (Audit s t p) (Replay ss uu pp ee nn) e = absurd (let n : 4 ≡ 6 = ap (λ (l : List (List ℕ)). length l) e in omega (arith, n))
+same_call (Replay s t p e n) (Match ss uu) is = absurd (let k : 6 ≡ 3 = ap (λ (l : List (List ℕ)). length l) is in omega (arith, k))
+same_call (Replay s t p e n) (Audit ss uu pp) is = absurd (let k : 6 ≡ 4 = ap (λ (l : List (List ℕ)). length l) is in omega (arith, k))

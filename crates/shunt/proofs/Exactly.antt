@@ -1,5 +1,5 @@
 -- When each status comes, and what then stands, of every command.
-use Rattle.std.proofs.Common.{◌≡◌, Some, None, sym, subst, ap, inl, inr, refl, Result, Ok, Err, List, [], ◌∷◌, ◌∙◌, Option, ℕ, arith}
+use Rattle.std.proofs.Common.{◌≡◌, Some, None, sym, subst, ap, inl, inr, refl, Result, Ok, Err, List, [], ◌∷◌, ◌∙◌, Option, ℕ, arith, append-nil}
 use Rattle.std.specs.Prelude.{IfSome, ◌⊎◌}
 use Rattle.std.specs.Result.{result_err}
 use Rattle.std.specs.FinMap as map
@@ -14,7 +14,8 @@ use Rattle.shunt.specs.declared.delivering.Outcome.{Outcome}
 use Rattle.shunt.specs.declared.delivering.Outcome.TheVariants as outcome
 use Rattle.shunt.specs.declared.running.Status.{Status}
 use Rattle.shunt.specs.declared.running.Status.TheVariants as status
-use Rattle.shunt.specs.defs.Words.{Call, Match, Audit, outputs_of}
+use Rattle.shunt.specs.defs.Words.{Call, Match, Audit, Replay, outputs_of}
+use Rattle.shunt.proofs.Writes.{holds_one, whole_may}
 use Rattle.shunt.specs.defs.Inputs.{Agrees, Value, stated_in, refused}
 use Rattle.shunt.specs.defs.Replies.{Reply, IsReply, IsReplyOver, IsAnswer, IsPaired, IsShort, Decided, audit_outcome, refusal}
 use Rattle.shunt.specs.defs.Ends.{Seen, CutInText, Delivers, StopsEarly, Ends, IsWhole, MayBegin, MayHold, MayWrite, Yields, the_status, written}
@@ -153,12 +154,19 @@ no_input : (c : Call) (v : Value c) (r : Reply) → IsAnswer c v r → r.outcome
 no_input (Match s t) night r (inl p) o = let e : outcome.Done ≡ outcome.Input = sym (paired_outcome night r p) ∙ o in cc
 no_input (Match s t) night r (inr p) o = let e : outcome.NoMatching ≡ outcome.Input = sym (short_outcome night r p) ∙ o in cc
 no_input (Audit s t p) x r is o = no_input_found is.findings (sym (ap (λ (r : Reply). r.outcome) is.reply) ∙ o)
+no_input (Replay s t p e n) x r is o = no_input_found is.findings (sym is.outcome ∙ o)
+
+-- a name of one write is the one that is written
+one_write : (n content name text : List ℕ) → In {X = List ℕ × List ℕ} (name, text) ((n, content) ∷ []) → In name (n ∷ [])
+one_write n content name text (inl e) = inl (ap (λ (w : List ℕ × List ℕ). w.0) e)
+one_write n content name text (inr h) = absurd h
 
 -- an answer writes no file but the command's own
 own_writes : (c : Call) (v : Value c) (r : Reply) (name text : List ℕ) → IsAnswer c v r → In (name, text) r.writes → In name (outputs_of c)
 own_writes (Match s t) night r name text (inl p) w = subst (λ (q : Reply). In (name, text) q.writes) p.reply w
 own_writes (Match s t) night r name text (inr p) w = subst (λ (q : Reply). In (name, text) q.writes) p.reply.2 w
 own_writes (Audit s t p) x r name text is w = subst (λ (q : Reply). In (name, text) q.writes) is.reply w
+own_writes (Replay s t p e n) x r name text is w = one_write n _ name text (subst (λ (ws : List (List ℕ × List ℕ)). In {X = List ℕ × List ℕ} (name, text) ws) is.writes w)
 
 -- before its reply is known a command writes no file but its own
 own_begins : (c : Call) (a b : Files) (name : List ℕ) → (In name (outputs_of c) → ⊥) → MayBegin c a b → map.get b name ≡ map.get a name
@@ -260,6 +268,26 @@ pub after_memory : (c : Call) (old new : Seen) → Ends c old new status.Memory 
 after_memory c old new (inl h) = inl h.0
 after_memory c old new (inr (r, is, inl h)) = inl h.output
 after_memory c old new (inr (r, is, inr h)) = inr (r, is, h)
+
+may_whole : (ws : List (List ℕ × List ℕ)) (a b : Files) → b ≡ written ws a → MayWrite ws a b
+may_whole ws a b e = subst (MayWrite ws a) (sym e) (λ name. subst (λ vs. MayHold vs a (written ws a) name) (append-nil ws) (whole_may ws [] a (written ws a) name (holds_one ws a name)))
+
+-- nothing was written, or the writing of a defined reply was cut short
+abbrev Begun : Call → Seen → Files → Files → Type 0
+Begun c old a b = (b ≡ a) ⊎ ((r : Reply) × IsReplyOver c old.files r × MayWrite r.writes a b)
+
+pub after_failure : (c : Call) (old new : Seen) (s : Status) → (s ≡ status.Store) ⊎ (s ≡ status.Memory) → Ends c old new s → BothTold old.files new.files (λ a b. (b ≡ a) ⊎ ((r : Reply) × IsReplyOver c old.files r × MayWrite r.writes a b))
+after_failure c old new s (inl is) ends = at (subst (Ends c old new) is ends)
+  where
+    at : Ends c old new status.Store → BothTold old.files new.files (Begun c old)
+    at (inl h) = both_map _ (Begun c old) old.files new.files h.2 (λ a b e. inl e)
+    at (inr (r, over, h)) = both_map _ (Begun c old) old.files new.files h.1.files (λ a b may. inr (r, over, may))
+after_failure c old new s (inr is) ends = at (subst (Ends c old new) is ends)
+  where
+    at : Ends c old new status.Memory → BothTold old.files new.files (Begun c old)
+    at (inl h) = both_map _ (Begun c old) old.files new.files h.1 (λ a b e. inl e)
+    at (inr (r, over, inl h)) = both_map _ (Begun c old) old.files new.files h.files (λ a b may. inr (r, over, may))
+    at (inr (r, over, inr h)) = both_map _ (Begun c old) old.files new.files h.files (λ a b e. inr (r, over, may_whole r.writes a b e))
 
 pub after_sink : (c : Call) (old new : Seen) → Ends c old new status.Sink → (r : Reply) × IsReplyOver c old.files r × CutInText r old new
 after_sink c old new (inl h) = absurd h

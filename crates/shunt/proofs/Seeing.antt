@@ -98,6 +98,9 @@ cause_failed {A = A} {B = B} before mid now r e h le cause = record {
     fault_of : err_of A e ≡ err_of A halt.Fault → err_of B e ≡ err_of B halt.Fault
     fault_of same = ap (err_of B) (let one : e ≡ halt.Fault = cc in one)
 
+pub later_still : (a b c : ℕ) → a ≤ b → b ≤ c → a ≤ c
+later_still a b c le more = omega (arith, le, more)
+
 -- ---- from what was loaded to the reply
 
 pub halted : {X A : Type 0} (view : A → Reply) (h : Halt) (first : Result X (List ℕ)) (P : X → Reply → Type 0) → Loads {X = X} (Err h) first → Replies view (Err h) (Decided first P)

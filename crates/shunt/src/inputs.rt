@@ -1,6 +1,7 @@
 // The input files of the commands.
 ghost use Rattle.std.specs.Prelude.{◌≡◌, ℕ, List, Result, IfOk};
 ghost use Rattle.shunt_instance.specs.defs.Wellformed.{IsStation, IsTimetable};
+ghost use Rattle.shunt_plan.specs.defs.Edits.{AreTurns, edits_format};
 ghost use Rattle.shunt_plan.specs.defs.PlanFormat.{plan_format};
 ghost use Rattle.shunt_plan.specs.defs.Plans.{IsPlanInRange};
 ghost use Rattle.shunt_report.specs.declared.words.FileWord.{FileWord};
@@ -12,7 +13,8 @@ ghost use Rattle.shunt_station.specs.defs.Stating.{station_format};
 ghost use Rattle.shunt_timetable.specs.defs.TimetableFormat.{timetable_format};
 
 use shunt_instance::{Instance, Station, Timetable};
-use shunt_plan::{Plan, read_plan};
+use shunt_lists::Items;
+use shunt_plan::{Plan, Turn, read_edits, read_plan};
 use shunt_report::FileWord;
 use shunt_rows::{ReadError, Row};
 use shunt_station::read_station;
@@ -118,5 +120,31 @@ impl InputFile for PlanFile<'_> {
 
     fn read(&self, alloc: Global, rows: &Vec<Row>) -> Result<Plan, ReadError> {
         read_plan(alloc, self.instance, rows)
+    }
+}
+
+/// An edits file over an instance.
+#[derive(Clone, Copy, Drop)]
+pub struct EditsFile<'i> {
+    pub instance: &'i Instance,
+}
+
+impl InputFile for EditsFile<'_> {
+    type Value = Items<Turn>;
+
+    ghost word = { words.Edits };
+
+    ghost states = { λ f rows. reading (edits_format f.instance.now) rows };
+
+    ghost ready = { λ _. Unit {0} };
+
+    ghost formed = { λ f turns. AreTurns f.instance.now turns };
+
+    fn word(&self) -> FileWord {
+        FileWord::Edits
+    }
+
+    fn read(&self, alloc: Global, rows: &Vec<Row>) -> Result<Items<Turn>, ReadError> {
+        Ok(Items::from_vec(read_edits(alloc, self.instance, rows)?))
     }
 }

@@ -7,12 +7,14 @@ ghost use Rattle.shunt_store.specs.defs.Causes.{Rose};
 ghost use Rattle.shunt_instance.specs.defs.Instance.{Night};
 ghost use Rattle.shunt_matching.specs.defs.Nights.{Matches};
 ghost use Rattle.shunt_plan.specs.declared.records.Plan.{Plan};
+ghost use Rattle.shunt_moves.specs.defs.States.{IsState};
 ghost use Rattle.shunt.specs.declared.delivering.Outcome.{Outcome};
 ghost use Rattle.shunt.specs.declared.running.Status.{Status};
-ghost use Rattle.shunt.specs.defs.Words.{Call, Match, Audit, outputs_of};
-ghost use Rattle.shunt.specs.defs.Inputs.{Agrees, refused, stated_night, plans_in};
-ghost use Rattle.shunt.specs.defs.Replies.{Reply, IsReply, IsReplyOver, IsClean, refusal};
-ghost use Rattle.shunt.specs.defs.Ends.{Ends, Seen, CutInText, IsWhole, Yields, the_status};
+ghost use Rattle.shunt.specs.defs.Words.{Call, Match, Audit, Replay, outputs_of};
+ghost use Rattle.shunt.specs.defs.Inputs.{Agrees, Replayable, refused, stated_night, stated_turns, plans_in, turns_in};
+ghost use Rattle.shunt.specs.defs.Replays.{last_of};
+ghost use Rattle.shunt.specs.defs.Replies.{Reply, IsReply, IsReplyOver, IsClean, EndsFeasible, refusal};
+ghost use Rattle.shunt.specs.defs.Ends.{Ends, Seen, CutInText, IsWhole, MayWrite, Yields, the_status};
 
 use shunt_audit::laws;
 
@@ -43,9 +45,12 @@ pub fn statuses_are_of_replies()
 
 /// No file but those that the command writes is changed, whatever the status. After `Store` nothing was printed. After
 /// `Memory` nothing was, or the files of a defined reply were written and a front of its text was printed, as after `Sink`.
+/// After `Store` and `Memory` no file was touched, or each file that a defined reply writes holds what it held, nothing, or a
+/// front of its text.
 pub fn what_stands_after()
     ensures others { (c : Call) (old new : Seen) (status : Status) (name : List ℕ) → (In name (outputs_of c) → ⊥) → Ends c old new status → BothTold old.files new.files (λ a b. map.get b name ≡ map.get a name) }
     ensures store { (c : Call) (old new : Seen) → Ends c old new Status.Store → new.output ≡ old.output }
+    ensures files { (c : Call) (old new : Seen) (status : Status) → (status ≡ Status.Store) ⊎ (status ≡ Status.Memory) → Ends c old new status → BothTold old.files new.files (λ a b. (b ≡ a) ⊎ ((r : Reply) × IsReplyOver c old.files r × MayWrite r.writes a b)) }
     ensures memory { (c : Call) (old new : Seen) → Ends c old new Status.Memory → (new.output ≡ old.output) ⊎ ((r : Reply) × IsReplyOver c old.files r × CutInText r old new) }
     ensures sink { (c : Call) (old new : Seen) → Ends c old new Status.Sink → (r : Reply) × IsReplyOver c old.files r × CutInText r old new }
 {}
@@ -89,4 +94,28 @@ pub fn audit_done_exactly()
 /// Where the files are accepted and neither the store nor the sink fails, `audit` ends with `Done`, `Findings` or `Memory`.
 pub fn audit_completes()
     ensures { (s t p : List ℕ) (old new : Seen) (status : Status) (files : Files) (x : Night × Plan) → old.files ≡ Some files → plans_in s t p files ≡ Ok x → (Rose old.store_faults new.store_faults → ⊥) → (Rose old.sink_faults new.sink_faults → ⊥) → Ends (Audit s t p) old new status → (status ≡ Status.Done) ⊎ ((status ≡ Status.Findings) ⊎ (status ≡ Status.Memory)) }
+{}
+
+/// `replay` ends with `Done` exactly where the files are accepted and the blocks that the turns leave are a feasible plan, and
+/// with `Findings` exactly where they are accepted and it isn't so, whatever cost the plan states and whichever turns were
+/// refused, unless the store, memory or the sink came first. It never ends with `NoMatching` or `Unfinished`.
+pub fn replay_done_exactly()
+    ensures done { (s t p e n : List ℕ) (old new : Seen) (status : Status) (files : Files) (x : Replayable) → old.files ≡ Some files → turns_in s t p e files ≡ Ok x → EndsFeasible x → Ends (Replay s t p e n) old new status → (status ≡ Status.Done) ⊎ Yields status }
+    ensures done_only { (s t p e n : List ℕ) (old new : Seen) → Ends (Replay s t p e n) old new Status.Done → (files : Files) × Agrees old.files files × ((x : Replayable) × (turns_in s t p e files ≡ Ok x) × EndsFeasible x) }
+    ensures findings { (s t p e n : List ℕ) (old new : Seen) (status : Status) (files : Files) (x : Replayable) → old.files ≡ Some files → turns_in s t p e files ≡ Ok x → (EndsFeasible x → ⊥) → Ends (Replay s t p e n) old new status → (status ≡ Status.Findings) ⊎ Yields status }
+    ensures findings_only { (s t p e n : List ℕ) (old new : Seen) → Ends (Replay s t p e n) old new Status.Findings → (files : Files) × Agrees old.files files × ((x : Replayable) × (turns_in s t p e files ≡ Ok x) × (EndsFeasible x → ⊥)) }
+    ensures no_matching { (s t p e n : List ℕ) (old new : Seen) → Ends (Replay s t p e n) old new Status.NoMatching → ⊥ }
+    ensures no_unfinished { (s t p e n : List ℕ) (old new : Seen) → Ends (Replay s t p e n) old new Status.Unfinished → ⊥ }
+{
+    laws::feasible();
+}
+
+/// Where the files are accepted and neither the store nor the sink fails, `replay` ends with `Done`, `Findings` or `Memory`.
+pub fn replay_completes()
+    ensures { (s t p e n : List ℕ) (old new : Seen) (status : Status) (files : Files) (x : Replayable) → old.files ≡ Some files → turns_in s t p e files ≡ Ok x → (Rose old.store_faults new.store_faults → ⊥) → (Rose old.sink_faults new.sink_faults → ⊥) → Ends (Replay s t p e n) old new status → (status ≡ Status.Done) ⊎ ((status ≡ Status.Findings) ⊎ (status ≡ Status.Memory)) }
+{}
+
+/// The blocks that the turns of accepted files leave are at most 400, in range, and by ascending id: so are those of the new plan.
+pub fn replay_leaves_a_state()
+    ensures { (s t p e : List ℕ) (x : Replayable) → stated_turns s t p e ≡ Ok x → IsState x.night (last_of x) }
 {}

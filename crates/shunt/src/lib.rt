@@ -5,6 +5,7 @@ mod delivering;
 mod inputs;
 pub mod laws;
 mod loading;
+mod replaying;
 mod replying;
 mod running;
 mod words;

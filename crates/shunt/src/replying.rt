@@ -1,20 +1,25 @@
 // From the files to the answer.
-ghost use Rattle.std.specs.Prelude.{◌≡◌, IfOk, IsErrOf};
+ghost use Rattle.std.specs.Prelude.{◌≡◌, ◌≤◌, [], ◌∷◌, length, map, IfOk, IsErrOf};
 ghost use Rattle.shunt_store.specs.defs.Files.{Files, Closed};
 ghost use Rattle.shunt_store.specs.defs.Causes.{HasCause};
+ghost use Rattle.shunt_plan.specs.defs.Edits.{AreTurns};
 ghost use Rattle.shunt_plan.specs.defs.Plans.{IsPlanInRange};
 ghost use Rattle.shunt.specs.defs.Words.{call_of, IsUsable};
-ghost use Rattle.shunt.specs.defs.Inputs.{Agrees, Holding, stated_night, stated_plans};
-ghost use Rattle.shunt.specs.defs.Replies.{IsMatched, IsAudited, IsReply, Decided, reply_of};
+ghost use Rattle.shunt.specs.defs.Inputs.{Agrees, Holding, stated_night, stated_plans, stated_turns};
+ghost use Rattle.shunt.specs.defs.Replies.{IsMatched, IsAudited, IsReplayed, IsReply, Decided, pair_of, reply_of, audit_outcome};
+ghost use Rattle.shunt.specs.defs.Replays.{last_of, last_plan};
 ghost use Rattle.shunt.specs.defs.Halts.{Replies};
 
-use crate::delivering::{Answer, Outcome};
-use crate::loading::{Halt, load_instance, load_plan};
+use crate::delivering::{Answer, FileText, Outcome};
+use crate::loading::{Halt, load_edits, load_instance, load_plan};
+use crate::replaying::do_turns;
 use crate::words::Command;
 use shunt_audit::audit;
+use shunt_audit::types::Finding;
 use shunt_instance::Instance;
 use shunt_matching::{MatchError, first_fit};
-use shunt_plan::Plan;
+use shunt_moves::Workbench;
+use shunt_plan::{Plan, Turn, write_plan};
 use shunt_report::{findings_text, pairs_text, shortage_text};
 use shunt_store::Store;
 use std::alloc::{AllocError, Global};
@@ -35,6 +40,9 @@ pub fn answer_to<S: Store>(
     match command {
         Command::Match(first, second) => reply_to_match(alloc, store, first, second),
         Command::Audit(first, second, third) => reply_to_audit(alloc, store, first, second, third),
+        Command::Replay(first, second, third, fourth, fifth) => {
+            reply_to_replay(alloc, store, first, second, third, fourth, fifth)
+        }
     }
 }
 
@@ -72,6 +80,27 @@ fn reply_to_audit<S: Store>(
     Ok(audit_answer(alloc, &instance, &plan)?)
 }
 
+fn reply_to_replay<S: Store>(
+    alloc: Global,
+    store: &mut S,
+    station: &str,
+    timetable: &str,
+    plan: &str,
+    edits: &str,
+    new_plan: &str,
+) -> Result<Answer, Halt>
+    requires { S.stage store.old ≡ Closed }
+    ensures told { Holding (S.told store.old) station.now (λ s. Holding (S.told store.old) timetable.now (λ t. Holding (S.told store.old) plan.now (λ p. Holding (S.told store.old) edits.now (λ e. Replies reply_of result (Decided (stated_turns s t p e) (IsReplayed new_plan.now)))))) }
+    ensures files { S.told store.new ≡ S.told store.old }
+    ensures closed { (IsErrOf result Halt.Fault → ⊥) → S.stage store.new ≡ Closed }
+    ensures cause { HasCause Halt.Fault (S.faults store.old) (S.faults store.new) result }
+{
+    let instance = load_instance(alloc, store, station, timetable)?;
+    let plan = load_plan(alloc, store, &instance, plan)?;
+    let turns = load_edits(alloc, store, &instance, edits)?;
+    Ok(replay_answer(alloc, &instance, &plan, turns.as_slice(), new_plan)?)
+}
+
 // Which unit becomes which position, or why none can.
 fn match_answer(alloc: Global, instance: &Instance) -> Result<Answer, AllocError>
     ensures { IfOk result (λ a. IsMatched instance.now (reply_of a)) }
@@ -91,6 +120,17 @@ fn match_answer(alloc: Global, instance: &Instance) -> Result<Answer, AllocError
     }
 }
 
+// How an audit ends that has these findings.
+fn outcome_of(findings: &[Finding]) -> Outcome
+    ensures { result ≡ audit_outcome findings.now }
+{
+    if findings.is_empty() {
+        Outcome::Done
+    } else {
+        Outcome::Findings
+    }
+}
+
 // What is wrong with a plan, and what it costs.
 fn audit_answer(alloc: Global, instance: &Instance, plan: &Plan) -> Result<Answer, AllocError>
     requires { IsPlanInRange instance.now plan.now }
@@ -99,12 +139,42 @@ fn audit_answer(alloc: Global, instance: &Instance, plan: &Plan) -> Result<Answe
     let found = audit(alloc, instance, plan)?;
     let findings = found.findings.as_slice();
     Ok(Answer {
-        outcome: if findings.is_empty() {
-            Outcome::Done
-        } else {
-            Outcome::Findings
-        },
+        outcome: outcome_of(findings),
         writes: Vec::new(alloc),
         text: findings_text(alloc, instance, findings, found.cost)?,
+    })
+}
+
+// The writes of one file.
+fn one_file(alloc: Global, name: &str, bytes: Vec<u8>) -> Result<Vec<FileText>, AllocError>
+    ensures { IfOk result (λ writes. map pair_of writes.items ≡ (name.now, bytes.items) ∷ []) }
+{
+    let name = String::from_str(alloc, name)?;
+    let mut writes = Vec::new(alloc);
+    writes.push(FileText { name, bytes })?;
+    Ok(writes)
+}
+
+// What the turns do to the blocks of a plan, which are written as a new one, and what is then wrong with them.
+fn replay_answer(
+    alloc: Global,
+    instance: &Instance,
+    plan: &Plan,
+    turns: &[Turn],
+    new_plan: &str,
+) -> Result<Answer, AllocError>
+    requires plan { IsPlanInRange instance.now plan.now }
+    requires turns { AreTurns instance.now turns.now }
+    ensures { IfOk result (λ a. IsReplayed new_plan.now (record { night = instance.now; plan = plan.now; turns = turns.now }) (reply_of a)) }
+{
+    let mut bench = Workbench::start(alloc, instance, plan)?;
+    let mut text = do_turns(alloc, &mut bench, turns)?;
+    let last = bench.plan()?;
+    let findings = bench.findings()?;
+    text.extend_from_slice(&findings_text(alloc, instance, &findings, last.cost)?)?;
+    Ok(Answer {
+        outcome: outcome_of(&findings),
+        writes: one_file(alloc, new_plan, write_plan(alloc, instance, &last)?)?,
+        text,
     })
 }

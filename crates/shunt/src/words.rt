@@ -9,6 +9,8 @@ pub enum Command<'w> {
     Match(&'w str, &'w str),
     /// `audit STATION TIMETABLE PLAN`
     Audit(&'w str, &'w str, &'w str),
+    /// `replay STATION TIMETABLE PLAN EDITS NEWPLAN`
+    Replay(&'w str, &'w str, &'w str, &'w str, &'w str),
 }
 
 /// The command that the words spell. None exactly where they spell none.
@@ -19,6 +21,9 @@ pub fn command_of(words: &[String]) -> Option<Command<'_>>
     match words {
         [word, first, second] => of_two_files(word, first, second),
         [word, first, second, third] => of_three_files(word, first, second, third),
+        [word, first, second, third, fourth, fifth] => {
+            of_five_files(word, first, second, third, fourth, fifth)
+        }
         _ => None,
     }
 }
@@ -51,6 +56,45 @@ fn are_three_names(first: &str, second: &str, third: &str) -> bool
     are_two_names(second, third)
 }
 
+fn are_four_names(first: &str, second: &str, third: &str, fourth: &str) -> bool
+    ensures { IsTrue result ↔ AreNames (first.now ∷ second.now ∷ third.now ∷ fourth.now ∷ []) }
+{
+    if first.is_empty() {
+        return false;
+    }
+    if first == second {
+        return false;
+    }
+    if first == third {
+        return false;
+    }
+    if first == fourth {
+        return false;
+    }
+    are_three_names(second, third, fourth)
+}
+
+fn are_five_names(first: &str, second: &str, third: &str, fourth: &str, fifth: &str) -> bool
+    ensures { IsTrue result ↔ AreNames (first.now ∷ second.now ∷ third.now ∷ fourth.now ∷ fifth.now ∷ []) }
+{
+    if first.is_empty() {
+        return false;
+    }
+    if first == second {
+        return false;
+    }
+    if first == third {
+        return false;
+    }
+    if first == fourth {
+        return false;
+    }
+    if first == fifth {
+        return false;
+    }
+    are_four_names(second, third, fourth, fifth)
+}
+
 // The command that a word and the names of two files spell.
 fn of_two_files<'w>(word: &'w String, first: &'w String, second: &'w String) -> Option<Command<'w>>
     ensures some { IfSome result (λ c. Spells (texts (word.now ∷ first.now ∷ second.now ∷ [])) (call_of c)) }
@@ -77,6 +121,28 @@ fn of_three_files<'w>(
     match word.as_str() {
         "audit" if are_three_names(first, second, third) => {
             Some(Command::Audit(first, second, third))
+        }
+        _ => None,
+    }
+}
+
+// The command that a word and the names of five files spell.
+fn of_five_files<'w>(
+    word: &'w String,
+    first: &'w String,
+    second: &'w String,
+    third: &'w String,
+    fourth: &'w String,
+    fifth: &'w String,
+) -> Option<Command<'w>>
+    ensures some { IfSome result (λ c. Spells (texts (word.now ∷ first.now ∷ second.now ∷ third.now ∷ fourth.now ∷ fifth.now ∷ [])) (call_of c)) }
+    ensures only { (c : Call) → Spells (texts (word.now ∷ first.now ∷ second.now ∷ third.now ∷ fourth.now ∷ fifth.now ∷ [])) c → IsSome result }
+{
+    let (first, second, third) = (first.as_str(), second.as_str(), third.as_str());
+    let (fourth, fifth) = (fourth.as_str(), fifth.as_str());
+    match word.as_str() {
+        "replay" if are_five_names(first, second, third, fourth, fifth) => {
+            Some(Command::Replay(first, second, third, fourth, fifth))
         }
         _ => None,
     }

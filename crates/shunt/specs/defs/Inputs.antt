@@ -8,14 +8,16 @@ use Rattle.shunt_rows.specs.defs.Records.{records_of}
 use Rattle.shunt_instance.specs.declared.records.Station.{Station}
 use Rattle.shunt_instance.specs.declared.records.Timetable.{Timetable}
 use Rattle.shunt_instance.specs.defs.Instance.{Night, night_of}
+use Rattle.shunt_plan.specs.declared.edits.Turn.{Turn}
 use Rattle.shunt_plan.specs.declared.records.Plan.{Plan}
+use Rattle.shunt_plan.specs.defs.Edits.{edits_format}
 use Rattle.shunt_plan.specs.defs.PlanFormat.{plan_format}
 use Rattle.shunt_report.specs.declared.words.FileWord.{FileWord}
 use Rattle.shunt_report.specs.declared.words.FileWord.TheVariants as word
 use Rattle.shunt_report.specs.defs.Texts.{input_of}
 use Rattle.shunt_station.specs.defs.Stating.{station_format}
 use Rattle.shunt_timetable.specs.defs.TimetableFormat.{timetable_format}
-use Rattle.shunt.specs.defs.Words.{Call, Match, Audit}
+use Rattle.shunt.specs.defs.Words.{Call, Match, Audit, Replay}
 
 -- how many bytes may stand in an input file
 abbrev pub most_bytes_of : FileWord → ℕ
@@ -63,15 +65,36 @@ stated_plans s t p = then_stated (stated_night s t) (λ night. then_stated (stat
 abbrev pub plans_in : List ℕ → List ℕ → List ℕ → Files → Result (Night × Plan) (List ℕ)
 plans_in s t p files = stated_plans (content files s) (content files t) (content files p)
 
+-- an edits file over a night
+abbrev pub stated_edits : Night → List ℕ → Result (List Turn) (List ℕ)
+stated_edits night bytes = stated word.Edits (edits_format night) bytes
+
+-- a night, a plan in it, and the turns that are to be done on its blocks
+pub record Replayable : Type 0 where
+  pub night : Night
+  pub plan : Plan
+  pub turns : List Turn
+
+-- those that a station file, a timetable file, a plan file and an edits file state, or the line for the first of them that isn't
+-- accepted
+unfoldable pub stated_turns : List ℕ → List ℕ → List ℕ → List ℕ → Result Replayable (List ℕ)
+stated_turns s t p e = then_stated (stated_plans s t p) (λ x. then_stated (stated_edits x.0 e) (λ turns. Ok (record { night = x.0; plan = x.1; turns = turns })))
+
+-- the same of what the files of these names hold
+abbrev pub turns_in : List ℕ → List ℕ → List ℕ → List ℕ → Files → Result Replayable (List ℕ)
+turns_in s t p e files = stated_turns (content files s) (content files t) (content files p) (content files e)
+
 -- what the input files of a command state together
 abbrev pub Value : Call → Type 0
 Value (Match s t) = Night
 Value (Audit s t p) = Night × Plan
+Value (Replay s t p e n) = Replayable
 
 -- the value that they state, judged in the order of the words, or the line for the first of them that isn't accepted
 abbrev pub stated_in : (c : Call) → Files → Result (Value c) (List ℕ)
 stated_in (Match s t) files = stated_night (content files s) (content files t)
 stated_in (Audit s t p) files = plans_in s t p files
+stated_in (Replay s t p e n) files = turns_in s t p e files
 
 -- the line for the first input file that isn't accepted
 abbrev pub refused : Call → Files → Option (List ℕ)

@@ -1,5 +1,5 @@
 -- The defined answer of a command, over the contents of its files.
-use Rattle.std.specs.Prelude.{◌≡◌, ◌⊎◌, ℕ, List, [], ◌∷◌, map, Option, Result, Ok, Err, string_bytes}
+use Rattle.std.specs.Prelude.{◌≡◌, ◌⊎◌, ℕ, List, [], ◌∷◌, ◌++◌, map, Option, Result, Ok, Err, string_bytes}
 use Rattle.shunt_store.specs.defs.Files.{Files}
 use Rattle.shunt.specs.declared.delivering.Outcome.{Outcome}
 use Rattle.shunt.specs.declared.delivering.Outcome.TheVariants as outcome
@@ -12,12 +12,16 @@ use Rattle.shunt_matching.specs.defs.Counts.{first_fit_of}
 use Rattle.shunt_matching.specs.defs.Nights.{Matches, IsShortageOf}
 use Rattle.shunt_blocks.specs.defs.Lists.{IsFeasible, total_cost}
 use Rattle.shunt_plan.specs.declared.records.Plan.{Plan}
+use Rattle.shunt_plan.specs.defs.PlanRows.{rows_of}
+use Rattle.shunt_rows.specs.defs.Records.{text_of_rows}
 use Rattle.shunt_audit.specs.declared.types.Finding.{Finding}
+use Rattle.shunt_audit.specs.defs.Findings.{AreFindings}
 use Rattle.shunt_audit.specs.defs.Plans.{ArePlanFindings}
 use Rattle.shunt_report.specs.defs.Texts.{pairs_of, shortage_of}
 use Rattle.shunt_report.specs.defs.FindingTexts.{findings_of}
-use Rattle.shunt.specs.defs.Words.{Call, Match, Audit}
-use Rattle.shunt.specs.defs.Inputs.{Value, stated_in, Agrees}
+use Rattle.shunt.specs.defs.Words.{Call, Match, Audit, Replay}
+use Rattle.shunt.specs.defs.Inputs.{Value, Replayable, stated_in, Agrees}
+use Rattle.shunt.specs.defs.Replays.{last_of, last_plan, replay_lines}
 
 -- how a command ends, which files it writes in their order and what they then hold, and what it prints
 pub record Reply : Type 0 where
@@ -66,6 +70,10 @@ IsMatched night r = IsPaired night r ⊎ IsShort night r
 abbrev pub IsClean : Night × Plan → Type 0
 IsClean x = IsFeasible x.0 x.1.blocks × (x.1.cost ≡ total_cost x.0 x.1.blocks)
 
+-- the blocks that the turns leave are a feasible plan
+abbrev pub EndsFeasible : Replayable → Type 0
+EndsFeasible x = IsFeasible x.night (last_of x).blocks
+
 -- an audit ends well where it finds nothing
 abbrev pub audit_outcome : List Finding → Outcome
 audit_outcome [] = outcome.Done
@@ -77,10 +85,20 @@ pub record IsAudited (x : Night × Plan) (r : Reply) : Type 0 where
   pub told : ArePlanFindings x.0 x.1 findings
   pub reply : r ≡ says (audit_outcome findings) (findings_of x.0 findings (total_cost x.0 x.1.blocks))
 
+-- the answer of `replay`: the blocks that the turns leave are written as a plan with what they cost; a line for each turn, and then
+-- their findings and their cost, are printed
+pub record IsReplayed (file : List ℕ) (x : Replayable) (r : Reply) : Type 0 where
+  pub findings : List Finding
+  pub told : AreFindings x.night (last_of x).blocks findings
+  pub outcome : r.outcome ≡ audit_outcome findings
+  pub writes : r.writes ≡ (file, text_of_rows (rows_of x.night (last_plan x))) ∷ []
+  pub text : r.text ≡ replay_lines x ++ findings_of x.night findings (total_cost x.night (last_of x).blocks)
+
 -- the answer of a command on what its input files state
 abbrev pub IsAnswer : (c : Call) → Value c → Reply → Type 0
 IsAnswer (Match s t) night r = IsMatched night r
 IsAnswer (Audit s t p) x r = IsAudited x r
+IsAnswer (Replay s t p e n) x r = IsReplayed n x r
 
 -- the defined answer of a command: the first input file that isn't accepted decides, else the command's own answer
 abbrev pub IsReply : Call → Files → Reply → Type 0

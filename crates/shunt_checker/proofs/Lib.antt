@@ -1,4 +1,6 @@
 mod Firsts
+mod Nexts
+mod Chosen
 mod Taken
 mod Summed
 mod Parking
@@ -9,9 +11,10 @@ mod Counted
 mod Badness
 mod PlanOrder
 mod Breaking
+mod Siblings
 mod Stable
 mod Listed
-mod Chosen
 mod Refuted
 mod Accepting
 mod Exactly
+mod Unique

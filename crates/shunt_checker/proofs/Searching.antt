@@ -76,7 +76,7 @@ module _ (night : Night) (unit_law : (s : Shape) (k : ℕ) → AreRunsWithin nig
   abbrev shape_of_unit : TrainUnit → ℕ → ℕ → ℕ → Shape
   shape_of_unit x n dep q = record { arr = x.train; p = x.place; n = n; dep = record { 0 = dep }; q = q }
 
-  shape_is : (s : Shape) (u n dep q : ℕ) → AreRunsWithin night s → unit_from night s ≡ u → s.n ≡ n → s.dep.0 ≡ dep → s.q ≡ q → s ≡ shape_from night u n dep q
+  pub shape_is : (s : Shape) (u n dep q : ℕ) → AreRunsWithin night s → unit_from night s ≡ u → s.n ≡ n → s.dep.0 ≡ dep → s.q ≡ q → s ≡ shape_from night u n dep q
   shape_is s u n dep q within eu en ed eq =
       let first : s ≡ shape_of_unit (unit_at night u) s.n s.dep.0 s.q = sym (ap (λ (x : TrainUnit). shape_of_unit x s.n s.dep.0 s.q) (unit_is s u within eu)) in
       first ∙ (ap (λ (w : ℕ). shape_of_unit (unit_at night u) w s.dep.0 s.q) en ∙ (ap (λ (w : ℕ). shape_of_unit (unit_at night u) n w s.q) ed ∙ ap (λ (w : ℕ). shape_of_unit (unit_at night u) n dep w) eq))

@@ -7,3 +7,4 @@ pub mod Lights
 pub mod Opened
 pub mod Stops
 pub mod Breaks
+pub mod Children

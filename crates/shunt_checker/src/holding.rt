@@ -153,7 +153,7 @@ fn is_free_pair(instance: &Instance, covered: &Covered, u: usize, v: usize) -> b
 }
 
 /// Whether a shape's units and positions are uncovered, and matchable pair by pair.
-fn is_free(instance: &Instance, covered: &Covered, shape: Shape) -> bool
+pub(crate) fn is_free(instance: &Instance, covered: &Covered, shape: Shape) -> bool
     requires covered { AreMasksOf instance.now covered.now }
     requires within { AreRunsWithin instance.now shape }
     ensures { IsTrue result ↔ IsFreeShape instance.now covered.now (unit_from instance.now shape) shape }

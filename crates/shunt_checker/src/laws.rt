@@ -1,5 +1,5 @@
 //! What follows from the definitions of this crate.
-ghost use Rattle.std.specs.Prelude.{◌↔◌, ℕ, ◌≤◌, List};
+ghost use Rattle.std.specs.Prelude.{◌≡◌, ◌↔◌, ℕ, ◌≤◌, List};
 ghost use Rattle.shunt_instance.specs.defs.Instance.{Night, IsInstance};
 ghost use Rattle.shunt_blocks.specs.declared.records.Block.{Block};
 ghost use Rattle.shunt_blocks.specs.defs.Lists.{IsFeasible, total_cost};
@@ -19,12 +19,15 @@ use shunt_prices::laws::bounds;
 use shunt_proof::laws::{parents, proved_bounds, starts, trees};
 
 /// Nothing is wrong with a plan and a certificate exactly where the certificate is accepted with the plan. So the verdict is that it
-/// is accepted exactly where it is; and then each feasible plan that keeps the pins costs at least the bound that the verdict names.
+/// is accepted exactly where it is; and there is one verdict. Where it is accepted, each feasible plan that keeps the pins costs at
+/// least the bound that the verdict names.
 pub fn reasons()
     ensures none { (night : Night) (pins start : List Block) (plan : Plan) (c : Certificate) → IsInstance night → IsPlanInRange night plan → Keeps plan.blocks pins →
         IsCertificate night c → IsStart night pins start → IsSound night start plan c ↔ IsAccepted night pins plan.blocks plan.cost c }
     ensures verdict { (night : Night) (pins : List Block) (plan : Plan) (c : Certificate) (v : Verdict) → IsInstance night → IsPlanInRange night plan → Keeps plan.blocks pins →
         IsCertificate night c → IsVerdict night pins plan c v → Accepts v ↔ IsAccepted night pins plan.blocks plan.cost c }
+    ensures one { (night : Night) (pins : List Block) (plan : Plan) (c : Certificate) (v other : Verdict) → IsVerdict night pins plan c v → IsVerdict night pins plan c other →
+        v ≡ other }
     ensures bound { (night : Night) (pins : List Block) (plan : Plan) (c : Certificate) (bound : ℕ) (other : List Block) → IsInstance night → IsPlanInRange night plan →
         Keeps plan.blocks pins → IsCertificate night c → AreUsable night pins → IsVerdict night pins plan c (verdict.Accepted bound) → IsFeasible night other → Keeps other pins →
         bound ≤ total_cost night other }

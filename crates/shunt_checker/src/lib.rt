@@ -3,9 +3,11 @@
 
 mod bounding;
 mod cases;
+mod children;
 mod holding;
 pub mod laws;
 mod offer;
+mod placing;
 mod planning;
 mod pricing;
 mod running;

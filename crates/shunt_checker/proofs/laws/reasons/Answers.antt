@@ -2,6 +2,7 @@ use Rattle.std.proofs.Common.{arith}
 use Rattle.shunt_checker.specs.declared.verdict.Verdict.TheVariants as verdict
 use Rattle.shunt_instance.specs.defs.Instance.{Night}
 use Rattle.shunt_checker.proofs.Exactly.{Laws, accepted, nothing_wrong, accepts}
+use Rattle.shunt_checker.proofs.Unique.{one_verdict}
 use Rattle.shunt_checker.proofs.laws.reasons.Goals as goal
 
 pub returns : goal.returns
@@ -20,6 +21,7 @@ returns c =
       none = λ night pins start plan cert h range keeps is begins.
           (accepted night (laws night) pins start plan cert range keeps is begins, nothing_wrong night (laws night) pins start plan cert range keeps is begins);
       verdict = λ night pins plan cert v h range keeps is told. accepts night (laws night) pins plan cert range keeps is v told;
+      one = λ night pins plan cert v other told again. one_verdict night (laws night) pins plan cert v other told again;
       bound = λ night pins plan cert bound other h range keeps is usable told feasible kept.
           let accepted = (accepts night (laws night) pins plan cert range keeps is (verdict.Accepted bound) told).0 tt in
           let least = c.proved_bounds.ensures.accepted night pins plan.blocks plan.cost cert other h is.nodes usable.apart accepted feasible kept in

@@ -1,0 +1,64 @@
+// Whether a node's choice is one at its parent's path.
+ghost use Rattle.std.specs.Prelude.{◌≡◌, ◌<◌, ◌↔◌, IsTrue};
+ghost use Rattle.shunt_instance.specs.defs.Instance.{unit_total, unit_at};
+ghost use Rattle.shunt_blocks.specs.defs.Shapes.{unit_from, IsOnTrack};
+ghost use Rattle.shunt_choices.specs.defs.Free.{AreMasksOf};
+ghost use Rattle.shunt_choices.specs.defs.Choices.{IsChoice, IsChoiceAt};
+ghost use Rattle.shunt_choices.specs.defs.Paths.{IsTrailOf};
+ghost use Rattle.shunt_proof.specs.defs.Nodes.{FitsChoice};
+ghost use Rattle.shunt_proof.specs.defs.Trees.{choice_at, choice_from};
+
+use crate::holding::is_free;
+use crate::offer::Offer;
+use shunt_blocks::{Shape, are_runs_within, is_option};
+use shunt_choices::{Covered, Path};
+use shunt_instance::Instance;
+use shunt_proof::Choice;
+
+/// What a choice is where it begins at a unit.
+fn offer_at(instance: &Instance, u: usize, choice: Choice) -> Offer
+    requires { u < unit_total instance.now }
+    ensures exact { result ≡ choice_at (unit_at instance.now u) choice }
+    ensures first { unit_from instance.now result.shape ≡ u }
+{
+    let unit = instance.unit(u);
+    Offer {
+        shape: Shape {
+            arr: unit.train,
+            p: unit.place,
+            n: choice.n,
+            dep: choice.dep,
+            q: choice.q,
+        },
+        park: choice.park,
+    }
+}
+
+/// Whether a shape with an option is a choice for the unit at which it begins.
+fn is_choice(instance: &Instance, covered: &Covered, u: usize, offer: Offer) -> bool
+    requires covered { AreMasksOf instance.now covered.now }
+    requires first { unit_from instance.now offer.shape ≡ u }
+    requires track { IsOnTrack instance.now.station offer.option }
+    ensures { IsTrue result ↔ IsChoice instance.now covered.now u offer }
+{
+    if !are_runs_within(instance, offer.shape) {
+        return false;
+    }
+    if !is_free(instance, covered, offer.shape) {
+        return false;
+    }
+    is_option(instance, offer.shape, offer.park)
+}
+
+/// Whether what a node states is a choice at a path.
+pub(crate) fn is_there(instance: &Instance, path: &Path, choice: Choice) -> bool
+    requires path { IsTrailOf instance.now path.now }
+    requires fits { FitsChoice instance.now choice }
+    ensures { IsTrue result ↔ IsChoiceAt instance.now path.now.blocks (choice_from instance.now path.now.blocks choice) }
+{
+    let Some(u) = path.next_unit() else {
+        return false;
+    };
+    let offer = offer_at(instance, u, choice);
+    is_choice(instance, path.covered(), u, offer)
+}

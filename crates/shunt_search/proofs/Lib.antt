@@ -1,0 +1,6 @@
+mod Stays
+mod Changed
+mod Through
+mod Improved
+mod Swept
+mod Stood

@@ -1,0 +1,17 @@
+use Rattle.std.proofs.Common.{◌≡◌, ◌+◌, ◌≤◌, take, map, length}
+use Rattle.shunt_blocks.specs.defs.Lists.{IsFeasible, total_cost}
+use Rattle.shunt_search.specs.defs.Polishing.{unparked, Stand}
+use Rattle.shunt_search.proofs.polishing.polish_all_but.Given as goal
+
+abbrev pub invariant-sweeps : goal.invariant-sweeps
+invariant-sweeps l = record {
+  feasible : IsFeasible l.instance l.blocks;
+  stand : Stand l.instance l.blocks l.timelines;
+  room : length l.blocks ≤ l.timelines.spare + length l.timelines.stays;
+  shapes : map unparked l.blocks ≡ map unparked l.initial.blocks;
+  front : take l.fixed l.blocks ≡ take l.fixed l.initial.blocks;
+  cost : total_cost l.instance l.blocks ≤ total_cost l.instance l.initial.blocks;
+}
+
+abbrev pub decreases-sweeps : goal.decreases-sweeps
+decreases-sweeps l = total_cost l.instance l.blocks

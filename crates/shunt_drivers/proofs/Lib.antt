@@ -1,0 +1,2 @@
+mod Greedy
+mod Fewest

@@ -1,0 +1,83 @@
+// Moves are shared in key order, each by the first driver who is free.
+ghost use Rattle.std.specs.Prelude.{◌≡◌, ◌≤◌, ◌<◌, All, AllPairs, Some, cond, length, map, slice_index, IfOk, IfNone, IfSome};
+ghost use Rattle.shunt_drivers.specs.defs.Sharing.{Adds, IsLeast};
+
+use std::alloc::{AllocError, Global};
+
+/// A move runs from a minute on, up to another that isn't counted.
+#[derive(Clone, Copy, Debug, PartialEq, Eq, Drop)]
+pub struct Span {
+    pub start: u16,
+    pub end: u16,
+}
+
+/// A move with its driver, counted from 0.
+#[derive(Clone, Copy, Debug, PartialEq, Eq, Drop)]
+pub struct Share {
+    pub span: Span,
+    pub driver: usize,
+}
+
+/// Moves with their drivers.
+#[derive(Debug, Drop)]
+pub struct Shares {
+    pub shares: Vec<Share>,
+    pub drivers: usize,
+    /// The first minute at which as many moves run as there are drivers; None where there are no moves.
+    pub busy: Option<u16>,
+}
+
+// The first driver who is free at a minute, by the minutes from which on each is.
+fn first_free(free: &[u16], minute: u16) -> Option<usize>
+    ensures none { IfNone result (All (λ f. minute < f) free.now) }
+    ensures some { IfSome result (λ k. (k < length free.now) × (slice_index free.now k ≤ minute)) }
+{
+    free.iter().position(|from| *from <= minute)
+}
+
+// Shares one more move: the first driver who is free takes it, else a new one. Answers whether there is a new one.
+fn add_share(shares: &mut Vec<Share>, free: &mut Vec<u16>, span: Span) -> Result<bool, AllocError>
+    ensures { IfOk result (Adds shares.old.items shares.new.items free.old.items free.new.items span) }
+{
+    match first_free(free, span.start) {
+        Some(driver) => {
+            free[driver] = span.end;
+            shares.push(Share { span, driver })?;
+            Ok(false)
+        }
+        None => {
+            let driver = free.len();
+            free.push(span.end)?;
+            shares.push(Share { span, driver })?;
+            Ok(true)
+        }
+    }
+}
+
+fn busy_after(busy: Option<u16>, new: bool, start: u16) -> Option<u16>
+    ensures { result ≡ cond new (Some start) busy }
+{
+    if new { Some(start) } else { busy }
+}
+
+/// Shares these moves, which stand by their starts, among as few drivers as can be: each goes to the first driver who is free.
+///
+/// The error is want of memory.
+pub fn share_spans(alloc: Global, spans: &[Span]) -> Result<Shares, AllocError>
+    requires rise { AllPairs (λ a b. a.start ≤ b.start) spans.now }
+    requires run { All (λ s. s.start < s.end) spans.now }
+    ensures { IfOk result (λ s. IsLeast spans.now s.shares.items s.drivers s.busy) }
+{
+    let mut shares = Vec::new(alloc);
+    let mut free = Vec::new(alloc);
+    let mut busy = None;
+    for span in spans {
+        let new = add_share(&mut shares, &mut free, *span)?;
+        busy = busy_after(busy, new, span.start);
+    }
+    Ok(Shares {
+        shares,
+        drivers: free.len(),
+        busy,
+    })
+}

@@ -20,7 +20,7 @@ use Rattle.shunt_blocks.specs.defs.Standing.{stay_of}
 use Rattle.shunt_blocks.specs.defs.Lists.{has_unit, has_position, RunsThrough, IsFeasible, stays_of, total_cost}
 use Rattle.shunt_blocks.specs.defs.Polished.{with_option}
 use Rattle.shunt_search.specs.defs.Polishing.{others_of}
-use Rattle.shunt_search.proofs.Stays.{to_front, as_long}
+use Rattle.shunt_search.proofs.Stays.{place_of, to_front, as_long}
 
 abbrev pub with_park : Block → Option Park → Block
 with_park b option = record b { park = option }
@@ -39,11 +39,6 @@ around (x ∷ xs) (suc k) y lt = ap (λ l. x ∷ l) (around xs k y (omega arith)
 abbrev Apart : List Block → Type 0
 Apart [] = Unit {0}
 Apart (b ∷ blocks) = AllByRecursion (λ c. b.id ≢ c.id) blocks × Apart blocks
-
-place_of : {X : Type 0} (xs : List X) (x d : X) → In x xs → (k : ℕ) × (k < length xs) × (get_or xs k d ≡ x)
-place_of [] x d h = absurd h
-place_of (y ∷ xs) x d (inl e) = (0, omega arith, sym e)
-place_of (y ∷ xs) x d (inr h) = let r = place_of xs x d h in (suc r.0, let lt = r.1 in omega arith, r.2)
 
 apart : (blocks : List Block) → AreDistinct (map id_of blocks) → Apart blocks
 apart [] h = tt

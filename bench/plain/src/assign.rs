@@ -5,13 +5,20 @@ use crate::choices::{Night, Train, read, spent, way};
 // The table has this where a pair doesn't match.
 const ABSENT: u64 = 480_000_000_001;
 
-struct Draw(u64);
+pub(crate) struct Draw(pub(crate) u64);
 
 impl Draw {
     // A number below a limit.
     fn below(&mut self, limit: u64) -> u64 {
         self.0 = self.0.wrapping_mul(6364136223846793005).wrapping_add(1442695040888963407);
         (self.0 >> 33) % limit
+    }
+
+    /// A number of twelve digits, of either sign.
+    pub(crate) fn value(&mut self) -> i64 {
+        self.0 = self.0.wrapping_mul(6364136223846793005).wrapping_add(1442695040888963407);
+        let size = 100_000_000_000 + ((self.0 >> 16) % 900_000_000_000) as i64;
+        if self.0 >> 63 == 0 { size } else { -size }
     }
 }
 

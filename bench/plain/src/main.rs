@@ -6,9 +6,12 @@
 //! keeps the fields; `plain choices STATION TIMETABLE WALKS` walks over the choices for each unit;
 //! `plain mixed station` and `plain mixed timetable UNITS` print a night of three types whose every unit may go with every
 //! position of its type; `plain assign STATION TIMETABLE RUNS` makes the shares and the least assignment of a night;
-//! `plain duals STATION TIMETABLE RUNS` sees whether two cases of 64 prices hold and what they bound.
+//! `plain duals STATION TIMETABLE RUNS` sees whether two cases of 64 prices hold and what they bound;
+//! `plain certificate write STATION TIMETABLE FILE` writes the largest certificate of a night, and `read` in the place of `write`
+//! reads it.
 
 mod assign;
+mod certificates;
 mod choices;
 mod duals;
 
@@ -26,6 +29,7 @@ fn main() {
         ["mixed", "timetable", units] => print!("{}", assign::mixed_timetable(units.parse().expect("a number"))),
         ["assign", station, timetable, runs] => assign::measure(station, timetable, runs.parse().expect("a number")),
         ["duals", station, timetable, runs] => duals::measure(station, timetable, runs.parse().expect("a number")),
+        ["certificate", doing, station, timetable, file] => certificates::measure(doing, station, timetable, file),
         ["split", ref names @ ..] if !names.is_empty() => names.iter().for_each(|name| split(name)),
         ["choices", station, timetable, walks] => choices::measure(station, timetable, walks.parse().expect("a number")),
         _ => std::process::exit(2),

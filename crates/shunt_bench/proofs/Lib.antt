@@ -1,3 +1,4 @@
 mod Numbers
 mod Bare
 mod Counts
+mod Chains

@@ -1,19 +1,23 @@
 //! Measures, by the first word: `records FILE`, `tracks`, `timelines`, `choices STATION TIMETABLE WALKS`, `audit STATION
-//! TIMETABLE PLAN RUNS`, `assign STATION TIMETABLE RUNS`, `duals STATION TIMETABLE RUNS` and `moves STATION TIMETABLE PLAN
-//! EDITS`. Without words it prints nothing.
+//! TIMETABLE PLAN RUNS`, `assign STATION TIMETABLE RUNS`, `duals STATION TIMETABLE RUNS`, `moves STATION TIMETABLE PLAN
+//! EDITS`, `certificate write STATION TIMETABLE FILE` and `certificate read STATION TIMETABLE FILE`. Without words it prints
+//! nothing.
 #![tactic(auto)]
 
 mod assignments;
 mod audits;
+mod certificates;
 mod choices;
 mod duals;
 mod moves;
 mod nights;
 mod timelines;
 mod tracks;
+mod trees;
 
 use assignments::measure_assign;
 use audits::measure_audit;
+use certificates::measure_certificate;
 use choices::measure_choices;
 use duals::measure_duals;
 use moves::measure_moves;
@@ -96,6 +100,15 @@ fn main(rt: HostRuntime) -> io::Result<()> {
         }
         ("duals", (Some(station), Some(timetable), Some(runs), _)) => {
             measure_duals(&rt, station.as_str(), timetable.as_str(), runs.as_str())
+        }
+        ("certificate", (Some(doing), Some(station), Some(timetable), Some(name))) => {
+            measure_certificate(
+                &rt,
+                doing.as_str(),
+                station.as_str(),
+                timetable.as_str(),
+                name.as_str(),
+            )
         }
         _ => Ok(()),
     }

@@ -11,6 +11,3 @@ mod running;
 mod words;
 
 pub use running::{Status, run};
-
-#[cfg(test)]
-mod tests;

@@ -1,0 +1,32 @@
+// The words and files of a run.
+ghost use Rattle.std.specs.Prelude.{◌≡◌, IfOk};
+ghost use Rattle.shunt_store.specs.defs.Files.{Closed};
+
+use shunt_store::MemStore;
+use std::alloc::Global;
+use std::test::Fail;
+
+pub(crate) const STATION: &str =
+    "station,1,Demo\ntype,K,500,10\ntype,X,500,10\ntype,Y,500,10\nplatform,P\ntrack,T,1000,A\nroute,P,T,A,3\ncost,5,4,100\n";
+
+pub(crate) const NIGHT: &str = "timetable,1\narrive,a1,22:00,P,K,K\ndepart,d1,30:00,P,K,K\n";
+
+pub(crate) const STANDING: &str =
+    "timetable,2\nstand,s1,T,X\narrive,a1,22:00,P,Y\ndepart,d1,29:00,P,X\ndepart,d2,30:00,P,Y\n";
+
+pub(crate) fn words_of(alloc: Global, words: &[&str]) -> Result<Vec<String>, Fail> {
+    let mut all = Vec::new(alloc);
+    for word in words {
+        all.push(String::from_str(alloc, word)?)?;
+    }
+    Ok(all)
+}
+
+pub(crate) fn store_of(alloc: Global, station: &str, timetable: &str) -> Result<MemStore, Fail>
+    ensures { IfOk result (λ s. s.stage ≡ Closed) }
+{
+    let mut store = MemStore::new(alloc);
+    store.put("S", station.as_bytes())?;
+    store.put("T", timetable.as_bytes())?;
+    Ok(store)
+}

@@ -1,2 +1,11 @@
 mod Greedy
 mod Fewest
+mod MoveNames
+mod Tables
+mod Parts
+mod Formed
+mod RoundTrip
+mod Apart
+mod Spanning
+mod MovesShared
+mod RosterWords

@@ -1,2 +1,9 @@
 -- The definitions of this crate.
 pub mod Sharing
+pub mod CrewFormat
+pub mod RosterFormat
+pub mod RosterRows
+pub mod Spans
+pub mod Dealt
+pub mod Shared
+pub mod Judged

@@ -1,0 +1,8 @@
+use Rattle.shunt_drivers.proofs.RoundTrip.{duties_back, text_back}
+use Rattle.shunt_drivers.proofs.laws.texts_of_rosters.Goals as goal
+
+pub returns-clause-rows : goal.returns-clause-rows
+returns-clause-rows c = duties_back
+
+pub returns-clause-again : goal.returns-clause-again
+returns-clause-again c = text_back

@@ -1,5 +1,5 @@
 -- What the records of a crew file and of a roster state is formed.
-use Rattle.std.proofs.Common.{◌≡◌, ◌≢◌, ℕ, ◌+◌, ◌<◌, ◌^◌, ◌&&◌, true, List, [], ◌∷◌, ◌++◌, length, map, refl, sym, subst, ap, arith}
+use Rattle.std.proofs.Common.{◌≡◌, ◌≢◌, ℕ, ◌<◌, ◌^◌, ◌&&◌, true, List, [], ◌∷◌, ◌++◌, length, map, refl, sym, subst, ap, arith}
 use Rattle.std.specs.Prelude.{Ok, Some, bytes_eq, All, ◌==◌, position, codes}
 use Rattle.std.specs.Option.{unwrap_or}
 use Rattle.std.proofs.lemmas.Bool.{ltb-true, not-true, and_from, eq-eqb}

@@ -5,6 +5,7 @@ mod Tables
 mod Parts
 mod Formed
 mod RoundTrip
+mod Lengths
 mod Apart
 mod Spanning
 mod MovesShared

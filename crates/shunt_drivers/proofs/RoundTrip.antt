@@ -31,12 +31,12 @@ plain_move : (enters : Bool) → IsPlainField (move_word enters)
 plain_move true = plain_word (codes "enter") refl refl
 plain_move false = plain_word (codes "leave") refl refl
 
-plain_duty : (d : Duty) → IsSpelled d → IsPlainRow (duty_row d)
+pub plain_duty : (d : Duty) → IsSpelled d → IsPlainRow (duty_row d)
 plain_duty d is =
     let last = is.last in
     (omega arith, (plain_word (codes "duty") refl refl, (plain_number d.driver (omega (arith, last)), (plain_move d.enters, (plain_number d.id is.id, tt)))))
 
-plain_head : IsPlainRow head_row
+pub plain_head : IsPlainRow head_row
 plain_head = (omega arith, (plain_word (codes "roster") refl refl, (plain_number 1 (omega arith), tt)))
 
 rows_plain : (moves : List Event) (duties : List Duty) → IsRoster moves duties → ArePlain (rows_of duties)

@@ -1,5 +1,5 @@
 //! What follows from the definitions of this crate.
-ghost use Rattle.std.specs.Prelude.{◌≡◌, List, ℕ, Ok};
+ghost use Rattle.std.specs.Prelude.{◌≡◌, ◌≤◌, List, ℕ, Ok, length};
 ghost use Rattle.shunt_rows.specs.defs.FirstFault.{Tells};
 ghost use Rattle.shunt_rows.specs.defs.Formats.{reading};
 ghost use Rattle.shunt_rows.specs.defs.Records.{text_of_rows};
@@ -32,10 +32,11 @@ pub fn stated_values_are_formed()
     ensures roster { (moves : List Event) (rows : List (List (List ℕ))) (duties : List Duty) → reading (roster_format moves) rows ≡ Ok duties → IsRoster moves duties }
 {}
 
-/// The records of such duties state them, and their text reads back as them.
+/// The records of such duties state them, and their text reads back as them and has at most 27,209 bytes.
 pub fn texts_of_rosters()
     ensures rows { (moves : List Event) (duties : List Duty) → IsRoster moves duties → reading (roster_format moves) (rows_of duties) ≡ Ok duties }
     ensures again { (moves : List Event) (duties : List Duty) → IsRoster moves duties → ReadsAsRoster moves duties (text_of_rows (rows_of duties)) }
+    ensures short { (moves : List Event) (duties : List Duty) → IsRoster moves duties → length (text_of_rows (rows_of duties)) ≤ 27209 }
 {}
 
 /// With a crew that a file can state, duties of a plan's moves, none of them twice, have no fault exactly where they are a sharing;

@@ -1,5 +1,5 @@
 // From duties to their text.
-ghost use Rattle.std.specs.Prelude.{◌≡◌, ◌++◌, [], ◌∷◌, map, IfOk, OnOk};
+ghost use Rattle.std.specs.Prelude.{◌≡◌, ◌≤◌, ◌++◌, [], ◌∷◌, map, length, IfOk, OnOk};
 ghost use Rattle.shunt_rows.specs.defs.Records.{text_of_row, text_of_rows};
 ghost use Rattle.shunt_plan.specs.defs.Plans.{IsPlanInRange};
 ghost use Rattle.shunt_zones.specs.defs.Moves.{moves_of};
@@ -58,7 +58,7 @@ fn write_duties(writer: &mut RowWriter, duties: &[Duty]) -> Result<(), AllocErro
 
 /// The text of duties that a file can state over the moves of a plan in range, in their order.
 ///
-/// It reads back over these moves as the same duties. The error is want of memory.
+/// It reads back over these moves as the same duties, and has at most 27,209 bytes. The error is want of memory.
 pub fn write_roster(
     alloc: Global,
     instance: &Instance,
@@ -69,6 +69,7 @@ pub fn write_roster(
     requires duties { IsRoster (moves_of instance.now plan.now.blocks) duties.now.items }
     ensures text { IfOk result (λ v. v.items ≡ text_of_rows (rows_of duties.now.items)) }
     ensures again { IfOk result (λ v. ReadsAsRoster (moves_of instance.now plan.now.blocks) duties.now.items v.items) }
+    ensures short { IfOk result (λ v. length v.items ≤ 27209) }
 {
     let mut writer = RowWriter::new(alloc)?;
     write_head(&mut writer)?;

@@ -4,6 +4,7 @@ use Rattle.shunt_rows.proofs.Texts.{if_ok}
 use Rattle.shunt_zones.specs.defs.Moves.{moves_of}
 use Rattle.shunt_drivers.specs.defs.RosterRows.{rows_of}
 use Rattle.shunt_drivers.proofs.RoundTrip.{back_from, roster_written}
+use Rattle.shunt_drivers.proofs.Lengths.{short_from}
 use Rattle.shunt_drivers.proofs.writing.write_roster.Goals as goal
 
 whole : (c : goal.After-finish) → c.write_duties.new.writer.text ≡ text_of_rows (rows_of c.args.duties.now.items)
@@ -14,3 +15,6 @@ returns-clause-text c = if_ok c.finish.result _ _ c.finish.ensures.text (λ v is
 
 pub returns-clause-again : goal.returns-clause-again
 returns-clause-again c = if_ok c.finish.result _ _ c.finish.ensures.again (λ v back. back_from (moves_of c.args.instance.now c.args.plan.now.blocks) c.args.duties.now.items c.requires.duties _ v.items (whole c) back)
+
+pub returns-clause-short : goal.returns-clause-short
+returns-clause-short c = if_ok c.finish.result _ _ c.finish.ensures.text (λ v is. short_from (moves_of c.args.instance.now c.args.plan.now.blocks) c.args.duties.now.items c.requires.duties _ v.items (whole c) is)

@@ -1,0 +1,10 @@
+//! Nights that are made of a number: a station and a timetable, the same ones each time, whose units have a matching.
+#![tactic(auto)]
+
+mod draws;
+pub mod laws;
+mod making;
+mod stations;
+mod trains;
+
+pub use making::make;

@@ -20,7 +20,7 @@ use Rattle.shunt_drivers.specs.defs.Spans.{span_of, spans_of}
 use Rattle.shunt_drivers.specs.defs.Sharing.{AreApart, IsSharing, IsLeast}
 use Rattle.shunt_drivers.specs.defs.Shared.{IsDutyOf, HasDuty, Overlap, IsSharingOf, drivers_of, IsFewest}
 use Rattle.shunt_drivers.specs.defs.Dealt.{dealt}
-use Rattle.shunt_drivers.specs.defs.Judged.{duty_for}
+use Rattle.shunt_drivers.specs.defs.RosterFaults.{duty_for}
 use Rattle.shunt_drivers.proofs.MoveNames.{one_tells, tells_one, found_in, finds}
 use Rattle.shunt_drivers.proofs.Spanning.{few_drivers}
 

@@ -24,7 +24,7 @@ use Rattle.shunt_drivers.specs.defs.RosterFormat.{MoveName, name_of, named_by, i
 use Rattle.shunt_drivers.specs.defs.Sharing.{runs_at}
 use Rattle.shunt_drivers.specs.defs.Spans.{span_of}
 use Rattle.shunt_drivers.specs.defs.Shared.{IsDutyOf, HasDuty, Overlap, IsSharingOf}
-use Rattle.shunt_drivers.specs.defs.Judged.{duty_for, absence_of, tasks_of, overlaps, overlap_of, overlap_with, overlap_in, fault_of, fault_in, IsFirstAbsent, IsFirstOverlap, InWords}
+use Rattle.shunt_drivers.specs.defs.RosterFaults.{duty_for, absence_of, tasks_of, overlaps, overlap_of, overlap_with, overlap_in, fault_of, fault_in, IsFirstAbsent, IsFirstOverlap, InWords}
 use Rattle.shunt_drivers.proofs.MoveNames.{some_same, found_in, none_passes, one_tells}
 use Rattle.shunt_drivers.proofs.Spanning.{minutes_within}
 use Rattle.shunt_drivers.proofs.MovesShared.{same_place, pick, picked}

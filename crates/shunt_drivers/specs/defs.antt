@@ -6,4 +6,4 @@ pub mod RosterRows
 pub mod Spans
 pub mod Dealt
 pub mod Shared
-pub mod Judged
+pub mod RosterFaults

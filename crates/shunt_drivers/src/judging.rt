@@ -5,7 +5,7 @@ ghost use Rattle.shunt_plan.specs.defs.Plans.{IsPlanInRange};
 ghost use Rattle.shunt_zones.specs.defs.Moves.{moves_of, IsMoveOf};
 ghost use Rattle.shunt_drivers.specs.defs.CrewFormat.{IsCrew};
 ghost use Rattle.shunt_drivers.specs.defs.RosterFormat.{AreDuties};
-ghost use Rattle.shunt_drivers.specs.defs.Judged.{duty_for, absent_in, tasks_of, overlaps, overlap_with, overlap_in, fault_of, fault_in};
+ghost use Rattle.shunt_drivers.specs.defs.RosterFaults.{duty_for, absent_in, tasks_of, overlaps, overlap_with, overlap_in, fault_of, fault_in};
 
 use crate::records::{Crew, Duty, RosterFault};
 use crate::roster::is_of;
@@ -129,7 +129,7 @@ fn fault_of(
 ///
 /// The plan is in range, the crew is one that a file can state over the instance's station, and no two duties are of one move.
 /// The error is want of memory.
-#[tactic(auto, unfolding(crate::specs::defs::Judged::fault_in))]
+#[tactic(auto, unfolding(crate::specs::defs::RosterFaults::fault_in))]
 pub fn roster_fault(
     alloc: Global,
     instance: &Instance,

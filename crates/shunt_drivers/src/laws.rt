@@ -13,7 +13,7 @@ ghost use Rattle.shunt_drivers.specs.declared.records.Duty.{Duty};
 ghost use Rattle.shunt_drivers.specs.defs.CrewFormat.{crew_format, IsCrew};
 ghost use Rattle.shunt_drivers.specs.defs.RosterFormat.{roster_format, AreDuties, IsRoster};
 ghost use Rattle.shunt_drivers.specs.defs.RosterRows.{rows_of, ReadsAsRoster};
-ghost use Rattle.shunt_drivers.specs.defs.Judged.{InWords};
+ghost use Rattle.shunt_drivers.specs.defs.RosterFaults.{InWords};
 
 /// Over each station, records state a crew or have a first fault, and never both, and reading them tells which.
 pub fn crew_or_first_fault()
@@ -25,14 +25,14 @@ pub fn roster_or_first_fault()
     ensures { (moves : List Event) (rows : List (List (List ℕ))) → Tells (roster_format moves) rows }
 {}
 
-/// The crew that records state has minutes from 1 to 120, for each way of the station once and for every other move; the duties
-/// that records state are at most 800, of the moves, and no two of one.
+/// The crew that records state has minutes from 1 to 120 for some ways of the station, each once, and for every other move. The
+/// duties that records state are at most 800, with drivers from 1 to 800; each is of one of the moves, and no two are of one.
 pub fn stated_values_are_formed()
     ensures crew { (station : Station) (rows : List (List (List ℕ))) (c : Crew) → reading (crew_format station) rows ≡ Ok c → IsCrew station c }
     ensures roster { (moves : List Event) (rows : List (List (List ℕ))) (duties : List Duty) → reading (roster_format moves) rows ≡ Ok duties → IsRoster moves duties }
 {}
 
-/// The records of such duties state them, and their text reads back as them and has at most 27,209 bytes.
+/// The records of duties that a file can state state them, and their text reads back as them and has at most 27,209 bytes.
 pub fn texts_of_rosters()
     ensures rows { (moves : List Event) (duties : List Duty) → IsRoster moves duties → reading (roster_format moves) (rows_of duties) ≡ Ok duties }
     ensures again { (moves : List Event) (duties : List Duty) → IsRoster moves duties → ReadsAsRoster moves duties (text_of_rows (rows_of duties)) }

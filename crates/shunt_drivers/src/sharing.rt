@@ -21,7 +21,9 @@ pub struct Share {
 /// Moves with their drivers.
 #[derive(Debug, Drop)]
 pub struct Shares {
+    /// The moves in the order in which they were given.
     pub shares: Vec<Share>,
+    /// How many drivers there are, each with a move.
     pub drivers: usize,
     /// The first minute at which as many moves run as there are drivers; None where there are no moves.
     pub busy: Option<u16>,
@@ -60,7 +62,7 @@ fn busy_after(busy: Option<u16>, new: bool, start: u16) -> Option<u16>
     if new { Some(start) } else { busy }
 }
 
-/// Shares these moves, which stand by their starts, among as few drivers as can be: each goes to the first driver who is free.
+/// Shares these moves among as few drivers as can be. They stand by their starts, and each runs for a minute at least.
 ///
 /// The error is want of memory.
 pub fn share_spans(alloc: Global, spans: &[Span]) -> Result<Shares, AllocError>

@@ -21,7 +21,7 @@ pub struct Way {
 }
 
 /// The name of a letter and a number in decimals.
-pub fn numbered_name(alloc: Global, letter: u8, number: u32) -> Result<Name, AllocError>
+pub(crate) fn numbered_name(alloc: Global, letter: u8, number: u32) -> Result<Name, AllocError>
     requires { IsTrue (is_name_byte letter) }
     ensures { IfOk result (λ n. n ≡ numbered letter number) }
 {
@@ -160,7 +160,11 @@ fn made_routes(alloc: Global, draws: &mut Draws, ways: &[Way]) -> Result<Vec<Rou
 }
 
 /// The station: first its tracks are drawn, then its routes.
-pub fn made_station(alloc: Global, draws: &mut Draws, units: u32) -> Result<Station, AllocError>
+pub(crate) fn made_station(
+    alloc: Global,
+    draws: &mut Draws,
+    units: u32,
+) -> Result<Station, AllocError>
     requires { units ≤ 160 }
     ensures made { IfOk result (λ s. s ≡ station_of draws.old.state units) }
     ensures state { OnOk result (draws.new.state ≡ after_station draws.old.state units) }

@@ -173,7 +173,11 @@ fn departing_trains(
 }
 
 /// The timetable: first its arriving trains are drawn, then its departing ones.
-pub fn made_timetable(alloc: Global, draws: &mut Draws, units: u32) -> Result<Timetable, AllocError>
+pub(crate) fn made_timetable(
+    alloc: Global,
+    draws: &mut Draws,
+    units: u32,
+) -> Result<Timetable, AllocError>
     requires { units ≤ 160 }
     ensures { IfOk result (λ t. t ≡ timetable_of draws.old.state units) }
 {

@@ -20,12 +20,15 @@ pub record Draft : Type 0 where
   pub takes : List Takes
   pub other : Option ℕ
 
+-- what is known of a crew before its records
 abbrev pub no_crew : Draft
 no_crew = record { takes = []; other = None }
 
+-- the way that minutes are stated of
 abbrev pub way_of : Takes → Way
 way_of t = record { platform = t.platform; track = t.track; side = t.side }
 
+-- minutes of a way
 abbrev pub takes_over : Way → ℕ → Takes
 takes_over w minutes = record { platform = w.platform; track = w.track; side = w.side; minutes = minutes }
 
@@ -33,6 +36,7 @@ takes_over w minutes = record { platform = w.platform; track = w.track; side = w
 abbrev pub is_over : Way → Takes → Bool
 is_over w t = t.platform.0 == w.platform.0 && t.track.0 == w.track.0 && same_side t.side w.side
 
+-- whether minutes of a way are among these
 unfoldable pub stands : List Takes → Way → Bool
 stands takes w = list_any (is_over w) takes
 

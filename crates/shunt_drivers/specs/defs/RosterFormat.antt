@@ -17,9 +17,11 @@ use Rattle.shunt_drivers.specs.declared.records.Duty.{Duty}
 abbrev pub MoveName : Type 0
 MoveName = Bool × ℕ
 
+-- the name of a move
 abbrev pub name_of : Event → MoveName
 name_of e = (e.key.enters, e.key.id)
 
+-- the name of the move that a duty is of
 abbrev pub named_by : Duty → MoveName
 named_by d = (d.enters, d.id)
 
@@ -59,6 +61,7 @@ move_in moves duties row = do
   _ ← must (not (has_duty (name_of e) duties)) 4 kinds.Repeat
   says e
 
+-- the duty of a move with the driver of a number
 abbrev pub duty_by : ℕ → Event → Duty
 duty_by driver e = record { driver = driver; enters = e.key.enters; id = e.key.id }
 

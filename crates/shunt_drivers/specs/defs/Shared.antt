@@ -14,6 +14,7 @@ use Rattle.shunt_drivers.specs.defs.Spans.{span_of, spans_of}
 abbrev pub IsDutyOf : List Duty → Event → Duty → Type 0
 IsDutyOf duties e d = In d duties × (named_by d ≡ name_of e)
 
+-- one of these duties is that of a move
 abbrev pub HasDuty : List Duty → Event → Type 0
 HasDuty duties e = (d : Duty) × IsDutyOf duties e d
 
@@ -32,6 +33,7 @@ pub record IsSharingOf (night : Night) (crew : Crew) (moves : List Event) (dutie
   pub once : AreDistinct (map named_by duties)
   pub apart : (e f : Event) (a b : Duty) → Before e f moves → Overlap night crew duties e f a b → ⊥
 
+-- the drivers of these duties
 abbrev pub drivers_of : List Duty → List ℕ
 drivers_of duties = map (λ d. d.driver) duties
 

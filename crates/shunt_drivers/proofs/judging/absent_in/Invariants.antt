@@ -1,5 +1,5 @@
 use Rattle.std.proofs.Common.{◌≡◌, drop}
-use Rattle.shunt_drivers.specs.defs.Judged.{absent_in}
+use Rattle.shunt_drivers.specs.defs.RosterFaults.{absent_in}
 use Rattle.shunt_drivers.proofs.judging.absent_in.Given as goal
 
 abbrev pub invariant-loop-event : goal.invariant-loop-event

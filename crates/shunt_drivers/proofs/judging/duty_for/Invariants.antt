@@ -1,5 +1,5 @@
 use Rattle.std.proofs.Common.{◌≡◌, drop}
-use Rattle.shunt_drivers.specs.defs.Judged.{duty_for}
+use Rattle.shunt_drivers.specs.defs.RosterFaults.{duty_for}
 use Rattle.shunt_drivers.proofs.judging.duty_for.Given as goal
 
 abbrev pub invariant-loop-duty : goal.invariant-loop-duty

@@ -1,5 +1,5 @@
 use Rattle.std.proofs.Common.{◌≡◌, drop}
-use Rattle.shunt_drivers.specs.defs.Judged.{overlap_in}
+use Rattle.shunt_drivers.specs.defs.RosterFaults.{overlap_in}
 use Rattle.shunt_drivers.proofs.judging.overlap_in.Given as goal
 
 abbrev pub invariant-loop-i : goal.invariant-loop-i

@@ -1,5 +1,5 @@
 use Rattle.std.proofs.Common.{◌≡◌, drop}
-use Rattle.shunt_drivers.specs.defs.Judged.{overlap_with}
+use Rattle.shunt_drivers.specs.defs.RosterFaults.{overlap_with}
 use Rattle.shunt_drivers.proofs.judging.overlap_with.Given as goal
 
 abbrev pub invariant-loop-second : goal.invariant-loop-second

@@ -1,5 +1,5 @@
 use Rattle.std.proofs.Common.{◌≡◌, ◌++◌, drop}
-use Rattle.shunt_drivers.specs.defs.Judged.{tasks_of}
+use Rattle.shunt_drivers.specs.defs.RosterFaults.{tasks_of}
 use Rattle.shunt_drivers.proofs.judging.tasks_of.Given as goal
 
 abbrev pub invariant-loop-event : goal.invariant-loop-event

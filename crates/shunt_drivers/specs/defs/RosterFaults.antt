@@ -21,17 +21,19 @@ use Rattle.shunt_drivers.specs.defs.Shared.{HasDuty, Overlap, IsSharingOf}
 abbrev pub duty_for : List Duty → Event → Option Duty
 duty_for duties e = find (λ d. is_one (named_by d) (name_of e)) duties
 
--- Absent with the first of these moves that has no duty
+-- what Absent names of a move
 abbrev pub absence_of : Event → RosterFault
 absence_of e = faults.Absent e.key.enters e.key.id
 
+-- Absent with the first of these moves that has no duty
 abbrev pub absent_in : List Duty → List Event → Option RosterFault
 absent_in duties moves = option_map absence_of (find (λ e. is_none (duty_for duties e)) moves)
 
--- the duties of these moves, in their order, with when they run
+-- the duty of a move with when it runs
 abbrev pub task_of : Night → Crew → List Duty → Event → Option Task
 task_of night crew duties e = option_map (λ d. record { span = span_of night crew e; duty = d }) (duty_for duties e)
 
+-- those of the moves that have a duty, in the moves' order
 abbrev pub tasks_of : Night → Crew → List Duty → List Event → List Task
 tasks_of night crew duties moves = filter_map (task_of night crew duties) moves
 
@@ -39,6 +41,7 @@ tasks_of night crew duties moves = filter_map (task_of night crew duties) moves
 abbrev pub overlaps : Task → Task → Bool
 overlaps a b = a.duty.driver == b.duty.driver && nat_lt a.span.start b.span.end && nat_lt b.span.start a.span.end
 
+-- what Overlap names of two
 abbrev pub overlap_of : Task → Task → RosterFault
 overlap_of a b = faults.Overlap a.duty b.duty
 

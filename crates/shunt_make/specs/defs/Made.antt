@@ -1,4 +1,5 @@
--- The station and the timetable that are made of a number, and of how many units there are to be.
+-- The station and the timetable that are made of a number, and of how many units there are to be. In what is made of one draw, x is the
+-- state that this draw leaves behind; in a list, the state before its first draw.
 use Rattle.std.specs.Prelude.{ℕ, ◌+◌, ◌*◌, ◌/◌, ◌%◌, true, cond, ◌&&◌, ◌==◌, if◌then◌else◌, List, [], ◌∷◌, ◌++◌, map, reverse, length, codes}
 use Rattle.std.specs.List.{range_with_len}
 use Rattle.std.specs.Fmt.{decimal}

@@ -1,7 +1,7 @@
 -- Lists of blocks of which one has another option.
 use Rattle.std.specs.Prelude.{Option, Some, None, if◌then◌else◌}
 use Rattle.std.specs.List.{AllByRecursion, cons_option}
-use Rattle.std.proofs.Common.{◌≡◌, ◌≢◌, inl, inr, ◌↔◌, ℕ, suc, zero, ◌+◌, ◌<◌, ◌==◌, Bool, true, false, cond, List, [], ◌∷◌, ◌++◌, length, map, get_or, set, take, drop, refl, sym, subst, ap, ◌∙◌, arith, count_by}
+use Rattle.std.proofs.Common.{◌≡◌, ◌≢◌, ◌↔◌, ℕ, suc, zero, ◌+◌, ◌<◌, ◌==◌, Bool, true, false, cond, List, [], ◌∷◌, ◌++◌, length, map, get_or, set, take, drop, refl, sym, subst, ap, ◌∙◌, arith, count_by}
 use Rattle.std.proofs.lemmas.Bool.Decides.{nat_tests}
 use Rattle.std.proofs.lemmas.List.{get_or-map, length-map}
 use Rattle.std.proofs.lemmas.List.Elements.{All-set, filter_map-append}
@@ -104,7 +104,7 @@ same_count test blocks k d option lt same =
 pub cost_change : (night : Night) (blocks : List Block) (k : ℕ) (d : Block) (option : Option Park) → k < length blocks → total_cost night (set blocks k (with_park (get_or blocks k d) option)) + block_cost night (get_or blocks k d) ≡ total_cost night blocks + block_cost night (with_park (get_or blocks k d) option)
 cost_change night blocks k d option lt = sum_by-set (block_cost night) blocks k (with_park (get_or blocks k d) option) d lt
 
-on_track : (night : Night) (s : Shape) (option : Option Park) → IsOption night s option → IsOnTrack night.station option
+pub on_track : (night : Night) (s : Shape) (option : Option Park) → IsOption night s option → IsOnTrack night.station option
 on_track night s None is = tt
 on_track night s (Some k) is = is.track
 

@@ -28,7 +28,7 @@ pub record Laws (night : Night) : Type 0 where
   pub tracks : (blocks : List Block) → CanStand night blocks → AreOnTracks (track_lengths night.station) (stays_of night blocks)
   pub part : PartRuns
 
-formed_in : (stays : List Stay) (s : Stay) → AreStays stays → In s stays → IsWellFormed s
+pub formed_in : (stays : List Stay) (s : Stay) → AreStays stays → In s stays → IsWellFormed s
 formed_in [] s a i = absurd i
 formed_in (t ∷ stays) s a (inl e) = subst IsWellFormed (sym e) a.0
 formed_in (t ∷ stays) s a (inr i) = formed_in stays s a.2 i
@@ -41,11 +41,11 @@ can_stand night blocks each ids = record {
 }
 
 -- the same of a stay that may be there
-with_first : (o : Option Stay) (stays : List Stay) → IfSome o IsWellFormed → ((s t : Stay) → o ≡ Some s → In t stays → t.id ≢ s.id) → AreStays stays → AreStays (cons_option o stays)
+pub with_first : (o : Option Stay) (stays : List Stay) → IfSome o IsWellFormed → ((s t : Stay) → o ≡ Some s → In t stays → t.id ≢ s.id) → AreStays stays → AreStays (cons_option o stays)
 with_first None stays formed new are = are
 with_first (Some s) stays formed new are = (formed, all_from (λ t. s.id ≢ t.id) stays (λ t i e. new s t refl i (sym e)), are)
 
-first_formed : (o : Option Stay) → ((s : Stay) → o ≡ Some s → IsWellFormed s) → IfSome o IsWellFormed
+pub first_formed : (o : Option Stay) → ((s : Stay) → o ≡ Some s → IsWellFormed s) → IfSome o IsWellFormed
 first_formed None h = tt
 first_formed (Some s) h = h s refl
 

@@ -4,3 +4,7 @@ mod Through
 mod Improved
 mod Swept
 mod Stood
+mod Placed
+mod Nexts
+mod Yarding
+mod Offered

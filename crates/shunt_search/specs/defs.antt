@@ -1,2 +1,4 @@
 -- The definitions of this crate.
 pub mod Polishing
+pub mod Conditions
+pub mod Yards

@@ -28,7 +28,7 @@ use shunt_timeline::Timelines;
 use std::alloc::{AllocError, Global};
 
 /// The lengths of the tracks in dm.
-fn track_lengths(alloc: Global, instance: &Instance) -> Result<Vec<u32>, AllocError>
+pub(crate) fn track_lengths(alloc: Global, instance: &Instance) -> Result<Vec<u32>, AllocError>
     ensures { IfOk result (λ v. v.items ≡ track_lengths instance.now.station) }
 {
     let mut lengths = Vec::new(alloc);
@@ -56,7 +56,7 @@ fn is_none(clash: Clash) -> bool
 }
 
 /// Whether the run of these stays goes through with that of a block.
-fn goes_through(instance: &Instance, others: &Timelines, block: &Block) -> bool
+pub(crate) fn goes_through(instance: &Instance, others: &Timelines, block: &Block) -> bool
     requires within { IsWithinTrains instance.now block.now }
     requires lengths { others.now.lengths ≡ track_lengths instance.now.station }
     requires new { All (λ s. s.id ≢ block.now.id) others.now.stays }
@@ -128,7 +128,7 @@ fn cheapest_through(instance: &Instance, others: &Timelines, block: &Block) -> O
 }
 
 /// The stay of a block comes, where it has one.
-fn settle(instance: &Instance, timelines: &mut Timelines, block: &Block)
+pub(crate) fn settle(instance: &Instance, timelines: &mut Timelines, block: &Block)
     requires within { IsWithinTrains instance.now block.now }
     requires lengths { timelines.old.lengths ≡ track_lengths instance.now.station }
     requires new { All (λ s. s.id ≢ block.now.id) timelines.old.stays }
@@ -145,7 +145,7 @@ fn settle(instance: &Instance, timelines: &mut Timelines, block: &Block)
 }
 
 /// The block at a place.
-fn block_at(blocks: &[Block], place: usize) -> Block
+pub(crate) fn block_at(blocks: &[Block], place: usize) -> Block
     requires { place < length blocks.now }
     ensures { (d : OneBlock) → result ≡ slice_index_or blocks.now place d }
 {

@@ -8,3 +8,5 @@ mod Placed
 mod Nexts
 mod Yarding
 mod Offered
+mod Walked
+mod Arrived

@@ -116,7 +116,7 @@ module _ (night : Night) (path : List Block) (cases : List Case) (best : ℕ) wh
   more_choices : (children : List Child) (c : Child) → choices_in (children ++ c ∷ []) ≡ choices_in children ++ choice_of c.block ∷ []
   more_choices children c = map-append (λ (x : Child). choice_of x.block) children (c ∷ [])
 
-  of_choices : (children : List Child) (k : Choice) → In k (choices_in children) → (c : Child) × In c children × (k ≡ choice_of c.block)
+  pub of_choices : (children : List Child) (k : Choice) → In k (choices_in children) → (c : Child) × In c children × (k ≡ choice_of c.block)
   of_choices [] k i = absurd i
   of_choices (c ∷ children) k (inl e) = (c, inl refl, e)
   of_choices (c ∷ children) k (inr i) = let r = of_choices children k i in (r.0, inr r.1, r.2)

@@ -2,3 +2,4 @@
 pub mod Polishing
 pub mod Conditions
 pub mod Yards
+pub mod Walking

@@ -6,6 +6,7 @@ mod children;
 pub mod laws;
 mod polishing;
 mod solved;
+mod walking;
 mod yard;
 
 pub use polishing::polish;

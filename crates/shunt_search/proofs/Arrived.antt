@@ -84,7 +84,7 @@ module _ (night : Night) (formed_night : IsInstance night) (laws : CountLaws) (s
     branch = λ e. subst (λ k. (node_at nodes k).kind ≡ Branch) (sym (last_is (omega (arith, e, under)))) p.branch;
   }
 
-  can : CanFollow nodes n
+  pub can : CanFollow nodes n
   can = subst (λ o. StandsAfter o n) (sym (slice_get-get_or nodes (length nodes - 1) _ (let some = W.some in omega (arith, some)))) follows
 
   formed : AreNodes night more

@@ -10,3 +10,6 @@ mod Yarding
 mod Offered
 mod Walked
 mod Arrived
+mod NodesBelow
+mod Visits
+mod Covering

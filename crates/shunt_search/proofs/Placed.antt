@@ -1,8 +1,9 @@
 -- Blocks with their places as ids, and their stays where a block more comes.
-use Rattle.std.specs.Prelude.{All}
+use Rattle.std.specs.Prelude.{All, sum_by}
 use Rattle.std.specs.List.{cons_option}
-use Rattle.std.proofs.Common.{◌≡◌, ◌≢◌, inl, inr, ⊎_elim, ◌↔◌, ℕ, ◌+◌, ◌<◌, ◌≤◌, List, [], ◌∷◌, ◌++◌, length, refl, sym, subst, ap, ◌∙◌, arith}
-use Rattle.std.proofs.lemmas.List.{append-nil}
+use Rattle.std.proofs.Common.{◌≡◌, ◌≢◌, inl, inr, ⊎_elim, ◌↔◌, ℕ, ◌+◌, ◌<◌, ◌≤◌, List, [], ◌∷◌, ◌++◌, length, take, get_or, refl, sym, subst, ap, ◌∙◌, arith}
+use Rattle.std.proofs.lemmas.List.{append-nil, length-take-le, take_more}
+use Rattle.std.proofs.lemmas.List.Sums.{sum_by-append, sum_by-cons}
 use Rattle.std.proofs.lemmas.List.Elements.{filter_map-append}
 use Rattle.shunt_lists.specs.defs.Members.{In}
 use Rattle.shunt_base.specs.declared.keys.Stay.{Stay}
@@ -10,8 +11,9 @@ use Rattle.shunt_base.specs.defs.Keys.{AreStays}
 use Rattle.shunt_stays.specs.defs.Run.{GoesThrough, AreOnTracks}
 use Rattle.shunt_instance.specs.defs.Instance.{Night}
 use Rattle.shunt_blocks.specs.declared.records.Block.{Block}
+use Rattle.shunt_blocks.specs.defs.Costs.{block_cost}
 use Rattle.shunt_blocks.specs.defs.Standing.{stay_of}
-use Rattle.shunt_blocks.specs.defs.Lists.{CanStand, RunsThrough, stays_of, track_lengths, placed, placed_from}
+use Rattle.shunt_blocks.specs.defs.Lists.{CanStand, RunsThrough, stays_of, track_lengths, total_cost, placed, placed_from}
 use Rattle.shunt_timeline.specs.defs.Holdings.{Holding}
 use Rattle.shunt_search.specs.defs.Polishing.{Stand, RunsWith}
 use Rattle.shunt_search.proofs.Stays.{of_all, to_all, of_some, first_or_rest, first, rest, stay_id, same_length, to_front, as_long, few_some}
@@ -123,3 +125,21 @@ module _ (night : Night) (xs : List Block) (held : Holding) (st : Stand night (p
         let id : c.id ≡ length xs + 1 = ap (λ (x : Block). x.id) is in
         subst (λ (l : List Block). RunsWith night c c.park held ↔ RunsThrough night l) (sym e)
         (more_runs night (placed xs) c held st L (subst (CanStand night) e can) are (λ s i same. of_all (λ t. t.id ≢ length xs + 1) held.stays s none_yet i (same ∙ id)))
+
+-- ---- the first blocks with one more
+
+module _ (xs : List Block) (k : ℕ) (lt : k < length xs) (b : Block) (is : b ≡ get_or xs k b) where
+  firsts : take (k + 1) xs ≡ take k xs ++ b ∷ []
+  firsts = take_more xs k b lt ∙ ap (λ (x : Block). take k xs ++ x ∷ []) (sym is)
+
+  pub next_placed : (c : Block) → c ≡ record b { id = k + 1 } → placed (take (k + 1) xs) ≡ placed (take k xs) ++ c ∷ []
+  next_placed c e =
+      let size = length-take-le k xs (omega (arith, lt)) in
+      ap (λ (l : List Block). placed l) firsts ∙ placed_more (take k xs) b ∙ ap (λ n. placed (take k xs) ++ record b { id = n + 1 } ∷ []) size ∙ ap (λ (x : Block). placed (take k xs) ++ x ∷ []) (sym e)
+
+pub next_cost : (night : Night) (xs : List Block) (k : ℕ) → k < length xs → (b : Block) → b ≡ get_or xs k b → total_cost night (take (k + 1) xs) ≡ total_cost night (take k xs) + block_cost night b
+next_cost night xs k lt b is =
+    let split = sum_by-append (block_cost night) (take k xs) (b ∷ []) in
+    let one = sum_by-cons (block_cost night) b [] in
+    let none : sum_by (block_cost night) [] ≡ 0 = refl in
+    ap (λ (l : List Block). total_cost night l) (firsts xs k lt b is) ∙ omega (arith, split, one, none)

@@ -1,17 +1,19 @@
 -- A walk whose last children are closed, and one that ends.
 use Rattle.std.specs.Prelude.{AllPairs}
-use Rattle.std.proofs.Common.{◌≡◌, ◌⊎◌, inl, inr, ⊎_elim, ℕ, ◌+◌, ◌-◌, ◌<◌, ◌≤◌, List, [], ◌∷◌, ◌++◌, length, ℤ, get_or, refl, sym, subst, ap, ◌∙◌, arith}
+use Rattle.std.proofs.Common.{◌≡◌, ◌⊎◌, inl, inr, ⊎_elim, ℕ, ◌+◌, ◌-◌, ◌<◌, ◌≤◌, List, [], ◌∷◌, ◌++◌, length, take, ℤ, get_or, refl, sym, subst, ap, ◌∙◌, arith}
 use Rattle.std.specs.Prelude.{pos, ◌≤ℤ◌}
 use Rattle.std.proofs.lemmas.Int.{ints}
-use Rattle.std.proofs.lemmas.List.{append-nil, append_assoc, get_or_append_left, get_or_default, length-append}
+use Rattle.std.proofs.lemmas.List.{append-nil, append_assoc, get_or_append_left, get_or_default, length-append, length-take}
 use Rattle.shunt_lists.specs.defs.Members.{In}
 use Rattle.std.proofs.lemmas.Bool.{cases_lt}
 use Rattle.std.proofs.Math.Seq.{get_or-append_right}
-use Rattle.shunt_lists.proofs.Members.{in_left, in_cases, in_place}
+use Rattle.std.proofs.Math.Nat.{min-le_right}
+use Rattle.shunt_lists.proofs.Members.{in_left, in_right, in_cases, in_place}
 use Rattle.shunt_base.specs.declared.duals.Case.{Case}
 use Rattle.shunt_instance.specs.defs.Instance.{Night}
 use Rattle.shunt_blocks.specs.declared.records.Block.{Block}
 use Rattle.shunt_choices.specs.defs.Choices.{Choice as PathChoice, longer_by}
+use Rattle.shunt_prices.specs.defs.Cases.{CasesHold}
 use Rattle.shunt_prices.specs.defs.Bounds.{IsCasesBound}
 use Rattle.shunt_proof.specs.declared.records.NodeKind.{NodeKind}
 use Rattle.shunt_proof.specs.declared.records.NodeKind.TheVariants.{Branch, Leaf, Whole}
@@ -20,8 +22,9 @@ use Rattle.shunt_proof.specs.defs.Nodes.{node_at}
 use Rattle.shunt_proof.specs.defs.Trees.{path_at, duals_at}
 use Rattle.shunt_proof.specs.defs.Proves.{Reaches, Shows, IsListed, AreRight}
 use Rattle.shunt_search.specs.declared.children.Child.{Child}
+use Rattle.shunt_search.specs.defs.Yards.{IsNextBlock}
 use Rattle.shunt_search.proofs.Stays.{place_of}
-use Rattle.shunt_search.specs.defs.Walking.{goal_of, IsApart, IsKnown, IsWalked, IsWalk, Passes}
+use Rattle.shunt_search.specs.defs.Walking.{kept, goal_of, IsPending, IsApart, IsKnown, IsWalked, IsWalk, Passes}
 
 -- ---- a node shows less, where what is known no more is reached
 
@@ -160,3 +163,37 @@ least_all best todo n low all h t i =
     let at = place_of todo t t i in
     let lt = at.1 in
     subst (λ (x : Child). low ≤ℤ x.bound) at.2 (h.left at.0 t (omega (arith, lt, all)) lt)
+
+-- ---- the next child of a walk
+
+abbrev pub LongerLaw : Type 0
+LongerLaw = (night : Night) (path : List Block) (b : Block) (cases : List Case) → CasesHold night path cases → CasesHold night (path ++ b ∷ []) cases
+
+branch_holds : (night : Night) (path : List Block) (cases : List Case) (kind : NodeKind) (IsKnownThere : PathChoice → Type 0) (L : ℤ) → kind ≡ Branch → Shows night path cases kind IsKnownThere L → CasesHold night path cases
+branch_holds night path cases kind IsKnownThere L e h = holds (subst (λ kd. Shows night path cases kd IsKnownThere L) e h)
+  where
+    holds : Shows night path cases Branch IsKnownThere L → CasesHold night path cases
+    holds s = s.holds
+
+module _ (night : Night) (start : List Block) (cases : List Case) (nodes : List Node) (path : List Block) (left : List Child) (t : Child) (best : ℕ) (W : IsWalk night start cases nodes path (left ++ t ∷ []) best) where
+  its : IsPending night start cases nodes path t
+  its = W.pending t (in_right left (t ∷ []) t (inl refl))
+
+  pub keeps_start : length start ≤ kept t
+  keeps_start = let long = its.long in omega (arith, long)
+
+  pub keeps_within : kept t ≤ length path
+  keeps_within =
+      let id = its.next.id in
+      let long = length-take (kept t) path in
+      let le = min-le_right (kept t) (length path) in
+      omega (arith, id, long, le)
+
+  pub is_next : IsNextBlock night (take (kept t) path) t.block
+  is_next = its.next
+
+  pub cases_hold : LongerLaw → CasesHold night (goal_of path t) cases
+  cases_hold law =
+      let at = branch_holds night (path_at night start nodes its.parent) (duals_at nodes its.parent) (node_at nodes its.parent).kind (IsKnown night start nodes path (left ++ t ∷ []) its.parent) (pos best) its.branch (W.shows its.parent its.there) in
+      let own = subst (λ (d : List Case). CasesHold night (path_at night start nodes its.parent) d) (its_cases cases nodes its.parent (W.kinds its.parent its.there) its.branch) at in
+      law night (take (kept t) path) t.block cases (subst (λ (l : List Block). CasesHold night l cases) its.here own)

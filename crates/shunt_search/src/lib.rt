@@ -4,9 +4,12 @@
 
 mod children;
 pub mod laws;
+mod noting;
 mod polishing;
 mod solved;
+mod visiting;
 mod walking;
+mod wholes;
 mod yard;
 
 pub use polishing::polish;

@@ -1,5 +1,5 @@
 // The walk through a tree: the children that are still to be walked to are a stack, the next one at its end.
-ghost use Rattle.std.specs.Prelude.{◌≡◌, ◌⊎◌, ◌∷◌, ◌++◌, [], ◌≤◌, ℕ, ℤ, pos, ◌≤ℤ◌, ◌<ℤ◌, List, Some, None, IsSome, IfSome, IfNone};
+ghost use Rattle.std.specs.Prelude.{◌≡◌, ◌⊎◌, ◌∷◌, ◌++◌, [], ◌≤◌, ℕ, ℤ, pos, ◌≤ℤ◌, ◌<ℤ◌, List, take, length, Some, None, IsSome, IfSome, IfNone};
 ghost use Rattle.shunt_lists.specs.defs.Members.{In};
 ghost use Rattle.shunt_base.specs.declared.duals.Case.{Case as OneCase};
 ghost use Rattle.shunt_instance.specs.defs.Instance.{Night, IsInstance};
@@ -11,16 +11,17 @@ ghost use Rattle.shunt_prices.specs.defs.Cases.{CasesHold};
 ghost use Rattle.shunt_proof.specs.declared.records.NodeKind.TheVariants.{Branch, Whole};
 ghost use Rattle.shunt_proof.specs.declared.records.NodeDuals.TheVariants.{Same};
 ghost use Rattle.shunt_proof.specs.declared.records.Node.{Node as OneNode};
-ghost use Rattle.shunt_proof.specs.defs.Nodes.{FitsNode};
+ghost use Rattle.shunt_proof.specs.defs.Nodes.{FitsNode, CanFollow};
 ghost use Rattle.shunt_proof.specs.defs.Trees.{cases_or};
 ghost use Rattle.shunt_proof.specs.defs.Proves.{AreRight};
 ghost use Rattle.shunt_search.specs.declared.children.Child.{Child as OneChild};
-ghost use Rattle.shunt_search.specs.defs.Yards.{AreChildren};
-ghost use Rattle.shunt_search.specs.defs.Walking.{goal_of, IsNodeOf, IsWalk, Passes};
+ghost use Rattle.shunt_search.specs.defs.Yards.{AreChildren, IsNextBlock};
+ghost use Rattle.shunt_search.specs.defs.Walking.{kept, goal_of, IsNodeOf, IsWalk, Passes};
 
 use crate::children::Child;
 use shunt_blocks::laws::few_blocks;
 use shunt_choices::laws::{choices, plans_grow};
+use shunt_prices::laws::longer_paths;
 
 /// How a walk begins: with the root, whose children are all still to be walked to, or which is whole.
 pub(crate) fn walks_begin()
@@ -31,7 +32,8 @@ pub(crate) fn walks_begin()
         n.kind ≡ Whole → best ≤ opening_cost night start → best ≤ total_cost night start → next_of (masks_of night start) ≡ None → IsWalk night start cases (n ∷ []) start [] best }
 {}
 
-/// How a walk goes on: the last child becomes a node, a branch whose children come in its place, or a whole path; or it is closed. Where
+/// How a walk goes on: the last child becomes a node, a branch whose children come in its place, or a whole path; or it is closed. Its
+/// node can follow the others, and the cases hold at its path. Where
 /// what is left isn't walked to, each node is locally right for what neither the best cost nor a bound that is left is below.
 pub(crate) fn walks_go_on()
     ensures branch { (night : Night) (start : List OneBlock) (cases : List OneCase) (nodes : List OneNode) (path : List OneBlock) (left : List OneChild) (t : OneChild) (best : ℕ) (n : OneNode) (children : List OneChild) →
@@ -42,6 +44,12 @@ pub(crate) fn walks_go_on()
         IsInstance night → IsWalk night start cases nodes path (left ++ t ∷ []) best → IsNodeOf night start path t n → t.bound <ℤ pos best → n.kind ≡ Whole →
         now ≤ best → now ≤ total_cost night (goal_of path t) → next_of (masks_of night (goal_of path t)) ≡ None →
         IsWalk night start cases (nodes ++ n ∷ []) (goal_of path t) left now }
+    ensures follows { (night : Night) (start : List OneBlock) (cases : List OneCase) (nodes : List OneNode) (path : List OneBlock) (left : List OneChild) (t : OneChild) (best : ℕ) (n : OneNode) →
+        IsInstance night → IsWalk night start cases nodes path (left ++ t ∷ []) best → IsNodeOf night start path t n → t.bound <ℤ pos best → CanFollow nodes n }
+    ensures next { (night : Night) (start : List OneBlock) (cases : List OneCase) (nodes : List OneNode) (path : List OneBlock) (left : List OneChild) (t : OneChild) (best : ℕ) →
+        IsWalk night start cases nodes path (left ++ t ∷ []) best → (length start ≤ kept t) × (kept t ≤ length path) × IsNextBlock night (take (kept t) path) t.block }
+    ensures hold { (night : Night) (start : List OneBlock) (cases : List OneCase) (nodes : List OneNode) (path : List OneBlock) (left : List OneChild) (t : OneChild) (best : ℕ) →
+        IsWalk night start cases nodes path (left ++ t ∷ []) best → CasesHold night (goal_of path t) cases }
     ensures closed { (night : Night) (start : List OneBlock) (cases : List OneCase) (nodes : List OneNode) (path : List OneBlock) (todo left : List OneChild) (best : ℕ) →
         IsWalk night start cases nodes path todo best → Passes best todo left → IsWalk night start cases nodes path left best }
     ensures right { (night : Night) (start : List OneBlock) (cases : List OneCase) (nodes : List OneNode) (path : List OneBlock) (todo : List OneChild) (best : ℕ) (bound : ℤ) →
@@ -50,6 +58,7 @@ pub(crate) fn walks_go_on()
     few_blocks();
     choices();
     plans_grow();
+    longer_paths();
 }
 
 /// The next child whose bound is below the best cost; those behind it are closed.

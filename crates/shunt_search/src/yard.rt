@@ -24,7 +24,7 @@ pub struct Yard {
 }
 
 /// The block with its place in a list as id.
-fn at_place(block: &Block, place: usize) -> Block
+pub(crate) fn at_place(block: &Block, place: usize) -> Block
     requires { place ≤ 160 }
     ensures { result ≡ record block.now { id = place } }
 {

@@ -1,13 +1,15 @@
 -- What holds while a tree is walked.
-use Rattle.std.specs.Prelude.{◌≡◌, ◌≢◌, ◌⊎◌, ℕ, ◌+◌, ◌-◌, ◌<◌, ◌≤◌, pos, ◌≤ℤ◌, List, ◌++◌, take, length, Some, AllPairs}
+use Rattle.std.specs.Prelude.{◌≡◌, ◌≢◌, ◌⊎◌, ℕ, ◌+◌, ◌-◌, ◌<◌, ◌≤◌, Bool, true, false, if◌then◌else◌, pos, ◌≤ℤ◌, List, ◌++◌, take, length, Some, None, IsSome, AllPairs}
 use Rattle.shunt_lists.specs.defs.Members.{In}
 use Rattle.shunt_base.specs.declared.duals.Case.{Case}
 use Rattle.shunt_instance.specs.defs.Instance.{Night}
 use Rattle.shunt_blocks.specs.declared.records.Block.{Block}
 use Rattle.shunt_blocks.specs.defs.Lists.{RunsThrough, placed}
+use Rattle.shunt_choices.specs.defs.Paths.{masks_of, next_of}
 use Rattle.shunt_choices.specs.defs.Choices.{Choice as PathChoice, longer_by}
 use Rattle.shunt_prices.specs.defs.Bounds.{IsCasesBound}
 use Rattle.shunt_proof.specs.declared.records.NodeKind.TheVariants.{Branch, Whole}
+use Rattle.shunt_proof.specs.declared.records.NodeDuals.TheVariants.{Same, Bare}
 use Rattle.shunt_proof.specs.declared.records.Choice.{Choice}
 use Rattle.shunt_proof.specs.declared.records.Node.{Node}
 use Rattle.shunt_proof.specs.defs.Nodes.{node_at, FitsNode, AreNodes}
@@ -15,7 +17,7 @@ use Rattle.shunt_proof.specs.defs.Trees.{depth_at, nearest, choice_from, path_at
 use Rattle.shunt_proof.specs.defs.Proves.{Shows, IsListed, IsPlaced}
 use Rattle.shunt_proof.specs.defs.Accepted.{AreLean}
 use Rattle.shunt_search.specs.declared.children.Child.{Child}
-use Rattle.shunt_search.specs.defs.Yards.{IsNextBlock, choice_of, more_by}
+use Rattle.shunt_search.specs.defs.Yards.{IsNextBlock, AreChildren, choice_of, more_by}
 
 -- how many blocks of the path a child keeps: those before its own place
 abbrev pub kept : Child → ℕ
@@ -76,3 +78,22 @@ pub record IsNodeOf (night : Night) (start path : List Block) (t : Child) (n : N
   pub states : n.choice ≡ Some choice
   pub is : choice_from night (take (kept t) path) choice ≡ choice_of t.block
   pub fits : FitsNode night n
+
+-- what a node states of a block
+abbrev pub stated : Block → Choice
+stated b = record { n = b.n; dep = b.dep; q = b.q; park = b.park }
+
+-- the node of a next block, so many pins before the first node's: a whole path, or a branch with its parent's cases
+abbrev pub node_below : ℕ → Block → Bool → Node
+node_below pins b whole = record { depth = b.id - pins; choice = Some (stated b); kind = if whole then Whole else Branch; duals = if whole then Bare else Same }
+
+-- the children of a path have come to these
+pub record AddsChildren (night : Night) (cases : List Case) (best : ℕ) (path : List Block) (old new : List Child) : Type 0 where
+  pub children : List Child
+  pub are : AreChildren night path cases best children
+  pub is : new ≡ old ++ children
+
+-- a path is whole, or it isn't and its children have come
+abbrev pub IsVisited : Night → List Case → ℕ → List Block → Bool → List Child → List Child → Type 0
+IsVisited night cases best path true old new = (next_of (masks_of night path) ≡ None) × (new ≡ old)
+IsVisited night cases best path false old new = IsSome (next_of (masks_of night path)) × AddsChildren night cases best path old new

@@ -3,6 +3,7 @@
 #![tactic(auto)]
 
 mod children;
+mod known;
 pub mod laws;
 mod noting;
 mod polishing;

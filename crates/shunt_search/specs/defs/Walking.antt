@@ -4,7 +4,8 @@ use Rattle.shunt_lists.specs.defs.Members.{In}
 use Rattle.shunt_base.specs.declared.duals.Case.{Case}
 use Rattle.shunt_instance.specs.defs.Instance.{Night}
 use Rattle.shunt_blocks.specs.declared.records.Block.{Block}
-use Rattle.shunt_blocks.specs.defs.Lists.{RunsThrough, placed}
+use Rattle.shunt_blocks.specs.defs.Lists.{RunsThrough, IsFeasible, placed, total_cost}
+use Rattle.shunt_blocks.specs.defs.Pins.{Keeps}
 use Rattle.shunt_choices.specs.defs.Paths.{masks_of, next_of}
 use Rattle.shunt_choices.specs.defs.Choices.{Choice as PathChoice, longer_by}
 use Rattle.shunt_prices.specs.defs.Bounds.{IsCasesBound}
@@ -17,6 +18,7 @@ use Rattle.shunt_proof.specs.defs.Trees.{depth_at, nearest, choice_from, path_at
 use Rattle.shunt_proof.specs.defs.Proves.{Shows, IsListed, IsPlaced}
 use Rattle.shunt_proof.specs.defs.Accepted.{AreLean}
 use Rattle.shunt_search.specs.declared.children.Child.{Child}
+use Rattle.shunt_search.specs.declared.known.Known.{Known}
 use Rattle.shunt_search.specs.defs.Yards.{IsNextBlock, AreChildren, choice_of, more_by}
 
 -- how many blocks of the path a child keeps: those before its own place
@@ -97,3 +99,15 @@ pub record AddsChildren (night : Night) (cases : List Case) (best : ℕ) (path :
 abbrev pub IsVisited : Night → List Case → ℕ → List Block → Bool → List Child → List Child → Type 0
 IsVisited night cases best path true old new = (next_of (masks_of night path) ≡ None) × (new ≡ old)
 IsVisited night cases best path false old new = IsSome (next_of (masks_of night path)) × AddsChildren night cases best path old new
+
+-- the plan that is known stays, or a path has taken its place, with its places as ids: it costs no more than both
+pub record KeepsCheaper (night : Night) (path : List Block) (old new : Known) : Type 0 where
+  pub known : new.cost ≤ old.cost
+  pub path_too : new.cost ≤ total_cost night path
+  pub is : (new ≡ old) ⊎ ((new.blocks.items ≡ placed path) × (new.cost ≡ total_cost night path))
+
+-- a plan is feasible, keeps the pins, and costs this
+pub record IsBest (night : Night) (pins blocks : List Block) (best : ℕ) : Type 0 where
+  pub feasible : IsFeasible night blocks
+  pub keeps : Keeps blocks pins
+  pub cost : best ≡ total_cost night blocks

@@ -9,7 +9,7 @@ use Rattle.shunt_prices.specs.defs.Limits.{case_at}
 use Rattle.shunt_checker.specs.declared.cases.Break.{Break}
 use Rattle.shunt_checker.specs.defs.Firsts.{Finds}
 use Rattle.shunt_checker.specs.defs.Lights.{IsFreeLight}
-use Rattle.shunt_checker.specs.defs.Breaks.{IsBreakIn, BreakBefore}
+use Rattle.shunt_checker.specs.defs.Breaks.{IsBreakIn, BreakBefore, numbered}
 use Rattle.shunt_checker.specs.defs.NodeFaults.{EarlierChoice}
 use Rattle.shunt_checker.proofs.Opened.{got}
 
@@ -33,3 +33,7 @@ module _ (night : Night) (covered : Masks) (cases : List Case) (k : ℕ) (case :
             (λ same. first.first b.offer (its_light b h) same.1)
             before;
       }
+
+  pub broken_in : (r : Option PathChoice) → Finds (IsFreeLight night covered case) (EarlierChoice night) r → Finds (IsBreakIn night covered cases k) (BreakBefore night) (numbered k r)
+  broken_in None f = none_in None refl f
+  broken_in (Some o) f = first_in (Some o) o refl f

@@ -15,10 +15,7 @@ use Rattle.shunt_proof.specs.declared.records.NodeKind.{NodeKind}
 use Rattle.shunt_proof.specs.declared.records.NodeKind.TheVariants.{Branch, Whole}
 use Rattle.shunt_proof.specs.defs.Nodes.{FitsDepth}
 use Rattle.shunt_proof.specs.defs.Trees.{choice_at, choice_from}
-
--- what a node says of a choice
-abbrev pub said : PathChoice → Choice
-said d = record { n = d.shape.n; dep = d.shape.dep; q = d.shape.q; park = d.option }
+use Rattle.shunt_checker.specs.defs.Children.{said}
 
 module _ (night : Night) (unit_law : (s : Shape) (k : ℕ) → AreRunsWithin night s → k < s.n → unit_at night (unit_from night s + k) ≡ make_unit s.arr.0 (s.p + k) (kind_at (train_at night.arrive s.arr.0) (s.p + k))) where
   first_is : (s : Shape) → AreRunsWithin night s → unit_at night (unit_from night s) ≡ make_unit s.arr.0 s.p (kind_at (train_at night.arrive s.arr.0) s.p)

@@ -25,17 +25,22 @@ pub case_sum_is : (night : Night) (path : List Block) (cases : List Case) (k : �
 case_sum_is night path cases k case from s e ef is =
     subst (λ (c : Case). s ≡ sum_at night path (from_of cases k) c) (sym (got cases k case e)) (subst (λ (f : ℕ). s ≡ sum_at night path f case) ef is)
 
+pub sum_of_case : (night : Night) (path : List Block) (cases : List Case) (k : ℕ) (case : Case) (from : ℕ) (s : ℤ) → slice_get cases k ≡ Some case → from ≡ from_of cases k
+    → s ≡ case_sum night path cases k → s ≡ sum_at night path from case
+sum_of_case night path cases k case from s e ef is =
+    subst (λ (f : ℕ). s ≡ sum_at night path f case) (sym ef) (subst (λ (c : Case). s ≡ sum_at night path (from_of cases k) c) (got cases k case e) is)
+
 -- two bounds of one sum
 one_bound : (sum bound other : ℤ) → IsBoundOf sum bound → IsBoundOf sum other → bound ≤ℤ other
 one_bound sum bound other h k = bound_rises sum sum bound other (omega (arith, ints)) h k
 
-either_test : (a b p q : ℕ) → ((a == b) || nat_le p q) ≡ true → (a ≡ b) ⊎ (p ≤ q)
+pub either_test : (a b p q : ℕ) → ((a == b) || nat_le p q) ≡ true → (a ≡ b) ⊎ (p ≤ q)
 either_test a b p q e = ⊎_elim (λ (h : a ≡ b). inl h) (λ (ne : a ≡ b → ⊥). inr (grind (arith, nat_tests))) (cases_eq a b)
 
-last_test : (a b p q : ℕ) → a ≡ b → ((a == b) || nat_le p q) ≡ true
+pub last_test : (a b p q : ℕ) → a ≡ b → ((a == b) || nat_le p q) ≡ true
 last_test a b p q e = grind (arith, nat_tests)
 
-few_test : (a b p q : ℕ) → p ≤ q → ((a == b) || nat_le p q) ≡ true
+pub few_test : (a b p q : ℕ) → p ≤ q → ((a == b) || nat_le p q) ≡ true
 few_test a b p q le = grind (arith, nat_tests)
 
 module _ (night : Night) (path : List Block) (cases : List Case) (k : ℕ) (least : ℤ) where

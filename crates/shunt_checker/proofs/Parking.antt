@@ -128,7 +128,7 @@ module _ (night : Night) (case : Case) (s : Shape) (sum : ℤ) (is : sum ≡ dua
 
   pub unparked_light : (pos (1000 * cost_with night s None) +ℤ case.multiplier) <ℤ sum → Finds (IsLightShape night case s) (EarlierChoice night) (Some (offer None))
   unparked_light lt = record {
-    is = record { same = refl; light = record { option = tt; room = tt; light = let w = unparked_weight in omega (arith, ints, w, is, lt) } };
+    is = record { same = refl; holds = record { option = tt; room = tt; light = let w = unparked_weight in omega (arith, ints, w, is, lt) } };
     first = λ c h before. not_unparked c.option (by_option night c (offer None) h.same before);
   }
 
@@ -146,10 +146,10 @@ module _ (night : Night) (case : Case) (s : Shape) (sum : ℤ) (is : sum ≡ dua
   )
 
   light_parked : (k : Park) → IsLightParked night case.duals.prices s sum k → IsLightShape night case s (offer (Some k))
-  light_parked k h = record { same = refl; light = record { option = h.light.parkable; room = h.room; light = let lt = h.light.light in omega (arith, ints, is, lt) } }
+  light_parked k h = record { same = refl; holds = record { option = h.light.parkable; room = h.room; light = let lt = h.light.light in omega (arith, ints, is, lt) } }
 
   of_shape : (c : PathChoice) → IsLightShape night case s c → IsLight night case (offer c.option)
-  of_shape c h = subst (λ (w : Shape). IsLight night case (record { shape = w; option = c.option })) h.same h.light
+  of_shape c h = subst (λ (w : Shape). IsLight night case (record { shape = w; option = c.option })) h.same h.holds
 
   pub none_light : sum ≤ℤ (pos (1000 * cost_with night s None) +ℤ case.multiplier) → Finds (IsLightParked night case.duals.prices s sum) ParkBefore None → Finds (IsLightShape night case s) (EarlierChoice night) None
   none_light le none c h = let p = parked_one le c.option (of_shape c h) in none p.0 p.2

@@ -2,7 +2,6 @@
 use Rattle.std.specs.Prelude.{true, slice_index_or, Option, None}
 use Rattle.std.proofs.Common.{◌≡◌, ◌⊎◌, ⊎_elim, inl, inr, ℕ, ◌+◌, ◌<◌, ◌≤◌, length, sym, ap, subst, ◌∙◌, arith}
 use Rattle.std.proofs.lemmas.Bool.{true≢false}
-use Rattle.shunt_base.specs.declared.duals.Case.{Case}
 use Rattle.shunt_instance.specs.declared.records.Unit.{Unit as TrainUnit}
 use Rattle.shunt_instance.specs.defs.Words.{train_at, kind_at}
 use Rattle.shunt_instance.specs.defs.Instance.{Night, unit_at, make_unit, IsUnitAt}
@@ -11,7 +10,7 @@ use Rattle.shunt_blocks.specs.defs.Shapes.{AreRunsWithin, unit_from}
 use Rattle.shunt_choices.specs.defs.Paths.{Masks}
 use Rattle.shunt_choices.specs.defs.Choices.{Choice as PathChoice, IsFreeShape, LaterBefore}
 use Rattle.shunt_checker.specs.defs.Firsts.{Finds}
-use Rattle.shunt_checker.specs.defs.Lights.{IsLightShape, IsLightAt, IsLightFrom, shape_from}
+use Rattle.shunt_checker.specs.defs.Searches.{IsOneOfShape, IsOneAt, IsOneFrom, shape_from}
 use Rattle.shunt_checker.specs.defs.NodeFaults.{EarlierChoice}
 use Rattle.shunt_checker.proofs.Firsts.{same_finds}
 
@@ -88,27 +87,27 @@ module _ (night : Night) (unit_law : (s : Shape) (k : ℕ) → AreRunsWithin nig
       let train : (unit_at night u).train.0 ≡ s.arr.0 = ap (λ (x : TrainUnit). x.train.0) is in
       subst (λ (a : ℕ). (unit_at night u).place + s.n ≤ length (train_at night.arrive a).units + 1) (sym train) (let units = within.units in omega (arith, place, units))
 
-  module _ (covered : Masks) (case : Case) (u n dep q : ℕ) (at : IsUnitAt night u (unit_at night u)) where
+  module _ (covered : Masks) (Holds : PathChoice → Type 0) (u n dep q : ℕ) (at : IsUnitAt night u (unit_at night u)) where
     begins : unit_from night (shape_from night u n dep q) ≡ u
     begins = let number = at.number in let placed = at.placed in omega (arith, number, placed)
 
-    same_shape : (c : PathChoice) → IsLightFrom night covered case u n dep q c → c.shape ≡ shape_from night u n dep q
+    same_shape : (c : PathChoice) → IsOneFrom night covered Holds u n dep q c → c.shape ≡ shape_from night u n dep q
     same_shape c h = shape_is c.shape u n dep q h.with.of.at.free.shape.shape.within h.with.of.at.unit h.with.of.units h.with.train h.place
 
     abbrev its_shape : Shape
     its_shape = shape_from night u n dep q
 
-    pub not_free : (IsFreeShape night covered (unit_from night its_shape) its_shape → ⊥) → Finds (IsLightFrom night covered case u n dep q) (EarlierChoice night) None
+    pub not_free : (IsFreeShape night covered (unit_from night its_shape) its_shape → ⊥) → Finds (IsOneFrom night covered Holds u n dep q) (EarlierChoice night) None
     not_free never c h = never (subst (λ (s : Shape). IsFreeShape night covered (unit_from night s) s) (same_shape c h) h.with.of.at.free.shape)
 
-    from_shape : IsFreeShape night covered (unit_from night its_shape) its_shape → (c : PathChoice) → IsLightShape night case its_shape c → IsLightFrom night covered case u n dep q c
+    from_shape : IsFreeShape night covered (unit_from night its_shape) its_shape → (c : PathChoice) → IsOneOfShape Holds its_shape c → IsOneFrom night covered Holds u n dep q c
     from_shape free c h =
         let e = h.same in
         record {
           with = record {
             of = record {
               at = record {
-                free = record { shape = subst (λ (s : Shape). IsFreeShape night covered (unit_from night s) s) (sym e) free; light = h.light };
+                free = record { shape = subst (λ (s : Shape). IsFreeShape night covered (unit_from night s) s) (sym e) free; holds = h.holds };
                 unit = ap (λ (s : Shape). unit_from night s) e ∙ begins;
               };
               units = ap (λ (s : Shape). s.n) e;
@@ -118,15 +117,15 @@ module _ (night : Night) (unit_law : (s : Shape) (k : ℕ) → AreRunsWithin nig
           place = ap (λ (s : Shape). s.q) e;
         }
 
-    pub light_in : IsFreeShape night covered (unit_from night its_shape) its_shape → (r : Option PathChoice) → Finds (IsLightShape night case its_shape) (EarlierChoice night) r
-        → Finds (IsLightFrom night covered case u n dep q) (EarlierChoice night) r
-    light_in free r f = same_finds (IsLightShape night case its_shape) (IsLightFrom night covered case u n dep q) (EarlierChoice night) (from_shape free)
-        (λ c h. record { same = same_shape c h; light = h.with.of.at.free.light }) r f
+    pub one_in : IsFreeShape night covered (unit_from night its_shape) its_shape → (r : Option PathChoice) → Finds (IsOneOfShape Holds its_shape) (EarlierChoice night) r
+        → Finds (IsOneFrom night covered Holds u n dep q) (EarlierChoice night) r
+    one_in free r f = same_finds (IsOneOfShape Holds its_shape) (IsOneFrom night covered Holds u n dep q) (EarlierChoice night) (from_shape free)
+        (λ c h. record { same = same_shape c h; holds = h.with.of.at.free.holds }) r f
 
 -- ---- covered units
 
-pub none_covered : (night : Night) (covered : Masks) (case : Case) (u : ℕ) → slice_index_or covered.units u true ≡ true → Finds (IsLightAt night covered case u) (EarlierChoice night) None
-none_covered night covered case u e c h =
+pub none_covered : (night : Night) (covered : Masks) (Holds : PathChoice → Type 0) (u : ℕ) → slice_index_or covered.units u true ≡ true → Finds (IsOneAt night covered Holds u) (EarlierChoice night) None
+none_covered night covered Holds u e c h =
     let free = h.free.shape in
     let first = h.unit in
     let n = free.shape.within.n in

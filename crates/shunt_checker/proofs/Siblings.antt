@@ -11,8 +11,7 @@ use Rattle.shunt_proof.specs.defs.Nodes.{node_at, AreNodes}
 use Rattle.shunt_proof.specs.defs.Trees.{depth_at, IsChildOf, path_at, choice_from, stated_choice}
 use Rattle.shunt_proof.specs.defs.Proves.{IsListed}
 use Rattle.shunt_checker.specs.defs.NodeFaults.{HasTwin}
-use Rattle.shunt_checker.proofs.Chosen.{said}
-use Rattle.shunt_checker.specs.defs.Children.{HasChild, StatesAt}
+use Rattle.shunt_checker.specs.defs.Children.{HasChild, StatesAt, said}
 
 -- what follows below, of one list of nodes
 pub record ChildLaws (nodes : List Node) : Type 0 where

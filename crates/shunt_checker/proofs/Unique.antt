@@ -37,7 +37,7 @@ use Rattle.shunt_checker.specs.defs.PlanFaults.{IsPlanFault, IsFirstPlanFault, E
 use Rattle.shunt_checker.specs.defs.NodeFaults.{NodeFault, NotThere, Twice, NotLean, OtherKind, Broken, LowLeaf, LowWhole, Missing, IsNodeFault, IsFirstNodeFault, EarlierChoice, EarlierPlace, node_rank}
 use Rattle.shunt_checker.specs.defs.Verdicts.{IsFirstReason, Answers, IsVerdict}
 use Rattle.shunt_checker.proofs.Exactly.{Laws, unsound}
-use Rattle.shunt_checker.proofs.Chosen.{said}
+use Rattle.shunt_checker.specs.defs.Children.{said}
 use Rattle.shunt_checker.proofs.Searching.{shape_is}
 
 -- neither number is less

@@ -3,8 +3,12 @@ pub mod PlanFaults
 pub mod NodeFaults
 pub mod Verdicts
 pub mod Firsts
+pub mod Searches
 pub mod Lights
 pub mod Opened
 pub mod Stops
 pub mod Breaks
 pub mod Children
+pub mod Lows
+pub mod Misses
+pub mod NodeSteps

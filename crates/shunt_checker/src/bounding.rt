@@ -33,7 +33,7 @@ fn price_part(instance: &Instance, prices: &[Price], block: &Block) -> u64
 }
 
 /// What a block weighs in a case.
-fn weight(instance: &Instance, case: &Case, block: &Block) -> i64
+pub(crate) fn weight(instance: &Instance, case: &Case, block: &Block) -> i64
     requires case { IsCase instance.now case.now }
     requires within { IsWithinTrains instance.now block.now }
     ensures exact { result ≡ weight instance.now case.now block.now }
@@ -180,14 +180,14 @@ fn rounded_up(sum: i64) -> i64
 }
 
 /// How many blocks are unparked.
-fn unparked_in(blocks: &[Block]) -> usize
+pub(crate) fn unparked_in(blocks: &[Block]) -> usize
     ensures { result ≡ unparked_in blocks.now }
 {
     blocks.iter().filter(|b| b.park.is_none()).count()
 }
 
 /// The least number of unparked blocks of the plans that the case with a number speaks of.
-fn from_of(cases: &Cases, k: usize) -> u8
+pub(crate) fn from_of(cases: &Cases, k: usize) -> u8
     requires there { k < length cases.now }
     requires small { All (λ c. c.to ≤ 160) cases.now }
     ensures { result ≡ from_of cases.now k }
@@ -198,6 +198,19 @@ fn from_of(cases: &Cases, k: usize) -> u8
     cases.get(before).to + 1
 }
 
+/// The sum of the case with a number at a path.
+pub(crate) fn case_sum(instance: &Instance, path: &Path, cases: &Cases, k: usize) -> i64
+    requires path { IsTrailOf instance.now path.now }
+    requires cases { AreCases instance.now cases.now }
+    requires there { k < length cases.now }
+    ensures exact { result ≡ case_sum instance.now path.now.blocks cases.now k }
+    ensures small { IsWithin 4010000000000000000 result }
+{
+    let case = cases.get(k);
+    let from = from_of(cases, k);
+    sum_at(instance, path, case, from)
+}
+
 /// The bound of the case with a number.
 fn case_bound(instance: &Instance, path: &Path, cases: &Cases, k: usize) -> i64
     requires path { IsTrailOf instance.now path.now }
@@ -205,9 +218,7 @@ fn case_bound(instance: &Instance, path: &Path, cases: &Cases, k: usize) -> i64
     requires there { k < length cases.now }
     ensures { IsBoundOf (case_sum instance.now path.now.blocks cases.now k) result }
 {
-    let case = cases.get(k);
-    let from = from_of(cases, k);
-    rounded_up(sum_at(instance, path, case, from))
+    rounded_up(case_sum(instance, path, cases, k))
 }
 
 /// The lesser of a bound and that of the case with a number, where that is open.

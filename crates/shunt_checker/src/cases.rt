@@ -1,15 +1,16 @@
 // In which case and where the duals of a node are the first to break.
-ghost use Rattle.std.specs.Prelude.{◌<◌, length};
+ghost use Rattle.std.specs.Prelude.{◌≡◌, ◌<◌, IfOk, length};
 ghost use Rattle.shunt_choices.specs.defs.Free.{AreMasksOf};
 ghost use Rattle.shunt_prices.specs.defs.Limits.{AreCases};
 ghost use Rattle.shunt_checker.specs.defs.Firsts.{Finds};
-ghost use Rattle.shunt_checker.specs.defs.Breaks.{IsBreak, IsBreakIn, BreakBefore};
+ghost use Rattle.shunt_checker.specs.defs.Breaks.{IsBreak, IsBreakIn, BreakBefore, numbered};
 
 use crate::holding::first_light;
 use crate::offer::Offer;
 use shunt_base::Cases;
 use shunt_choices::Covered;
 use shunt_instance::Instance;
+use std::alloc::{AllocError, Global};
 
 /// A shape with an option that weighs less in the case with a number than its duals.
 #[derive(Clone, Copy, Debug, PartialEq, Eq, Drop)]
@@ -18,29 +19,62 @@ pub(crate) struct Break {
     pub(crate) offer: Offer,
 }
 
-/// The first of the case with a number.
-fn break_in(instance: &Instance, covered: &Covered, cases: &Cases, k: usize) -> Option<Break>
-    requires covered { AreMasksOf instance.now covered.now }
-    requires cases { AreCases instance.now cases.now }
-    requires there { k < length cases.now }
-    ensures { Finds (IsBreakIn instance.now covered.now cases.now k) (BreakBefore instance.now) result }
+/// The case of one.
+pub(crate) fn case_in(found: &Break) -> usize
+    ensures { result ≡ found.now.case }
 {
-    match first_light(instance, covered, cases.get(k)) {
-        Some(offer) => Some(Break { case: k, offer }),
+    found.case
+}
+
+/// The shape of one, with its option.
+pub(crate) fn offer_in(found: &Break) -> Offer
+    ensures { result ≡ found.now.offer }
+{
+    found.offer
+}
+
+/// A choice that breaks in the case with a number, where there is one.
+fn numbered(case: usize, found: Option<Offer>) -> Option<Break>
+    ensures { result ≡ numbered case found }
+{
+    match found {
+        Some(offer) => Some(Break { case, offer }),
         None => None,
     }
 }
 
-/// The first over all cases, in their order.
-pub(crate) fn first_break(instance: &Instance, covered: &Covered, cases: &Cases) -> Option<Break>
+/// The first of the case with a number.
+fn break_in(
+    alloc: Global,
+    instance: &Instance,
+    covered: &Covered,
+    cases: &Cases,
+    k: usize,
+) -> Result<Option<Break>, AllocError>
     requires covered { AreMasksOf instance.now covered.now }
     requires cases { AreCases instance.now cases.now }
-    ensures { Finds (IsBreak instance.now covered.now cases.now) (BreakBefore instance.now) result }
+    requires there { k < length cases.now }
+    ensures { IfOk result (Finds (IsBreakIn instance.now covered.now cases.now k) (BreakBefore instance.now)) }
+{
+    let found = first_light(alloc, instance, covered, cases.get(k))?;
+    Ok(numbered(k, found))
+}
+
+/// The first over all cases, in their order.
+pub(crate) fn first_break(
+    alloc: Global,
+    instance: &Instance,
+    covered: &Covered,
+    cases: &Cases,
+) -> Result<Option<Break>, AllocError>
+    requires covered { AreMasksOf instance.now covered.now }
+    requires cases { AreCases instance.now cases.now }
+    ensures { IfOk result (Finds (IsBreak instance.now covered.now cases.now) (BreakBefore instance.now)) }
 {
     for k in 0..cases.len() {
-        if let Some(found) = break_in(instance, covered, cases, k) {
-            return Some(found);
+        if let Some(found) = break_in(alloc, instance, covered, cases, k)? {
+            return Ok(Some(found));
         }
     }
-    None
+    Ok(None)
 }

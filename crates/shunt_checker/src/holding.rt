@@ -1,24 +1,23 @@
 // Which shape with an option is the first that weighs less in a case than its duals.
-ghost use Rattle.std.specs.Prelude.{◌≡◌, ◌<◌, ◌≤◌, ◌+◌, ◌↔◌, IsTrue, length};
-ghost use Rattle.shunt_instance.specs.defs.Instance.{unit_total, position_total, unit_at};
-ghost use Rattle.shunt_instance.specs.defs.Words.{train_at};
+ghost use Rattle.std.specs.Prelude.{◌≡◌, ◌<◌, ◌≤◌, ◌+◌, ◌↔◌, IsTrue, IfOk, length};
+ghost use Rattle.shunt_instance.specs.defs.Instance.{unit_total, position_total};
 ghost use Rattle.shunt_blocks.specs.defs.Shapes.{AreRunsWithin, unit_from};
 ghost use Rattle.shunt_blocks.specs.defs.Standing.{shape_length};
 ghost use Rattle.shunt_choices.specs.defs.Free.{AreMasksOf};
 ghost use Rattle.shunt_choices.specs.defs.Choices.{IsFreeShape, ParkBefore};
 ghost use Rattle.shunt_prices.specs.defs.Limits.{ArePrices, IsCase};
 ghost use Rattle.shunt_checker.specs.defs.Firsts.{Finds};
-ghost use Rattle.shunt_checker.specs.defs.Lights.{IsLightPark, IsLightBy, IsLightOn, IsLightParked, IsLightShape, IsFreeLight, IsLightAt, IsLightOf, IsLightWith, IsLightFrom, shape_from, IsFreePair, offered};
+ghost use Rattle.shunt_checker.specs.defs.Lights.{IsLightPark, IsLightBy, IsLightOn, IsLightParked, IsLight, IsLightShape, IsFreeLight, IsFreePair, offered};
 ghost use Rattle.shunt_checker.specs.defs.NodeFaults.{EarlierChoice};
 
 use crate::offer::Offer;
 use crate::pricing::{cost_with, length_of, room_on, sum_over, taken_on_tracks};
-use shunt_base::{Case, DepId, Price, Side, TrackId};
-use shunt_blocks::laws::places;
+use crate::seeking::{Sought, first_found};
+use shunt_base::{Case, Price, Side, TrackId};
 use shunt_blocks::{Park, Shape, is_option, is_pair, position_from, unit_from};
 use shunt_choices::Covered;
 use shunt_instance::Instance;
-use shunt_instance::laws::rooms_of_trains;
+use std::alloc::{AllocError, Global};
 
 /// Whether a shape can be parked so, and weighs less than a sum where the prices on the track come to a part.
 fn is_light_park(instance: &Instance, shape: Shape, park: Park, sum: i64, part: u64) -> bool
@@ -168,120 +167,39 @@ pub(crate) fn is_free(instance: &Instance, covered: &Covered, shape: Shape) -> b
     true
 }
 
-/// The first light option of the shape of so many units from a unit on that goes with a departing train from a place on, where
-/// that is free.
-fn light_from(
-    instance: &Instance,
-    covered: &Covered,
-    case: &Case,
-    u: usize,
-    n: u8,
-    dep: u8,
-    q: u8,
-) -> Option<Offer>
-    requires covered { AreMasksOf instance.now covered.now }
-    requires case { IsCase instance.now case.now }
-    requires unit { u < unit_total instance.now }
-    requires within { AreRunsWithin instance.now (shape_from instance.now u n dep q) }
-    ensures { Finds (IsLightFrom instance.now covered.now case.now u n dep q) (EarlierChoice instance.now) result }
-{
-    // The units of a shape are those of its train from its place on.
-    places();
-    let unit = instance.unit(u);
-    let shape = Shape {
-        arr: unit.train,
-        p: unit.place,
-        n,
-        dep: DepId(dep),
-        q,
-    };
-    if !is_free(instance, covered, shape) {
-        return None;
-    }
-    light_option(instance, case, shape)
+/// What is light in a case.
+#[derive(Clone, Copy)]
+struct Light<'a> {
+    case: &'a Case,
 }
 
-/// The same of each place in the departing train.
-fn light_with(
-    instance: &Instance,
-    covered: &Covered,
-    case: &Case,
-    u: usize,
-    n: u8,
-    dep: u8,
-) -> Option<Offer>
-    requires covered { AreMasksOf instance.now covered.now }
-    requires case { IsCase instance.now case.now }
-    requires unit { u < unit_total instance.now }
-    requires some { 1 ≤ n }
-    requires units { (unit_at instance.now u).place + n ≤ length (train_at instance.now.arrive (unit_at instance.now u).train.0).units + 1 }
-    requires train { dep < length instance.now.depart }
-    ensures { Finds (IsLightWith instance.now covered.now case.now u n dep) (EarlierChoice instance.now) result }
-{
-    // The first call tells that the unit's train is there.
-    instance.unit(u);
-    let positions = instance.depart(DepId(dep)).units.len();
-    let starts = (positions + 1).saturating_sub(n as usize);
-    for q in 1..starts + 1 {
-        if let Some(offer) = light_from(instance, covered, case, u, n, dep, q as u8) {
-            return Some(offer);
-        }
-    }
-    None
-}
+impl Sought for Light<'_> {
+    ghost fits = { λ s night covered. IsCase night s.case.now };
 
-/// The same of each departing train.
-fn light_of(instance: &Instance, covered: &Covered, case: &Case, u: usize, n: u8) -> Option<Offer>
-    requires covered { AreMasksOf instance.now covered.now }
-    requires case { IsCase instance.now case.now }
-    requires unit { u < unit_total instance.now }
-    requires some { 1 ≤ n }
-    requires units { (unit_at instance.now u).place + n ≤ length (train_at instance.now.arrive (unit_at instance.now u).train.0).units + 1 }
-    ensures { Finds (IsLightOf instance.now covered.now case.now u n) (EarlierChoice instance.now) result }
-{
-    for dep in 0..instance.departures() {
-        if let Some(offer) = light_with(instance, covered, case, u, n, dep as u8) {
-            return Some(offer);
-        }
-    }
-    None
-}
+    ghost holds = { λ s night. IsLight night s.case.now };
 
-/// The same of each number of units. A covered unit has none, and costs one test.
-fn light_at(instance: &Instance, covered: &Covered, case: &Case, u: usize) -> Option<Offer>
-    requires covered { AreMasksOf instance.now covered.now }
-    requires case { IsCase instance.now case.now }
-    requires unit { u < unit_total instance.now }
-    ensures { Finds (IsLightAt instance.now covered.now case.now u) (EarlierChoice instance.now) result }
-{
-    if covered.units()[u] {
-        return None;
+    fn first_option(
+        &self,
+        _alloc: Global,
+        instance: &Instance,
+        _covered: &Covered,
+        shape: Shape,
+    ) -> Result<Option<Offer>, AllocError> {
+        Ok(light_option(instance, self.case, shape))
     }
-    // The units of a shape are those of its train from its place on.
-    places();
-    let unit = instance.unit(u);
-    let units = instance.arrive(unit.train).units.len();
-    for n in 1..units + 2 - unit.place as usize {
-        if let Some(offer) = light_of(instance, covered, case, u, n as u8) {
-            return Some(offer);
-        }
-    }
-    None
 }
 
 /// The first free shape with an option that has room and weighs less in a case than the shape's duals: by its first unit, then by
 /// the number of units, the departing train and the place there, then by option.
-pub(crate) fn first_light(instance: &Instance, covered: &Covered, case: &Case) -> Option<Offer>
+pub(crate) fn first_light(
+    alloc: Global,
+    instance: &Instance,
+    covered: &Covered,
+    case: &Case,
+) -> Result<Option<Offer>, AllocError>
     requires covered { AreMasksOf instance.now covered.now }
     requires case { IsCase instance.now case.now }
-    ensures { Finds (IsFreeLight instance.now covered.now case.now) (EarlierChoice instance.now) result }
+    ensures { IfOk result (Finds (IsFreeLight instance.now covered.now case.now) (EarlierChoice instance.now)) }
 {
-    // Each shape of the night begins at one of its units.
-    rooms_of_trains();
-    for u in 0..instance.units() {
-        if let Some(offer) = light_at(instance, covered, case, u) {
-            return Some(offer);
-        }
-    }
-    None
+    first_found(alloc, instance, covered, &Light { case })
 }

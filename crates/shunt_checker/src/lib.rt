@@ -4,13 +4,19 @@
 mod bounding;
 mod cases;
 mod children;
+mod descent;
+mod gains;
 mod holding;
 pub mod laws;
+mod missing;
+mod nodes;
 mod offer;
 mod placing;
 mod planning;
 mod pricing;
+mod rows;
 mod running;
+mod seeking;
 mod verdict;
 
 pub use verdict::{PlanFault, Reason, Verdict};

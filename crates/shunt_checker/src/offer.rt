@@ -1,5 +1,8 @@
 // Shapes with their options.
-use shunt_blocks::{Park, Shape};
+ghost use Rattle.std.specs.Prelude.{◌≡◌};
+ghost use Rattle.shunt_choices.specs.defs.Choices.{chosen};
+
+use shunt_blocks::{Block, Park, Shape};
 use std::marker::Model;
 
 /// A shape with one of its options.
@@ -17,4 +20,26 @@ impl Model for Offer {
     ghost view = { λ o. record { shape = o.shape; option = o.park } };
 
     ghost inverse = { λ c. record { shape = c.shape; park = c.option } };
+}
+
+/// The shape of one.
+pub(crate) fn shape_in(offer: Offer) -> Shape
+    ensures { result ≡ offer.shape }
+{
+    offer.shape
+}
+
+/// The block of one, with an id.
+pub(crate) fn block_in(id: u32, offer: Offer) -> Block
+    ensures { result ≡ chosen id offer }
+{
+    Block {
+        id,
+        arr: offer.shape.arr,
+        p: offer.shape.p,
+        n: offer.shape.n,
+        dep: offer.shape.dep,
+        q: offer.shape.q,
+        park: offer.park,
+    }
 }

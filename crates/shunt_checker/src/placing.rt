@@ -1,15 +1,17 @@
 // Whether a node's choice is one at its parent's path.
-ghost use Rattle.std.specs.Prelude.{◌≡◌, ◌<◌, ◌↔◌, IsTrue};
+ghost use Rattle.std.specs.Prelude.{◌≡◌, ◌<◌, ◌↔◌, IsTrue, Some};
 ghost use Rattle.shunt_instance.specs.defs.Instance.{unit_total, unit_at};
 ghost use Rattle.shunt_blocks.specs.defs.Shapes.{unit_from, IsOnTrack};
 ghost use Rattle.shunt_choices.specs.defs.Free.{AreMasksOf};
-ghost use Rattle.shunt_choices.specs.defs.Choices.{IsChoice, IsChoiceAt};
-ghost use Rattle.shunt_choices.specs.defs.Paths.{IsTrailOf};
+ghost use Rattle.shunt_choices.specs.defs.Choices.{IsChoice, IsChoiceAt, longer_by};
+ghost use Rattle.shunt_choices.specs.defs.Paths.{IsTrailOf, next_of};
 ghost use Rattle.shunt_proof.specs.defs.Nodes.{FitsChoice};
 ghost use Rattle.shunt_proof.specs.defs.Trees.{choice_at, choice_from};
+ghost use Rattle.shunt_checker.specs.defs.Children.{said};
 
 use crate::holding::is_free;
-use crate::offer::Offer;
+use crate::offer::{Offer, block_in};
+use shunt_blocks::laws::few_blocks;
 use shunt_blocks::{Shape, are_runs_within, is_option};
 use shunt_choices::{Covered, Path};
 use shunt_instance::Instance;
@@ -48,6 +50,50 @@ fn is_choice(instance: &Instance, covered: &Covered, u: usize, offer: Offer) -> 
         return false;
     }
     is_option(instance, offer.shape, offer.park)
+}
+
+/// What a node says of a shape with an option.
+pub(crate) fn stated_in(offer: Offer) -> Choice
+    ensures { result ≡ said offer }
+{
+    Choice {
+        n: offer.shape.n,
+        dep: offer.shape.dep,
+        q: offer.shape.q,
+        park: offer.park,
+    }
+}
+
+/// Adds the block of a choice for the next unit of a path.
+pub(crate) fn push_offer(instance: &Instance, path: &mut Path, u: usize, offer: Offer)
+    requires path { IsTrailOf instance.now path.old }
+    requires next { next_of path.old.covered ≡ Some u }
+    requires there { IsChoice instance.now path.old.covered u offer }
+    ensures blocks { path.new.blocks ≡ longer_by path.old.blocks offer }
+    ensures of { IsTrailOf instance.now path.new }
+    ensures pins { path.new.pins ≡ path.old.pins }
+{
+    // There are at most 160 units, and blocks that share nothing are no more.
+    instance.units();
+    few_blocks();
+    let id = path.blocks().len() as u32 + 1;
+    let block = block_in(id, offer);
+    path.push(instance, block);
+}
+
+/// Adds the block of a choice that a node states, which is one at the path.
+pub(crate) fn push_choice(instance: &Instance, path: &mut Path, choice: Choice)
+    requires path { IsTrailOf instance.now path.old }
+    requires there { IsChoiceAt instance.now path.old.blocks (choice_from instance.now path.old.blocks choice) }
+    ensures blocks { path.new.blocks ≡ longer_by path.old.blocks (choice_from instance.now path.old.blocks choice) }
+    ensures of { IsTrailOf instance.now path.new }
+    ensures pins { path.new.pins ≡ path.old.pins }
+{
+    let Some(u) = path.next_unit() else {
+        unreachable!();
+    };
+    let offer = offer_at(instance, u, choice);
+    push_offer(instance, path, u, offer);
 }
 
 /// Whether what a node states is a choice at a path.

@@ -4,17 +4,18 @@ use Rattle.shunt_base.specs.declared.ids.Side.{Side}
 use Rattle.shunt_base.specs.declared.ids.TrackId.{TrackId}
 use Rattle.shunt_base.specs.declared.duals.Price.{Price}
 use Rattle.shunt_base.specs.declared.duals.Case.{Case}
-use Rattle.shunt_instance.specs.defs.Instance.{Night, unit_at}
+use Rattle.shunt_instance.specs.defs.Instance.{Night}
 use Rattle.shunt_blocks.specs.declared.records.Shape.{Shape}
 use Rattle.shunt_blocks.specs.declared.records.Park.{Park}
-use Rattle.shunt_blocks.specs.defs.Shapes.{unit_from, IsPair}
+use Rattle.shunt_blocks.specs.defs.Shapes.{IsPair}
 use Rattle.shunt_blocks.specs.defs.Blocks.{IsOption, IsParkable}
 use Rattle.shunt_blocks.specs.defs.Costs.{cost_with}
 use Rattle.shunt_blocks.specs.defs.Standing.{shape_length}
 use Rattle.shunt_choices.specs.defs.Paths.{Masks}
-use Rattle.shunt_choices.specs.defs.Choices.{Choice as PathChoice, IsFreeShape}
+use Rattle.shunt_choices.specs.defs.Choices.{Choice as PathChoice}
 use Rattle.shunt_prices.specs.defs.Prices.{track_length, price_part_with}
 use Rattle.shunt_prices.specs.defs.Cases.{HasRoom, weight_with, duals_over}
+use Rattle.shunt_checker.specs.defs.Searches.{IsOneOfShape, IsFreeOne}
 
 -- a shape can be parked so, and weighs less than a sum where the prices on the track come to a part
 pub record IsLightPark (night : Night) (s : Shape) (sum : ℤ) (part : ℕ) (k : Park) : Type 0 where
@@ -46,38 +47,12 @@ pub record IsLight (night : Night) (case : Case) (c : PathChoice) : Type 0 where
   pub light : weight_with night case c.shape c.option <ℤ duals_over night case.duals c.shape
 
 -- the same of one shape
-pub record IsLightShape (night : Night) (case : Case) (s : Shape) (c : PathChoice) : Type 0 where
-  pub same : c.shape ≡ s
-  pub light : IsLight night case c
+abbrev pub IsLightShape : Night → Case → Shape → PathChoice → Type 0
+IsLightShape night case s = IsOneOfShape (IsLight night case) s
 
 -- the same of a free shape
-pub record IsFreeLight (night : Night) (covered : Masks) (case : Case) (c : PathChoice) : Type 0 where
-  pub shape : IsFreeShape night covered (unit_from night c.shape) c.shape
-  pub light : IsLight night case c
-
--- the same of those that begin at a unit
-pub record IsLightAt (night : Night) (covered : Masks) (case : Case) (u : ℕ) (c : PathChoice) : Type 0 where
-  pub free : IsFreeLight night covered case c
-  pub unit : unit_from night c.shape ≡ u
-
--- the same of those with so many units
-pub record IsLightOf (night : Night) (covered : Masks) (case : Case) (u n : ℕ) (c : PathChoice) : Type 0 where
-  pub at : IsLightAt night covered case u c
-  pub units : c.shape.n ≡ n
-
--- the same of those that go with a departing train
-pub record IsLightWith (night : Night) (covered : Masks) (case : Case) (u n dep : ℕ) (c : PathChoice) : Type 0 where
-  pub of : IsLightOf night covered case u n c
-  pub train : c.shape.dep.0 ≡ dep
-
--- the same of those from a place in it on
-pub record IsLightFrom (night : Night) (covered : Masks) (case : Case) (u n dep q : ℕ) (c : PathChoice) : Type 0 where
-  pub with : IsLightWith night covered case u n dep c
-  pub place : c.shape.q ≡ q
-
--- the shape of so many units from a unit on that goes with a departing train from a place on
-abbrev pub shape_from : Night → ℕ → ℕ → ℕ → ℕ → Shape
-shape_from night u n dep q = record { arr = (unit_at night u).train; p = (unit_at night u).place; n = n; dep = record { 0 = dep }; q = q }
+abbrev pub IsFreeLight : Night → Masks → Case → PathChoice → Type 0
+IsFreeLight night covered case = IsFreeOne night covered (IsLight night case)
 
 -- neither is covered, and they are matchable
 pub record IsFreePair (night : Night) (covered : Masks) (u v : ℕ) : Type 0 where

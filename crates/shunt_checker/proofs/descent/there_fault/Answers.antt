@@ -1,0 +1,26 @@
+use Rattle.shunt_checker.proofs.Placed.{not_there, leads, not_through, all_there}
+use Rattle.shunt_checker.proofs.descent.there_fault.Goals as goal
+
+pub returns-then-not-there-clause-found : goal.returns-then-not-there-clause-found
+returns-then-not-there-clause-found c =
+    let night = c.args.instance.now in
+    not_there night c.args.certificate.now c.args.k c.args.choice c.requires.choice (λ start. c.parents.ensures.path night start c.args.certificate.now.nodes c.args.k c.requires.nodes c.requires.some c.requires.there) c.args.path.now.blocks
+    c.is_there-there.result c.is_there-there.ensures c.if-not-there.true
+
+pub returns-then-not-through-clause-found : goal.returns-then-not-through-clause-found
+returns-then-not-through-clause-found c =
+    let night = c.args.instance.now in
+    not_through night c.args.certificate.now c.args.k c.args.choice c.requires.choice (λ start. c.parents.ensures.path night start c.args.certificate.now.nodes c.args.k c.requires.nodes c.requires.some c.requires.there) c.args.path.now.blocks
+    c.is_there-there.result c.is_there-there.ensures c.push_choice.new.path.blocks c.push_choice.ensures.blocks c.in_ok-through.through c.in_ok-through.ensures c.if-not-through.true
+
+pub returns-clause-found : goal.returns-clause-found
+returns-clause-found c =
+    let night = c.args.instance.now in
+    all_there night c.args.certificate.now c.args.k c.args.choice c.requires.choice (λ start. c.parents.ensures.path night start c.args.certificate.now.nodes c.args.k c.requires.nodes c.requires.some c.requires.there) c.args.path.now.blocks
+    c.is_there-there.result c.is_there-there.ensures c.push_choice.new.path.blocks c.push_choice.ensures.blocks c.in_ok-through.through c.in_ok-through.ensures c.if-not-there.false c.if-not-through.false
+
+pub returns-clause-leads : goal.returns-clause-leads
+returns-clause-leads c =
+    let night = c.args.instance.now in
+    leads night c.args.certificate.now c.args.k c.args.choice c.requires.choice (λ start. c.parents.ensures.path night start c.args.certificate.now.nodes c.args.k c.requires.nodes c.requires.some c.requires.there) c.args.path.now.blocks
+    c.is_there-there.result c.is_there-there.ensures c.push_choice.new.path.blocks c.push_choice.ensures.blocks c.in_ok-through.through c.in_ok-through.ensures

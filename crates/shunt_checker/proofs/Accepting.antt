@@ -98,7 +98,7 @@ module _ (night : Night) (there_is : (path : List Block) (cases : List Case) →
     once = λ j before below same. sound Twice (reason.ChildTwice choice) (choice, is, record { twin = j; before = before; below = below; same = same }, refl);
   }
 
-  unbroken : (node_at c.nodes k).kind ≢ Whole → CasesHold night path cases
+  pub unbroken : (node_at c.nodes k).kind ≢ Whole → CasesHold night path cases
   unbroken other = All-from_get_or (HoldsInCase night (masks_of night path)) cases _ (λ m lt. record {
     holds = λ s park free room. by_lt_z (weight_with night (case_at cases m) s park) (duals_over night (case_at cases m).duals s)
         (λ light. absurd (sound (Broken m (record { shape = s; option = park })) _ (other, record { case = lt; free = free; room = room; light = light }, refl)))

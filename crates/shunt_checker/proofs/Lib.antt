@@ -21,6 +21,9 @@ mod Judging
 mod Adding
 mod Branching
 mod Placed
+mod Walking
+mod Answering
+mod Singles
 mod Breaking
 mod Siblings
 mod Stable

@@ -12,3 +12,4 @@ pub mod Children
 pub mod Lows
 pub mod Misses
 pub mod NodeSteps
+pub mod Walks

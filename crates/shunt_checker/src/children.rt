@@ -12,7 +12,7 @@ use shunt_proof::laws::children;
 use shunt_proof::{Choice, Node};
 
 /// How many nodes stand above the node with a number.
-fn depth_of(nodes: &[Node], k: usize) -> u16
+pub(crate) fn depth_of(nodes: &[Node], k: usize) -> u16
     requires { k < length nodes.now }
     ensures exact { result ≡ depth_at nodes.now k }
     ensures small { result ≤ 255 }

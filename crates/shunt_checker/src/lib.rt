@@ -3,6 +3,7 @@
 
 mod bounding;
 mod cases;
+mod checking;
 mod children;
 mod descent;
 mod gains;
@@ -11,6 +12,7 @@ pub mod laws;
 mod missing;
 mod nodes;
 mod offer;
+mod opening;
 mod placing;
 mod planning;
 mod pricing;
@@ -18,5 +20,7 @@ mod rows;
 mod running;
 mod seeking;
 mod verdict;
+mod walk;
 
+pub use checking::{check, check_pinned};
 pub use verdict::{PlanFault, Reason, Verdict};

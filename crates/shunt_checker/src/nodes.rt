@@ -48,6 +48,17 @@ pub(crate) fn kind_of(certificate: &Certificate, k: usize) -> NodeKind
     kind_at(certificate.nodes.as_slice(), k)
 }
 
+/// Whether a kind is that of whole paths.
+pub(crate) fn is_whole(kind: NodeKind) -> bool
+    ensures { IsTrue result ↔ (kind ≡ shows.Whole) }
+{
+    match kind {
+        NodeKind::Whole => true,
+        NodeKind::Leaf => false,
+        NodeKind::Branch => false,
+    }
+}
+
 /// Whether a node's kind isn't that of a path with this next unit.
 fn is_other_kind(kind: NodeKind, next: Option<usize>) -> bool
     ensures { IsTrue result ↔ IsOtherKind kind next }
@@ -186,7 +197,7 @@ pub(crate) fn path_cost(instance: &Instance, path: &Path) -> u64
 }
 
 /// What is wrong with a whole path of a certificate, but for its kind.
-fn whole_fault(
+pub(crate) fn whole_fault(
     instance: &Instance,
     certificate: &Certificate,
     k: usize,
@@ -293,7 +304,7 @@ fn branch_fault(
 }
 
 /// What is wrong with a leaf or a branch, but for its kind. Where something is, the path may be longer by a block.
-fn shown_fault(
+pub(crate) fn shown_fault(
     alloc: Global,
     instance: &Instance,
     certificate: &Certificate,

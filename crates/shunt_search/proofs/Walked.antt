@@ -102,14 +102,14 @@ module _ (night : Night) (start : List Block) (cases : List Case) (nodes : List 
     cheap = W.cheap;
   }
 
-pub passes_on : (night : Night) (start : List Block) (cases : List Case) (nodes : List Node) (path : List Block) (todo left : List Child) (best : ℕ) → IsWalk night start cases nodes path todo best → Passes best todo left → IsWalk night start cases nodes path left best
-passes_on night start cases nodes path todo left best W p = walk_left night start cases nodes path left p.passed best (subst (λ (l : List Child). IsWalk night start cases nodes path l best) p.parts W) p.closed
+pub passes_on : (night : Night) (start : List Block) (cases : List Case) (nodes : List Node) (path : List Block) (waiting left : List Child) (best : ℕ) → IsWalk night start cases nodes path waiting best → Passes best waiting left → IsWalk night start cases nodes path left best
+passes_on night start cases nodes path waiting left best W p = walk_left night start cases nodes path left p.passed best (subst (λ (l : List Child). IsWalk night start cases nodes path l best) p.parts W) p.closed
 
-pub ends_right : (night : Night) (start : List Block) (cases : List Case) (nodes : List Node) (path : List Block) (todo : List Child) (best : ℕ) (M : ℤ) → IsWalk night start cases nodes path todo best → M ≤ℤ pos best → ((t : Child) → In t todo → M ≤ℤ t.bound) → AreRight night start nodes M
-ends_right night start cases nodes path todo best M W le closed k lt = record {
+pub ends_right : (night : Night) (start : List Block) (cases : List Case) (nodes : List Node) (path : List Block) (waiting : List Child) (best : ℕ) (M : ℤ) → IsWalk night start cases nodes path waiting best → M ≤ℤ pos best → ((t : Child) → In t waiting → M ≤ℤ t.bound) → AreRight night start nodes M
+ends_right night start cases nodes path waiting best M W le closed k lt = record {
   placed = λ some. W.placed k some lt;
   shows = shows_turn night (path_at night start nodes k) (duals_at nodes k) (node_at nodes k).kind (IsKnown night start nodes path [] k) (IsListed night start nodes k) M M (omega (arith, ints))
-      (λ branch c known. inr (only_listed c known)) (shows_less night start cases nodes path [] todo best W M le closed k lt);
+      (λ branch c known. inr (only_listed c known)) (shows_less night start cases nodes path [] waiting best W M le closed k lt);
 }
   where
     only_listed : (c : PathChoice) → IsKnown night start nodes path [] k c → IsListed night start nodes k c
@@ -134,33 +134,33 @@ passes_to best old now left p e = subst (λ (l : List Child). Passes best old l)
 -- ---- the least of what is left
 
 -- the least of a cost and of the bounds of the first n children
-pub record IsLeastOf (best : ℕ) (todo : List Child) (n : ℕ) (low : ℤ) : Type 0 where
+pub record IsLeastOf (best : ℕ) (waiting : List Child) (n : ℕ) (low : ℤ) : Type 0 where
   pub within : low ≤ℤ pos best
-  pub left : (k : ℕ) (d : Child) → k < n → k < length todo → low ≤ℤ (get_or todo k d).bound
-  pub one : (low ≡ pos best) ⊎ ((t : Child) × In t todo × (low ≡ t.bound))
+  pub left : (k : ℕ) (d : Child) → k < n → k < length waiting → low ≤ℤ (get_or waiting k d).bound
+  pub one : (low ≡ pos best) ⊎ ((t : Child) × In t waiting × (low ≡ t.bound))
 
-pub least_first : (best : ℕ) (todo : List Child) → IsLeastOf best todo 0 (pos best)
-least_first best todo = record { within = omega (arith, ints); left = λ k d lt within. absurd (omega (arith, lt)); one = inl refl }
+pub least_first : (best : ℕ) (waiting : List Child) → IsLeastOf best waiting 0 (pos best)
+least_first best waiting = record { within = omega (arith, ints); left = λ k d lt within. absurd (omega (arith, lt)); one = inl refl }
 
-pub least_next : (best : ℕ) (todo : List Child) (n : ℕ) (d : Child) (low now : ℤ) → n < length todo → now ≤ℤ low → now ≤ℤ (get_or todo n d).bound → (now ≡ low) ⊎ (now ≡ (get_or todo n d).bound) → IsLeastOf best todo n low → IsLeastOf best todo (n + 1) now
-least_next best todo n d low now lt first second which h = record {
+pub least_next : (best : ℕ) (waiting : List Child) (n : ℕ) (d : Child) (low now : ℤ) → n < length waiting → now ≤ℤ low → now ≤ℤ (get_or waiting n d).bound → (now ≡ low) ⊎ (now ≡ (get_or waiting n d).bound) → IsLeastOf best waiting n low → IsLeastOf best waiting (n + 1) now
+least_next best waiting n d low now lt first second which h = record {
   within = let w = h.within in omega (arith, ints, w, first);
   left = λ k e below within. ⊎_elim
       (λ before. let w = h.left k e before within in omega (arith, ints, w, first))
       (λ past.
       let is : n ≡ k = omega (arith, past, below) in
-      let at : get_or todo n e ≡ get_or todo n d = get_or_default todo n e d lt in
-      subst (λ m. now ≤ℤ (get_or todo m e).bound) is (subst (λ (x : Child). now ≤ℤ x.bound) (sym at) second))
+      let at : get_or waiting n e ≡ get_or waiting n d = get_or_default waiting n e d lt in
+      subst (λ m. now ≤ℤ (get_or waiting m e).bound) is (subst (λ (x : Child). now ≤ℤ x.bound) (sym at) second))
       (cases_lt k n);
   one = ⊎_elim
       (λ same. ⊎_elim (λ best_is. inl (same ∙ best_is)) (λ found. inr (found.0, found.1, same ∙ found.2)) h.one)
-      (λ same. inr (get_or todo n d, in_place todo n d lt, same))
+      (λ same. inr (get_or waiting n d, in_place waiting n d lt, same))
       which;
 }
 
-pub least_all : (best : ℕ) (todo : List Child) (n : ℕ) (low : ℤ) → length todo ≤ n → IsLeastOf best todo n low → (t : Child) → In t todo → low ≤ℤ t.bound
-least_all best todo n low all h t i =
-    let at = place_of todo t t i in
+pub least_all : (best : ℕ) (waiting : List Child) (n : ℕ) (low : ℤ) → length waiting ≤ n → IsLeastOf best waiting n low → (t : Child) → In t waiting → low ≤ℤ t.bound
+least_all best waiting n low all h t i =
+    let at = place_of waiting t t i in
     let lt = at.1 in
     subst (λ (x : Child). low ≤ℤ x.bound) at.2 (h.left at.0 t (omega (arith, lt, all)) lt)
 

@@ -39,16 +39,16 @@ fn add_children(
     cases: &Cases,
     best: u64,
     yard: &mut Yard,
-    todo: &mut Vec<Child>,
+    waiting: &mut Vec<Child>,
 ) -> Result<(), AllocError>
     requires yard { IsYard instance.now yard.old }
     requires cases { AreCases instance.now cases.now }
     requires best { best ≤ 1000000000000 }
-    ensures children { OnOk result (AddsChildren instance.now cases.now best yard.old.path.blocks todo.old.items todo.new.items) }
+    ensures children { OnOk result (AddsChildren instance.now cases.now best yard.old.path.blocks waiting.old.items waiting.new.items) }
     ensures same { yard.new ≡ yard.old }
 {
     let mut children = plan_children(alloc, instance, yard, cases, best)?;
-    todo.append(&mut children)?;
+    waiting.append(&mut children)?;
     Ok(())
 }
 
@@ -61,7 +61,7 @@ pub(crate) fn visit<R: Recorder>(
     best: u64,
     next: &Child,
     yard: &mut Yard,
-    todo: &mut Vec<Child>,
+    waiting: &mut Vec<Child>,
     recorder: &mut R,
 ) -> Result<bool, SolveError>
     requires yard { IsYard instance.now yard.old }
@@ -78,7 +78,7 @@ pub(crate) fn visit<R: Recorder>(
     ensures path { yard.new.path.blocks ≡ goal_of yard.old.path.blocks next.now }
     ensures pins { yard.new.path.pins ≡ yard.old.path.pins }
     ensures yard { IsYard instance.now yard.new }
-    ensures visited { IfOk result (λ whole. IsVisited instance.now cases.now best (goal_of yard.old.path.blocks next.now) whole todo.old.items todo.new.items) }
+    ensures visited { IfOk result (λ whole. IsVisited instance.now cases.now best (goal_of yard.old.path.blocks next.now) whole waiting.old.items waiting.new.items) }
     ensures told { IfOk result (λ whole. BothTold (R.told recorder.old) (R.told recorder.new) (λ old new. new ≡ old ++ node_below yard.old.path.pins next.now.block whole ∷ [])) }
     ensures number { OnOk result (R.number recorder.new ≡ R.number recorder.old + 1) }
     ensures cases { OnOk result (R.cases recorder.new ≡ R.cases recorder.old) }
@@ -99,6 +99,6 @@ pub(crate) fn visit<R: Recorder>(
     if whole {
         return Ok(true);
     }
-    add_children(alloc, instance, cases, best, yard, todo)?;
+    add_children(alloc, instance, cases, best, yard, waiting)?;
     Ok(false)
 }

@@ -50,10 +50,10 @@ pub(crate) fn walks_go_on()
         IsWalk night start cases nodes path (left ++ t ∷ []) best → (length start ≤ kept t) × (kept t ≤ length path) × IsNextBlock night (take (kept t) path) t.block }
     ensures hold { (night : Night) (start : List OneBlock) (cases : List OneCase) (nodes : List OneNode) (path : List OneBlock) (left : List OneChild) (t : OneChild) (best : ℕ) →
         IsWalk night start cases nodes path (left ++ t ∷ []) best → CasesHold night (goal_of path t) cases }
-    ensures closed { (night : Night) (start : List OneBlock) (cases : List OneCase) (nodes : List OneNode) (path : List OneBlock) (todo left : List OneChild) (best : ℕ) →
-        IsWalk night start cases nodes path todo best → Passes best todo left → IsWalk night start cases nodes path left best }
-    ensures right { (night : Night) (start : List OneBlock) (cases : List OneCase) (nodes : List OneNode) (path : List OneBlock) (todo : List OneChild) (best : ℕ) (bound : ℤ) →
-        IsWalk night start cases nodes path todo best → bound ≤ℤ pos best → ((t : OneChild) → In t todo → bound ≤ℤ t.bound) → AreRight night start nodes bound }
+    ensures closed { (night : Night) (start : List OneBlock) (cases : List OneCase) (nodes : List OneNode) (path : List OneBlock) (waiting left : List OneChild) (best : ℕ) →
+        IsWalk night start cases nodes path waiting best → Passes best waiting left → IsWalk night start cases nodes path left best }
+    ensures right { (night : Night) (start : List OneBlock) (cases : List OneCase) (nodes : List OneNode) (path : List OneBlock) (waiting : List OneChild) (best : ℕ) (bound : ℤ) →
+        IsWalk night start cases nodes path waiting best → bound ≤ℤ pos best → ((t : OneChild) → In t waiting → bound ≤ℤ t.bound) → AreRight night start nodes bound }
 {
     few_blocks();
     choices();
@@ -62,13 +62,13 @@ pub(crate) fn walks_go_on()
 }
 
 /// The next child whose bound is below the best cost; those behind it are closed.
-pub(crate) fn next_open(todo: &mut Vec<Child>, best: u64) -> Option<Child>
+pub(crate) fn next_open(waiting: &mut Vec<Child>, best: u64) -> Option<Child>
     requires { best ≤ 1000000000000 }
-    ensures some { IfSome result (λ t. Passes best todo.old.items (todo.new.items ++ t ∷ [])) }
+    ensures some { IfSome result (λ t. Passes best waiting.old.items (waiting.new.items ++ t ∷ [])) }
     ensures below { IfSome result (λ t. t.bound <ℤ pos best) }
-    ensures none { IfNone result (Passes best todo.old.items []) }
+    ensures none { IfNone result (Passes best waiting.old.items []) }
 {
-    'closed: while let Some(next) = todo.pop() {
+    'closed: while let Some(next) = waiting.pop() {
         if next.bound < best as i64 {
             return Some(next);
         }
@@ -87,14 +87,14 @@ fn lesser(bound: i64, child: &Child) -> i64
 }
 
 /// The least of the best cost and the bounds of the children that are left.
-pub(crate) fn give_up(todo: &[Child], best: u64) -> i64
+pub(crate) fn give_up(waiting: &[Child], best: u64) -> i64
     requires { best ≤ 1000000000000 }
     ensures within { result ≤ℤ pos best }
-    ensures left { (t : OneChild) → In t todo.now → result ≤ℤ t.bound }
-    ensures least { (result ≡ pos best) ⊎ ((t : OneChild) × In t todo.now × (result ≡ t.bound)) }
+    ensures left { (t : OneChild) → In t waiting.now → result ≤ℤ t.bound }
+    ensures least { (result ≡ pos best) ⊎ ((t : OneChild) × In t waiting.now × (result ≡ t.bound)) }
 {
     let mut low = best as i64;
-    for t in todo {
+    for t in waiting {
         low = lesser(low, t);
     }
     low

@@ -48,23 +48,23 @@ IsApart t s = (kept t ≤ kept s) × (kept t ≡ kept s → choice_of t.block �
 
 -- a node lists the choice, or a child with that path is still to be walked to
 abbrev pub IsKnown : Night → List Block → List Node → List Block → List Child → ℕ → PathChoice → Type 0
-IsKnown night start nodes path todo k c = IsListed night start nodes k c ⊎ ((t : Child) × In t todo × (goal_of path t ≡ longer_by (path_at night start nodes k) c))
+IsKnown night start nodes path waiting k c = IsListed night start nodes k c ⊎ ((t : Child) × In t waiting × (goal_of path t ≡ longer_by (path_at night start nodes k) c))
 
 -- a branch with these cases, or a whole path
 abbrev pub IsWalked : List Case → List Node → ℕ → Type 0
 IsWalked cases nodes k = (((node_at nodes k).kind ≡ Branch) × (duals_at nodes k ≡ cases)) ⊎ ((node_at nodes k).kind ≡ Whole)
 
 -- the nodes show the best cost, but for the children that are still to be walked to, the next one at the end; the last node has this path
-pub record IsWalk (night : Night) (start : List Block) (cases : List Case) (nodes : List Node) (path : List Block) (todo : List Child) (best : ℕ) : Type 0 where
+pub record IsWalk (night : Night) (start : List Block) (cases : List Case) (nodes : List Node) (path : List Block) (waiting : List Child) (best : ℕ) : Type 0 where
   pub formed : AreNodes night nodes
   pub some : 1 ≤ length nodes
   pub here : path ≡ path_at night start nodes (length nodes - 1)
   pub kinds : (k : ℕ) → k < length nodes → IsWalked cases nodes k
   pub placed : (k : ℕ) → 1 ≤ k → k < length nodes → IsPlaced night start nodes k
   pub lean : AreLean night start nodes
-  pub pending : (t : Child) → In t todo → IsPending night start cases nodes path t
-  pub apart : AllPairs IsApart todo
-  pub shows : (k : ℕ) → k < length nodes → Shows night (path_at night start nodes k) (duals_at nodes k) (node_at nodes k).kind (IsKnown night start nodes path todo k) (pos best)
+  pub pending : (t : Child) → In t waiting → IsPending night start cases nodes path t
+  pub apart : AllPairs IsApart waiting
+  pub shows : (k : ℕ) → k < length nodes → Shows night (path_at night start nodes k) (duals_at nodes k) (node_at nodes k).kind (IsKnown night start nodes path waiting k) (pos best)
   pub cheap : best ≤ best_before night start nodes (length nodes)
 
 -- all but these are at the end, and their bounds aren't below a cost

@@ -24,6 +24,6 @@ returns c =
       next = λ night start cases nodes path left t best walk.
           (keeps_start night start cases nodes path left t best walk, keeps_within night start cases nodes path left t best walk, is_next night start cases nodes path left t best walk);
       hold = λ night start cases nodes path left t best walk. cases_hold night start cases nodes path left t best walk c.longer_paths.ensures.hold;
-      closed = λ night start cases nodes path todo left best walk passes. passes_on night start cases nodes path todo left best walk passes;
-      right = λ night start cases nodes path todo best bound walk within left. ends_right night start cases nodes path todo best bound walk within left;
+      closed = λ night start cases nodes path waiting left best walk passes. passes_on night start cases nodes path waiting left best walk passes;
+      right = λ night start cases nodes path waiting best bound walk within left. ends_right night start cases nodes path waiting best bound walk within left;
     }

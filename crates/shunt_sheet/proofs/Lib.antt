@@ -1,0 +1,13 @@
+mod Tests
+mod Tables
+mod Parts
+mod Formed
+mod RoundTrip
+mod Lengths
+mod Sorting
+mod Halved
+mod Plans
+mod Ends
+mod Turns
+mod Runs
+mod Stops

@@ -1,0 +1,7 @@
+-- The definitions of this crate.
+pub mod Orders
+pub mod Dues
+pub mod SheetFormat
+pub mod SheetRows
+pub mod Tracks
+pub mod Following

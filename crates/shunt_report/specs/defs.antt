@@ -2,3 +2,4 @@
 pub mod Texts
 pub mod FindingTexts
 pub mod TurnTexts
+pub mod VerdictTexts

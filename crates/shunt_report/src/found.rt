@@ -10,7 +10,7 @@ use shunt_audit::types::Finding;
 use shunt_instance::Instance;
 use std::alloc::{AllocError, Global};
 
-fn push_unit(text: &mut Text, instance: &Instance, u: u16) -> Result<(), AllocError>
+pub(crate) fn push_unit(text: &mut Text, instance: &Instance, u: u16) -> Result<(), AllocError>
     requires { u < unit_total instance.now }
     ensures { OnOk result (text.new ≡ text.old ++ unit_place instance.now u) }
 {
@@ -18,7 +18,7 @@ fn push_unit(text: &mut Text, instance: &Instance, u: u16) -> Result<(), AllocEr
     push_train(text, instance.arrive(unit.train), unit.place)
 }
 
-fn push_position(text: &mut Text, instance: &Instance, v: u16) -> Result<(), AllocError>
+pub(crate) fn push_position(text: &mut Text, instance: &Instance, v: u16) -> Result<(), AllocError>
     requires { v < position_total instance.now }
     ensures { OnOk result (text.new ≡ text.old ++ position_place instance.now v) }
 {
@@ -26,7 +26,7 @@ fn push_position(text: &mut Text, instance: &Instance, v: u16) -> Result<(), All
     push_train(text, instance.depart(position.train), position.place)
 }
 
-fn push_two(text: &mut Text, first: u64, second: u64) -> Result<(), AllocError>
+pub(crate) fn push_two(text: &mut Text, first: u64, second: u64) -> Result<(), AllocError>
     ensures { OnOk result (text.new ≡ text.old ++ two_numbers first second) }
 {
     text.push_number(first)?;

@@ -1,5 +1,6 @@
 // A text that is put together piece by piece.
 ghost use Rattle.std.specs.Prelude.{◌≡◌, [], ◌++◌, OnOk, decimal};
+ghost use Rattle.std.specs.Fmt.{signed_decimal};
 ghost use Rattle.shunt_base.specs.defs.Spelling.{minute_text};
 
 use itoa::Buffer;
@@ -40,6 +41,16 @@ impl Text {
     /// Appends a number in plain decimals.
     pub fn push_number(&mut self, number: u64) -> Result<(), AllocError>
         ensures { OnOk result (self.new ≡ self.old ++ decimal number) }
+    {
+        let mut digits = Buffer::new();
+        self.bytes
+            .extend_from_slice(digits.format(number).as_bytes())?;
+        Ok(())
+    }
+
+    /// Appends a number that may be below 0 in plain decimals.
+    pub fn push_signed(&mut self, number: i64) -> Result<(), AllocError>
+        ensures { OnOk result (self.new ≡ self.old ++ signed_decimal number) }
     {
         let mut digits = Buffer::new();
         self.bytes

@@ -3,3 +3,6 @@ pub mod Texts
 pub mod FindingTexts
 pub mod TurnTexts
 pub mod VerdictTexts
+pub mod MoveTexts
+pub mod ZonesTexts
+pub mod DriversTexts

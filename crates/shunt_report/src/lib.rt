@@ -1,16 +1,21 @@
 //! Every text that the program prints.
 #![tactic(auto)]
 
+mod drivers;
 mod found;
 pub mod laws;
 mod matched;
+mod moves;
 mod text;
 mod turns;
 mod verdicts;
 mod words;
+mod zones;
 
+pub use drivers::{roster_text, sharing_text};
 pub use found::findings_text;
 pub use matched::{pairs_text, shortage_text};
 pub use turns::{Outcome, turn_text};
 pub use verdicts::verdict_text;
 pub use words::{FileWord, input_text};
+pub use zones::zones_text;

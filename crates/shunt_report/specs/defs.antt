@@ -6,3 +6,4 @@ pub mod VerdictTexts
 pub mod MoveTexts
 pub mod ZonesTexts
 pub mod DriversTexts
+pub mod PlanTexts

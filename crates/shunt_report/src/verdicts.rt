@@ -176,7 +176,7 @@ fn push_reason(text: &mut Text, instance: &Instance, reason: Reason) -> Result<(
     }
 }
 
-fn end_word(cost: u64, bound: u64) -> &'static [u8]
+pub(crate) fn end_word(cost: u64, bound: u64) -> &'static [u8]
     ensures { result.now ≡ end_word cost bound }
 {
     if bound == cost {

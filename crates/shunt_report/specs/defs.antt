@@ -7,3 +7,4 @@ pub mod MoveTexts
 pub mod ZonesTexts
 pub mod DriversTexts
 pub mod PlanTexts
+pub mod SheetTexts

@@ -14,7 +14,7 @@ use Rattle.shunt_checker.specs.defs.NodeFaults.{EarlierChoice}
 use Rattle.shunt_checker.proofs.Opened.{got}
 
 module _ (night : Night) (covered : Masks) (cases : List Case) (k : ℕ) (case : Case) (is : slice_get cases k ≡ Some case) (there : k < length cases) where
-  its_light : (b : Break) → IsBreakIn night covered cases k b → IsFreeLight night covered case b.offer
+  pub its_light : (b : Break) → IsBreakIn night covered cases k b → IsFreeLight night covered case b.offer
   its_light b h = subst (λ (c : Case). IsFreeLight night covered c b.offer) (got cases k case is) (subst (λ (m : ℕ). IsFreeLight night covered (case_at cases m) b.offer) h.of_case h.is.light)
 
   pub none_in : (r : Option PathChoice) → r ≡ None → Finds (IsFreeLight night covered case) (EarlierChoice night) r → Finds (IsBreakIn night covered cases k) (BreakBefore night) None

@@ -13,7 +13,7 @@ use Rattle.shunt_blocks.specs.defs.Lists.{total_cost}
 use Rattle.shunt_choices.specs.defs.Paths.{Masks, masks_of, next_of}
 use Rattle.shunt_choices.specs.defs.Choices.{Choice as PathChoice, chosen}
 use Rattle.shunt_prices.specs.defs.Limits.{case_at}
-use Rattle.shunt_prices.specs.defs.Cases.{HoldsInCase, CasesHold, weight, weight_with, duals_over}
+use Rattle.shunt_prices.specs.defs.Cases.{weight, weight_with, duals_over}
 use Rattle.shunt_prices.specs.defs.Bounds.{IsCasesBound}
 use Rattle.shunt_proof.specs.declared.records.NodeKind.{NodeKind}
 use Rattle.shunt_proof.specs.declared.records.NodeKind.TheVariants.{Branch, Leaf, Whole}
@@ -102,16 +102,6 @@ module _ (night : Night) (c : Certificate) (k : ℕ) (path : List Block) where
 
     there : (start : List Block) → path ≡ path_at night start c.nodes k → (m : ℕ) (d : PathChoice) → IsBroken night path cases m d → IsBroken night (path_at night start c.nodes k) (duals_at c.nodes k) m d
     there start is m d h = subst (λ (cs : List Case). IsBroken night (path_at night start c.nodes k) cs m d) ed (subst (λ (p : List Block). IsBroken night p cases m d) is h)
-
-    not_broken : CasesHold night path cases → (m : ℕ) (d : PathChoice) → IsBroken night path cases m d → ⊥
-    not_broken hold m d h =
-        let in_case : HoldsInCase night (masks_of night path) (case_at cases m) = hold m _ h.case in
-        let le : duals_over night (case_at cases m).duals d.shape ≤ℤ weight_with night (case_at cases m) d.shape d.option = in_case.holds d.shape d.option h.free h.room in
-        let lt : weight_with night (case_at cases m) d.shape d.option <ℤ duals_over night (case_at cases m).duals d.shape = h.light in
-        omega (arith, ints, le, lt)
-
-    pub held : CasesHold night path cases → Judges night c k path 5 6 None
-    held hold = λ start is from. from_next night start c k 5 from (none_broken night start c k (λ kind m d h. not_broken hold m d (here start is m d h)))
 
     module _ (covered : Masks) (ec : covered ≡ masks_of night path) (r : Option Break) (found : Finds (IsBreak night covered cases) (BreakBefore night) r) where
       as_break : (m : ℕ) (d : PathChoice) → IsBroken night path cases m d → IsBreak night covered cases (record { case = m; offer = d })

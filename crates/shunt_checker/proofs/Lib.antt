@@ -22,6 +22,7 @@ mod Adding
 mod Branching
 mod Placed
 mod Walking
+mod Kept
 mod Answering
 mod Singles
 mod Breaking

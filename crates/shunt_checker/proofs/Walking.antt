@@ -159,18 +159,17 @@ module _ (night : Night) (start : List Block) (c : Certificate) (k : ℕ) (front
       let lead : Leads night c k front new.blocks = subst (λ (o : Option Reason). IfNone o (Leads night c k front new.blocks)) e leads in
       record { of = of; path = lead start fe; pins = pins }
 
--- duals that hold at the parent hold at a child that has the same
+-- duals that hold at the parent hold at its child
 pub hold_below : (night : Night) (start : List Block) (c : Certificate) (k above : ℕ) (choice : Choice)
     → ((path : List Block) (b : Block) (cases : List Case) → CasesHold night path cases → CasesHold night (path ++ b ∷ []) cases)
-    → CasesHold night (path_at night start c.nodes above) (duals_at c.nodes above) → duals_at c.nodes k ≡ duals_at c.nodes above
+    → CasesHold night (path_at night start c.nodes above) (duals_at c.nodes above)
     → path_at night start c.nodes k ≡ longer_with night (path_at night start c.nodes above) (node_at c.nodes k).choice → (node_at c.nodes k).choice ≡ Some choice
-    → CasesHold night (path_at night start c.nodes k) (duals_at c.nodes k)
-hold_below night start c k above choice law hold ed ep is =
+    → CasesHold night (path_at night start c.nodes k) (duals_at c.nodes above)
+hold_below night start c k above choice law hold ep is =
     let path = path_at night start c.nodes above in
     let d : PathChoice = choice_from night path choice in
     let step : path_at night start c.nodes k ≡ longer_by path d = ep ∙ ap (λ (o : Option Choice). longer_with night path o) is in
-    subst (λ (cs : List Case). CasesHold night (path_at night start c.nodes k) cs) (sym ed)
-    (subst (λ (p : List Block). CasesHold night p (duals_at c.nodes above)) (sym step) (law path (chosen (length path + 1) d) (duals_at c.nodes above) hold))
+    subst (λ (p : List Block). CasesHold night p (duals_at c.nodes above)) (sym step) (law path (chosen (length path + 1) d) (duals_at c.nodes above) hold)
 
 -- ---- the root
 

@@ -1,11 +1,13 @@
 // In which case and where the duals of a node are the first to break.
-ghost use Rattle.std.specs.Prelude.{◌≡◌, ◌<◌, IfOk, length};
+ghost use Rattle.std.specs.Prelude.{◌≡◌, ◌<◌, IfOk, IfSome, All, length};
 ghost use Rattle.shunt_choices.specs.defs.Free.{AreMasksOf};
 ghost use Rattle.shunt_prices.specs.defs.Limits.{AreCases};
+ghost use Rattle.shunt_prices.specs.defs.Cases.{HoldsInCase};
 ghost use Rattle.shunt_checker.specs.defs.Firsts.{Finds};
 ghost use Rattle.shunt_checker.specs.defs.Breaks.{IsBreak, IsBreakIn, BreakBefore, numbered};
 
 use crate::holding::first_light;
+use crate::known::is_known;
 use crate::offer::Offer;
 use shunt_base::Cases;
 use shunt_choices::Covered;
@@ -43,36 +45,44 @@ fn numbered(case: usize, found: Option<Offer>) -> Option<Break>
     }
 }
 
-/// The first of the case with a number.
+/// The first of the case with a number, which has none where it is among those that are known to hold.
 fn break_in(
     alloc: Global,
     instance: &Instance,
     covered: &Covered,
     cases: &Cases,
     k: usize,
+    known: Option<&Cases>,
 ) -> Result<Option<Break>, AllocError>
     requires covered { AreMasksOf instance.now covered.now }
     requires cases { AreCases instance.now cases.now }
     requires there { k < length cases.now }
+    requires known { IfSome known (λ held. All (HoldsInCase instance.now covered.now) held.now) }
     ensures { IfOk result (Finds (IsBreakIn instance.now covered.now cases.now k) (BreakBefore instance.now)) }
 {
-    let found = first_light(alloc, instance, covered, cases.get(k))?;
+    let case = cases.get(k);
+    if is_known(known, case) {
+        return Ok(None);
+    }
+    let found = first_light(alloc, instance, covered, case)?;
     Ok(numbered(k, found))
 }
 
-/// The first over all cases, in their order.
+/// The first over all cases, in their order. Those that are known to hold aren't tried again.
 pub(crate) fn first_break(
     alloc: Global,
     instance: &Instance,
     covered: &Covered,
     cases: &Cases,
+    known: Option<&Cases>,
 ) -> Result<Option<Break>, AllocError>
     requires covered { AreMasksOf instance.now covered.now }
     requires cases { AreCases instance.now cases.now }
+    requires known { IfSome known (λ held. All (HoldsInCase instance.now covered.now) held.now) }
     ensures { IfOk result (Finds (IsBreak instance.now covered.now cases.now) (BreakBefore instance.now)) }
 {
     for k in 0..cases.len() {
-        if let Some(found) = break_in(alloc, instance, covered, cases, k)? {
+        if let Some(found) = break_in(alloc, instance, covered, cases, k, known)? {
             return Ok(Some(found));
         }
     }

@@ -8,6 +8,7 @@ mod children;
 mod descent;
 mod gains;
 mod holding;
+mod known;
 pub mod laws;
 mod missing;
 mod nodes;

@@ -112,7 +112,7 @@ fn break_reason(instance: &Instance, cases: &Cases, found: &Break) -> Reason
     Reason::DualBroken { block, cost, sum }
 }
 
-/// Whether the duals of a node that isn't whole hold at its path, unless they are known to.
+/// Whether the duals of a node that isn't whole hold at its path. Cases that are known to hold there aren't tried again.
 fn dual_fault(
     alloc: Global,
     instance: &Instance,
@@ -120,20 +120,17 @@ fn dual_fault(
     k: usize,
     path: &Path,
     cases: &Cases,
-    hold: bool,
+    known: Option<&Cases>,
 ) -> Result<Option<Reason>, AllocError>
     requires there { k < length certificate.now.nodes }
     requires path { IsTrailOf instance.now path.now }
     requires kind { (node_at certificate.now.nodes k).kind ≢ shows.Whole }
     requires cases { AreCases instance.now cases.now }
     requires duals { cases.now ≡ duals_at certificate.now.nodes k }
-    requires hold { IsTrue hold → CasesHold instance.now path.now.blocks cases.now }
+    requires known { IfSome known (λ held. CasesHold instance.now path.now.blocks held.now) }
     ensures { IfOk result (Judges instance.now certificate.now k path.now.blocks 5 6) }
 {
-    if hold {
-        return Ok(None);
-    }
-    let broken = first_break(alloc, instance, path.covered(), cases)?;
+    let broken = first_break(alloc, instance, path.covered(), cases, known)?;
     let Some(found) = broken else {
         return Ok(None);
     };
@@ -311,7 +308,7 @@ pub(crate) fn shown_fault(
     k: usize,
     path: &mut Path,
     cases: &Cases,
-    hold: bool,
+    known: Option<&Cases>,
 ) -> Result<Option<Reason>, AllocError>
     requires there { k < length certificate.now.nodes }
     requires nodes { AreNodes instance.now certificate.now.nodes }
@@ -319,12 +316,12 @@ pub(crate) fn shown_fault(
     requires kind { (node_at certificate.now.nodes k).kind ≢ shows.Whole }
     requires cases { AreCases instance.now cases.now }
     requires duals { cases.now ≡ duals_at certificate.now.nodes k }
-    requires hold { IsTrue hold → CasesHold instance.now path.old.blocks cases.now }
+    requires known { IfSome known (λ held. CasesHold instance.now path.old.blocks held.now) }
     requires bound { certificate.now.bound ≤ 1000000000000 }
     ensures found { IfOk result (Judges instance.now certificate.now k path.old.blocks 5 8) }
     ensures kept { IfOk result (λ r. IfNone r (path.new ≡ path.old)) }
 {
-    let broken = dual_fault(alloc, instance, certificate, k, path, cases, hold)?;
+    let broken = dual_fault(alloc, instance, certificate, k, path, cases, known)?;
     if let Some(reason) = broken {
         return Ok(Some(reason));
     }

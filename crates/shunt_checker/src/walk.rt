@@ -1,5 +1,5 @@
 // From node to node of a certificate, with the duals that hold there and the best cost.
-ghost use Rattle.std.specs.Prelude.{◌≡◌, ◌<◌, ◌≤◌, ◌+◌, ◌-◌, ◌↔◌, IsTrue, IfOk, IfNone, List, take, length};
+ghost use Rattle.std.specs.Prelude.{◌≡◌, ◌<◌, ◌≤◌, ◌+◌, ◌-◌, ◌↔◌, IsTrue, IfOk, IfSome, IfNone, List, take, length};
 ghost use Rattle.shunt_blocks.specs.declared.records.Block.{Block as ABlock};
 ghost use Rattle.shunt_blocks.specs.defs.Lists.{total_cost};
 ghost use Rattle.shunt_choices.specs.defs.Paths.{IsTrailOf};
@@ -174,7 +174,8 @@ fn parent_fault(
     )
 }
 
-/// What is wrong with a node at its path, but for its choice and its parent's duals.
+/// What is wrong with a node at its path, but for its choice and its parent's duals. Cases that are known to hold there aren't tried
+/// again.
 fn own_fault(
     alloc: Global,
     instance: &Instance,
@@ -182,13 +183,13 @@ fn own_fault(
     k: usize,
     path: &mut Path,
     owner: usize,
-    hold: bool,
+    known: Option<&Cases>,
 ) -> Result<Option<Reason>, AllocError>
     requires nodes { AreNodes instance.now certificate.now.nodes }
     requires there { k < length certificate.now.nodes }
     requires path { IsTrailOf instance.now path.old }
     requires owner { Owns certificate.now.nodes k owner }
-    requires hold { IsTrue hold → CasesHold instance.now path.old.blocks (duals_at certificate.now.nodes k) }
+    requires known { IfSome known (λ held. CasesHold instance.now path.old.blocks held.now) }
     requires bound { certificate.now.bound ≤ 1000000000000 }
     ensures found { IfOk result (Judges instance.now certificate.now k path.old.blocks 4 8) }
     ensures kept { IfOk result (λ r. IfNone r (path.new ≡ path.old)) }
@@ -203,7 +204,7 @@ fn own_fault(
         return Ok(whole_fault(instance, certificate, k, path));
     }
     let cases = cases_at(certificate, k, owner);
-    shown_fault(alloc, instance, certificate, k, path, cases, hold)
+    shown_fault(alloc, instance, certificate, k, path, cases, known)
 }
 
 /// Whose own duals hold at a node: its own, or its parent's.
@@ -249,15 +250,15 @@ fn node_fault(
     bounds();
     longer_paths();
     if is_root(k) {
-        return own_fault(alloc, instance, certificate, k, path, owner, false);
+        return own_fault(alloc, instance, certificate, k, path, owner, None);
     }
     let frame = frame_above(instance, certificate, k, frames);
     let misled = parent_fault(alloc, instance, certificate, k, path, frame, best)?;
     if let Some(reason) = misled {
         return Ok(Some(reason));
     }
-    let hold = has_same(certificate, k);
-    own_fault(alloc, instance, certificate, k, path, owner, hold)
+    let known = Some(cases_at(certificate, frame.node, frame.owner));
+    own_fault(alloc, instance, certificate, k, path, owner, known)
 }
 
 /// The best cost after a node.

@@ -2,7 +2,7 @@ use mir.Syntax.{w64}
 use Rattle.std.proofs.Common.{◌≡◌, ◌+◌, ℕ, ap, sym, subst, ◌∙◌}
 use Rattle.std.proofs.lemmas.Int.{to_z-of_z}
 use Rattle.shunt_proof.specs.defs.Nodes.{FitsChoice}
-use Rattle.shunt_proof.specs.defs.Trees.{parent, depth_at}
+use Rattle.shunt_proof.specs.defs.Trees.{depth_at}
 use Rattle.shunt_prices.specs.defs.Bounds.{IsCasesBound}
 use Rattle.shunt_checker.proofs.Placed.{there_told, led, twice_told, child_judged}
 use Rattle.shunt_checker.proofs.descent.child_fault.Goals as goal

@@ -1,6 +1,6 @@
 use Rattle.std.proofs.Common.{◌∙◌}
 use Rattle.shunt_checker.proofs.Nexts.{masks_fit}
-use Rattle.shunt_checker.proofs.Judging.{on_option, held, unbroken, is_break, broke}
+use Rattle.shunt_checker.proofs.Judging.{on_option, unbroken, is_break, broke}
 use Rattle.shunt_checker.proofs.nodes.dual_fault.Goals as goal
 
 pub first_break-requires-clause-covered : goal.first_break-requires-clause-covered
@@ -20,9 +20,6 @@ pub break_reason-reason-requires-clause-track : goal.break_reason-reason-require
 break_reason-reason-requires-clause-track c =
     let is = is_break c.args.instance.now c.args.certificate.now c.args.k c.args.path.now.blocks c.args.cases.now c.requires.duals c.covered.result.now (c.covered.ensures ∙ c.requires.path.covered) c.in_ok-broken.broken c.in_ok-broken.ensures c.in-Some.found c.in-Some.is in
     on_option c.args.instance.now c.in-Some.found.offer.shape c.in-Some.found.offer.option is.light.holds.option
-
-pub returns-then-hold : goal.returns-then-hold
-returns-then-hold c = held c.args.instance.now c.args.certificate.now c.args.k c.args.path.now.blocks c.args.cases.now c.requires.duals (c.requires.hold c.if-hold.true)
 
 pub returns-in_default : goal.returns-in_default
 returns-in_default c =

@@ -1,15 +1,15 @@
 use Rattle.std.specs.Prelude.{IfNone}
-use Rattle.std.proofs.Common.{◌≡◌, ◌≤◌, List, subst, sym, ◌∙◌, arith}
+use Rattle.std.proofs.Common.{◌≡◌, ◌≤◌, ℕ, List, ap, subst, sym, ◌∙◌, arith}
 use Rattle.shunt_blocks.specs.declared.records.Block.{Block}
 use Rattle.shunt_prices.specs.defs.Cases.{CasesHold}
-use Rattle.shunt_proof.specs.declared.records.NodeDuals.TheVariants.{Same}
+use Rattle.shunt_base.specs.declared.duals.Case.{Case}
 use Rattle.shunt_proof.specs.defs.Nodes.{node_at, FitsNode}
 use Rattle.shunt_proof.specs.defs.Trees.{depth_at, duals_at, parent, path_at}
 use Rattle.shunt_checker.specs.defs.NodeSteps.{Judges}
-use Rattle.shunt_checker.specs.defs.Walks.{IsAtNode, Settles, front_of}
+use Rattle.shunt_checker.specs.defs.Walks.{IsAtNode, IsOwner, Settles, front_of}
 use Rattle.shunt_checker.proofs.Looked.{against}
 use Rattle.shunt_checker.proofs.Accepting.{unbroken}
-use Rattle.shunt_checker.proofs.Walking.{later, root_at, root_bare, root_from, settled, both_ok, came_down, child_told, child_passed, child_at, hold_below, same_is, branch_whole}
+use Rattle.shunt_checker.proofs.Walking.{later, root_at, root_bare, root_from, settled, both_ok, came_down, child_told, child_passed, child_at, hold_below, branch_whole}
 use Rattle.shunt_checker.proofs.walk.node_fault.Goals as goal
 
 pub returns-then-is_root : goal.returns-then-is_root
@@ -69,8 +69,16 @@ returns-in-Some g c =
     deep c.args.path.now c.requires.1.1.0.path c.requires.1.1.0.pins in
     child_told night g.start c.args.certificate.now c.args.k (front_of nodes c.args.k c.args.path.now) came.1 c.args.best c.requires.1.1.0.best c.in_ok-misled.misled c.in_ok-misled.ensures.found c.in-Some.reason c.in-Some.is
 
-pub own_fault-requires-2-clause-hold : goal.own_fault-requires-2-clause-hold
-own_fault-requires-2-clause-hold g c = λ t.
+pub cases_at-requires : goal.cases_at-requires
+cases_at-requires g c =
+    let night = c.args.instance.now in
+    let nodes = c.args.certificate.now.nodes in
+    let some : 1 ≤ c.args.k = later c.args.k (against c.is_root.result (c.args.k ≡ 0) c.is_root.ensures c.if-is_root.false) in
+    let law = c.parents.ensures.parent night nodes c.args.k c.requires.0.nodes some c.requires.1.0 in
+    subst (λ (j : ℕ). IsOwner nodes j c.frame_above-frame.result.owner) (sym c.frame_above-frame.ensures.node) (c.frame_above-frame.ensures.owner (branch_whole (node_at nodes (parent nodes c.args.k)).kind law.2))
+
+pub own_fault-requires-2-clause-known : goal.own_fault-requires-2-clause-known
+own_fault-requires-2-clause-known g c =
     let night = c.args.instance.now in
     let nodes = c.args.certificate.now.nodes in
     let some : 1 ≤ c.args.k = later c.args.k (against c.is_root.result (c.args.k ≡ 0) c.is_root.ensures c.if-is_root.false) in
@@ -81,15 +89,13 @@ own_fault-requires-2-clause-hold g c = λ t.
     deep c.args.path.now c.requires.1.1.0.path c.requires.1.1.0.pins in
     let at = child_at night g.start c.args.certificate.now c.args.k (front_of nodes c.args.k c.args.path.now) came.1 c.args.best c.requires.1.1.0.best c.in_ok-misled.misled c.in_ok-misled.ensures.found c.in_default.is
     c.parent_fault.new.path c.parent_fault.ensures.of (c.parent_fault.ensures.pins ∙ c.requires.1.1.0.pins) c.in_ok-misled.ensures.leads in
-    let same : (node_at nodes c.args.k).duals ≡ Same = c.has_same-hold.ensures.0 t in
-    let ed : duals_at nodes c.args.k ≡ duals_at nodes (parent nodes c.args.k) =
-    same_is (node_at nodes c.args.k).duals (duals_at nodes (parent nodes c.args.k)) (duals_at nodes c.args.k) (c.parents.ensures.duals night nodes c.args.k c.requires.0.nodes some c.requires.1.0) same in
     let hold : CasesHold night (path_at night g.start nodes (parent nodes c.args.k)) (duals_at nodes (parent nodes c.args.k)) =
     unbroken night (λ path cases one. c.bounds.ensures.of_cases night path cases one) g.start c.args.certificate.now (parent nodes c.args.k) (c.requires.1.1.0.sound (parent nodes c.args.k) law.0) (branch_whole (node_at nodes (parent nodes c.args.k)).kind law.2) in
     let choice = c.parents.ensures.choice night nodes c.args.k c.requires.0.nodes some c.requires.1.0 in
-    subst (λ (bs : List Block). CasesHold night bs (duals_at nodes c.args.k)) (sym at.path)
-    (hold_below night g.start c.args.certificate.now c.args.k (parent nodes c.args.k) choice.0 (λ path b cases h. c.longer_paths.ensures.hold night path b cases h) hold ed
-    (c.parents.ensures.path night g.start nodes c.args.k c.requires.0.nodes some c.requires.1.0) choice.1)
+    let below = hold_below night g.start c.args.certificate.now c.args.k (parent nodes c.args.k) choice.0 (λ path b cases h. c.longer_paths.ensures.hold night path b cases h) hold
+    (c.parents.ensures.path night g.start nodes c.args.k c.requires.0.nodes some c.requires.1.0) choice.1 in
+    subst (λ (bs : List Block). CasesHold night bs c.cases_at.result.now) (sym at.path)
+    (subst (λ (cs : List Case). CasesHold night (path_at night g.start nodes c.args.k) cs) (sym (c.cases_at.ensures ∙ ap (λ (j : ℕ). duals_at nodes j) c.frame_above-frame.ensures.node)) below)
 
 pub returns : goal.returns
 returns g c =

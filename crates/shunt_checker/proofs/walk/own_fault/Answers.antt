@@ -2,7 +2,6 @@ use Rattle.std.proofs.Common.{◌≡◌, refl, sym, subst, ◌∙◌, List}
 use Rattle.std.proofs.lemmas.Result.{IfOk-weaker}
 use Rattle.shunt_base.specs.declared.duals.Case.{Case}
 use Rattle.shunt_prices.specs.defs.Limits.{AreCases}
-use Rattle.shunt_prices.specs.defs.Cases.{CasesHold}
 use Rattle.shunt_proof.specs.declared.records.NodeKind.TheVariants.{Whole}
 use Rattle.shunt_checker.specs.defs.NodeSteps.{Judges}
 use Rattle.shunt_checker.proofs.Looked.{against}
@@ -23,9 +22,6 @@ shown_fault-requires-clause-cases c =
     subst (λ (cs : List Case). AreCases c.args.instance.now cs) (sym c.cases_at-cases.ensures)
     (c.parents.ensures.cases c.args.instance.now c.args.certificate.now.nodes c.args.k c.requires.nodes c.requires.there
     (λ whole. against c.is_whole.result (c.kind_of.result ≡ Whole) c.is_whole.ensures c.if-is_whole.false (c.kind_of.ensures ∙ whole)))
-
-pub shown_fault-requires-clause-hold : goal.shown_fault-requires-clause-hold
-shown_fault-requires-clause-hold c = λ t. subst (λ (cs : List Case). CasesHold c.args.instance.now c.args.path.now.blocks cs) (sym c.cases_at-cases.ensures) (c.requires.hold t)
 
 pub returns-in-Some-clause-found : goal.returns-in-Some-clause-found
 returns-in-Some-clause-found c = told c.args.instance.now c.args.certificate.now c.args.k c.args.path.now.blocks 4 5 8 c.kind_fault-other.result c.in-Some.reason c.in-Some.is c.kind_fault-other.ensures

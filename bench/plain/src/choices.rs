@@ -3,6 +3,7 @@
 use std::collections::HashMap;
 
 pub(crate) struct Train {
+    pub(crate) name: String,
     pub(crate) minute: u32,
     pub(crate) platform: Option<usize>,
     pub(crate) track: Option<usize>,
@@ -14,6 +15,7 @@ pub(crate) struct Night {
     pub(crate) turns: Vec<u32>,
     pub(crate) lengths: Vec<u64>,
     pub(crate) tracks: usize,
+    pub(crate) track_names: Vec<String>,
     pub(crate) rooms: Vec<u64>,
     pub(crate) routes: HashMap<(usize, usize, usize), u64>,
     pub(crate) permits: Vec<Vec<usize>>,
@@ -64,13 +66,15 @@ pub(crate) fn read(station: &str, timetable: &str) -> Night {
         }
     }
     night.tracks = tracks.len();
+    night.track_names = tracks;
     for line in std::fs::read_to_string(timetable).expect("a timetable").lines() {
         let row: Vec<&str> = line.split(',').collect();
+        let name = || row[1].to_string();
         let kinds = |from: usize| row[from..].iter().map(|name| place(&types, name)).collect();
         match row[0] {
-            "stand" => night.arrive.push(Train { minute: 0, platform: None, track: Some(place(&tracks, row[2])), units: kinds(3) }),
-            "arrive" => night.arrive.push(Train { minute: minute(row[2]), platform: Some(place(&platforms, row[3])), track: None, units: kinds(4) }),
-            "depart" => night.depart.push(Train { minute: minute(row[2]), platform: Some(place(&platforms, row[3])), track: None, units: kinds(4) }),
+            "stand" => night.arrive.push(Train { name: name(), minute: 0, platform: None, track: Some(place(&night.track_names, row[2])), units: kinds(3) }),
+            "arrive" => night.arrive.push(Train { name: name(), minute: minute(row[2]), platform: Some(place(&platforms, row[3])), track: None, units: kinds(4) }),
+            "depart" => night.depart.push(Train { name: name(), minute: minute(row[2]), platform: Some(place(&platforms, row[3])), track: None, units: kinds(4) }),
             _ => {}
         }
     }

@@ -8,12 +8,18 @@
 //! position of its type; `plain assign STATION TIMETABLE RUNS` makes the shares and the least assignment of a night;
 //! `plain duals STATION TIMETABLE RUNS` sees whether two cases of 64 prices hold and what they bound;
 //! `plain certificate write STATION TIMETABLE FILE` writes the largest certificate of a night, and `read` in the place of `write`
-//! reads it.
+//! reads it;
+//! `plain night NUMBER UNITS STATION TIMETABLE` writes the night that the generator makes of a number;
+//! `plain tree NUMBER UNITS NODES same STATION TIMETABLE PLAN CERT` writes such a night with a plan and a certificate of so many nodes,
+//! each with its parent's duals, or with new ones for `new` in the place of `same`; `plain check STATION TIMETABLE PLAN CERT` checks it.
 
 mod assign;
 mod certificates;
+mod checker;
 mod choices;
 mod duals;
+mod nights;
+mod trees;
 
 use std::io::Write;
 use std::time::Instant;
@@ -30,10 +36,21 @@ fn main() {
         ["assign", station, timetable, runs] => assign::measure(station, timetable, runs.parse().expect("a number")),
         ["duals", station, timetable, runs] => duals::measure(station, timetable, runs.parse().expect("a number")),
         ["certificate", doing, station, timetable, file] => certificates::measure(doing, station, timetable, file),
+        ["night", number, units, station, timetable] => write_night(number, units, station, timetable),
+        ["tree", number, units, nodes, duals, station, timetable, plan, certificate] => {
+            trees::write_all(number, units, nodes, duals, [station, timetable, plan, certificate]);
+        }
+        ["check", station, timetable, plan, certificate] => checker::check(station, timetable, plan, certificate),
         ["split", ref names @ ..] if !names.is_empty() => names.iter().for_each(|name| split(name)),
         ["choices", station, timetable, walks] => choices::measure(station, timetable, walks.parse().expect("a number")),
         _ => std::process::exit(2),
     }
+}
+
+fn write_night(number: &str, units: &str, station: &str, timetable: &str) {
+    let (stations, trains) = nights::made(number.parse().expect("a number"), units.parse().expect("a number"));
+    std::fs::write(station, stations).expect("a folder");
+    std::fs::write(timetable, trains).expect("a folder");
 }
 
 fn make(kind: &str, size: usize) {

@@ -1,3 +1,4 @@
+mod Events
 mod Lines
 mod OfNight
 mod OfZones

@@ -8,3 +8,4 @@ pub mod ZonesTexts
 pub mod DriversTexts
 pub mod PlanTexts
 pub mod SheetTexts
+pub mod JsonTexts

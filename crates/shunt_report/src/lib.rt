@@ -3,6 +3,7 @@
 
 mod drivers;
 mod found;
+mod json;
 pub mod laws;
 mod matched;
 mod moves;
@@ -16,6 +17,7 @@ mod zones;
 
 pub use drivers::{roster_text, sharing_text};
 pub use found::findings_text;
+pub use json::json_text;
 pub use matched::{pairs_text, shortage_text};
 pub use plans::{lost_text, plan_text};
 pub use sheets::{followed_text, sheet_text};

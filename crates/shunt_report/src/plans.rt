@@ -14,21 +14,21 @@ fn parked_in(blocks: &[Block]) -> usize
     blocks.iter().filter(|b| b.park.is_some()).count()
 }
 
-fn unparked_in(blocks: &[Block]) -> usize
+pub(crate) fn unparked_in(blocks: &[Block]) -> usize
     ensures { result ≡ unparked_in blocks.now }
 {
     blocks.iter().filter(|b| b.park.is_none()).count()
 }
 
 // How many blocks don't begin their arriving train.
-fn splits_in(blocks: &[Block]) -> usize
+pub(crate) fn splits_in(blocks: &[Block]) -> usize
     ensures { result ≡ splits_in blocks.now }
 {
     blocks.iter().filter(|b| b.p != 1).count()
 }
 
 // How many blocks don't begin their departing train.
-fn couples_in(blocks: &[Block]) -> usize
+pub(crate) fn couples_in(blocks: &[Block]) -> usize
     ensures { result ≡ couples_in blocks.now }
 {
     blocks.iter().filter(|b| b.q != 1).count()

@@ -9,7 +9,7 @@ use shunt_base::{Minute, Name};
 use shunt_zones::{Meet, ZoneLoad, Zones};
 use std::alloc::{AllocError, Global};
 
-fn minute_of(number: u16) -> Minute
+pub(crate) fn minute_of(number: u16) -> Minute
     requires { number < 2880 }
     ensures { result ≡ number }
 {

@@ -13,3 +13,13 @@ mod Arrived
 mod NodesBelow
 mod Visits
 mod Covering
+mod Singles
+mod Carried
+mod Rooted
+mod Lowest
+mod Searched
+mod Begun
+mod Ended
+mod Prepared
+mod Tidied
+mod Telling

@@ -3,3 +3,6 @@ pub mod Polishing
 pub mod Conditions
 pub mod Yards
 pub mod Walking
+pub mod Roots
+pub mod Searching
+pub mod Endings

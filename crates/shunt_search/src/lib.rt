@@ -2,12 +2,20 @@
 //! node of its tree.
 #![tactic(auto)]
 
+mod beginning;
 mod children;
+mod ending;
+mod floors;
 mod known;
 pub mod laws;
 mod noting;
+mod opening;
 mod polishing;
+mod preparing;
+mod rooting;
+mod searching;
 mod solved;
+mod tidying;
 mod visiting;
 mod walking;
 mod wholes;

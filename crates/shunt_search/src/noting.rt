@@ -4,8 +4,9 @@ ghost use Rattle.shunt_store.specs.defs.Causes.{HasCause};
 ghost use Rattle.shunt_store.specs.defs.Files.{BothTold};
 ghost use Rattle.shunt_instance.specs.defs.Instance.{Night, IsInstance};
 ghost use Rattle.shunt_blocks.specs.declared.records.Block.{Block as OneBlock};
+ghost use Rattle.shunt_matching.specs.declared.types.Shortage.{Shortage as OneShortage};
 ghost use Rattle.shunt_proof.specs.defs.Nodes.{FitsNode, CanFollow};
-ghost use Rattle.shunt_proof.specs.defs.Recording.{Open, Stalled};
+ghost use Rattle.shunt_proof.specs.defs.Recording.{Open, Stalled, Failed};
 ghost use Rattle.shunt_search.specs.declared.children.Child.{Child as OneChild};
 ghost use Rattle.shunt_search.specs.defs.Yards.{IsYard, IsNextBlock};
 ghost use Rattle.shunt_search.specs.defs.Walking.{kept, goal_of, IsNodeOf, stated, node_below};
@@ -99,6 +100,8 @@ pub(crate) fn note_below<R: Recorder>(
     ensures cases { OnOk result (R.cases recorder.new ≡ R.cases recorder.old) }
     ensures open { OnOk result (R.stage recorder.new ≡ Open) }
     ensures stalled { IsErrOf result SolveError.Memory → R.stage recorder.new ≡ Stalled }
+    ensures failed { IsErrOf result SolveError.Recorder → R.stage recorder.new ≡ Failed }
+    ensures no_matching { (s : OneShortage) → IsErrOf result (SolveError.NoMatching s) → ⊥ }
     ensures own { (night : Night) → R.owns recorder.new night ↔ R.owns recorder.old night }
     ensures cause { HasCause SolveError.Recorder (R.faults recorder.old) (R.faults recorder.new) result }
     ensures keeps { R.keeps recorder.old recorder.new }

@@ -12,9 +12,10 @@ ghost use Rattle.shunt_blocks.specs.defs.Blocks.{IsBlock, IsOption};
 ghost use Rattle.shunt_blocks.specs.defs.Costs.{cost_with};
 ghost use Rattle.shunt_blocks.specs.defs.Standing.{stay_of};
 ghost use Rattle.shunt_blocks.specs.defs.Lists.{IsFeasible, AreInRange, track_lengths, total_cost};
+ghost use Rattle.shunt_blocks.specs.defs.Pins.{IsKept, Keeps, without_id};
 ghost use Rattle.shunt_blocks.specs.defs.Polished.{IsPolished};
 ghost use Rattle.shunt_plan.specs.defs.Plans.{IsPlanInRange};
-ghost use Rattle.shunt_search.specs.defs.Polishing.{unparked, others_of, Stand, RunsWith, NoLess, IsLeast, AreLeast};
+ghost use Rattle.shunt_search.specs.defs.Polishing.{unparked, others_of, Stand, RunsWith, NoLess, IsLeast, IsLeastBut, AreLeast};
 
 use shunt_blocks::{Block, Park, block_cost, laws, shape_of, stay};
 use shunt_choices::laws::shape_options;
@@ -192,7 +193,7 @@ fn improve(
     ensures stand { Stand instance.now blocks.new timelines.new }
     ensures room { length blocks.new ≤ timelines.new.spare + length timelines.new.stays }
     ensures shapes { map unparked blocks.new ≡ map unparked blocks.old }
-    ensures front { take place blocks.new ≡ take place blocks.old }
+    ensures others { others_of blocks.new place ≡ others_of blocks.old place }
     ensures cheaper { IsTrue result → total_cost instance.now blocks.new < total_cost instance.now blocks.old }
     ensures same { (blocks.new ≡ blocks.old) ⊎ IsTrue result }
     ensures least { (d : OneBlock) → IsTrue result ⊎ IsLeast instance.now blocks.old (slice_index_or blocks.old place d) }
@@ -213,8 +214,61 @@ fn improve(
     false
 }
 
-/// Gives each block but the first ones its cheapest option, one after the other, and tells whether one has changed.
-fn sweep(instance: &Instance, blocks: &mut [Block], timelines: &mut Timelines, fixed: usize) -> bool
+/// Whether two blocks differ in nothing but their ids.
+fn same_but_id(pin: &Block, block: &Block) -> bool
+    ensures { IsTrue result ↔ (without_id pin.now ≡ without_id block.now) }
+{
+    Block { id: 0, ..*pin } == Block { id: 0, ..*block }
+}
+
+/// Whether one of the pins has a block's shape and option.
+fn is_pin(pins: &[Block], block: &Block) -> bool
+    ensures { IsTrue result ↔ IsKept pins.now block.now }
+{
+    for pin in pins {
+        if same_but_id(pin, block) {
+            return true;
+        }
+    }
+    false
+}
+
+/// Gives a block its cheapest option, where it is no pin and that costs less than its own, and tells whether it did.
+fn improve_free(
+    instance: &Instance,
+    pins: &[Block],
+    blocks: &mut [Block],
+    timelines: &mut Timelines,
+    place: usize,
+) -> bool
+    requires feasible { IsFeasible instance.now blocks.old }
+    requires stand { Stand instance.now blocks.old timelines.old }
+    requires few { length blocks.old ≤ 160 }
+    requires room { length blocks.old ≤ timelines.old.spare + length timelines.old.stays }
+    requires place { place < length blocks.old }
+    ensures feasible { IsFeasible instance.now blocks.new }
+    ensures stand { Stand instance.now blocks.new timelines.new }
+    ensures room { length blocks.new ≤ timelines.new.spare + length timelines.new.stays }
+    ensures shapes { map unparked blocks.new ≡ map unparked blocks.old }
+    ensures keeps { Keeps blocks.old pins.now → Keeps blocks.new pins.now }
+    ensures cheaper { IsTrue result → total_cost instance.now blocks.new < total_cost instance.now blocks.old }
+    ensures same { (blocks.new ≡ blocks.old) ⊎ IsTrue result }
+    ensures least { (d : OneBlock) → IsTrue result ⊎ IsLeastBut instance.now pins.now blocks.old (slice_index_or blocks.old place d) }
+{
+    let block = block_at(blocks, place);
+    if is_pin(pins, &block) {
+        return false;
+    }
+    improve(instance, blocks, timelines, place)
+}
+
+/// Gives each block that is no pin its cheapest option, one after the other, and tells whether one has changed.
+fn sweep(
+    instance: &Instance,
+    pins: &[Block],
+    blocks: &mut [Block],
+    timelines: &mut Timelines,
+) -> bool
     requires feasible { IsFeasible instance.now blocks.old }
     requires stand { Stand instance.now blocks.old timelines.old }
     requires few { length blocks.old ≤ 160 }
@@ -223,14 +277,14 @@ fn sweep(instance: &Instance, blocks: &mut [Block], timelines: &mut Timelines, f
     ensures stand { Stand instance.now blocks.new timelines.new }
     ensures room { length blocks.new ≤ timelines.new.spare + length timelines.new.stays }
     ensures shapes { map unparked blocks.new ≡ map unparked blocks.old }
-    ensures front { take fixed blocks.new ≡ take fixed blocks.old }
+    ensures keeps { Keeps blocks.old pins.now → Keeps blocks.new pins.now }
     ensures cheaper { IsTrue result → total_cost instance.now blocks.new < total_cost instance.now blocks.old }
     ensures same { (blocks.new ≡ blocks.old) ⊎ IsTrue result }
-    ensures least { IsTrue result ⊎ AreLeast instance.now fixed (length blocks.old) blocks.old }
+    ensures least { IsTrue result ⊎ AreLeast instance.now pins.now (length blocks.old) blocks.old }
 {
     let mut changed = false;
-    for place in fixed..blocks.len() {
-        if improve(instance, blocks, timelines, place) {
+    for place in 0..blocks.len() {
+        if improve_free(instance, pins, blocks, timelines, place) {
             changed = true;
         }
     }
@@ -252,20 +306,20 @@ fn stand(instance: &Instance, timelines: &mut Timelines, blocks: &[Block])
     }
 }
 
-/// Changes options of blocks that are feasible, but of the first ones, until none of them alone gives a feasible list of lower
-/// cost. Err is want of memory, and then nothing changes.
-pub(crate) fn polish_all_but(
+/// Changes options of blocks that are feasible, but of the pins, until none of them alone gives a feasible list of lower cost. Err is
+/// want of memory, and then nothing changes.
+pub(crate) fn polish_around(
     alloc: Global,
     instance: &Instance,
-    fixed: usize,
+    pins: &[Block],
     blocks: &mut [Block],
 ) -> Result<(), AllocError>
     requires { IsFeasible instance.now blocks.old }
     ensures feasible { IsFeasible instance.now blocks.new }
     ensures shapes { map unparked blocks.new ≡ map unparked blocks.old }
-    ensures front { take fixed blocks.new ≡ take fixed blocks.old }
+    ensures keeps { Keeps blocks.old pins.now → Keeps blocks.new pins.now }
     ensures cost { total_cost instance.now blocks.new ≤ total_cost instance.now blocks.old }
-    ensures least { OnOk result (AreLeast instance.now fixed (length blocks.new) blocks.new) }
+    ensures least { OnOk result (AreLeast instance.now pins.now (length blocks.new) blocks.new) }
     ensures err { OnErr result (blocks.new ≡ blocks.old) }
 {
     // The calls tell that there are at most 160 blocks.
@@ -274,12 +328,12 @@ pub(crate) fn polish_all_but(
     let mut timelines = Timelines::new(alloc, &track_lengths(alloc, instance)?)?;
     timelines.reserve(blocks.len())?;
     stand(instance, &mut timelines, blocks);
-    'sweeps: while sweep(instance, blocks, &mut timelines, fixed) {}
+    'sweeps: while sweep(instance, pins, blocks, &mut timelines) {}
     Ok(())
 }
 
 /// The blocks as a plan that states their cost.
-fn planned(instance: &Instance, blocks: Vec<Block>) -> Plan
+pub(crate) fn planned(instance: &Instance, blocks: Vec<Block>) -> Plan
     requires { AreInRange instance.now blocks.items }
     ensures blocks { result.blocks ≡ blocks.items }
     ensures cost { result.cost ≡ total_cost instance.now blocks.items }
@@ -308,6 +362,6 @@ pub fn polish(alloc: Global, instance: &Instance, plan: &Plan) -> Result<Plan, A
     laws::feasible_lists();
     instance.station();
     let mut blocks = Vec::from_slice(alloc, plan.blocks.as_slice())?;
-    polish_all_but(alloc, instance, 0, &mut blocks)?;
+    polish_around(alloc, instance, &[], &mut blocks)?;
     Ok(planned(instance, blocks))
 }

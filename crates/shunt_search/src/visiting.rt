@@ -5,6 +5,7 @@ ghost use Rattle.shunt_store.specs.defs.Files.{BothTold};
 ghost use Rattle.shunt_instance.specs.defs.Instance.{Night};
 ghost use Rattle.shunt_choices.specs.defs.Paths.{next_of};
 ghost use Rattle.shunt_prices.specs.defs.Limits.{AreCases};
+ghost use Rattle.shunt_matching.specs.declared.types.Shortage.{Shortage as OneShortage};
 ghost use Rattle.shunt_proof.specs.defs.Nodes.{CanFollow};
 ghost use Rattle.shunt_proof.specs.defs.Recording.{Open, Failed};
 ghost use Rattle.shunt_search.specs.defs.Yards.{IsYard, IsNextBlock};
@@ -22,7 +23,7 @@ use shunt_proof::Recorder;
 use std::alloc::{AllocError, Global};
 
 /// Whether a path covers all units.
-fn is_whole(path: &Path) -> bool
+pub(crate) fn is_whole(path: &Path) -> bool
     ensures yes { result ≡ true → next_of path.now.covered ≡ None }
     ensures no { result ≡ false → IsSome (next_of path.now.covered) }
 {
@@ -33,7 +34,7 @@ fn is_whole(path: &Path) -> bool
 }
 
 /// The children of the yard's path come to those that are still to be walked to.
-fn add_children(
+pub(crate) fn add_children(
     alloc: Global,
     instance: &Instance,
     cases: &Cases,
@@ -84,6 +85,8 @@ pub(crate) fn visit<R: Recorder>(
     ensures cases { OnOk result (R.cases recorder.new ≡ R.cases recorder.old) }
     ensures open { OnOk result (R.stage recorder.new ≡ Open) }
     ensures sound { IsErrOf result SolveError.Memory → R.stage recorder.new ≢ Failed }
+    ensures failed { IsErrOf result SolveError.Recorder → R.stage recorder.new ≡ Failed }
+    ensures no_matching { (s : OneShortage) → IsErrOf result (SolveError.NoMatching s) → ⊥ }
     ensures own { (night : Night) → R.owns recorder.new night ↔ R.owns recorder.old night }
     ensures cause { HasCause SolveError.Recorder (R.faults recorder.old) (R.faults recorder.new) result }
     ensures keeps { R.keeps recorder.old recorder.new }

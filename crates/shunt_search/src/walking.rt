@@ -67,6 +67,7 @@ pub(crate) fn next_open(waiting: &mut Vec<Child>, best: u64) -> Option<Child>
     ensures some { IfSome result (λ t. Passes best waiting.old.items (waiting.new.items ++ t ∷ [])) }
     ensures below { IfSome result (λ t. t.bound <ℤ pos best) }
     ensures none { IfNone result (Passes best waiting.old.items []) }
+    ensures empty { IfNone result (waiting.new.items ≡ []) }
 {
     'closed: while let Some(next) = waiting.pop() {
         if next.bound < best as i64 {

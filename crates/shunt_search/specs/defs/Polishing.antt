@@ -12,6 +12,7 @@ use Rattle.shunt_blocks.specs.defs.Blocks.{IsOption}
 use Rattle.shunt_blocks.specs.defs.Costs.{cost_with}
 use Rattle.shunt_blocks.specs.defs.Standing.{stay_with}
 use Rattle.shunt_blocks.specs.defs.Lists.{IsFeasible, track_lengths, stays_of, total_cost}
+use Rattle.shunt_blocks.specs.defs.Pins.{IsKept}
 use Rattle.shunt_blocks.specs.defs.Polished.{with_option}
 use Rattle.shunt_timeline.specs.defs.Holdings.{Holding}
 
@@ -41,6 +42,10 @@ NoLess night b held cost option = RunsWith night b option held → cost ≤ cost
 abbrev pub IsLeast : Night → List Block → Block → Type 0
 IsLeast night blocks b = (option : Option Park) → IsOption night (shape_of b) option → IsFeasible night (with_option b option blocks) → total_cost night blocks ≤ total_cost night (with_option b option blocks)
 
--- the same of each block from one place to another
-abbrev pub AreLeast : Night → ℕ → ℕ → List Block → Type 0
-AreLeast night from to blocks = (k : ℕ) (d : Block) → from ≤ k → k < to → k < length blocks → IsLeast night blocks (slice_index_or blocks k d)
+-- the same of a block that is no pin
+abbrev pub IsLeastBut : Night → List Block → List Block → Block → Type 0
+IsLeastBut night pins blocks b = (IsKept pins b → ⊥) → IsLeast night blocks b
+
+-- the same of each block before a place
+abbrev pub AreLeast : Night → List Block → ℕ → List Block → Type 0
+AreLeast night pins to blocks = (k : ℕ) (d : Block) → k < to → k < length blocks → IsLeastBut night pins blocks (slice_index_or blocks k d)

@@ -3,6 +3,7 @@ use Rattle.shunt_blocks.specs.declared.records.Block.{Block}
 use Rattle.shunt_blocks.specs.defs.Lists.{IsFeasible}
 use Rattle.shunt_search.specs.defs.Polishing.{unparked, IsLeast}
 use Rattle.shunt_search.proofs.Improved.{Laws, choices, settled_as, cheaper_as, no_cheaper}
+use Rattle.shunt_search.proofs.Swept.{same_others}
 use Rattle.shunt_search.proofs.polishing.improve.Goals as goal
 
 pub returns-then-block_cost-clause-feasible : goal.returns-then-block_cost-clause-feasible
@@ -63,3 +64,6 @@ returns-clause-least c =
     let p = sym c.with_park-parked.ensures in
     λ d. inr (subst (IsLeast night c.args.blocks.now) (c.withdraw-block.ensures.block d) (w.least o c.cheapest_through-option.ensures.option c.cheapest_through-option.ensures.least
     (no_cheaper night c.args.blocks.now c.args.place c.withdraw-block.new.timelines b w o c.with_park-parked.result p c.block_cost.result c.block_cost-2.result c.block_cost.ensures.exact c.block_cost-2.ensures.exact (omega (arith, c.if-block_cost.false)))))
+
+pub returns-then-block_cost-clause-others : goal.returns-then-block_cost-clause-others
+returns-then-block_cost-clause-others c = same_others c.args.blocks.now c.args.place c.with_park-parked.result c.requires.place

@@ -2,4 +2,4 @@ use Rattle.shunt_search.proofs.Swept.{IsSwept}
 use Rattle.shunt_search.proofs.polishing.sweep.Given as goal
 
 abbrev pub invariant-loop-place : goal.invariant-loop-place
-invariant-loop-place l = IsSwept l.instance l.fixed l.place l.initial.blocks l.blocks l.timelines l.changed
+invariant-loop-place l = IsSwept l.instance l.pins l.place l.initial.blocks l.blocks l.timelines l.changed

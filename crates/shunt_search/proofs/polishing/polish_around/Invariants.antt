@@ -1,7 +1,8 @@
-use Rattle.std.proofs.Common.{◌≡◌, ◌+◌, ◌≤◌, take, map, length}
+use Rattle.std.proofs.Common.{◌≡◌, ◌+◌, ◌≤◌, map, length}
 use Rattle.shunt_blocks.specs.defs.Lists.{IsFeasible, total_cost}
+use Rattle.shunt_blocks.specs.defs.Pins.{Keeps}
 use Rattle.shunt_search.specs.defs.Polishing.{unparked, Stand}
-use Rattle.shunt_search.proofs.polishing.polish_all_but.Given as goal
+use Rattle.shunt_search.proofs.polishing.polish_around.Given as goal
 
 abbrev pub invariant-sweeps : goal.invariant-sweeps
 invariant-sweeps l = record {
@@ -9,7 +10,7 @@ invariant-sweeps l = record {
   stand : Stand l.instance l.blocks l.timelines;
   room : length l.blocks ≤ l.timelines.spare + length l.timelines.stays;
   shapes : map unparked l.blocks ≡ map unparked l.initial.blocks;
-  front : take l.fixed l.blocks ≡ take l.fixed l.initial.blocks;
+  keeps : Keeps l.initial.blocks l.pins → Keeps l.blocks l.pins;
   cost : total_cost l.instance l.blocks ≤ total_cost l.instance l.initial.blocks;
 }
 

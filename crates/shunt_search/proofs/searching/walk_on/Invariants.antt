@@ -1,0 +1,23 @@
+use Rattle.std.proofs.Common.{◌≡◌, ◌↔◌, ◌≤◌, ◌-◌}
+use Rattle.shunt_instance.specs.defs.Instance.{Night}
+use Rattle.shunt_proof.specs.defs.Recording.{Open}
+use Rattle.shunt_search.specs.defs.Searching.{IsSearch, TellsOn}
+use Rattle.shunt_search.proofs.searching.walk_on.Given as goal
+
+abbrev pub invariant-walk : goal.invariant-walk
+invariant-walk g l =
+    let R = g.R.Recorder in
+    record {
+      search : IsSearch l.instance l.pins l.cases (R.told l.recorder) (R.number l.recorder) l.search.yard l.search.waiting.items l.search.known;
+      tells : TellsOn (R.told l.fn.recorder) (R.told l.recorder);
+      number : l.count ≡ R.number l.recorder;
+      few : l.count ≤ l.nodes;
+      cases : R.cases l.recorder ≤ 8000;
+      opened : R.stage l.recorder ≡ Open;
+      own : (night : Night) → R.owns l.recorder night ↔ R.owns l.fn.recorder night;
+      later : R.faults l.fn.recorder ≤ R.faults l.recorder;
+      keeps : R.keeps l.fn.recorder l.recorder;
+    }
+
+abbrev pub decreases-walk : goal.decreases-walk
+decreases-walk g l = l.nodes - l.count

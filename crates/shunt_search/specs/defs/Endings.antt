@@ -1,0 +1,33 @@
+-- What a search has found when it ends.
+use Rattle.std.specs.Prelude.{◌≡◌, ◌⊎◌, ℕ, ◌≤◌, ℤ, pos, ◌≤ℤ◌, List, Option, IfSome}
+use Rattle.shunt_lists.specs.defs.Members.{In}
+use Rattle.shunt_instance.specs.defs.Instance.{Night}
+use Rattle.shunt_blocks.specs.declared.records.Block.{Block}
+use Rattle.shunt_blocks.specs.defs.Lists.{total_cost}
+use Rattle.shunt_blocks.specs.defs.Pins.{opening_cost}
+use Rattle.shunt_plan.specs.declared.records.Plan.{Plan}
+use Rattle.shunt_proof.specs.declared.records.Node.{Node}
+use Rattle.shunt_proof.specs.declared.records.Certificate.{Certificate}
+use Rattle.shunt_proof.specs.defs.Certificates.{IsCertificate}
+use Rattle.shunt_search.specs.declared.children.Child.{Child}
+use Rattle.shunt_search.specs.defs.Conditions.{IsAboveAssignment, AreSpent, MeetConditions, IsBoundForPlans}
+
+-- the least of a cost and the bounds of the children that are left
+pub record IsLeft (waiting : List Child) (best : ℕ) (bound : ℤ) : Type 0 where
+  pub within : bound ≤ℤ pos best
+  pub left : (t : Child) → In t waiting → bound ≤ℤ t.bound
+  pub least : (bound ≡ pos best) ⊎ ((t : Child) × In t waiting × (bound ≡ t.bound))
+
+-- nodes with a plan's cost and a bound
+abbrev pub certificate_of : Plan → ℕ → List Node → Certificate
+certificate_of plan bound nodes = record { cost = plan.cost; bound = bound; nodes = nodes }
+
+-- the plan costs at most the opening cost, the bound is one for all plans, and what speaks of no node holds; the nodes that are told, where any are told, are a certificate that a
+-- file can state, and meet the conditions
+pub record IsEnd (night : Night) (pins : List Block) (most nodes : ℕ) (plan : Plan) (b : ℕ) (told : Option (List Node)) : Type 0 where
+  pub opening : total_cost night plan.blocks ≤ opening_cost night pins
+  pub above : IsAboveAssignment night b
+  pub spent : AreSpent night pins most nodes plan.cost b
+  pub for_plans : IsBoundForPlans night pins b
+  pub within : b ≤ plan.cost
+  pub certificate : IfSome told (λ ns. IsCertificate night (certificate_of plan b ns) × MeetConditions night pins most plan (certificate_of plan b ns))

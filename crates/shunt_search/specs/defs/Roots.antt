@@ -1,0 +1,21 @@
+-- The cases at the root of a tree, and bounds that are at least the assignment bound.
+use Rattle.std.specs.Prelude.{ℕ, ℤ, pos, ◌≤ℤ◌, List}
+use Rattle.shunt_base.specs.declared.duals.Case.{Case}
+use Rattle.shunt_instance.specs.defs.Instance.{Night}
+use Rattle.shunt_blocks.specs.declared.records.Block.{Block}
+use Rattle.shunt_prices.specs.defs.Cases.{CasesHold}
+use Rattle.shunt_prices.specs.defs.Bounds.{IsCasesBound}
+use Rattle.shunt_dual.specs.defs.Assignments.{IsAssignmentBound}
+use Rattle.shunt_proof.specs.defs.Nodes.{AreStatable}
+
+-- the bound of a path by cases is at least this
+abbrev pub IsAbove : Night → List Block → List Case → ℕ → Type 0
+IsAbove night path cases floor = (bound : ℤ) → IsCasesBound night path cases bound → pos floor ≤ℤ bound
+
+-- cases that a file can state and that hold at a path, whose bound by them is at least the assignment bound
+pub record AreRooted (night : Night) (path : List Block) (cases : List Case) : Type 0 where
+  pub statable : AreStatable night cases
+  pub hold : CasesHold night path cases
+  pub floor : ℕ
+  pub assignment : IsAssignmentBound night floor
+  pub above : IsAbove night path cases floor

@@ -1,0 +1,113 @@
+// A search that is to begin: the pins in order, the plan that parks nothing else, and the cases of the root.
+ghost use Rattle.std.specs.Prelude.{◌≡◌, ◌⊎◌, [], ℕ, List, All, IfOk, IsErrOf};
+ghost use Rattle.shunt_instance.specs.defs.Instance.{Night, IsInstance, unit_total, position_total};
+ghost use Rattle.shunt_blocks.specs.declared.records.Block.{Block as OneBlock};
+ghost use Rattle.shunt_blocks.specs.defs.Blocks.{IsBlockButId};
+ghost use Rattle.shunt_blocks.specs.defs.Lists.{RunsThrough, placed, units_taken, positions_taken};
+ghost use Rattle.shunt_blocks.specs.defs.Pins.{AreUsable};
+ghost use Rattle.shunt_choices.specs.defs.Paths.{Trail, IsTrailOf, masks_of};
+ghost use Rattle.shunt_matching.specs.declared.types.Shortage.{Shortage as OneShortage};
+ghost use Rattle.shunt_matching.specs.defs.Nights.{Matches, MatchesRest, IsShortageOf};
+ghost use Rattle.shunt_proof.specs.defs.Trees.{IsStart};
+ghost use Rattle.shunt_search.specs.defs.Searching.{IsFresh};
+
+use crate::opening::{as_many_positions, opening_plan};
+use crate::rooting::root_cases;
+use crate::searching::Search;
+use crate::solved::SolveError;
+use crate::yard::start;
+use shunt_base::Cases;
+use shunt_blocks::Block;
+use shunt_blocks::laws::matchings;
+use shunt_choices::Path;
+use shunt_instance::Instance;
+use shunt_matching::{MatchError, Matching, first_fit_rest};
+use shunt_proof::laws::starts;
+use std::alloc::{AllocError, Global};
+
+/// The path of usable pins in order covers what they do; its blocks go through together; and where what it leaves has a matching, there is
+/// one of all units, and there are as many positions as units.
+fn ready_starts()
+    ensures covered { (night : Night) (pins : List OneBlock) (t : Trail) → IsTrailOf night t → IsStart night pins t.blocks → t.covered ≡ masks_of night pins }
+    ensures through { (night : Night) (pins start : List OneBlock) → IsInstance night → AreUsable night pins → IsStart night pins start → All (IsBlockButId night) start × RunsThrough night (placed start) }
+    ensures matching { (night : Night) (pins : List OneBlock) (t : Trail) (place : List ℕ) → IsInstance night → AreUsable night pins → IsTrailOf night t → IsStart night pins t.blocks →
+        MatchesRest night t.covered.units t.covered.places place → ((whole : List ℕ) × Matches night whole) × (position_total night ≡ unit_total night) }
+{
+    starts();
+    matchings();
+    as_many_positions();
+}
+
+/// The matching of what a path leaves that the opening plan goes by.
+fn matched(alloc: Global, instance: &Instance, path: &Path) -> Result<Matching, SolveError>
+    requires { IsTrailOf instance.now path.now }
+    ensures matching { IfOk result (λ m. MatchesRest instance.now path.now.covered.units path.now.covered.places m.place_of) }
+    ensures exact { (s : OneShortage) → IsErrOf result (SolveError.NoMatching s) → IsShortageOf instance.now path.now.covered.units path.now.covered.places s }
+    ensures only { (s : OneShortage) → IsShortageOf instance.now path.now.covered.units path.now.covered.places s → IsErrOf result (SolveError.NoMatching s) }
+    ensures no_fault { IsErrOf result SolveError.Recorder → ⊥ }
+{
+    match first_fit_rest(
+        alloc,
+        instance,
+        path.covered().units(),
+        path.covered().places(),
+    ) {
+        Ok(matching) => Ok(matching),
+        Err(MatchError::Short(shortage)) => Err(SolveError::NoMatching(shortage)),
+        Err(MatchError::Memory) => Err(SolveError::Memory),
+    }
+}
+
+/// The same of what pins leave, whose path in order this is.
+fn matched_rest(
+    alloc: Global,
+    instance: &Instance,
+    pins: &[Block],
+    path: &Path,
+) -> Result<Matching, SolveError>
+    requires path { IsTrailOf instance.now path.now }
+    requires start { IsStart instance.now pins.now path.now.blocks }
+    ensures matching { IfOk result (λ m. MatchesRest instance.now path.now.covered.units path.now.covered.places m.place_of) }
+    ensures exact { (s : OneShortage) → IsErrOf result (SolveError.NoMatching s) → IsShortageOf instance.now (units_taken instance.now pins.now) (positions_taken instance.now pins.now) s }
+    ensures only { (s : OneShortage) → IsShortageOf instance.now (units_taken instance.now pins.now) (positions_taken instance.now pins.now) s → IsErrOf result (SolveError.NoMatching s) }
+    ensures no_fault { IsErrOf result SolveError.Recorder → ⊥ }
+{
+    // The call tells that the path covers what the pins do.
+    ready_starts();
+    matched(alloc, instance, path)
+}
+
+/// A search that is to begin, and the cases of its root. NoMatching comes exactly where what the pins leave has no matching, unless memory
+/// runs out before.
+pub(crate) fn prepare(
+    alloc: Global,
+    instance: &Instance,
+    pins: &[Block],
+) -> Result<(Search, Cases), SolveError>
+    requires { AreUsable instance.now pins.now }
+    ensures fresh { IfOk result (λ s. IsFresh instance.now pins.now s.1 s.0.yard s.0.known) }
+    ensures empty { IfOk result (λ s. s.0.waiting.items ≡ []) }
+    ensures exact { (s : OneShortage) → IsErrOf result (SolveError.NoMatching s) → IsShortageOf instance.now (units_taken instance.now pins.now) (positions_taken instance.now pins.now) s }
+    ensures only { (s : OneShortage) → IsShortageOf instance.now (units_taken instance.now pins.now) (positions_taken instance.now pins.now) s → IsErrOf result (SolveError.NoMatching s) ⊎ IsErrOf result SolveError.Memory }
+    ensures no_fault { IsErrOf result SolveError.Recorder → ⊥ }
+{
+    // The calls tell that the pins in order are a path for a root.
+    ready_starts();
+    instance.units();
+    let yard = start(alloc, instance, pins)?;
+    let matching = matched_rest(alloc, instance, pins, &yard.path)?;
+    let known = opening_plan(
+        alloc,
+        instance,
+        pins,
+        yard.path.covered(),
+        matching.place_of.as_slice(),
+    )?;
+    let cases = root_cases(alloc, instance, &yard.path)?;
+    let search = Search {
+        yard,
+        waiting: Vec::new(alloc),
+        known,
+    };
+    Ok((search, cases))
+}

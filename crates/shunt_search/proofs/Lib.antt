@@ -23,3 +23,5 @@ mod Ended
 mod Prepared
 mod Tidied
 mod Telling
+mod Free
+mod Concluded

@@ -15,6 +15,7 @@ mod preparing;
 mod rooting;
 mod searching;
 mod solved;
+mod solving;
 mod tidying;
 mod visiting;
 mod walking;
@@ -23,3 +24,4 @@ mod yard;
 
 pub use polishing::polish;
 pub use solved::{SolveError, Solved};
+pub use solving::{solve, solve_pinned};

@@ -25,3 +25,4 @@ mod Tidied
 mod Telling
 mod Free
 mod Concluded
+mod Reordered

@@ -195,7 +195,7 @@ fn next_blocks(alloc: Global, instance: &Instance, path: &Path) -> Result<Vec<Bl
 }
 
 /// The children of the yard's path: of all choices at it those that give a partial plan with a bound below a cost, each with
-/// that bound. Err is want of memory.
+/// that bound, the least bound last. Err is want of memory.
 pub(crate) fn plan_children(
     alloc: Global,
     instance: &Instance,
@@ -213,6 +213,8 @@ pub(crate) fn plan_children(
     choices();
     instance.units();
     let blocks = next_blocks(alloc, instance, &yard.path)?;
-    let children = open_ones(alloc, instance, yard, cases, best, &blocks)?;
+    let mut children = open_ones(alloc, instance, yard, cases, best, &blocks)?;
+    // The least bound comes last, where a walk goes on.
+    children.sort_unstable_by_key(|child| !child.bound);
     Ok(children)
 }

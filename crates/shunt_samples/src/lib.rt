@@ -14,4 +14,6 @@ mod polishing;
 #[cfg(test)]
 mod recorders;
 #[cfg(test)]
+mod search;
+#[cfg(test)]
 mod zones;

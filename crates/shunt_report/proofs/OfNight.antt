@@ -24,7 +24,7 @@ use Rattle.shunt_checker.specs.defs.PlanFaults.{IsPlanFault}
 use Rattle.shunt_checker.specs.defs.NodeFaults.{NodeFault, IsNodeFault}
 use Rattle.shunt_checker.specs.defs.NodeFaults.NodeFault.{NotThere, Twice, NotLean, OtherKind, Broken, LowLeaf, LowWhole, Missing}
 use Rattle.shunt_checker.specs.defs.Verdicts.{IsFirstReason, IsVerdict}
-use Rattle.shunt_report.specs.defs.VerdictTexts.{IsChoiceOfNight, IsBlockOfNight, IsPlanFaultOfNight, IsReasonOfNight, IsVerdictOfNight}
+use Rattle.shunt_report.specs.defs.VerdictTexts.{IsChoiceOfNight, IsPlanFaultOfNight, IsReasonOfNight, IsVerdictOfNight}
 
 of_plan : (night : Night) (plan : Plan) (f : PlanFault) → IsPlanFault night plan f → IsPlanFaultOfNight night f
 of_plan night plan (fault.BadBlock id) h = tt

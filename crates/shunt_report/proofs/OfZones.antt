@@ -1,12 +1,10 @@
 -- The meets of a plan's moves are told with zones of the station.
-use Rattle.std.proofs.Common.{◌≡◌, ◌<◌, inl, inr, ℕ, List, [], ◌∷◌, length, get_or, map, refl, sym, subst, ap, ◌∙◌}
+use Rattle.std.proofs.Common.{◌≡◌, ◌<◌, inl, inr, ℕ, List, [], ◌∷◌, length, get_or, refl, sym, subst}
 use Rattle.std.specs.Prelude.{All, filter}
-use Rattle.std.specs.List.{range_with_len}
 use Rattle.std.proofs.lemmas.List.FromFn.{length-map-range_with_len}
 use Rattle.shunt_lists.specs.defs.Members.{In}
 use Rattle.shunt_lists.proofs.Members.{in_place, of_map, filter_from}
 use Rattle.shunt_instance.specs.defs.Instance.{Night, IsInstance}
-use Rattle.shunt_blocks.specs.defs.Lists.{AreInRange}
 use Rattle.shunt_choices.proofs.Given.{each_one}
 use Rattle.shunt_plan.specs.declared.records.Plan.{Plan}
 use Rattle.shunt_plan.specs.defs.Plans.{IsPlanInRange}

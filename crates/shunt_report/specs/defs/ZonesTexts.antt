@@ -1,5 +1,5 @@
 -- The printed text of what passes the zones of a throat.
-use Rattle.std.specs.Prelude.{◌≡◌, ℕ, ◌<◌, List, [], ◌∷◌, ◌++◌, length, slice_index_or, codes, decimal, Option, Some, None}
+use Rattle.std.specs.Prelude.{ℕ, ◌<◌, List, [], ◌∷◌, ◌++◌, length, slice_index_or, codes, decimal, Option, Some, None}
 use Rattle.std.specs.List.{flat_map}
 use Rattle.shunt_base.specs.defs.Spelling.{minute_text}
 use Rattle.shunt_zones.specs.declared.records.Zones.{Zones}

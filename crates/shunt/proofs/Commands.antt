@@ -3,7 +3,7 @@ use Rattle.std.proofs.Common.{◌≡◌, ℕ, List, [], ◌∷◌, length, Optio
 use Rattle.shunt_store.specs.defs.Files.{Files}
 use Rattle.shunt.specs.declared.delivering.Answer.{Answer}
 use Rattle.shunt.specs.declared.loading.Halt.{Halt}
-use Rattle.shunt.specs.defs.Words.{Call, Match, Audit, Replay, IsUsable, words_of}
+use Rattle.shunt.specs.defs.Words.{Call, Match, Audit, Check, Replay, IsUsable, words_of}
 use Rattle.shunt.specs.defs.Inputs.{Agrees, Holding, stated_night, stated_plans}
 use Rattle.shunt.specs.defs.Replies.{IsReply, Decided, IsMatched, IsAudited, reply_of}
 use Rattle.shunt.specs.defs.Halts.{Replies}
@@ -27,12 +27,19 @@ audit_answered told c s t p r is usable h =
 
 -- the words of a command are those of no other
 pub same_call : (c d : Call) → words_of c ≡ words_of d → c ≡ d
-same_call (Match s t) (Match ss uu) e = cc
-same_call (Audit s t p) (Audit ss uu pp) e = cc
+same_call (Match s t) (Match ss uu) is = cc
+same_call (Audit s t p) (Audit ss uu pp) is = cc
+same_call (Check s t p k) (Check ss uu pp kk) is = cc
 same_call (Replay s t p e n) (Replay ss uu pp ee nn) is = cc
-same_call (Match s t) (Audit ss uu pp) e = absurd (let n : 3 ≡ 4 = ap (λ (l : List (List ℕ)). length l) e in omega (arith, n))
-same_call (Match s t) (Replay ss uu pp ee nn) e = absurd (let n : 3 ≡ 6 = ap (λ (l : List (List ℕ)). length l) e in omega (arith, n))
-same_call (Audit s t p) (Match ss uu) e = absurd (let n : 4 ≡ 3 = ap (λ (l : List (List ℕ)). length l) e in omega (arith, n))
-same_call (Audit s t p) (Replay ss uu pp ee nn) e = absurd (let n : 4 ≡ 6 = ap (λ (l : List (List ℕ)). length l) e in omega (arith, n))
-same_call (Replay s t p e n) (Match ss uu) is = absurd (let k : 6 ≡ 3 = ap (λ (l : List (List ℕ)). length l) is in omega (arith, k))
-same_call (Replay s t p e n) (Audit ss uu pp) is = absurd (let k : 6 ≡ 4 = ap (λ (l : List (List ℕ)). length l) is in omega (arith, k))
+same_call (Match s t) (Audit ss uu pp) is = absurd (let m : 3 ≡ 4 = ap (λ (l : List (List ℕ)). length l) is in omega (arith, m))
+same_call (Match s t) (Check ss uu pp kk) is = absurd (let m : 3 ≡ 5 = ap (λ (l : List (List ℕ)). length l) is in omega (arith, m))
+same_call (Match s t) (Replay ss uu pp ee nn) is = absurd (let m : 3 ≡ 6 = ap (λ (l : List (List ℕ)). length l) is in omega (arith, m))
+same_call (Audit s t p) (Match ss uu) is = absurd (let m : 4 ≡ 3 = ap (λ (l : List (List ℕ)). length l) is in omega (arith, m))
+same_call (Audit s t p) (Check ss uu pp kk) is = absurd (let m : 4 ≡ 5 = ap (λ (l : List (List ℕ)). length l) is in omega (arith, m))
+same_call (Audit s t p) (Replay ss uu pp ee nn) is = absurd (let m : 4 ≡ 6 = ap (λ (l : List (List ℕ)). length l) is in omega (arith, m))
+same_call (Check s t p k) (Match ss uu) is = absurd (let m : 5 ≡ 3 = ap (λ (l : List (List ℕ)). length l) is in omega (arith, m))
+same_call (Check s t p k) (Audit ss uu pp) is = absurd (let m : 5 ≡ 4 = ap (λ (l : List (List ℕ)). length l) is in omega (arith, m))
+same_call (Check s t p k) (Replay ss uu pp ee nn) is = absurd (let m : 5 ≡ 6 = ap (λ (l : List (List ℕ)). length l) is in omega (arith, m))
+same_call (Replay s t p e n) (Match ss uu) is = absurd (let m : 6 ≡ 3 = ap (λ (l : List (List ℕ)). length l) is in omega (arith, m))
+same_call (Replay s t p e n) (Audit ss uu pp) is = absurd (let m : 6 ≡ 4 = ap (λ (l : List (List ℕ)). length l) is in omega (arith, m))
+same_call (Replay s t p e n) (Check ss uu pp kk) is = absurd (let m : 6 ≡ 5 = ap (λ (l : List (List ℕ)). length l) is in omega (arith, m))

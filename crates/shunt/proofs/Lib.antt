@@ -2,6 +2,7 @@ mod Writes
 mod Seeing
 mod Commands
 mod ReplayFiles
+mod CheckFiles
 mod Ending
 mod Exactly
 mod Matched
@@ -9,3 +10,4 @@ pub mod Audits
 mod Turned
 mod Answered
 mod Replayed
+mod Checked

@@ -18,7 +18,7 @@ use Rattle.shunt.proofs.Seeing.{first_refused, then_next, seen_all, err_of}
 
 -- ---- what the files of `replay` state, one after the other
 
-plans_are : (s t p : List ℕ) (night : Night) (plan : Plan) → stated_night s t ≡ Ok night → stated_plan night p ≡ Ok plan → stated_plans s t p ≡ Ok (night, plan)
+pub plans_are : (s t p : List ℕ) (night : Night) (plan : Plan) → stated_night s t ≡ Ok night → stated_plan night p ≡ Ok plan → stated_plans s t p ≡ Ok (night, plan)
 plans_are s t p night plan a b =
     ap (λ r. then_stated r (λ n. then_stated (stated_plan n p) (λ q. Ok (n, q)))) a ∙ ap (λ r. then_stated r (λ q. Ok (night, q))) b
 

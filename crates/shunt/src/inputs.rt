@@ -4,6 +4,8 @@ ghost use Rattle.shunt_instance.specs.defs.Wellformed.{IsStation, IsTimetable};
 ghost use Rattle.shunt_plan.specs.defs.Edits.{AreTurns, edits_format};
 ghost use Rattle.shunt_plan.specs.defs.PlanFormat.{plan_format};
 ghost use Rattle.shunt_plan.specs.defs.Plans.{IsPlanInRange};
+ghost use Rattle.shunt_proof.specs.defs.CertificateFormat.{certificate_format};
+ghost use Rattle.shunt_proof.specs.defs.Certificates.{IsCertificate};
 ghost use Rattle.shunt_report.specs.declared.words.FileWord.{FileWord};
 ghost use Rattle.shunt_report.specs.declared.words.FileWord.TheVariants as words;
 ghost use Rattle.shunt_rows.specs.declared.fault.RowFault.{RowFault};
@@ -15,6 +17,7 @@ ghost use Rattle.shunt_timetable.specs.defs.TimetableFormat.{timetable_format};
 use shunt_instance::{Instance, Station, Timetable};
 use shunt_lists::Items;
 use shunt_plan::{Plan, Turn, read_edits, read_plan};
+use shunt_proof::{Certificate, read_certificate};
 use shunt_report::FileWord;
 use shunt_rows::{ReadError, Row};
 use shunt_station::read_station;
@@ -120,6 +123,32 @@ impl InputFile for PlanFile<'_> {
 
     fn read(&self, alloc: Global, rows: &Vec<Row>) -> Result<Plan, ReadError> {
         read_plan(alloc, self.instance, rows)
+    }
+}
+
+/// A certificate file over an instance.
+#[derive(Clone, Copy, Drop)]
+pub struct CertificateFile<'i> {
+    pub instance: &'i Instance,
+}
+
+impl InputFile for CertificateFile<'_> {
+    type Value = Certificate;
+
+    ghost word = { words.Certificate };
+
+    ghost states = { λ f rows. reading (certificate_format f.instance.now) rows };
+
+    ghost ready = { λ _. Unit {0} };
+
+    ghost formed = { λ f c. IsCertificate f.instance.now c };
+
+    fn word(&self) -> FileWord {
+        FileWord::Certificate
+    }
+
+    fn read(&self, alloc: Global, rows: &Vec<Row>) -> Result<Certificate, ReadError> {
+        read_certificate(alloc, self.instance, rows)
     }
 }
 

@@ -7,16 +7,19 @@ ghost use Rattle.shunt_store.specs.defs.Causes.{Rose};
 ghost use Rattle.shunt_instance.specs.defs.Instance.{Night};
 ghost use Rattle.shunt_matching.specs.defs.Nights.{Matches};
 ghost use Rattle.shunt_plan.specs.declared.records.Plan.{Plan};
+ghost use Rattle.shunt_checker.specs.declared.verdict.Verdict.TheVariants as verdict;
+ghost use Rattle.shunt_report.specs.defs.VerdictTexts.{verdict_of};
 ghost use Rattle.shunt_moves.specs.defs.States.{IsState};
 ghost use Rattle.shunt.specs.declared.delivering.Outcome.{Outcome};
 ghost use Rattle.shunt.specs.declared.running.Status.{Status};
-ghost use Rattle.shunt.specs.defs.Words.{Call, Match, Audit, Replay, outputs_of};
-ghost use Rattle.shunt.specs.defs.Inputs.{Agrees, Replayable, refused, stated_night, stated_turns, plans_in, turns_in};
+ghost use Rattle.shunt.specs.defs.Words.{Call, Match, Audit, Check, Replay, outputs_of};
+ghost use Rattle.shunt.specs.defs.Inputs.{Agrees, Checkable, Replayable, refused, stated_night, stated_turns, check_in, plans_in, turns_in};
 ghost use Rattle.shunt.specs.defs.Replays.{last_of};
-ghost use Rattle.shunt.specs.defs.Replies.{Reply, IsReply, IsReplyOver, IsClean, EndsFeasible, refusal};
+ghost use Rattle.shunt.specs.defs.Replies.{Reply, IsReply, IsReplyOver, IsClean, IsProved, BoundsAll, EndsFeasible, refusal, says};
 ghost use Rattle.shunt.specs.defs.Ends.{Ends, Seen, CutInText, IsWhole, MayWrite, Yields, the_status};
 
 use shunt_audit::laws;
+use shunt_checker::laws::reasons;
 
 /// `Store` comes only where the store failed in the call, and `Sink` only where the sink did, so neither over a store or a
 /// sink whose count of faults is 0. `Words` never comes of words that spell a command.
@@ -94,6 +97,34 @@ pub fn audit_done_exactly()
 /// Where the files are accepted and neither the store nor the sink fails, `audit` ends with `Done`, `Findings` or `Memory`.
 pub fn audit_completes()
     ensures { (s t p : List ℕ) (old new : Seen) (status : Status) (files : Files) (x : Night × Plan) → old.files ≡ Some files → plans_in s t p files ≡ Ok x → (Rose old.store_faults new.store_faults → ⊥) → (Rose old.sink_faults new.sink_faults → ⊥) → Ends (Audit s t p) old new status → (status ≡ Status.Done) ⊎ ((status ≡ Status.Findings) ⊎ (status ≡ Status.Memory)) }
+{}
+
+/// `check` ends with `Done` exactly where the files are accepted and the certificate is accepted with the plan, and with `Findings`
+/// exactly where they are accepted and it isn't so, unless the store, memory or the sink came first. It never ends with `NoMatching`
+/// or `Unfinished`.
+pub fn check_done_exactly()
+    ensures done { (s t p k : List ℕ) (old new : Seen) (status : Status) (files : Files) (x : Checkable) → old.files ≡ Some files → check_in s t p k files ≡ Ok x → IsProved x → Ends (Check s t p k) old new status → (status ≡ Status.Done) ⊎ Yields status }
+    ensures done_only { (s t p k : List ℕ) (old new : Seen) → Ends (Check s t p k) old new Status.Done → (files : Files) × Agrees old.files files × ((x : Checkable) × (check_in s t p k files ≡ Ok x) × IsProved x) }
+    ensures findings { (s t p k : List ℕ) (old new : Seen) (status : Status) (files : Files) (x : Checkable) → old.files ≡ Some files → check_in s t p k files ≡ Ok x → (IsProved x → ⊥) → Ends (Check s t p k) old new status → (status ≡ Status.Findings) ⊎ Yields status }
+    ensures findings_only { (s t p k : List ℕ) (old new : Seen) → Ends (Check s t p k) old new Status.Findings → (files : Files) × Agrees old.files files × ((x : Checkable) × (check_in s t p k files ≡ Ok x) × (IsProved x → ⊥)) }
+    ensures no_matching { (s t p k : List ℕ) (old new : Seen) → Ends (Check s t p k) old new Status.NoMatching → ⊥ }
+    ensures no_unfinished { (s t p k : List ℕ) (old new : Seen) → Ends (Check s t p k) old new Status.Unfinished → ⊥ }
+{
+    reasons();
+}
+
+/// Where `check` ends with `Done`, the plan is feasible and states its cost, every feasible plan of the night costs at least the bound
+/// that the certificate states, and the line that was printed tells that bound. So where the bound is the cost, no feasible plan is
+/// cheaper.
+pub fn check_bounds_every_plan()
+    ensures { (s t p k : List ℕ) (old new : Seen) → Ends (Check s t p k) old new Status.Done → (files : Files) × Agrees old.files files × ((x : Checkable) × (check_in s t p k files ≡ Ok x) × BoundsAll x × IsWhole (says Outcome.Done (verdict_of x.night x.certificate (verdict.Accepted x.certificate.bound))) old new) }
+{
+    reasons();
+}
+
+/// Where the files are accepted and neither the store nor the sink fails, `check` ends with `Done`, `Findings` or `Memory`.
+pub fn check_completes()
+    ensures { (s t p k : List ℕ) (old new : Seen) (status : Status) (files : Files) (x : Checkable) → old.files ≡ Some files → check_in s t p k files ≡ Ok x → (Rose old.store_faults new.store_faults → ⊥) → (Rose old.sink_faults new.sink_faults → ⊥) → Ends (Check s t p k) old new status → (status ≡ Status.Done) ⊎ ((status ≡ Status.Findings) ⊎ (status ≡ Status.Memory)) }
 {}
 
 /// `replay` ends with `Done` exactly where the files are accepted and the blocks that the turns leave are a feasible plan, and

@@ -4,15 +4,17 @@ ghost use Rattle.shunt_store.specs.defs.Files.{Closed};
 ghost use Rattle.shunt_store.specs.defs.Causes.{HasCause};
 ghost use Rattle.shunt_plan.specs.defs.Edits.{AreTurns};
 ghost use Rattle.shunt_plan.specs.defs.Plans.{IsPlanInRange};
+ghost use Rattle.shunt_proof.specs.defs.Certificates.{IsCertificate};
 ghost use Rattle.shunt_report.specs.defs.Texts.{input_of};
 ghost use Rattle.shunt.specs.declared.loading.Halt.TheVariants as halt;
 ghost use Rattle.shunt.specs.defs.Halts.{IfInput, Loads, LoadsBytes};
-ghost use Rattle.shunt.specs.defs.Inputs.{Holding, most_bytes_of, stated_by, stated_edits, stated_night, stated_plan};
+ghost use Rattle.shunt.specs.defs.Inputs.{Holding, most_bytes_of, stated_by, stated_certificate, stated_edits, stated_night, stated_plan};
 
-use crate::inputs::{EditsFile, InputFile, PlanFile, StationFile, TimetableFile};
+use crate::inputs::{CertificateFile, EditsFile, InputFile, PlanFile, StationFile, TimetableFile};
 use shunt_instance::Instance;
 use shunt_lists::Items;
 use shunt_plan::{Plan, Turn};
+use shunt_proof::Certificate;
 use shunt_report::{FileWord, input_text};
 use shunt_rows::{ReadError, RowFault, records};
 use shunt_store::{ReadAllError, Store, read_all};
@@ -150,6 +152,23 @@ pub fn load_plan<S: Store>(
     ensures cause { HasCause Halt.Fault (S.faults store.old) (S.faults store.new) result }
 {
     load_input(alloc, store, name, &PlanFile { instance })
+}
+
+/// Reads and judges the certificate file, over an instance.
+pub fn load_certificate<S: Store>(
+    alloc: Global,
+    store: &mut S,
+    instance: &Instance,
+    name: &str,
+) -> Result<Certificate, Halt>
+    requires { S.stage store.old ≡ Closed }
+    ensures told { Holding (S.told store.old) name.now (λ k. Loads result (stated_certificate instance.now k)) }
+    ensures statable { IfOk result (IsCertificate instance.now) }
+    ensures files { S.told store.new ≡ S.told store.old }
+    ensures closed { (IsErrOf result Halt.Fault → ⊥) → S.stage store.new ≡ Closed }
+    ensures cause { HasCause Halt.Fault (S.faults store.old) (S.faults store.new) result }
+{
+    load_input(alloc, store, name, &CertificateFile { instance })
 }
 
 /// Reads and judges the edits file, over an instance.

@@ -4,23 +4,27 @@ ghost use Rattle.shunt_store.specs.defs.Files.{Files, Closed};
 ghost use Rattle.shunt_store.specs.defs.Causes.{HasCause};
 ghost use Rattle.shunt_plan.specs.defs.Edits.{AreTurns};
 ghost use Rattle.shunt_plan.specs.defs.Plans.{IsPlanInRange};
+ghost use Rattle.shunt_proof.specs.defs.Certificates.{IsCertificate};
 ghost use Rattle.shunt.specs.defs.Words.{call_of, IsUsable};
-ghost use Rattle.shunt.specs.defs.Inputs.{Agrees, Holding, stated_night, stated_plans, stated_turns};
-ghost use Rattle.shunt.specs.defs.Replies.{IsMatched, IsAudited, IsReplayed, IsReply, Decided, pair_of, reply_of, audit_outcome};
+ghost use Rattle.shunt.specs.defs.Inputs.{Agrees, Holding, stated_check, stated_night, stated_plans, stated_turns};
+ghost use Rattle.shunt.specs.defs.Replies.{IsMatched, IsAudited, IsChecked, IsReplayed, IsReply, Decided, pair_of, reply_of, audit_outcome, check_outcome};
 ghost use Rattle.shunt.specs.defs.Replays.{last_of, last_plan};
 ghost use Rattle.shunt.specs.defs.Halts.{Replies};
 
 use crate::delivering::{Answer, FileText, Outcome};
-use crate::loading::{Halt, load_edits, load_instance, load_plan};
+use crate::loading::{Halt, load_certificate, load_edits, load_instance, load_plan};
 use crate::replaying::do_turns;
 use crate::words::Command;
 use shunt_audit::audit;
 use shunt_audit::types::Finding;
+use shunt_checker::{Verdict, check};
 use shunt_instance::Instance;
 use shunt_matching::{MatchError, first_fit};
 use shunt_moves::Workbench;
 use shunt_plan::{Plan, Turn, write_plan};
-use shunt_report::{findings_text, pairs_text, shortage_text};
+use shunt_proof::Certificate;
+use shunt_report::laws::verdicts;
+use shunt_report::{findings_text, pairs_text, shortage_text, verdict_text};
 use shunt_store::Store;
 use std::alloc::{AllocError, Global};
 
@@ -40,6 +44,9 @@ pub fn answer_to<S: Store>(
     match command {
         Command::Match(first, second) => reply_to_match(alloc, store, first, second),
         Command::Audit(first, second, third) => reply_to_audit(alloc, store, first, second, third),
+        Command::Check(first, second, third, fourth) => {
+            reply_to_check(alloc, store, first, second, third, fourth)
+        }
         Command::Replay(first, second, third, fourth, fifth) => {
             reply_to_replay(alloc, store, first, second, third, fourth, fifth)
         }
@@ -78,6 +85,26 @@ fn reply_to_audit<S: Store>(
     let instance = load_instance(alloc, store, station, timetable)?;
     let plan = load_plan(alloc, store, &instance, plan)?;
     Ok(audit_answer(alloc, &instance, &plan)?)
+}
+
+fn reply_to_check<S: Store>(
+    alloc: Global,
+    store: &mut S,
+    station: &str,
+    timetable: &str,
+    plan: &str,
+    certificate: &str,
+) -> Result<Answer, Halt>
+    requires { S.stage store.old ≡ Closed }
+    ensures told { Holding (S.told store.old) station.now (λ s. Holding (S.told store.old) timetable.now (λ t. Holding (S.told store.old) plan.now (λ p. Holding (S.told store.old) certificate.now (λ k. Replies reply_of result (Decided (stated_check s t p k) IsChecked))))) }
+    ensures files { S.told store.new ≡ S.told store.old }
+    ensures closed { (IsErrOf result Halt.Fault → ⊥) → S.stage store.new ≡ Closed }
+    ensures cause { HasCause Halt.Fault (S.faults store.old) (S.faults store.new) result }
+{
+    let instance = load_instance(alloc, store, station, timetable)?;
+    let plan = load_plan(alloc, store, &instance, plan)?;
+    let certificate = load_certificate(alloc, store, &instance, certificate)?;
+    Ok(check_answer(alloc, &instance, &plan, &certificate)?)
 }
 
 fn reply_to_replay<S: Store>(
@@ -142,6 +169,36 @@ fn audit_answer(alloc: Global, instance: &Instance, plan: &Plan) -> Result<Answe
         outcome: outcome_of(findings),
         writes: Vec::new(alloc),
         text: findings_text(alloc, instance, findings, found.cost)?,
+    })
+}
+
+// How a check ends that has this verdict.
+fn outcome_of_verdict(verdict: &Verdict) -> Outcome
+    ensures { result ≡ check_outcome verdict.now }
+{
+    match verdict {
+        Verdict::Accepted { .. } => Outcome::Done,
+        Verdict::Rejected { .. } => Outcome::Findings,
+    }
+}
+
+// Whether a certificate proves its bound with a plan, or the first reason why it doesn't.
+fn check_answer(
+    alloc: Global,
+    instance: &Instance,
+    plan: &Plan,
+    certificate: &Certificate,
+) -> Result<Answer, AllocError>
+    requires plan { IsPlanInRange instance.now plan.now }
+    requires certificate { IsCertificate instance.now certificate.now }
+    ensures { IfOk result (λ a. IsChecked (record { night = instance.now; plan = plan.now; certificate = certificate.now }) (reply_of a)) }
+{
+    verdicts();
+    let verdict = check(alloc, instance, plan, certificate)?;
+    Ok(Answer {
+        outcome: outcome_of_verdict(&verdict),
+        writes: Vec::new(alloc),
+        text: verdict_text(alloc, instance, certificate, &verdict)?,
     })
 }
 

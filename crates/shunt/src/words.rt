@@ -9,6 +9,8 @@ pub enum Command<'w> {
     Match(&'w str, &'w str),
     /// `audit STATION TIMETABLE PLAN`
     Audit(&'w str, &'w str, &'w str),
+    /// `check STATION TIMETABLE PLAN CERT`
+    Check(&'w str, &'w str, &'w str, &'w str),
     /// `replay STATION TIMETABLE PLAN EDITS NEWPLAN`
     Replay(&'w str, &'w str, &'w str, &'w str, &'w str),
 }
@@ -21,6 +23,7 @@ pub fn command_of(words: &[String]) -> Option<Command<'_>>
     match words {
         [word, first, second] => of_two_files(word, first, second),
         [word, first, second, third] => of_three_files(word, first, second, third),
+        [word, first, second, third, fourth] => of_four_files(word, first, second, third, fourth),
         [word, first, second, third, fourth, fifth] => {
             of_five_files(word, first, second, third, fourth, fifth)
         }
@@ -121,6 +124,27 @@ fn of_three_files<'w>(
     match word.as_str() {
         "audit" if are_three_names(first, second, third) => {
             Some(Command::Audit(first, second, third))
+        }
+        _ => None,
+    }
+}
+
+// The command that a word and the names of four files spell.
+fn of_four_files<'w>(
+    word: &'w String,
+    first: &'w String,
+    second: &'w String,
+    third: &'w String,
+    fourth: &'w String,
+) -> Option<Command<'w>>
+    ensures some { IfSome result (λ c. Spells (texts (word.now ∷ first.now ∷ second.now ∷ third.now ∷ fourth.now ∷ [])) (call_of c)) }
+    ensures only { (c : Call) → Spells (texts (word.now ∷ first.now ∷ second.now ∷ third.now ∷ fourth.now ∷ [])) c → IsSome result }
+{
+    let (first, second) = (first.as_str(), second.as_str());
+    let (third, fourth) = (third.as_str(), fourth.as_str());
+    match word.as_str() {
+        "check" if are_four_names(first, second, third, fourth) => {
+            Some(Command::Check(first, second, third, fourth))
         }
         _ => None,
     }

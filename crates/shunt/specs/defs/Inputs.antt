@@ -12,12 +12,14 @@ use Rattle.shunt_plan.specs.declared.edits.Turn.{Turn}
 use Rattle.shunt_plan.specs.declared.records.Plan.{Plan}
 use Rattle.shunt_plan.specs.defs.Edits.{edits_format}
 use Rattle.shunt_plan.specs.defs.PlanFormat.{plan_format}
+use Rattle.shunt_proof.specs.declared.records.Certificate.{Certificate}
+use Rattle.shunt_proof.specs.defs.CertificateFormat.{certificate_format}
 use Rattle.shunt_report.specs.declared.words.FileWord.{FileWord}
 use Rattle.shunt_report.specs.declared.words.FileWord.TheVariants as word
 use Rattle.shunt_report.specs.defs.Texts.{input_of}
 use Rattle.shunt_station.specs.defs.Stating.{station_format}
 use Rattle.shunt_timetable.specs.defs.TimetableFormat.{timetable_format}
-use Rattle.shunt.specs.defs.Words.{Call, Match, Audit, Replay}
+use Rattle.shunt.specs.defs.Words.{Call, Match, Audit, Check, Replay}
 
 -- how many bytes may stand in an input file
 abbrev pub most_bytes_of : FileWord → ℕ
@@ -65,6 +67,25 @@ stated_plans s t p = then_stated (stated_night s t) (λ night. then_stated (stat
 abbrev pub plans_in : List ℕ → List ℕ → List ℕ → Files → Result (Night × Plan) (List ℕ)
 plans_in s t p files = stated_plans (content files s) (content files t) (content files p)
 
+-- a certificate file over a night
+abbrev pub stated_certificate : Night → List ℕ → Result Certificate (List ℕ)
+stated_certificate night bytes = stated word.Certificate (certificate_format night) bytes
+
+-- a night, a plan in it, and a certificate that is to be checked with the plan
+pub record Checkable : Type 0 where
+  pub night : Night
+  pub plan : Plan
+  pub certificate : Certificate
+
+-- those that a station file, a timetable file, a plan file and a certificate file state, or the line for the first of them that isn't
+-- accepted
+unfoldable pub stated_check : List ℕ → List ℕ → List ℕ → List ℕ → Result Checkable (List ℕ)
+stated_check s t p k = then_stated (stated_plans s t p) (λ x. then_stated (stated_certificate x.0 k) (λ certificate. Ok (record { night = x.0; plan = x.1; certificate = certificate })))
+
+-- the same of what the files of these names hold
+abbrev pub check_in : List ℕ → List ℕ → List ℕ → List ℕ → Files → Result Checkable (List ℕ)
+check_in s t p k files = stated_check (content files s) (content files t) (content files p) (content files k)
+
 -- an edits file over a night
 abbrev pub stated_edits : Night → List ℕ → Result (List Turn) (List ℕ)
 stated_edits night bytes = stated word.Edits (edits_format night) bytes
@@ -88,12 +109,14 @@ turns_in s t p e files = stated_turns (content files s) (content files t) (conte
 abbrev pub Value : Call → Type 0
 Value (Match s t) = Night
 Value (Audit s t p) = Night × Plan
+Value (Check s t p k) = Checkable
 Value (Replay s t p e n) = Replayable
 
 -- the value that they state, judged in the order of the words, or the line for the first of them that isn't accepted
 abbrev pub stated_in : (c : Call) → Files → Result (Value c) (List ℕ)
 stated_in (Match s t) files = stated_night (content files s) (content files t)
 stated_in (Audit s t p) files = plans_in s t p files
+stated_in (Check s t p k) files = check_in s t p k files
 stated_in (Replay s t p e n) files = turns_in s t p e files
 
 -- the line for the first input file that isn't accepted

@@ -1,5 +1,5 @@
 -- The defined answer of a command, over the contents of its files.
-use Rattle.std.specs.Prelude.{◌≡◌, ◌⊎◌, ℕ, List, [], ◌∷◌, ◌++◌, map, Option, Result, Ok, Err, string_bytes}
+use Rattle.std.specs.Prelude.{◌≡◌, ◌⊎◌, ℕ, ◌≤◌, List, [], ◌∷◌, ◌++◌, map, Option, Result, Ok, Err, string_bytes}
 use Rattle.shunt_store.specs.defs.Files.{Files}
 use Rattle.shunt.specs.declared.delivering.Outcome.{Outcome}
 use Rattle.shunt.specs.declared.delivering.Outcome.TheVariants as outcome
@@ -10,6 +10,7 @@ use Rattle.shunt_instance.specs.defs.Matching.{unit_entries, position_entries}
 use Rattle.shunt_matching.specs.declared.types.Shortage.{Shortage}
 use Rattle.shunt_matching.specs.defs.Counts.{first_fit_of}
 use Rattle.shunt_matching.specs.defs.Nights.{Matches, IsShortageOf}
+use Rattle.shunt_blocks.specs.declared.records.Block.{Block}
 use Rattle.shunt_blocks.specs.defs.Lists.{IsFeasible, total_cost}
 use Rattle.shunt_plan.specs.declared.records.Plan.{Plan}
 use Rattle.shunt_plan.specs.defs.PlanRows.{rows_of}
@@ -17,10 +18,15 @@ use Rattle.shunt_rows.specs.defs.Records.{text_of_rows}
 use Rattle.shunt_audit.specs.declared.types.Finding.{Finding}
 use Rattle.shunt_audit.specs.defs.Findings.{AreFindings}
 use Rattle.shunt_audit.specs.defs.Plans.{ArePlanFindings}
+use Rattle.shunt_proof.specs.defs.Accepted.{IsAccepted}
+use Rattle.shunt_checker.specs.declared.verdict.Verdict.{Verdict}
+use Rattle.shunt_checker.specs.declared.verdict.Verdict.TheVariants as verdict
+use Rattle.shunt_checker.specs.defs.Verdicts.{IsVerdict}
 use Rattle.shunt_report.specs.defs.Texts.{pairs_of, shortage_of}
 use Rattle.shunt_report.specs.defs.FindingTexts.{findings_of}
-use Rattle.shunt.specs.defs.Words.{Call, Match, Audit, Replay}
-use Rattle.shunt.specs.defs.Inputs.{Value, Replayable, stated_in, Agrees}
+use Rattle.shunt_report.specs.defs.VerdictTexts.{verdict_of}
+use Rattle.shunt.specs.defs.Words.{Call, Match, Audit, Check, Replay}
+use Rattle.shunt.specs.defs.Inputs.{Value, Checkable, Replayable, stated_in, Agrees}
 use Rattle.shunt.specs.defs.Replays.{last_of, last_plan, replay_lines}
 
 -- how a command ends, which files it writes in their order and what they then hold, and what it prints
@@ -85,6 +91,29 @@ pub record IsAudited (x : Night × Plan) (r : Reply) : Type 0 where
   pub told : ArePlanFindings x.0 x.1 findings
   pub reply : r ≡ says (audit_outcome findings) (findings_of x.0 findings (total_cost x.0 x.1.blocks))
 
+-- the certificate is accepted with the plan
+abbrev pub IsProved : Checkable → Type 0
+IsProved x = IsAccepted x.night [] x.plan.blocks x.plan.cost x.certificate
+
+-- the plan is feasible and states its cost, which the certificate has too, and every feasible plan costs at least the certificate's
+-- bound
+pub record BoundsAll (x : Checkable) : Type 0 where
+  pub feasible : IsFeasible x.night x.plan.blocks
+  pub states : x.plan.cost ≡ total_cost x.night x.plan.blocks
+  pub cost : x.certificate.cost ≡ x.plan.cost
+  pub least : (other : List Block) → IsFeasible x.night other → x.certificate.bound ≤ total_cost x.night other
+
+-- a check ends well where it accepts
+abbrev pub check_outcome : Verdict → Outcome
+check_outcome (verdict.Accepted bound) = outcome.Done
+check_outcome (verdict.Rejected row reason) = outcome.Findings
+
+-- the answer of `check` on a plan and a certificate: the verdict is printed
+pub record IsChecked (x : Checkable) (r : Reply) : Type 0 where
+  pub verdict : Verdict
+  pub told : IsVerdict x.night [] x.plan x.certificate verdict
+  pub reply : r ≡ says (check_outcome verdict) (verdict_of x.night x.certificate verdict)
+
 -- the answer of `replay`: the blocks that the turns leave are written as a plan with what they cost; a line for each turn, and then
 -- their findings and their cost, are printed
 pub record IsReplayed (file : List ℕ) (x : Replayable) (r : Reply) : Type 0 where
@@ -98,6 +127,7 @@ pub record IsReplayed (file : List ℕ) (x : Replayable) (r : Reply) : Type 0 wh
 abbrev pub IsAnswer : (c : Call) → Value c → Reply → Type 0
 IsAnswer (Match s t) night r = IsMatched night r
 IsAnswer (Audit s t p) x r = IsAudited x r
+IsAnswer (Check s t p k) x r = IsChecked x r
 IsAnswer (Replay s t p e n) x r = IsReplayed n x r
 
 -- the defined answer of a command: the first input file that isn't accepted decides, else the command's own answer

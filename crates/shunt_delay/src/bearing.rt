@@ -1,0 +1,119 @@
+//! The delays that a plan bears.
+ghost use Rattle.std.specs.Prelude.{◌≡◌, ◌≤◌, ◌<◌, All, length, map, IfOk};
+ghost use Rattle.shunt_lists.specs.defs.Members.{AreDistinct};
+ghost use Rattle.shunt_blocks.specs.defs.Shapes.{IsInRange};
+ghost use Rattle.shunt_blocks.specs.defs.Lists.{IsFeasible, track_lengths, stays_of};
+ghost use Rattle.shunt_plan.specs.defs.Plans.{IsPlanInRange};
+ghost use Rattle.shunt_audit.specs.defs.Listed.{by_id};
+ghost use Rattle.shunt_delay.specs.defs.Delays.{AreDelays};
+ghost use Rattle.shunt_delay.specs.defs.Kept.{IsReady, AreAll};
+
+use crate::moving::put;
+use crate::records::Delay;
+use crate::train::delay_of;
+use shunt_base::{ArrId, Stay};
+use shunt_blocks::{Block, laws, stay};
+use shunt_instance::{Instance, Origin};
+use shunt_plan::Plan;
+use shunt_timeline::Timelines;
+use std::alloc::{AllocError, Global};
+
+/// How many blocks a plan may have.
+const MOST: usize = 400;
+
+/// These blocks by ascending id.
+fn by_id(alloc: Global, blocks: &[Block]) -> Result<Vec<Block>, AllocError>
+    requires { AreDistinct (map (λ b. b.id) blocks.now) }
+    ensures { IfOk result (λ v. v.items ≡ by_id blocks.now) }
+{
+    let mut blocks = Vec::from_slice(alloc, blocks)?;
+    blocks.sort_by_key(|block| block.id)?;
+    Ok(blocks)
+}
+
+/// The stays of the blocks that have one.
+fn stays_of(alloc: Global, instance: &Instance, blocks: &[Block]) -> Result<Vec<Stay>, AllocError>
+    requires { All (IsInRange instance.now) blocks.now }
+    ensures exact { IfOk result (λ v. v.items ≡ stays_of instance.now blocks.now) }
+{
+    let mut stays = Vec::new(alloc);
+    for block in blocks {
+        if let Some(stay) = stay(instance, block) {
+            stays.push(stay)?;
+        }
+    }
+    Ok(stays)
+}
+
+/// The lengths of the tracks in dm.
+fn track_lengths(alloc: Global, instance: &Instance) -> Result<Vec<u32>, AllocError>
+    ensures { IfOk result (λ v. v.items ≡ track_lengths instance.now.station) }
+{
+    let mut lengths = Vec::new(alloc);
+    for track in instance.station().tracks.as_slice() {
+        lengths.push(track.length)?;
+    }
+    Ok(lengths)
+}
+
+/// Timelines that hold the stays of the blocks, with room for 400.
+fn filled(
+    alloc: Global,
+    instance: &Instance,
+    blocks: &[Block],
+    stays: &[Stay],
+) -> Result<Timelines, AllocError>
+    requires ready { IsReady instance.now blocks.now }
+    requires stays { stays.now ≡ stays_of instance.now blocks.now }
+    ensures { IfOk result (AreAll instance.now blocks.now) }
+{
+    instance.station();
+    laws::stays_of_blocks();
+    let mut timelines = Timelines::new(alloc, &track_lengths(alloc, instance)?)?;
+    timelines.reserve(MOST)?;
+    put(&mut timelines, stays, 0);
+    Ok(timelines)
+}
+
+/// The delays of all trains that come to a platform, for blocks by ascending id.
+fn delays_of_blocks(
+    alloc: Global,
+    instance: &Instance,
+    blocks: &[Block],
+) -> Result<Vec<Delay>, AllocError>
+    requires { IsReady instance.now blocks.now }
+    ensures { IfOk result (λ v. AreDelays instance.now blocks.now v.items) }
+{
+    let stays = stays_of(alloc, instance, blocks)?;
+    let mut timelines = filled(alloc, instance, blocks, &stays)?;
+    let mut delays = Vec::new(alloc);
+    for index in 0..instance.arrivals() {
+        let train = ArrId(index as u8);
+        if let Origin::Platform(_) = instance.arrive(train).origin {
+            delays.push(delay_of(alloc, instance, blocks, &stays, train, &mut timelines)?)?;
+        }
+    }
+    Ok(delays)
+}
+
+/// How late each arriving train can be that doesn't stand on a track when the night opens, in the order of the trains: the
+/// greatest number of minutes up to 120 such that the plan stays feasible where the train is so late, and for each smaller
+/// number too. Beside it stands what one minute more would bring: the first finding of its blocks that are too soon, of stays
+/// that cross or of loads that are too long.
+///
+/// The plan is in range and feasible. A late train's entries are later, and its units are ready later; all else of the night
+/// and of the plan stays. The error is want of memory.
+pub fn delays(alloc: Global, instance: &Instance, plan: &Plan) -> Result<Vec<Delay>, AllocError>
+    requires in_range { IsPlanInRange instance.now plan.now }
+    requires feasible { IsFeasible instance.now plan.now.blocks }
+    ensures exact { IfOk result (λ v. AreDelays instance.now plan.now.blocks v.items) }
+    ensures of_night { IfOk result (λ v. All (λ d. d.train.0 < length instance.now.arrive) v.items) }
+{
+    // The calls tell that the night is well formed, and what stays blocks have.
+    instance.station();
+    laws::blocks();
+    laws::places();
+    laws::stays_of_blocks();
+    let sorted = by_id(alloc, plan.blocks.as_slice())?;
+    delays_of_blocks(alloc, instance, &sorted)
+}

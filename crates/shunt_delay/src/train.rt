@@ -1,0 +1,139 @@
+// How late one train can be.
+ghost use Rattle.std.specs.Prelude.{◌≡◌, ◌≤◌, ◌<◌, false, All, length, map, filter, IfOk};
+ghost use Rattle.shunt_lists.specs.defs.Members.{In};
+ghost use Rattle.shunt_blocks.specs.declared.records.Block.{Block as OneBlock};
+ghost use Rattle.shunt_blocks.specs.defs.Shapes.{IsInRange, shape_of};
+ghost use Rattle.shunt_blocks.specs.defs.Standing.{is_too_soon};
+ghost use Rattle.shunt_blocks.specs.defs.Lists.{stays_of};
+ghost use Rattle.shunt_delay.specs.defs.Late.{late};
+ghost use Rattle.shunt_delay.specs.defs.Delays.{IsDelay};
+ghost use Rattle.shunt_delay.specs.defs.Kept.{IsReady, AreOthers, AreAll, Hold, Stops, of_train};
+
+use crate::first::first_stop;
+use crate::late::is_too_soon_by;
+use crate::moving::{goes_through, put, take};
+use crate::records::{Delay, Stop};
+use shunt_base::{ArrId, Stay};
+use shunt_blocks::{Block, laws};
+use shunt_instance::Instance;
+use shunt_timeline::Timelines;
+use std::alloc::{AllocError, Global};
+
+/// No greater delay is tried, in minutes.
+const LIMIT: u16 = 120;
+
+/// Whether a block of the train is too soon, so many minutes late.
+fn any_too_soon(instance: &Instance, blocks: &[Block], train: ArrId, minutes: u16) -> bool
+    requires ready { IsReady instance.now blocks.now }
+    requires few { minutes ≤ 120 }
+    ensures { result ≡ false → (b : OneBlock) → In b blocks.now → is_too_soon (late train.0 minutes instance.now) (shape_of b) ≡ false }
+{
+    // It tells which units a shape has.
+    laws::places();
+    for block in blocks {
+        if block.arr.0 == train.0 && is_too_soon_by(instance, block, minutes) {
+            return true;
+        }
+    }
+    false
+}
+
+/// What stops a train from being so late; nothing exactly where the plan stays feasible.
+///
+/// The timelines hold the stays of all other trains.
+fn stop_at(
+    alloc: Global,
+    instance: &Instance,
+    blocks: &[Block],
+    train: ArrId,
+    own: &[Stay],
+    timelines: &mut Timelines,
+    minutes: u16,
+) -> Result<Option<Stop>, AllocError>
+    requires ready { IsReady instance.now blocks.now }
+    requires few { minutes ≤ 120 }
+    requires others { AreOthers instance.now blocks.now train.0 own.now timelines.old }
+    ensures stops { IfOk result (λ o. Stops (late train.0 minutes instance.now) blocks.now o) }
+    ensures same { Hold timelines.old timelines.new }
+{
+    if any_too_soon(instance, blocks, train, minutes) {
+        return first_stop(alloc, instance, blocks, train, minutes);
+    }
+    // The calls tell that the night is well formed, and how the stays of blocks stand.
+    instance.station();
+    laws::places();
+    laws::stays_of_blocks();
+    timelines.clash();
+    if goes_through(timelines, own, minutes) {
+        return Ok(None);
+    }
+    first_stop(alloc, instance, blocks, train, minutes)
+}
+
+/// The greatest delay of a train, and what stops it there.
+fn greatest(
+    alloc: Global,
+    instance: &Instance,
+    blocks: &[Block],
+    train: ArrId,
+    own: &[Stay],
+    timelines: &mut Timelines,
+) -> Result<Delay, AllocError>
+    requires ready { IsReady instance.now blocks.now }
+    requires others { AreOthers instance.now blocks.now train.0 own.now timelines.old }
+    ensures delay { IfOk result (λ d. (d.train ≡ train) × IsDelay instance.now blocks.now d) }
+    ensures same { Hold timelines.old timelines.new }
+{
+    for minutes in 1..LIMIT + 1 {
+        if let Some(stop) = stop_at(alloc, instance, blocks, train, own, timelines, minutes)? {
+            return Ok(Delay {
+                train,
+                minutes: minutes - 1,
+                stop,
+            });
+        }
+    }
+    Ok(Delay {
+        train,
+        minutes: LIMIT,
+        stop: Stop::Limit,
+    })
+}
+
+/// The stays of a train.
+fn stays_of_train(alloc: Global, stays: &[Stay], train: ArrId) -> Result<Vec<Stay>, AllocError>
+    ensures { IfOk result (λ v. v.items ≡ filter (of_train train.0) stays.now) }
+{
+    let mut own = Vec::new(alloc);
+    for stay in stays {
+        if stay.enter.train == train.0 {
+            own.push(*stay)?;
+        }
+    }
+    Ok(own)
+}
+
+/// The delay of a train, on timelines that hold all stays.
+pub(crate) fn delay_of(
+    alloc: Global,
+    instance: &Instance,
+    blocks: &[Block],
+    stays: &[Stay],
+    train: ArrId,
+    timelines: &mut Timelines,
+) -> Result<Delay, AllocError>
+    requires ready { IsReady instance.now blocks.now }
+    requires stays { stays.now ≡ stays_of instance.now blocks.now }
+    requires all { AreAll instance.now blocks.now timelines.old }
+    ensures delay { IfOk result (λ d. (d.train ≡ train) × IsDelay instance.now blocks.now d) }
+    ensures all { AreAll instance.now blocks.now timelines.new }
+{
+    instance.station();
+    laws::stays_of_blocks();
+    let own = stays_of_train(alloc, stays, train)?;
+    take(timelines, &own);
+    let delay = greatest(alloc, instance, blocks, train, &own, timelines);
+    timelines.clash();
+    put(timelines, &own, 0);
+    delay
+}

@@ -1,0 +1,9 @@
+pub mod Delayed
+pub mod Lately
+pub mod Formed
+pub mod Found
+pub mod Moved
+pub mod Others
+pub mod Greatest
+pub mod Planned
+pub mod Words

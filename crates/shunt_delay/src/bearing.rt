@@ -1,6 +1,7 @@
 //! The delays that a plan bears.
 ghost use Rattle.std.specs.Prelude.{◌≡◌, ◌≤◌, ◌<◌, All, length, map, IfOk};
 ghost use Rattle.shunt_lists.specs.defs.Members.{AreDistinct};
+ghost use Rattle.shunt_instance.specs.defs.Words.{is_standing};
 ghost use Rattle.shunt_blocks.specs.defs.Shapes.{IsInRange};
 ghost use Rattle.shunt_blocks.specs.defs.Lists.{IsFeasible, track_lengths, stays_of};
 ghost use Rattle.shunt_plan.specs.defs.Plans.{IsPlanInRange};
@@ -13,7 +14,7 @@ use crate::records::Delay;
 use crate::train::delay_of;
 use shunt_base::{ArrId, Stay};
 use shunt_blocks::{Block, laws, stay};
-use shunt_instance::{Instance, Origin};
+use shunt_instance::{Instance, Origin, Train};
 use shunt_plan::Plan;
 use shunt_timeline::Timelines;
 use std::alloc::{AllocError, Global};
@@ -56,6 +57,16 @@ fn track_lengths(alloc: Global, instance: &Instance) -> Result<Vec<u32>, AllocEr
     Ok(lengths)
 }
 
+/// Whether a train stands on a track when the night opens.
+fn stands(train: &Train) -> bool
+    ensures { result ≡ is_standing train.now }
+{
+    match train.origin {
+        Origin::Platform(_) => false,
+        Origin::Track(_) => true,
+    }
+}
+
 /// Timelines that hold the stays of the blocks, with room for 400.
 fn filled(
     alloc: Global,
@@ -67,7 +78,10 @@ fn filled(
     requires stays { stays.now ≡ stays_of instance.now blocks.now }
     ensures { IfOk result (AreAll instance.now blocks.now) }
 {
+    // The calls tell that the night is well formed, and how the stays of blocks stand.
     instance.station();
+    laws::places();
+    laws::stays();
     laws::stays_of_blocks();
     let mut timelines = Timelines::new(alloc, &track_lengths(alloc, instance)?)?;
     timelines.reserve(MOST)?;
@@ -89,7 +103,7 @@ fn delays_of_blocks(
     let mut delays = Vec::new(alloc);
     for index in 0..instance.arrivals() {
         let train = ArrId(index as u8);
-        if let Origin::Platform(_) = instance.arrive(train).origin {
+        if !stands(instance.arrive(train)) {
             delays.push(delay_of(alloc, instance, blocks, &stays, train, &mut timelines)?)?;
         }
     }
@@ -113,6 +127,7 @@ pub fn delays(alloc: Global, instance: &Instance, plan: &Plan) -> Result<Vec<Del
     instance.station();
     laws::blocks();
     laws::places();
+    laws::stays();
     laws::stays_of_blocks();
     let sorted = by_id(alloc, plan.blocks.as_slice())?;
     delays_of_blocks(alloc, instance, &sorted)

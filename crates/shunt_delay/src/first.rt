@@ -103,6 +103,7 @@ fn first_finding(
     // The calls tell that the night is well formed, and which units and stays blocks have.
     instance.station();
     laws::places();
+    laws::stays();
     laws::stays_of_blocks();
     let soon = first_too_soon(instance, blocks, train, minutes);
     if soon.is_some() {
@@ -142,6 +143,11 @@ pub(crate) fn first_stop(
     requires few { minutes ≤ 120 }
     ensures { IfOk result (λ o. Stops (late train.0 minutes instance.now) blocks.now o) }
 {
+    // The calls tell that the night is well formed, and which units and stays blocks have.
+    instance.station();
+    laws::places();
+    laws::stays();
+    laws::stays_of_blocks();
     match first_finding(alloc, instance, blocks, train, minutes)? {
         Some(finding) => Ok(Some(stop_of(finding))),
         None => Ok(None),

@@ -1,5 +1,5 @@
 // Blocks and stays of a night in which one train is late.
-ghost use Rattle.std.specs.Prelude.{◌≡◌, ◌<◌, ◌≤◌, All, length, IfOk};
+ghost use Rattle.std.specs.Prelude.{◌≡◌, ◌<◌, ◌≤◌, false, All, IfOk};
 ghost use Rattle.shunt_blocks.specs.defs.Shapes.{IsInRange, IsWithinTrains, shape_of};
 ghost use Rattle.shunt_blocks.specs.defs.Standing.{is_too_soon, stay_of};
 ghost use Rattle.shunt_blocks.specs.defs.Lists.{stays_of};
@@ -48,6 +48,26 @@ pub(crate) fn is_too_soon(instance: &Instance, block: &Block, train: ArrId, minu
     is_too_soon_by(instance, block, late_by(block, train, minutes))
 }
 
+/// The same of a block that is in time where no train is late.
+pub(crate) fn becomes_too_soon(
+    instance: &Instance,
+    block: &Block,
+    train: ArrId,
+    minutes: u16,
+) -> bool
+    requires within { IsWithinTrains instance.now block.now }
+    requires few { minutes ≤ 120 }
+    requires in_time { is_too_soon instance.now (shape_of block.now) ≡ false }
+    ensures { result ≡ is_too_soon (late train.0 minutes instance.now) (shape_of block.now) }
+{
+    // It tells which units a shape has.
+    laws::places();
+    if block.arr.0 == train.0 {
+        return is_too_soon_by(instance, block, minutes);
+    }
+    false
+}
+
 /// The stay with so many minutes more before it begins.
 pub(crate) fn later(stay: &Stay, minutes: u16) -> Stay
     requires begins { stay.now.enter.minute < 2880 }
@@ -74,8 +94,10 @@ fn late_stay(instance: &Instance, block: &Block, train: ArrId, minutes: u16) -> 
     if is_too_soon_by(instance, block, own) {
         return None;
     }
-    let stay = stay(instance, block)?;
-    Some(later(&stay, own))
+    match stay(instance, block) {
+        Some(stay) => Some(later(&stay, own)),
+        None => None,
+    }
 }
 
 /// The stays of the blocks in the night in which a train is late.

@@ -10,7 +10,7 @@ ghost use Rattle.shunt_delay.specs.defs.Delays.{IsDelay};
 ghost use Rattle.shunt_delay.specs.defs.Kept.{IsReady, AreOthers, AreAll, Hold, Stops, of_train};
 
 use crate::first::first_stop;
-use crate::late::is_too_soon_by;
+use crate::late::becomes_too_soon;
 use crate::moving::{goes_through, put, take};
 use crate::records::{Delay, Stop};
 use shunt_base::{ArrId, Stay};
@@ -28,10 +28,8 @@ fn any_too_soon(instance: &Instance, blocks: &[Block], train: ArrId, minutes: u1
     requires few { minutes ≤ 120 }
     ensures { result ≡ false → (b : OneBlock) → In b blocks.now → is_too_soon (late train.0 minutes instance.now) (shape_of b) ≡ false }
 {
-    // It tells which units a shape has.
-    laws::places();
     for block in blocks {
-        if block.arr.0 == train.0 && is_too_soon_by(instance, block, minutes) {
+        if becomes_too_soon(instance, block, train, minutes) {
             return true;
         }
     }
@@ -62,6 +60,7 @@ fn stop_at(
     // The calls tell that the night is well formed, and how the stays of blocks stand.
     instance.station();
     laws::places();
+    laws::stays();
     laws::stays_of_blocks();
     timelines.clash();
     if goes_through(timelines, own, minutes) {
@@ -128,12 +127,16 @@ pub(crate) fn delay_of(
     ensures delay { IfOk result (λ d. (d.train ≡ train) × IsDelay instance.now blocks.now d) }
     ensures all { AreAll instance.now blocks.now timelines.new }
 {
+    // The calls tell that the night is well formed, and how the stays of blocks stand.
     instance.station();
+    laws::places();
+    laws::stays();
     laws::stays_of_blocks();
-    let own = stays_of_train(alloc, stays, train)?;
-    take(timelines, &own);
-    let delay = greatest(alloc, instance, blocks, train, &own, timelines);
+    let list = stays_of_train(alloc, stays, train)?;
+    let own = list.as_slice();
+    take(timelines, own);
+    let delay = greatest(alloc, instance, blocks, train, own, timelines);
     timelines.clash();
-    put(timelines, &own, 0);
+    put(timelines, own, 0);
     delay
 }

@@ -1,0 +1,105 @@
+-- The blocks of a plan by ascending id, and their delays.
+use Rattle.std.specs.Prelude.{◌↔◌, All, Option, Some, None, map, not, nat_le, cond, ◌==◌, if◌then◌else◌}
+use Rattle.std.specs.List.{filter, range_with_len, AllByRecursion}
+use Rattle.std.proofs.Common.{◌≡◌, ◌≢◌, inl, inr, ⊎_elim, ℕ, zero, suc, ◌+◌, ◌<◌, ◌≤◌, Bool, true, false, List, [], ◌∷◌, ◌++◌, length, get_or, refl, sym, subst, ap, ◌∙◌, arith, IsPermutation}
+use Rattle.std.proofs.lemmas.Bool.{cond-true, cond-false, le-leb, eqb-true, cases_Bool}
+use Rattle.std.proofs.lemmas.List.{map-append}
+use Rattle.std.proofs.lemmas.List.Elements.{filter-append}
+use Rattle.std.proofs.lemmas.List.Sorted.{IsPermutation-sym}
+use Rattle.shunt_lists.proofs.Members.{filter_from, in_map, in_place}
+use Rattle.shunt_lists.specs.defs.Members.{In}
+use Rattle.shunt_base.specs.defs.Keys.{AreStays}
+use Rattle.shunt_base.specs.declared.keys.Stay.{Stay}
+use Rattle.shunt_stays.specs.defs.Run.{AreOnTracks, GoesThrough}
+use Rattle.shunt_stays.proofs.Ascending.{Ascends}
+use Rattle.shunt_stays.proofs.Fewer.{part_through}
+use Rattle.shunt_instance.specs.declared.records.Train.{Train}
+use Rattle.shunt_instance.specs.declared.records.Origin.{Origin}
+use Rattle.shunt_instance.specs.defs.Words.{train_at, is_standing}
+use Rattle.shunt_instance.specs.defs.Instance.{Night, IsInstance}
+use Rattle.shunt_blocks.specs.declared.records.Block.{Block}
+use Rattle.shunt_blocks.specs.defs.Shapes.{shape_of}
+use Rattle.shunt_blocks.specs.defs.Blocks.{IsBlock}
+use Rattle.shunt_blocks.specs.defs.Standing.{stay_of, is_too_soon, IsSound}
+use Rattle.shunt_blocks.specs.defs.Lists.{AreInRange, IsFeasible, track_lengths, stays_of}
+use Rattle.shunt_audit.specs.declared.types.Finding.{Finding}
+use Rattle.shunt_audit.specs.defs.Listed.{insert_by_id, by_id, findings_in}
+use Rattle.shunt_audit.proofs.ById.{id_of, moves, there, apart, sorted_range, ascends, place_of}
+use Rattle.shunt_audit.proofs.Standing.{of_some, to_some}
+use Rattle.shunt_audit.proofs.Exactly.{any_order}
+use Rattle.shunt_delay.specs.declared.records.Delay.{Delay}
+use Rattle.shunt_delay.specs.defs.Late.{late}
+use Rattle.shunt_delay.specs.defs.Delays.{StaysFeasible, Bears, is_of_delay, delay_findings, first, told, IsDelay, comers, AreDelays}
+use Rattle.shunt_delay.specs.defs.Kept.{IsReady}
+use Rattle.shunt_delay.proofs.Lately.{in_range_late, never_late}
+use Rattle.shunt_delay.proofs.Formed.{Laws, stays_late}
+
+-- ---- blocks that ascend already
+
+put_first : (b : Block) (blocks : List Block) → AllByRecursion (λ c. b.id < c.id) blocks → insert_by_id b blocks ≡ b ∷ blocks
+put_first b [] a = refl
+put_first b (c ∷ blocks) a = cond-true (nat_le b.id c.id) (b ∷ c ∷ blocks) (c ∷ insert_by_id b blocks) (le-leb b.id c.id (let lt = a.0 in omega arith))
+
+by_id_is : (blocks : List Block) → Ascends id_of blocks → by_id blocks ≡ blocks
+by_id_is [] a = refl
+by_id_is (b ∷ blocks) a = ap (insert_by_id b) (by_id_is blocks a.1) ∙ put_first b blocks a.0
+
+-- ---- the order of the blocks is nothing to them
+
+module _ (laws : Laws) (night : Night) (n : IsInstance night) where
+  moved_through : (i d : ℕ) (xs ys : List Block) → AreInRange night xs → AreInRange night ys → d ≤ 120 → ((b : Block) → In b ys → In b xs)
+      → GoesThrough (track_lengths night.station) (stays_of (late i d night) xs) → GoesThrough (track_lengths night.station) (stays_of (late i d night) ys)
+  moved_through i d xs ys p q few within = part_through (track_lengths night.station) (stays_of (late i d night) xs) (stays_of (late i d night) ys)
+      (stays_late laws i d night xs n p few) (on i d xs p) (stays_late laws i d night ys n q few) (on i d ys q)
+      (λ s j. let r = of_some (stay_of (late i d night)) ys s j in to_some (stay_of (late i d night)) xs r.0 s (within r.0 r.1) r.2)
+    where
+      on : (i d : ℕ) (zs : List Block) → AreInRange night zs → AreOnTracks (track_lengths night.station) (stays_of (late i d night) zs)
+      on i d zs r = laws.tracks (late i d night) zs (laws.can_stand (late i d night) zs (in_range_late i d night zs r))
+
+  moved_feasible : (i d : ℕ) (xs ys : List Block) → AreInRange night xs → AreInRange night ys → d ≤ 120 → ((b : Block) → In b ys → In b xs)
+      → StaysFeasible (late i d night) xs → StaysFeasible (late i d night) ys
+  moved_feasible i d xs ys p q few within f = record {
+    in_time = λ b j. f.in_time b (within b j);
+    through = moved_through i d xs ys p q few within f.through;
+  }
+
+  same_findings : (i d : ℕ) (blocks : List Block) → AreInRange night blocks → delay_findings (late i d night) (by_id blocks) ≡ delay_findings (late i d night) blocks
+  same_findings i d blocks h = ap (filter is_of_delay) (any_order (late i d night) blocks (by_id blocks) (in_range_late i d night blocks h) (moves blocks))
+
+  same_delay : (blocks : List Block) (delay : Delay) → AreInRange night blocks → IsDelay night (by_id blocks) delay → IsDelay night blocks delay
+  same_delay blocks delay h d = record {
+    bears = record { most = d.bears.most; each = λ e le. moved_feasible delay.train.0 e (by_id blocks) blocks (sorted_range night blocks h) h (let m = d.bears.most in omega arith) (λ b j. (there blocks b).1 j) (d.bears.each e le) };
+    greatest = λ e b. d.greatest e (record { most = b.most; each = λ k le. moved_feasible delay.train.0 k blocks (by_id blocks) h (sorted_range night blocks h) (let m = b.most in omega arith) (λ c j. (there blocks c).0 j) (b.each k le) });
+    stop = d.stop ∙ ap (λ (fs : List Finding). if delay.minutes == 120 then None else first fs) (same_findings delay.train.0 (delay.minutes + 1) blocks h);
+  }
+
+  pub same_delays : (blocks sorted : List Block) (delays : List Delay) → AreInRange night blocks → sorted ≡ by_id blocks → AreDelays night sorted delays → AreDelays night blocks delays
+  same_delays blocks sorted delays h is a = record {
+    trains = a.trains;
+    each = λ k e lt. same_delay blocks (get_or delays k e) h (subst (λ (bs : List Block). IsDelay night bs (get_or delays k e)) is (a.each k e lt));
+  }
+
+  pub ready : ((b : Block) → IsBlock night b → IsSound night b) → (blocks sorted : List Block) → AreInRange night blocks → IsFeasible night blocks → sorted ≡ by_id blocks → IsReady night sorted
+  ready sound blocks sorted h f is = subst (IsReady night) (sym is) (record {
+    in_range = sorted_range night blocks h;
+    sorted = by_id_is (by_id blocks) (ascends blocks (apart blocks h.ids));
+    feasible = record {
+      in_time = λ b j. let r = place_of blocks b b ((there blocks b).0 j) in (sound b (subst (IsBlock night) r.2 (f.each r.0 b r.1))).in_time;
+      through = subst (λ (w : Night). GoesThrough (track_lengths night.station) (stays_of w (by_id blocks))) (never_late 0 night)
+          (moved_through 0 0 blocks (by_id blocks) h (sorted_range night blocks h) (omega arith) (λ b j. (there blocks b).0 j)
+          (subst (λ (w : Night). GoesThrough (track_lengths night.station) (stays_of w blocks)) (sym (never_late 0 night)) f.through));
+    };
+  })
+
+-- ---- the trains in their order
+
+pub in_numbers : (a n x : ℕ) → In x (range_with_len a n) → x < a + n
+in_numbers a zero x j = absurd j
+in_numbers a (suc n) x (inl e) = omega arith
+in_numbers a (suc n) x (inr j) = let lt = in_numbers (a + 1) n x j in omega arith
+
+pub trains_there : (night : Night) (blocks : List Block) (delays : List Delay) → AreDelays night blocks delays → All (λ d. d.train.0 < length night.arrive) delays
+trains_there night blocks delays a k e lt =
+    let x = get_or delays k e in
+    let listed : In x.train.0 (comers night) = subst (λ (xs : List ℕ). In x.train.0 xs) a.trains (in_map (λ (d : Delay). d.train.0) delays x (in_place delays k e lt)) in
+    omega (arith, in_numbers 0 (length night.arrive) x.train.0 (filter_from (λ i. not (is_standing (train_at night.arrive i))) (range_with_len 0 (length night.arrive)) x.train.0 listed).0)

@@ -3,10 +3,10 @@ use Rattle.std.specs.Prelude.{◌↔◌, All, Option, Some, None, map, not, nat_
 use Rattle.std.specs.List.{filter, range_with_len, AllByRecursion}
 use Rattle.std.proofs.Common.{◌≡◌, ◌≢◌, inl, inr, ⊎_elim, ℕ, zero, suc, ◌+◌, ◌<◌, ◌≤◌, Bool, true, false, List, [], ◌∷◌, ◌++◌, length, get_or, refl, sym, subst, ap, ◌∙◌, arith, IsPermutation}
 use Rattle.std.proofs.lemmas.Bool.{cond-true, cond-false, le-leb, eqb-true, cases_Bool}
-use Rattle.std.proofs.lemmas.List.{map-append}
+use Rattle.std.proofs.lemmas.List.{map-append, append-nil}
 use Rattle.std.proofs.lemmas.List.Elements.{filter-append}
 use Rattle.std.proofs.lemmas.List.Sorted.{IsPermutation-sym}
-use Rattle.shunt_lists.proofs.Members.{filter_from, in_map, in_place}
+use Rattle.shunt_lists.proofs.Members.{filter_yes, filter_no, filter_from, in_map, in_place, in_cases, of_one}
 use Rattle.shunt_lists.specs.defs.Members.{In}
 use Rattle.shunt_base.specs.defs.Keys.{AreStays}
 use Rattle.shunt_base.specs.declared.keys.Stay.{Stay}
@@ -33,6 +33,7 @@ use Rattle.shunt_delay.specs.defs.Delays.{StaysFeasible, Bears, is_of_delay, del
 use Rattle.shunt_delay.specs.defs.Kept.{IsReady}
 use Rattle.shunt_delay.proofs.Lately.{in_range_late, never_late}
 use Rattle.shunt_delay.proofs.Formed.{Laws, stays_late}
+use Rattle.shunt_delay.proofs.Moved.{of_all, to_all}
 
 -- ---- blocks that ascend already
 
@@ -103,3 +104,35 @@ trains_there night blocks delays a k e lt =
     let x = get_or delays k e in
     let listed : In x.train.0 (comers night) = subst (λ (xs : List ℕ). In x.train.0 xs) a.trains (in_map (λ (d : Delay). d.train.0) delays x (in_place delays k e lt)) in
     omega (arith, in_numbers 0 (length night.arrive) x.train.0 (filter_from (λ i. not (is_standing (train_at night.arrive i))) (range_with_len 0 (length night.arrive)) x.train.0 listed).0)
+
+abbrev comes : Night → ℕ → Bool
+comes night i = not (is_standing (train_at night.arrive i))
+
+abbrev numbers : List Delay → List ℕ
+numbers delays = map (λ d. d.train.0) delays
+
+range_more : (a n j : ℕ) → a + n ≡ j → range_with_len a (suc n) ≡ range_with_len a n ++ j ∷ []
+range_more a zero j e = let same : a ≡ j = omega arith in ap (λ (x : ℕ). x ∷ []) same
+range_more a (suc n) j e = ap (λ (xs : List ℕ). a ∷ xs) (range_more (a + 1) n j (omega arith))
+
+next_number : (night : Night) (k : ℕ) → filter (comes night) (range_with_len 0 (k + 1)) ≡ filter (comes night) (range_with_len 0 k) ++ filter (comes night) (k ∷ [])
+next_number night k =
+    let next : k + 1 ≡ suc k = omega arith in
+    ap (λ (n : ℕ). filter (comes night) (range_with_len 0 n)) next ∙ ap (filter (comes night)) (range_more 0 k k (omega arith)) ∙ filter-append (comes night) (range_with_len 0 k) (k ∷ [])
+
+-- one more train, which comes to a platform
+pub trains_more : (night : Night) (k : ℕ) (delays after : List Delay) (d : Delay) → d.train.0 ≡ k → is_standing (train_at night.arrive k) ≡ false
+    → numbers delays ≡ filter (comes night) (range_with_len 0 k) → after ≡ delays ++ d ∷ [] → numbers after ≡ filter (comes night) (range_with_len 0 (k + 1))
+trains_more night k delays after d train stands before is =
+    ap numbers is ∙ map-append (λ (x : Delay). x.train.0) delays (d ∷ []) ∙ ap (λ (xs : List ℕ). xs ++ d.train.0 ∷ []) before ∙ ap (λ (n : ℕ). filter (comes night) (range_with_len 0 k) ++ n ∷ []) train
+    ∙ ap (λ (xs : List ℕ). filter (comes night) (range_with_len 0 k) ++ xs) (sym (filter_yes (comes night) k [] (ap (λ (t : Bool). not t) stands))) ∙ sym (next_number night k)
+
+pub each_more : (night : Night) (blocks : List Block) (delays after : List Delay) (d : Delay) → All (IsDelay night blocks) delays → IsDelay night blocks d → after ≡ delays ++ d ∷ [] → All (IsDelay night blocks) after
+each_more night blocks delays after d all one is = subst (All (IsDelay night blocks)) (sym is)
+    (to_all (IsDelay night blocks) (delays ++ d ∷ []) (λ x i. ⊎_elim (λ j. of_all (IsDelay night blocks) delays x all j) (λ j. subst (IsDelay night blocks) (sym (of_one d x j)) one) (in_cases delays (d ∷ []) x i)))
+
+-- one that stands
+pub trains_same : (night : Night) (k : ℕ) (delays : List Delay) → is_standing (train_at night.arrive k) ≡ true
+    → numbers delays ≡ filter (comes night) (range_with_len 0 k) → numbers delays ≡ filter (comes night) (range_with_len 0 (k + 1))
+trains_same night k delays stands before =
+    before ∙ sym (next_number night k ∙ ap (λ (xs : List ℕ). filter (comes night) (range_with_len 0 k) ++ xs) (filter_no (comes night) k [] (ap (λ (t : Bool). not t) stands)) ∙ append-nil (filter (comes night) (range_with_len 0 k)))

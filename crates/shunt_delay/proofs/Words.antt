@@ -6,12 +6,13 @@ use Rattle.std.proofs.lemmas.Bool.{cases_Bool, cases_lt, false≢true, cond-true
 use Rattle.shunt_lists.proofs.Members.{all_in, filter_yes, filter_no, filter_from, filter_to}
 use Rattle.shunt_lists.specs.defs.Members.{In}
 use Rattle.shunt_base.specs.declared.ids.ArrId.{ArrId}
-use Rattle.shunt_base.specs.declared.keys.Stay.{Stay}
+use Rattle.shunt_base.specs.defs.Keys.{AreStays}
+use Rattle.shunt_stays.specs.defs.Run.{AreOnTracks}
 use Rattle.shunt_instance.specs.defs.Instance.{Night, IsInstance}
 use Rattle.shunt_blocks.specs.declared.records.Block.{Block}
 use Rattle.shunt_blocks.specs.defs.Shapes.{shape_of, AreRunsWithin}
 use Rattle.shunt_blocks.specs.defs.Standing.{is_too_soon, stay_of}
-use Rattle.shunt_blocks.specs.defs.Lists.{AreInRange}
+use Rattle.shunt_blocks.specs.defs.Lists.{AreInRange, track_lengths, stays_of}
 use Rattle.shunt_audit.specs.declared.types.Finding.{Finding}
 use Rattle.shunt_audit.specs.defs.Findings.{IsFinding, FindingBefore}
 use Rattle.shunt_audit.specs.defs.Listed.{findings_in}
@@ -55,7 +56,10 @@ pub found_least : (night : Night) (blocks : List Block) (f g : Finding) → AreI
 found_least night blocks f g h e i = let r = filter_from is_of_delay (findings_in night blocks) g i in least_of (findings_in night blocks) f g (of_order (findings_in night blocks) (ordered night blocks h)) e r.0 r.1
 
 module _ (laws : Laws) (i d : ℕ) (night : Night) (blocks : List Block) (n : IsInstance night) (h : AreInRange night blocks) (few : d ≤ 120) where
+  formed : AreStays (stays_of (late i d night) blocks)
   formed = stays_late laws i d night blocks n h few
+
+  tracks : AreOnTracks (track_lengths night.station) (stays_of (late i d night) blocks)
   tracks = laws.tracks (late i d night) blocks (laws.can_stand (late i d night) blocks (in_range_late i d night blocks h))
 
   pub none_found : (delay_findings (late i d night) blocks ≡ []) ↔ StaysFeasible (late i d night) blocks
@@ -84,7 +88,7 @@ told_same (TooLong id load) (TooLong other more) e = cc
 same_fields : (t u : ArrId) (m k : ℕ) (a b : Stop) → t.0 ≡ u.0 → m ≡ k → a ≡ b → ◌≡◌ {A = Delay} (record { train = t; minutes = m; stop = a }) (record { train = u; minutes = k; stop = b })
 same_fields t u m k a b e f g = let train : t ≡ u = ap (λ (x : ℕ). record { 0 = x }) e in cc
 
-stop_at : Night → List Block → ℕ → ℕ → Option Finding
+abbrev stop_at : Night → List Block → ℕ → ℕ → Option Finding
 stop_at night blocks i m = if m == 120 then None else first (delay_findings (late i (m + 1) night) blocks)
 
 one_delay : (night : Night) (blocks : List Block) (x y : Delay) → x.train.0 ≡ y.train.0 → IsDelay night blocks x → IsDelay night blocks y → x ≡ y

@@ -1,5 +1,5 @@
 //! The delays that a plan bears.
-ghost use Rattle.std.specs.Prelude.{◌≡◌, ◌≤◌, ◌<◌, All, length, map, IfOk};
+ghost use Rattle.std.specs.Prelude.{◌≡◌, ◌<◌, [], All, length, map, IfOk};
 ghost use Rattle.shunt_lists.specs.defs.Members.{AreDistinct};
 ghost use Rattle.shunt_instance.specs.defs.Words.{is_standing};
 ghost use Rattle.shunt_blocks.specs.defs.Shapes.{IsInRange};
@@ -67,7 +67,17 @@ fn stands(train: &Train) -> bool
     }
 }
 
-/// Timelines that hold the stays of the blocks, with room for 400.
+/// Timelines without stays, with room for 400.
+fn empty_timelines(alloc: Global, instance: &Instance) -> Result<Timelines, AllocError>
+    ensures { IfOk result (λ t. t ≡ record { stays = []; lengths = track_lengths instance.now.station; spare = 400 }) }
+{
+    let lengths = track_lengths(alloc, instance)?;
+    let mut timelines = Timelines::new(alloc, lengths.as_slice())?;
+    timelines.reserve(MOST)?;
+    Ok(timelines)
+}
+
+/// Timelines that hold the stays of the blocks.
 fn filled(
     alloc: Global,
     instance: &Instance,
@@ -83,10 +93,17 @@ fn filled(
     laws::places();
     laws::stays();
     laws::stays_of_blocks();
-    let mut timelines = Timelines::new(alloc, &track_lengths(alloc, instance)?)?;
-    timelines.reserve(MOST)?;
+    let mut timelines = empty_timelines(alloc, instance)?;
     put(&mut timelines, stays, 0);
     Ok(timelines)
+}
+
+/// The arriving train with a number.
+fn train_at(index: usize) -> ArrId
+    requires { index < 256 }
+    ensures { result.0 ≡ index }
+{
+    ArrId(index as u8)
 }
 
 /// The delays of all trains that come to a platform, for blocks by ascending id.
@@ -102,9 +119,10 @@ fn delays_of_blocks(
     let mut timelines = filled(alloc, instance, blocks, &stays)?;
     let mut delays = Vec::new(alloc);
     for index in 0..instance.arrivals() {
-        let train = ArrId(index as u8);
+        let train = train_at(index);
         if !stands(instance.arrive(train)) {
-            delays.push(delay_of(alloc, instance, blocks, &stays, train, &mut timelines)?)?;
+            let delay = delay_of(alloc, instance, blocks, &stays, train, &mut timelines)?;
+            delays.push(delay)?;
         }
     }
     Ok(delays)
@@ -130,5 +148,6 @@ pub fn delays(alloc: Global, instance: &Instance, plan: &Plan) -> Result<Vec<Del
     laws::stays();
     laws::stays_of_blocks();
     let sorted = by_id(alloc, plan.blocks.as_slice())?;
-    delays_of_blocks(alloc, instance, &sorted)
+    let delays = delays_of_blocks(alloc, instance, &sorted)?;
+    Ok(delays)
 }

@@ -31,4 +31,8 @@ returns-in-Some-clause-delay c = (
 )
 
 pub loop-minutes-preserved : goal.loop-minutes-preserved
-loop-minutes-preserved c = ?
+loop-minutes-preserved c = record {
+  from = omega arith;
+  below = one_more c.args.instance.now c.args.blocks.now c.args.train.0 c.loop-minutes.minutes c.loop-minutes.invariant.below (subst (λ (o : Option Stop). Stops (late c.args.train.0 c.loop-minutes.minutes c.args.instance.now) c.args.blocks.now o) c.in_default.is c.in_ok-stop.ensures.stops);
+  hold = held_on c.args.timelines.now c.loop-minutes.timelines c.stop_at.new.timelines c.loop-minutes.invariant.hold c.stop_at.ensures.same;
+}

@@ -1,10 +1,8 @@
 -- What a late train changes in a list of trains, and what it doesn't.
 use Rattle.std.proofs.Common.{◌≡◌, ◌≢◌, ℕ, zero, suc, ◌+◌, ◌<◌, List, [], ◌∷◌, ◌++◌, length, take, refl, sym, ap, ◌∙◌, arith}
-use Rattle.std.specs.Prelude.{sum_by}
 use Rattle.std.proofs.lemmas.List.Sums.{sum_by-cons}
 use Rattle.shunt_base.specs.declared.ids.TypeId.{TypeId}
 use Rattle.shunt_instance.specs.declared.records.Train.{Train}
-use Rattle.shunt_instance.specs.declared.records.Origin.{Origin}
 use Rattle.shunt_instance.specs.defs.Words.{train_at, minute_at, unit_count}
 use Rattle.shunt_instance.specs.defs.Instance.{numbered_from, numbered_through}
 use Rattle.shunt_delay.specs.defs.Late.{delayed}

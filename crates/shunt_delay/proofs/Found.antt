@@ -1,7 +1,7 @@
 -- The first of the findings that a late train brings.
-use Rattle.std.specs.Prelude.{◌↔◌, IsTrue, is_some, Option, Some, None, slice_index, nat_le, nat_lt, ◌==◌}
+use Rattle.std.specs.Prelude.{is_some, Option, Some, None, slice_index, nat_le, nat_lt, ◌==◌}
 use Rattle.std.specs.List.{flat_map, filter}
-use Rattle.std.proofs.Common.{◌≡◌, ◌⊎◌, inl, inr, ⊎_elim, ℕ, zero, suc, ◌+◌, ◌<◌, ◌≤◌, Bool, true, false, List, [], ◌∷◌, ◌++◌, length, take, get_or, refl, sym, subst, ap, ◌∙◌, arith}
+use Rattle.std.proofs.Common.{◌≡◌, inl, inr, ⊎_elim, ℕ, zero, suc, ◌<◌, ◌≤◌, Bool, true, false, List, [], ◌∷◌, ◌++◌, length, take, get_or, refl, sym, subst, ap, ◌∙◌, arith}
 use Rattle.std.proofs.lemmas.Bool.{cases_lt, lt-ltb, false_from_ne_true, false≢true}
 use Rattle.std.proofs.lemmas.List.Concat.{flat_map-cons}
 use Rattle.std.proofs.lemmas.List.Elements.{filter-append}

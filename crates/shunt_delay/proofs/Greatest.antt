@@ -1,17 +1,15 @@
 -- The greatest delay, from what stops the train at each number of minutes.
-use Rattle.std.specs.Prelude.{Option, Some, None, ◌==◌, if◌then◌else◌}
-use Rattle.std.proofs.Common.{◌≡◌, ◌≢◌, inl, inr, ⊎_elim, ℕ, ◌+◌, ◌<◌, ◌≤◌, true, false, List, refl, sym, subst, ap, ◌∙◌, arith}
+use Rattle.std.specs.Prelude.{Some, None, ◌==◌}
+use Rattle.std.proofs.Common.{◌≡◌, ⊎_elim, ℕ, ◌+◌, ◌<◌, ◌≤◌, List, refl, sym, subst, ap, ◌∙◌, arith}
 use Rattle.std.proofs.lemmas.Bool.{cases_lt, cond-true, cond-false, ne_eqb}
 use Rattle.shunt_base.specs.declared.ids.ArrId.{ArrId}
 use Rattle.shunt_instance.specs.defs.Instance.{Night}
 use Rattle.shunt_blocks.specs.declared.records.Block.{Block}
-use Rattle.shunt_audit.specs.declared.types.Finding.{Finding}
-use Rattle.shunt_delay.specs.declared.records.Delay.{Delay}
 use Rattle.shunt_delay.specs.declared.records.Stop.{Stop}
 use Rattle.shunt_delay.specs.declared.records.Stop.TheVariants.{Limit}
 use Rattle.shunt_delay.specs.defs.Late.{late}
-use Rattle.shunt_delay.specs.defs.Delays.{StaysFeasible, Bears, delay_findings, first, told, IsDelay}
-use Rattle.shunt_delay.specs.defs.Kept.{Stops, IsReady}
+use Rattle.shunt_delay.specs.defs.Delays.{StaysFeasible, delay_findings, first, IsDelay}
+use Rattle.shunt_delay.specs.defs.Kept.{Stops}
 use Rattle.shunt_delay.proofs.Lately.{never_late}
 
 -- so far nothing has stopped the train

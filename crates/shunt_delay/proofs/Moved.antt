@@ -1,7 +1,6 @@
 -- Stays that come to timelines and go again.
 use Rattle.std.specs.Prelude.{◌↔◌, All, IfSome, IfNone, OnSome, Option, Some, None, map}
-use Rattle.std.specs.List.{AllByRecursion}
-use Rattle.std.proofs.Common.{◌≡◌, ◌≢◌, ◌⊎◌, inl, inr, ⊎_elim, ℕ, zero, suc, ◌+◌, ◌<◌, ◌≤◌, List, [], ◌∷◌, ◌++◌, length, take, get_or, refl, sym, subst, ap, ◌∙◌, arith, IsPermutation}
+use Rattle.std.proofs.Common.{◌≡◌, ◌≢◌, ◌⊎◌, inl, inr, ⊎_elim, ℕ, zero, suc, ◌+◌, ◌<◌, List, [], ◌∷◌, ◌++◌, length, take, get_or, refl, sym, subst, ap, ◌∙◌, arith, IsPermutation}
 use Rattle.std.proofs.lemmas.List.Sorted.{IsPermutation-refl, IsPermutation-cons, IsPermutation-sym, IsPermutation-trans, IsPermutation-middle, length_permutation}
 use Rattle.shunt_lists.proofs.Members.{all_in, in_place, in_map, of_map}
 use Rattle.shunt_lists.specs.defs.Members.{In}
@@ -12,7 +11,7 @@ use Rattle.shunt_stays.specs.defs.Run.{AreOnTracks, GoesThrough}
 use Rattle.shunt_stays.proofs.Fewer.{part_through}
 use Rattle.shunt_timeline.specs.defs.Holdings.{Holding}
 use Rattle.shunt_audit.proofs.ById.{place_of}
-use Rattle.shunt_delay.specs.defs.Kept.{later, IsApart, CanCome, Hold}
+use Rattle.shunt_delay.specs.defs.Kept.{later, IsApart, CanCome}
 
 pub of_all : {X : Type 0} (P : X → Type 0) (xs : List X) (x : X) → All P xs → In x xs → P x
 of_all P xs x h i = let r = place_of xs x x i in subst P r.2 (h r.0 x r.1)

@@ -1,26 +1,25 @@
 -- The stays of a train, and those of all others, while the train is late.
-use Rattle.std.specs.Prelude.{◌↔◌, IfSome, Option, option_map, Some, None, map, not, ◌==◌}
+use Rattle.std.specs.Prelude.{◌↔◌, Some, map, not}
 use Rattle.std.specs.List.{filter}
 use Rattle.std.proofs.Common.{◌≡◌, ◌≢◌, ◌⊎◌, inl, inr, ⊎_elim, ℕ, ◌+◌, ◌<◌, ◌≤◌, Bool, true, false, List, [], ◌∷◌, length, refl, sym, subst, ap, ◌∙◌, arith}
-use Rattle.std.proofs.lemmas.Bool.{cases_Bool, false_from_ne_true, false≢true, eq-eqb, eqb-true, eqb-false, ne_eqb}
+use Rattle.std.proofs.lemmas.Bool.{cases_Bool, false_from_ne_true, false≢true, eq-eqb, eqb-true, ne_eqb}
 use Rattle.shunt_lists.proofs.Members.{all_in, all_from, filter_yes, filter_no, filter_from, filter_to, in_map, of_map}
 use Rattle.shunt_lists.specs.defs.Members.{In}
 use Rattle.shunt_base.specs.declared.keys.Stay.{Stay}
 use Rattle.shunt_base.specs.defs.Keys.{IsWellFormed, AreStays}
-use Rattle.shunt_stays.specs.defs.Run.{AreOnTracks, GoesThrough}
+use Rattle.shunt_stays.specs.defs.Run.{GoesThrough}
 use Rattle.shunt_stays.proofs.Fewer.{stays_filter, on_tracks}
-use Rattle.shunt_instance.specs.defs.Words.{train_at}
 use Rattle.shunt_instance.specs.defs.Instance.{Night, IsInstance}
 use Rattle.shunt_blocks.specs.declared.records.Block.{Block}
-use Rattle.shunt_blocks.specs.defs.Shapes.{shape_of, IsInRange}
+use Rattle.shunt_blocks.specs.defs.Shapes.{shape_of}
 use Rattle.shunt_blocks.specs.defs.Standing.{is_too_soon, stay_of}
 use Rattle.shunt_blocks.specs.defs.Lists.{AreInRange, track_lengths, stays_of}
 use Rattle.shunt_timeline.specs.defs.Holdings.{Holding}
 use Rattle.shunt_audit.proofs.Standing.{of_some, to_some, in_range, few_stays}
 use Rattle.shunt_delay.specs.defs.Late.{late}
 use Rattle.shunt_delay.specs.defs.Delays.{StaysFeasible}
-use Rattle.shunt_delay.specs.defs.Kept.{late_by, is_too_soon_by, later, IsApart, CanCome, Hold, IsReady, of_train, AreAll, AreOthers}
-use Rattle.shunt_delay.proofs.Lately.{stay_late, soon_late, which, never_late, in_range_late}
+use Rattle.shunt_delay.specs.defs.Kept.{late_by, is_too_soon_by, later, IsApart, CanCome, Hold, of_train, AreAll, AreOthers}
+use Rattle.shunt_delay.proofs.Lately.{stay_late, soon_late, which, never_late}
 use Rattle.shunt_delay.proofs.Formed.{Laws, stay_is, of_late, to_late, arrives, stays_late}
 use Rattle.shunt_delay.proofs.Moved.{member_formed, one_id, as_many}
 

@@ -1,35 +1,29 @@
 -- The blocks of a plan by ascending id, and their delays.
-use Rattle.std.specs.Prelude.{◌↔◌, All, Option, Some, None, map, not, nat_le, cond, ◌==◌, if◌then◌else◌}
+use Rattle.std.specs.Prelude.{All, None, map, not, nat_le, ◌==◌, if◌then◌else◌}
 use Rattle.std.specs.List.{filter, range_with_len, AllByRecursion}
-use Rattle.std.proofs.Common.{◌≡◌, ◌≢◌, inl, inr, ⊎_elim, ℕ, zero, suc, ◌+◌, ◌<◌, ◌≤◌, Bool, true, false, List, [], ◌∷◌, ◌++◌, length, get_or, refl, sym, subst, ap, ◌∙◌, arith, IsPermutation}
-use Rattle.std.proofs.lemmas.Bool.{cond-true, cond-false, le-leb, eqb-true, cases_Bool}
+use Rattle.std.proofs.Common.{◌≡◌, inl, inr, ⊎_elim, ℕ, zero, suc, ◌+◌, ◌<◌, ◌≤◌, Bool, true, false, List, [], ◌∷◌, ◌++◌, length, get_or, refl, sym, subst, ap, ◌∙◌, arith}
+use Rattle.std.proofs.lemmas.Bool.{cond-true, le-leb}
 use Rattle.std.proofs.lemmas.List.{map-append, append-nil}
 use Rattle.std.proofs.lemmas.List.Elements.{filter-append}
-use Rattle.std.proofs.lemmas.List.Sorted.{IsPermutation-sym}
 use Rattle.shunt_lists.proofs.Members.{filter_yes, filter_no, filter_from, in_map, in_place, in_cases, of_one}
 use Rattle.shunt_lists.specs.defs.Members.{In}
-use Rattle.shunt_base.specs.defs.Keys.{AreStays}
-use Rattle.shunt_base.specs.declared.keys.Stay.{Stay}
 use Rattle.shunt_stays.specs.defs.Run.{AreOnTracks, GoesThrough}
 use Rattle.shunt_stays.proofs.Ascending.{Ascends}
 use Rattle.shunt_stays.proofs.Fewer.{part_through}
-use Rattle.shunt_instance.specs.declared.records.Train.{Train}
-use Rattle.shunt_instance.specs.declared.records.Origin.{Origin}
 use Rattle.shunt_instance.specs.defs.Words.{train_at, is_standing}
 use Rattle.shunt_instance.specs.defs.Instance.{Night, IsInstance}
 use Rattle.shunt_blocks.specs.declared.records.Block.{Block}
-use Rattle.shunt_blocks.specs.defs.Shapes.{shape_of}
 use Rattle.shunt_blocks.specs.defs.Blocks.{IsBlock}
-use Rattle.shunt_blocks.specs.defs.Standing.{stay_of, is_too_soon, IsSound}
+use Rattle.shunt_blocks.specs.defs.Standing.{stay_of, IsSound}
 use Rattle.shunt_blocks.specs.defs.Lists.{AreInRange, IsFeasible, track_lengths, stays_of}
 use Rattle.shunt_audit.specs.declared.types.Finding.{Finding}
-use Rattle.shunt_audit.specs.defs.Listed.{insert_by_id, by_id, findings_in}
+use Rattle.shunt_audit.specs.defs.Listed.{insert_by_id, by_id}
 use Rattle.shunt_audit.proofs.ById.{id_of, moves, there, apart, sorted_range, ascends, place_of}
 use Rattle.shunt_audit.proofs.Standing.{of_some, to_some}
 use Rattle.shunt_audit.proofs.Exactly.{any_order}
 use Rattle.shunt_delay.specs.declared.records.Delay.{Delay}
 use Rattle.shunt_delay.specs.defs.Late.{late}
-use Rattle.shunt_delay.specs.defs.Delays.{StaysFeasible, Bears, is_of_delay, delay_findings, first, told, IsDelay, comers, AreDelays}
+use Rattle.shunt_delay.specs.defs.Delays.{StaysFeasible, is_of_delay, delay_findings, first, IsDelay, comers, AreDelays}
 use Rattle.shunt_delay.specs.defs.Kept.{IsReady}
 use Rattle.shunt_delay.proofs.Lately.{in_range_late, never_late}
 use Rattle.shunt_delay.proofs.Formed.{Laws, stays_late}

@@ -1,4 +1,4 @@
-use Rattle.std.proofs.Common.{◌≡◌, ap, ◌∙◌}
+use Rattle.std.proofs.Common.{ap, ◌∙◌}
 use Rattle.shunt_audit.specs.defs.Listed.{by_id}
 use Rattle.shunt_delay.proofs.Formed.{Laws}
 use Rattle.shunt_delay.proofs.Planned.{ready, same_delays, trains_there}

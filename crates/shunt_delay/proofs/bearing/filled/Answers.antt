@@ -1,4 +1,4 @@
-use Rattle.std.proofs.Common.{◌≡◌, ◌≤◌, ℕ, ap, subst, sym, arith}
+use Rattle.std.proofs.Common.{◌≡◌, ap, arith}
 use Rattle.shunt_timeline.specs.defs.Holdings.{Holding}
 use Rattle.shunt_delay.proofs.Formed.{Laws}
 use Rattle.shunt_delay.proofs.Others.{first_come, all_come}

@@ -1,4 +1,4 @@
-use Rattle.std.proofs.Common.{◌≡◌, sym, ◌∙◌}
+use Rattle.std.proofs.Common.{sym, ◌∙◌}
 use Rattle.shunt_delay.proofs.Found.{at_pair}
 use Rattle.shunt_delay.proofs.first.first_crossing.Goals as goal
 

@@ -1,4 +1,3 @@
-use Rattle.std.proofs.Common.{◌≡◌}
 use Rattle.shunt_delay.proofs.Found.{at_crosser}
 use Rattle.shunt_delay.proofs.first.first_crossing_of.Goals as goal
 

@@ -1,9 +1,8 @@
-use Rattle.std.proofs.Common.{◌≡◌, ◌≤◌, ℕ, List, length, sym, subst, ap, ◌∙◌, arith}
+use Rattle.std.proofs.Common.{◌≤◌, List, length, sym, subst, ap, ◌∙◌, arith}
 use Rattle.shunt_base.specs.declared.keys.Stay.{Stay}
 use Rattle.shunt_base.specs.defs.Keys.{AreStays}
 use Rattle.shunt_stays.specs.defs.Run.{AreOnTracks}
 use Rattle.shunt_blocks.specs.defs.Lists.{track_lengths}
-use Rattle.shunt_audit.specs.declared.types.Finding.{Finding}
 use Rattle.shunt_audit.specs.defs.Listed.{crossings, too_longs}
 use Rattle.shunt_audit.proofs.Standing.{few_stays}
 use Rattle.shunt_delay.specs.defs.Late.{late}

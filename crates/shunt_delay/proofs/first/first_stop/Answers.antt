@@ -1,6 +1,6 @@
-use Rattle.std.proofs.Common.{◌≡◌, sym, ap, ◌∙◌}
+use Rattle.std.proofs.Common.{sym, ◌∙◌}
 use Rattle.shunt_delay.specs.defs.Late.{late}
-use Rattle.shunt_delay.specs.defs.Delays.{StaysFeasible, delay_findings, first}
+use Rattle.shunt_delay.specs.defs.Delays.{delay_findings}
 use Rattle.shunt_delay.proofs.Lately.{in_range_late}
 use Rattle.shunt_delay.proofs.Formed.{Laws, stays_late}
 use Rattle.shunt_delay.proofs.Found.{passes, none_where, where_none, first_none, no_first}

@@ -1,4 +1,3 @@
-use Rattle.std.proofs.Common.{◌≡◌}
 use Rattle.shunt_blocks.specs.defs.Lists.{track_lengths}
 use Rattle.shunt_delay.proofs.Found.{at_over}
 use Rattle.shunt_delay.proofs.first.first_too_long.Goals as goal

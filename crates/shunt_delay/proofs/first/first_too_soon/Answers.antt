@@ -1,4 +1,3 @@
-use Rattle.std.proofs.Common.{◌≡◌}
 use Rattle.shunt_delay.specs.defs.Late.{late}
 use Rattle.shunt_delay.proofs.Found.{at_too_soon}
 use Rattle.shunt_delay.proofs.first.first_too_soon.Goals as goal

@@ -1,4 +1,3 @@
-use Rattle.std.proofs.Common.{◌≡◌}
 use Rattle.shunt_delay.proofs.Lately.{soon_own, soon_other}
 use Rattle.shunt_delay.proofs.late.becomes_too_soon.Goals as goal
 

@@ -1,4 +1,4 @@
-use Rattle.std.proofs.Common.{◌≡◌, ℕ, sym, ap, ◌∙◌}
+use Rattle.std.proofs.Common.{ℕ, sym, ap, ◌∙◌}
 use Rattle.shunt_blocks.specs.defs.Shapes.{shape_of}
 use Rattle.shunt_delay.specs.defs.Kept.{is_too_soon_by}
 use Rattle.shunt_delay.proofs.Lately.{soon_late}

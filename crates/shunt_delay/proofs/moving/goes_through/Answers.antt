@@ -1,4 +1,4 @@
-use Rattle.std.proofs.Common.{◌≡◌, ◌∙◌}
+use Rattle.std.proofs.Common.{◌∙◌}
 use Rattle.std.proofs.lemmas.Bool.{eqb-true}
 use Rattle.shunt_delay.proofs.Moved.{back_again, runs_through}
 use Rattle.shunt_delay.proofs.moving.goes_through.Goals as goal

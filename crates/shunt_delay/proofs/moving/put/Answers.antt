@@ -1,4 +1,4 @@
-use Rattle.std.proofs.Common.{◌≡◌, ◌≢◌, ◌⊎◌, ◌↔◌, ◌<◌, List, ◌∷◌, length, map, refl, sym, subst, arith, IsPermutation}
+use Rattle.std.proofs.Common.{◌≢◌, ◌⊎◌, ◌↔◌, ◌<◌, List, ◌∷◌, length, map, refl, sym, subst, arith, IsPermutation}
 use Rattle.std.specs.Prelude.{All}
 use Rattle.std.proofs.lemmas.List.{take_all}
 use Rattle.shunt_lists.specs.defs.Members.{In}

@@ -1,4 +1,4 @@
-use Rattle.std.proofs.Common.{◌≡◌, ◌↔◌, List, refl, subst, arith}
+use Rattle.std.proofs.Common.{◌↔◌, List, refl, subst, arith}
 use Rattle.std.proofs.lemmas.List.{take_all}
 use Rattle.shunt_lists.specs.defs.Members.{In}
 use Rattle.shunt_base.specs.declared.keys.Stay.{Stay}

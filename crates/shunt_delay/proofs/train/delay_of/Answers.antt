@@ -1,7 +1,7 @@
-use Rattle.std.proofs.Common.{◌≡◌, List, sym, subst, ap, ◌∙◌, arith}
+use Rattle.std.proofs.Common.{List, ap, ◌∙◌, arith}
 use Rattle.std.specs.List.{filter}
 use Rattle.shunt_base.specs.declared.keys.Stay.{Stay}
-use Rattle.shunt_delay.specs.defs.Kept.{AreOthers, of_train}
+use Rattle.shunt_delay.specs.defs.Kept.{of_train}
 use Rattle.shunt_delay.proofs.Formed.{Laws}
 use Rattle.shunt_delay.proofs.Others.{taken_out, can_come, in_time_now, put_back, still_others}
 use Rattle.shunt_delay.proofs.train.delay_of.Goals as goal

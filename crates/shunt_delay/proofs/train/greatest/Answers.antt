@@ -1,4 +1,4 @@
-use Rattle.std.proofs.Common.{◌≡◌, ◌≤◌, ◌+◌, ℕ, refl, subst, arith}
+use Rattle.std.proofs.Common.{refl, subst, arith}
 use Rattle.std.specs.Prelude.{Option}
 use Rattle.shunt_delay.specs.declared.records.Stop.{Stop}
 use Rattle.shunt_delay.specs.defs.Late.{late}

@@ -1,4 +1,3 @@
-use Rattle.std.proofs.Common.{◌≡◌}
 use Rattle.shunt_delay.proofs.Formed.{Laws}
 use Rattle.shunt_delay.proofs.Others.{can_come, stays_feasible}
 use Rattle.shunt_delay.proofs.train.stop_at.Goals as goal

@@ -20,6 +20,9 @@ const UNBALANCED: &str = "timetable,1\narrive,a1,22:00,P,K,K\ndepart,d1,30:00,P,
 const CROSSING: &str =
     "timetable,1\narrive,a1,22:00,P,X\narrive,a2,23:00,P,Y\ndepart,d1,29:00,P,X\ndepart,d2,30:00,P,Y\n";
 
+const ONE_AFTER_THE_OTHER: &str =
+    "timetable,1\narrive,a1,22:00,P,X\narrive,a2,30:00,P,Y\ndepart,d1,30:00,P,X\ndepart,d2,31:00,P,Y\n";
+
 const SPLIT_REVERSED: &str =
     "timetable,1\narrive,a1,22:00,P,X,Y\ndepart,d1,29:00,P,Y\ndepart,d2,30:00,P,X\n";
 
@@ -29,6 +32,10 @@ const SPLIT_CROSSING: &str =
 // A track of one unit's length.
 const TIGHT: &str =
     "station,1,Demo\ntype,K,500,10\ntype,X,500,10\ntype,Y,500,10\nplatform,P\ntrack,T,500,A\nroute,P,T,A,3\ncost,5,4,100\n";
+
+// The track is open at both ends.
+const OPEN: &str =
+    "station,1,Demo\ntype,K,500,10\ntype,X,500,10\ntype,Y,500,10\nplatform,P\ntrack,T,1000,AB\nroute,P,T,A,3\nroute,P,T,B,3\ncost,5,4,100\n";
 
 // Trains may stand before the night.
 const STANDING_STATION: &str =
@@ -77,6 +84,11 @@ fn one_node_is_enough(rt: HostRuntime) -> Result<(), Fail> {
     assert_eq!(rt; found_at(alloc, STATION, NO_TRAINS, 1)?, (0, 0, 1));
     assert_eq!(rt; found_at(alloc, STATION, SPLIT_REVERSED, 1)?, (17, 17, 1));
     assert_eq!(rt; found_at(alloc, TIGHT, CROSSING, 1)?, (106, 106, 1));
+    assert_eq!(rt;
+        found_at(alloc, TIGHT, ONE_AFTER_THE_OTHER, 1)?,
+        (12, 12, 1)
+    );
+    assert_eq!(rt; found_at(alloc, OPEN, CROSSING, 1)?, (12, 12, 1));
     Ok(())
 }
 

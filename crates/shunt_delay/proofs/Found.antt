@@ -1,8 +1,8 @@
 -- The first of the findings that a late train brings.
 use Rattle.std.specs.Prelude.{is_some, Option, Some, None, slice_index, nat_le, nat_lt, ◌==◌}
 use Rattle.std.specs.List.{flat_map, filter}
-use Rattle.std.proofs.Common.{◌≡◌, inl, inr, ⊎_elim, ℕ, zero, suc, ◌<◌, ◌≤◌, Bool, true, false, List, [], ◌∷◌, ◌++◌, length, take, get_or, refl, sym, subst, ap, ◌∙◌, arith}
-use Rattle.std.proofs.lemmas.Bool.{cases_lt, lt-ltb, false_from_ne_true, false≢true}
+use Rattle.std.proofs.Common.{◌≡◌, ◌≢◌, inl, inr, ⊎_elim, ℕ, zero, suc, ◌<◌, ◌≤◌, Bool, true, false, List, [], ◌∷◌, ◌++◌, length, take, get_or, refl, sym, subst, ap, ◌∙◌, arith}
+use Rattle.std.proofs.lemmas.Bool.{cases_Bool, ne_eqb, cases_lt, lt-ltb, false_from_ne_true, false≢true}
 use Rattle.std.proofs.lemmas.List.Concat.{flat_map-cons}
 use Rattle.std.proofs.lemmas.List.Elements.{filter-append}
 use Rattle.shunt_lists.proofs.Members.{filter_yes, filter_no, filter_from, filter_to, of_flat}
@@ -25,6 +25,7 @@ use Rattle.shunt_audit.specs.defs.Listed.{noted, noted_below, by_id, bare_units,
 use Rattle.shunt_audit.proofs.Lists.{of_below_noted, of_flat_noted}
 use Rattle.shunt_audit.proofs.Exactly.{exactly}
 use Rattle.shunt_audit.proofs.Feasible.{no_member}
+use Rattle.shunt_delay.specs.defs.Kept.{of_train, AreOthersApart}
 use Rattle.shunt_delay.specs.defs.Delays.{StaysFeasible, is_of_delay, delay_findings, first}
 
 -- ---- which findings are those of a delay
@@ -204,6 +205,19 @@ at_crosser stays e k d t lt before is held =
 
 pub at_pair : (stays : List Stay) (k : ℕ) (d : Stay) (o : Option Finding) → k < length stays → flat_map (crossings_of stays) (take k stays) ≡ [] → o ≡ first (crossings_of stays (get_or stays k d)) → is_some o ≡ true → o ≡ first (crossings stays)
 at_pair stays k d o lt before is held = seen_some (crossings_of stays) stays k d (get_or stays k d) o lt refl before is held
+
+-- a stay of another train is met by the late train's stays alone
+flat_filtered : {X : Type 0} (p : X → Bool) (note : X → List Finding) (xs : List X) → ((x : X) → In x xs → p x ≡ false → note x ≡ []) → flat_map note (filter p xs) ≡ flat_map note xs
+flat_filtered p note [] none = refl
+flat_filtered {X} p note (x ∷ xs) none = elim (cases_Bool (p x)) [
+  | inl held ↦ ap (flat_map note) (filter_yes p x xs held) ∙ flat_map-cons note x (filter p xs) ∙ ap (λ (fs : List Finding). note x ++ fs) (flat_filtered p note xs (λ y i. none y (inr i))) ∙ sym (flat_map-cons note x xs)
+  | inr apart ↦ ap (flat_map note) (filter_no p x xs apart) ∙ flat_filtered p note xs (λ y i. none y (inr i)) ∙ sym (flat_map-cons note x xs ∙ ap (λ (fs : List Finding). fs ++ flat_map note xs) (none x (inl refl) apart))
+]
+
+pub own_crossers : (i : ℕ) (stays own : List Stay) (b : Stay) (o : Option Finding) → own ≡ filter (of_train i) stays → AreOthersApart i stays → In b stays → b.enter.train ≢ i → o ≡ first (crossings_of own b) → o ≡ first (crossings_of stays b)
+own_crossers i stays own b o is apart there other e =
+    e ∙ ap (λ (l : List Stay). first (crossings_of l b)) is ∙ ap first (flat_filtered (of_train i) (λ (c : Stay). noted (crosses b c) (Crossing b.id c.id)) stays
+    (λ c j p. ap (λ (t : Bool). noted t (Crossing b.id c.id)) (apart b c there j (ne_eqb b.enter.train i other) p)))
 
 lt_true : (m n : ℕ) → m < n → nat_lt m n ≡ true
 lt_true m n lt = lt-ltb m n lt

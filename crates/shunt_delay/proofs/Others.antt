@@ -8,6 +8,8 @@ use Rattle.shunt_lists.specs.defs.Members.{In}
 use Rattle.shunt_base.specs.declared.keys.Stay.{Stay}
 use Rattle.shunt_base.specs.defs.Keys.{IsWellFormed, AreStays}
 use Rattle.shunt_stays.specs.defs.Run.{GoesThrough}
+use Rattle.shunt_stays.specs.defs.Crossing.{crosses}
+use Rattle.shunt_stays.proofs.Crossings.{crosses_is, through_clear}
 use Rattle.shunt_stays.proofs.Fewer.{stays_filter, on_tracks}
 use Rattle.shunt_instance.specs.defs.Instance.{Night, IsInstance}
 use Rattle.shunt_blocks.specs.declared.records.Block.{Block}
@@ -18,7 +20,7 @@ use Rattle.shunt_timeline.specs.defs.Holdings.{Holding}
 use Rattle.shunt_audit.proofs.Standing.{of_some, to_some, in_range, few_stays}
 use Rattle.shunt_delay.specs.defs.Late.{late}
 use Rattle.shunt_delay.specs.defs.Delays.{StaysFeasible}
-use Rattle.shunt_delay.specs.defs.Kept.{late_by, is_too_soon_by, later, IsApart, CanCome, Hold, of_train, AreAll, AreOthers}
+use Rattle.shunt_delay.specs.defs.Kept.{late_by, is_too_soon_by, later, IsApart, CanCome, Hold, of_train, AreAll, AreOthers, AreOthersApart}
 use Rattle.shunt_delay.proofs.Lately.{stay_late, soon_late, which, never_late}
 use Rattle.shunt_delay.proofs.Formed.{Laws, stay_is, of_late, to_late, arrives, stays_late}
 use Rattle.shunt_delay.proofs.Moved.{member_formed, one_id, as_many}
@@ -93,6 +95,23 @@ module _ (laws : Laws) (night : Night) (blocks : List Block) (n : IsInstance nig
       λ j. ⊎_elim (λ m. inl (subst (λ (l : List Stay). In s (map (later d) l)) (sym o.own_are) m)) (λ m. inr ((o.members s).1 m)) (late_to s j),
       λ m. late_from s (⊎_elim (λ x. inl (subst (λ (l : List Stay). In s (map (later d) l)) o.own_are x)) (λ x. inr ((o.members s).0 x)) m),
     )
+
+  -- ---- no two stays of other trains cross
+
+  other_same : (i d : ℕ) (s : Stay) → In s (stays_of (late i d night) blocks) → of_train i s ≡ false → In s (stays_of night blocks)
+  other_same i d s j apart =
+      let r = of_some (stay_of (late i d night)) blocks s j in
+      let l = of_late night (late_by i d r.0) r.0 s (sym (stay_late laws.units i d night r.0 (in_range night blocks r.0 h r.1).within.runs) ∙ r.2) in
+      let none : late_by i d r.0 ≡ 0 = ⊎_elim (λ own. absurd (of_isnt i (late i d night) r.0 s r.2 apart own.0)) (λ other. other.1) (which i d r.0) in
+      let is : s ≡ l.stay = l.is ∙ ap (λ (k : ℕ). later k l.stay) none ∙ on_time l.stay in
+      subst (λ (u : Stay). In u (stays_of night blocks)) (sym is) (to_some (stay_of night) blocks r.0 l.stay r.1 l.of)
+    where
+      on_time : (t : Stay) → later 0 t ≡ t
+      on_time t = ap (λ (m : ℕ). record t { enter = record t.enter { minute = m } }) (omega arith)
+
+  pub others_apart : (i d : ℕ) → StaysFeasible night blocks → AreOthersApart i (stays_of (late i d night) blocks)
+  others_apart i d feasible b c j k p q = false_from_ne_true (crosses b c) (λ t.
+      (through_clear (track_lengths night.station) (stays_of night blocks) formed (laws.tracks night blocks (laws.can_stand night blocks h)) feasible.through).0 b c (other_same i d b j p) (other_same i d c k q) ((crosses_is b c).0 t))
 
   -- ---- counts
 

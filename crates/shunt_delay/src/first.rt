@@ -1,17 +1,17 @@
 // The first finding that a late train brings.
-ghost use Rattle.std.specs.Prelude.{◌≡◌, ◌≤◌, ◌<◌, All, Some, None, IsTrue, length, slice_index, IfOk};
+ghost use Rattle.std.specs.Prelude.{◌≡◌, ◌≤◌, ◌<◌, Some, IsTrue, length, filter, slice_index, IfOk};
+ghost use Rattle.shunt_lists.specs.defs.Members.{In};
 ghost use Rattle.shunt_base.specs.defs.Keys.{AreStays};
 ghost use Rattle.shunt_stays.specs.defs.Run.{AreOnTracks};
-ghost use Rattle.shunt_stays.specs.defs.Crossing.{load_after};
-ghost use Rattle.shunt_blocks.specs.defs.Shapes.{IsInRange};
-ghost use Rattle.shunt_blocks.specs.defs.Lists.{AreInRange, track_lengths};
-ghost use Rattle.shunt_audit.specs.defs.Listed.{by_id, too_soons, crossings_of, crossings, too_longs};
+ghost use Rattle.shunt_blocks.specs.defs.Lists.{track_lengths};
+ghost use Rattle.shunt_audit.specs.defs.Listed.{too_soons, crossings_of, crossings, too_longs};
 ghost use Rattle.shunt_delay.specs.defs.Late.{late};
 ghost use Rattle.shunt_delay.specs.defs.Delays.{is_of_delay, delay_findings, first, told};
-ghost use Rattle.shunt_delay.specs.defs.Kept.{Stops};
+ghost use Rattle.shunt_delay.specs.defs.Kept.{Stops, IsReady, of_train, AreOthersApart};
 
-use crate::late::{is_too_soon, late_stays};
+use crate::late::{becomes_too_soon, late_stays};
 use crate::records::Stop;
+use crate::train::stays_of_train;
 use shunt_audit::types::Finding;
 use shunt_base::{ArrId, Stay};
 use shunt_blocks::{Block, laws};
@@ -26,12 +26,12 @@ fn first_too_soon(
     train: ArrId,
     minutes: u16,
 ) -> Option<Finding>
-    requires each { All (IsInRange instance.now) blocks.now }
+    requires ready { IsReady instance.now blocks.now }
     requires few { minutes ≤ 120 }
     ensures { result ≡ first (too_soons (late train.0 minutes instance.now) blocks.now) }
 {
     for block in blocks {
-        if is_too_soon(instance, block, train, minutes) {
+        if becomes_too_soon(instance, block, train, minutes) {
             return Some(Finding::TooSoon(block.id));
         }
     }
@@ -50,12 +50,27 @@ fn first_crossing_of(stays: &[Stay], earlier: &Stay) -> Option<Finding>
     None
 }
 
-/// The first pair that crosses.
-fn first_crossing(stays: &[Stay]) -> Option<Finding>
+/// The same where no two of the others cross: a stay of another train is met by those of the late train alone.
+fn first_crossing_at(stays: &[Stay], own: &[Stay], train: ArrId, earlier: &Stay) -> Option<Finding>
+    requires own { own.now ≡ filter (of_train train.0) stays.now }
+    requires apart { AreOthersApart train.0 stays.now }
+    requires there { In earlier.now stays.now }
+    ensures { result ≡ first (crossings_of stays.now earlier.now) }
+{
+    if earlier.enter.train == train.0 {
+        return first_crossing_of(stays, earlier);
+    }
+    first_crossing_of(own, earlier)
+}
+
+/// The first pair that crosses, where no two stays of other trains than the late one do.
+fn first_crossing(stays: &[Stay], own: &[Stay], train: ArrId) -> Option<Finding>
+    requires own { own.now ≡ filter (of_train train.0) stays.now }
+    requires apart { AreOthersApart train.0 stays.now }
     ensures { result ≡ first (crossings stays.now) }
 {
     for earlier in stays {
-        let found = first_crossing_of(stays, earlier);
+        let found = first_crossing_at(stays, own, train, earlier);
         if found.is_some() {
             return found;
         }
@@ -95,8 +110,7 @@ fn first_finding(
     train: ArrId,
     minutes: u16,
 ) -> Result<Option<Finding>, AllocError>
-    requires in_range { AreInRange instance.now blocks.now }
-    requires sorted { by_id blocks.now ≡ blocks.now }
+    requires ready { IsReady instance.now blocks.now }
     requires few { minutes ≤ 120 }
     ensures { IfOk result (λ o. o ≡ first (delay_findings (late train.0 minutes instance.now) blocks.now)) }
 {
@@ -109,12 +123,15 @@ fn first_finding(
     if soon.is_some() {
         return Ok(soon);
     }
-    let stays = late_stays(alloc, instance, blocks, train, minutes)?;
-    let crossing = first_crossing(&stays);
+    let late = late_stays(alloc, instance, blocks, train, minutes)?;
+    let stays = late.as_slice();
+    let list = stays_of_train(alloc, stays, train)?;
+    let own = list.as_slice();
+    let crossing = first_crossing(stays, own, train);
     if crossing.is_some() {
         return Ok(crossing);
     }
-    Ok(first_too_long(instance, &stays))
+    Ok(first_too_long(instance, stays))
 }
 
 /// The stop that tells a finding.
@@ -138,8 +155,7 @@ pub(crate) fn first_stop(
     train: ArrId,
     minutes: u16,
 ) -> Result<Option<Stop>, AllocError>
-    requires in_range { AreInRange instance.now blocks.now }
-    requires sorted { by_id blocks.now ≡ blocks.now }
+    requires ready { IsReady instance.now blocks.now }
     requires few { minutes ≤ 120 }
     ensures { IfOk result (λ o. Stops (late train.0 minutes instance.now) blocks.now o) }
 {

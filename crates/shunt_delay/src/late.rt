@@ -37,18 +37,7 @@ pub(crate) fn is_too_soon_by(instance: &Instance, block: &Block, minutes: u16) -
     !all
 }
 
-/// Whether the block is too soon in the night in which a train is late.
-pub(crate) fn is_too_soon(instance: &Instance, block: &Block, train: ArrId, minutes: u16) -> bool
-    requires within { IsWithinTrains instance.now block.now }
-    requires few { minutes ≤ 120 }
-    ensures { result ≡ is_too_soon (late train.0 minutes instance.now) (shape_of block.now) }
-{
-    // It tells which units a shape has.
-    laws::places();
-    is_too_soon_by(instance, block, late_by(block, train, minutes))
-}
-
-/// The same of a block that is in time where no train is late.
+/// Whether a block that is in time is too soon in the night in which a train is late.
 pub(crate) fn becomes_too_soon(
     instance: &Instance,
     block: &Block,

@@ -1,8 +1,8 @@
 // How late one train can be.
-ghost use Rattle.std.specs.Prelude.{◌≡◌, ◌≤◌, ◌<◌, false, All, length, map, filter, IfOk};
+ghost use Rattle.std.specs.Prelude.{◌≡◌, ◌≤◌, false, filter, IfOk};
 ghost use Rattle.shunt_lists.specs.defs.Members.{In};
 ghost use Rattle.shunt_blocks.specs.declared.records.Block.{Block as OneBlock};
-ghost use Rattle.shunt_blocks.specs.defs.Shapes.{IsInRange, shape_of};
+ghost use Rattle.shunt_blocks.specs.defs.Shapes.{shape_of};
 ghost use Rattle.shunt_blocks.specs.defs.Standing.{is_too_soon};
 ghost use Rattle.shunt_blocks.specs.defs.Lists.{stays_of};
 ghost use Rattle.shunt_delay.specs.defs.Late.{late};
@@ -100,7 +100,11 @@ fn greatest(
 }
 
 /// The stays of a train.
-fn stays_of_train(alloc: Global, stays: &[Stay], train: ArrId) -> Result<Vec<Stay>, AllocError>
+pub(crate) fn stays_of_train(
+    alloc: Global,
+    stays: &[Stay],
+    train: ArrId,
+) -> Result<Vec<Stay>, AllocError>
     ensures { IfOk result (λ v. v.items ≡ filter (of_train train.0) stays.now) }
 {
     let mut own = Vec::new(alloc);

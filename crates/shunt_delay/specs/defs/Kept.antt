@@ -4,6 +4,7 @@ use Rattle.shunt_lists.specs.defs.Below.{all_below}
 use Rattle.shunt_lists.specs.defs.Members.{In}
 use Rattle.shunt_base.specs.declared.keys.Stay.{Stay}
 use Rattle.shunt_base.specs.defs.Keys.{AreStays}
+use Rattle.shunt_stays.specs.defs.Crossing.{crosses}
 use Rattle.shunt_instance.specs.defs.Instance.{Night, ready}
 use Rattle.shunt_blocks.specs.declared.records.Shape.{Shape}
 use Rattle.shunt_blocks.specs.declared.records.Block.{Block}
@@ -74,3 +75,7 @@ pub record AreOthers (night : Night) (blocks : List Block) (i : ℕ) (own : List
   pub members : (s : Stay) → In s held.stays ↔ In s (stays_of night blocks) × (of_train i s ≡ false)
   pub lengths : held.lengths ≡ track_lengths night.station
   pub room : 400 ≤ held.spare + length held.stays
+
+-- no two stays of other trains than i cross
+abbrev pub AreOthersApart : ℕ → List Stay → Type 0
+AreOthersApart i stays = (b c : Stay) → In b stays → In c stays → of_train i b ≡ false → of_train i c ≡ false → crosses b c ≡ false

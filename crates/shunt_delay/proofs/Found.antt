@@ -85,7 +85,7 @@ clash_kept lengths stays = join is_of_delay (crossings stays) (too_longs lengths
     (crossings_kept stays)
     (flat_kept (λ s. nat_lt (slice_index lengths s.track.0) (load_after stays s)) (λ s. TooLong s.id (load_after stays s)) stays (λ s. refl))
 
-pub listed : (night : Night) (blocks : List Block) → delay_findings night blocks ≡ too_soons night (by_id blocks) ++ clash_findings (track_lengths night.station) (stays_of night (by_id blocks))
+listed : (night : Night) (blocks : List Block) → delay_findings night blocks ≡ too_soons night (by_id blocks) ++ clash_findings (track_lengths night.station) (stays_of night (by_id blocks))
 unfolding findings_in
 listed night blocks =
     let clashes = clash_findings (track_lengths night.station) (stays_of night (by_id blocks)) in

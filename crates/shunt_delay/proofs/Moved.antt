@@ -71,9 +71,6 @@ pub record HasCome (own : List Stay) (minutes k : ℕ) (before now : Holding) : 
   pub count : length now.stays ≡ length before.stays + k
   pub spare : now.spare + k ≡ before.spare
 
-pub none_come : (own : List Stay) (minutes : ℕ) (before : Holding) → HasCome own minutes 0 before before
-none_come own minutes before = record { members = λ s. (λ i. inr i, λ h. ⊎_elim (λ i. absurd i) (λ i. i) h); lengths = refl; count = omega arith; spare = omega arith }
-
 module _ (own : List Stay) (minutes k : ℕ) (before now : Holding) (x d : Stay) (can : CanCome own minutes before) (h : HasCome own minutes k before now) (lt : k < length own) (is : x ≡ get_or own k d) where
   there : In x own
   there = subst (λ (y : Stay). In y own) (sym is) (in_place own k d lt)
@@ -132,9 +129,6 @@ pub record HasGone (own : List Stay) (k : ℕ) (before now : Holding) : Type 0 w
   pub members : (s : Stay) → In s now.stays ↔ In s before.stays × IsApart (take k own) s
   pub lengths : now.lengths ≡ before.lengths
   pub room : now.spare + length now.stays ≡ before.spare + length before.stays
-
-pub none_gone : (own : List Stay) (before : Holding) → HasGone own 0 before before
-none_gone own before = record { members = λ s. (λ i. (i, λ t j. absurd j), λ h. h.0); lengths = refl; room = refl }
 
 pub record IsWithout (id : ℕ) (before after : Holding) : Type 0 where
   pub members : (s : Stay) → In s after.stays ↔ In s before.stays × (s.id ≢ id)

@@ -28,6 +28,10 @@ use Rattle.shunt_delay.proofs.Moved.{member_formed, one_id, as_many}
 abbrev own_of : Night → List Block → ℕ → List Stay
 own_of night blocks i = filter (of_train i) (stays_of night blocks)
 
+-- no minutes late
+on_time : (t : Stay) → later 0 t ≡ t
+on_time t = ap (λ (m : ℕ). record t { enter = record t.enter { minute = m } }) (omega arith)
+
 -- a stay is of train i where its block is
 is_of : (i : ℕ) (night : Night) (b : Block) (t : Stay) → stay_of night b ≡ Some t → b.arr.0 ≡ i → of_train i t ≡ true
 is_of i night b t e same = eq-eqb t.enter.train i ((stay_is night b t e).train ∙ same)
@@ -62,12 +66,9 @@ module _ (laws : Laws) (night : Night) (blocks : List Block) (n : IsInstance nig
         ⊎_elim
         (λ own. let is : s ≡ later d l.stay = l.is ∙ ap (λ (k : ℕ). later k l.stay) own.1 in
         inl (subst (λ (u : Stay). In u (map (later d) (own_of night blocks i))) (sym is) (in_map (later d) (own_of night blocks i) l.stay (filter_to (of_train i) (stays_of night blocks) l.stay there (is_of i night r.0 l.stay l.of own.0)))))
-        (λ other. let is : s ≡ l.stay = l.is ∙ ap (λ (k : ℕ). later k l.stay) other.1 ∙ not_late l.stay in
+        (λ other. let is : s ≡ l.stay = l.is ∙ ap (λ (k : ℕ). later k l.stay) other.1 ∙ on_time l.stay in
         inr (subst (λ (u : Stay). In u (stays_of night blocks) × (of_train i u ≡ false)) (sym is) (there, isnt_of i night r.0 l.stay l.of other.0)))
         (which i d r.0)
-      where
-        not_late : (t : Stay) → later 0 t ≡ t
-        not_late t = ap (λ (m : ℕ). record t { enter = record t.enter { minute = m } }) (omega arith)
 
     late_own : (t : Stay) → In t (own_of night blocks i) → In (later d t) (stays_of (late i d night) blocks)
     late_own t j =
@@ -80,10 +81,7 @@ module _ (laws : Laws) (night : Night) (blocks : List Block) (n : IsInstance nig
     late_other t j apart =
         let r = of_some (stay_of night) blocks t j in
         let none : late_by i d r.0 ≡ 0 = ⊎_elim (λ own. absurd (of_isnt i night r.0 t r.2 apart own.0)) (λ other. other.1) (which i d r.0) in
-        to_some (stay_of (late i d night)) blocks r.0 t r.1 (late_is r.0 t r.1 r.2 ∙ ap (λ (k : ℕ). Some (later k t)) none ∙ ap (λ (u : Stay). Some u) (not_late t))
-      where
-        not_late : (t : Stay) → later 0 t ≡ t
-        not_late t = ap (λ (m : ℕ). record t { enter = record t.enter { minute = m } }) (omega arith)
+        to_some (stay_of (late i d night)) blocks r.0 t r.1 (late_is r.0 t r.1 r.2 ∙ ap (λ (k : ℕ). Some (later k t)) none ∙ ap (λ (u : Stay). Some u) (on_time t))
 
     late_from : (s : Stay) → In s (map (later d) (own_of night blocks i)) ⊎ (In s (stays_of night blocks) × (of_train i s ≡ false)) → In s (stays_of (late i d night) blocks)
     late_from s (inl j) = let r = of_map (later d) (own_of night blocks i) s j in subst (λ (u : Stay). In u (stays_of (late i d night) blocks)) (sym r.2) (late_own r.0 r.1)
@@ -105,9 +103,6 @@ module _ (laws : Laws) (night : Night) (blocks : List Block) (n : IsInstance nig
       let none : late_by i d r.0 ≡ 0 = ⊎_elim (λ own. absurd (of_isnt i (late i d night) r.0 s r.2 apart own.0)) (λ other. other.1) (which i d r.0) in
       let is : s ≡ l.stay = l.is ∙ ap (λ (k : ℕ). later k l.stay) none ∙ on_time l.stay in
       subst (λ (u : Stay). In u (stays_of night blocks)) (sym is) (to_some (stay_of night) blocks r.0 l.stay r.1 l.of)
-    where
-      on_time : (t : Stay) → later 0 t ≡ t
-      on_time t = ap (λ (m : ℕ). record t { enter = record t.enter { minute = m } }) (omega arith)
 
   pub others_apart : (i d : ℕ) → StaysFeasible night blocks → AreOthersApart i (stays_of (late i d night) blocks)
   others_apart i d feasible b c j k p q = false_from_ne_true (crosses b c) (λ t.
@@ -228,12 +223,9 @@ module _ (laws : Laws) (night : Night) (blocks : List Block) (n : IsInstance nig
 
   -- ---- all come to empty timelines
 
-  not_later : (t : Stay) → later 0 t ≡ t
-  not_later t = ap (λ (m : ℕ). record t { enter = record t.enter { minute = m } }) (omega arith)
-
   same_map : (own : List Stay) → map (later 0) own ≡ own
   same_map [] = refl
-  same_map (s ∷ own) = ap (λ (t : Stay). t ∷ map (later 0) own) (not_later s) ∙ ap (λ (l : List Stay). s ∷ l) (same_map own)
+  same_map (s ∷ own) = ap (λ (t : Stay). t ∷ map (later 0) own) (on_time s) ∙ ap (λ (l : List Stay). s ∷ l) (same_map own)
 
   pub first_come : (stays : List Stay) (held : Holding) → stays ≡ stays_of night blocks → held.stays ≡ [] → held.lengths ≡ track_lengths night.station → 400 ≤ held.spare → CanCome stays 0 held
   first_come stays held is none lengths room =

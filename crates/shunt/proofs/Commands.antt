@@ -1,9 +1,10 @@
 -- From what the files of a command hold to its defined answer.
-use Rattle.std.proofs.Common.{◌≡◌, ℕ, List, [], ◌∷◌, length, Option, get_or, subst, sym, ap, Result, arith}
+use Rattle.std.proofs.Common.{◌≡◌, ◌∙◌, ℕ, List, [], ◌∷◌, Option, Some, None, get_or, refl, subst, sym, ap, Result}
+use Rattle.std.specs.Prelude.{bytes_eq, codes, if◌then◌else◌}
 use Rattle.shunt_store.specs.defs.Files.{Files}
 use Rattle.shunt.specs.declared.delivering.Answer.{Answer}
 use Rattle.shunt.specs.declared.loading.Halt.{Halt}
-use Rattle.shunt.specs.defs.Words.{Call, Match, Audit, Check, Replay, IsUsable, words_of}
+use Rattle.shunt.specs.defs.Words.{Call, Match, Audit, Check, Zones, Replay, IsUsable, words_of}
 use Rattle.shunt.specs.defs.Inputs.{Agrees, Holding, stated_night, stated_plans}
 use Rattle.shunt.specs.defs.Replies.{IsReply, Decided, IsMatched, IsAudited, reply_of}
 use Rattle.shunt.specs.defs.Halts.{Replies}
@@ -25,21 +26,21 @@ audit_answered told c s t p r is usable h =
     let names : IsUsable (Audit s t p) = subst IsUsable is usable in
     subst (IsAnswered told r) (sym is) (seen_all told (s ∷ t ∷ p ∷ []) P names h)
 
+-- the command that words ask for
+abbrev asked : List (List ℕ) → Option Call
+asked (w ∷ s ∷ t ∷ []) = if bytes_eq w (codes "match") then Some (Match s t) else None
+asked (w ∷ s ∷ t ∷ p ∷ []) = if bytes_eq w (codes "audit") then Some (Audit s t p) else None
+asked (w ∷ s ∷ t ∷ p ∷ k ∷ []) = if bytes_eq w (codes "check") then Some (Check s t p k) else if bytes_eq w (codes "zones") then Some (Zones s t p k) else None
+asked (w ∷ s ∷ t ∷ p ∷ e ∷ n ∷ []) = if bytes_eq w (codes "replay") then Some (Replay s t p e n) else None
+asked words = None
+
+asked_is : (c : Call) → asked (words_of c) ≡ Some c
+asked_is (Match s t) = refl
+asked_is (Audit s t p) = refl
+asked_is (Check s t p k) = refl
+asked_is (Zones s t p z) = refl
+asked_is (Replay s t p e n) = refl
+
 -- the words of a command are those of no other
 pub same_call : (c d : Call) → words_of c ≡ words_of d → c ≡ d
-same_call (Match s t) (Match ss uu) is = cc
-same_call (Audit s t p) (Audit ss uu pp) is = cc
-same_call (Check s t p k) (Check ss uu pp kk) is = cc
-same_call (Replay s t p e n) (Replay ss uu pp ee nn) is = cc
-same_call (Match s t) (Audit ss uu pp) is = absurd (let m : 3 ≡ 4 = ap (λ (l : List (List ℕ)). length l) is in omega (arith, m))
-same_call (Match s t) (Check ss uu pp kk) is = absurd (let m : 3 ≡ 5 = ap (λ (l : List (List ℕ)). length l) is in omega (arith, m))
-same_call (Match s t) (Replay ss uu pp ee nn) is = absurd (let m : 3 ≡ 6 = ap (λ (l : List (List ℕ)). length l) is in omega (arith, m))
-same_call (Audit s t p) (Match ss uu) is = absurd (let m : 4 ≡ 3 = ap (λ (l : List (List ℕ)). length l) is in omega (arith, m))
-same_call (Audit s t p) (Check ss uu pp kk) is = absurd (let m : 4 ≡ 5 = ap (λ (l : List (List ℕ)). length l) is in omega (arith, m))
-same_call (Audit s t p) (Replay ss uu pp ee nn) is = absurd (let m : 4 ≡ 6 = ap (λ (l : List (List ℕ)). length l) is in omega (arith, m))
-same_call (Check s t p k) (Match ss uu) is = absurd (let m : 5 ≡ 3 = ap (λ (l : List (List ℕ)). length l) is in omega (arith, m))
-same_call (Check s t p k) (Audit ss uu pp) is = absurd (let m : 5 ≡ 4 = ap (λ (l : List (List ℕ)). length l) is in omega (arith, m))
-same_call (Check s t p k) (Replay ss uu pp ee nn) is = absurd (let m : 5 ≡ 6 = ap (λ (l : List (List ℕ)). length l) is in omega (arith, m))
-same_call (Replay s t p e n) (Match ss uu) is = absurd (let m : 6 ≡ 3 = ap (λ (l : List (List ℕ)). length l) is in omega (arith, m))
-same_call (Replay s t p e n) (Audit ss uu pp) is = absurd (let m : 6 ≡ 4 = ap (λ (l : List (List ℕ)). length l) is in omega (arith, m))
-same_call (Replay s t p e n) (Check ss uu pp kk) is = absurd (let m : 6 ≡ 5 = ap (λ (l : List (List ℕ)). length l) is in omega (arith, m))
+same_call c d is = let same : Some c ≡ Some d = sym (asked_is c) ∙ ap asked is ∙ asked_is d in cc

@@ -3,6 +3,7 @@ mod Seeing
 mod Commands
 mod ReplayFiles
 mod CheckFiles
+mod ZonesFiles
 mod Ending
 mod Exactly
 mod Matched
@@ -11,3 +12,4 @@ mod Turned
 mod Answered
 mod Replayed
 mod Checked
+mod Passed

@@ -13,6 +13,7 @@ ghost use Rattle.shunt_rows.specs.defs.Formats.{reading};
 ghost use Rattle.shunt_rows.specs.defs.Given.{Gives};
 ghost use Rattle.shunt_station.specs.defs.Stating.{station_format};
 ghost use Rattle.shunt_timetable.specs.defs.TimetableFormat.{timetable_format};
+ghost use Rattle.shunt_zones.specs.defs.ZonesFormat.{zones_format, IsZones};
 
 use shunt_instance::{Instance, Station, Timetable};
 use shunt_lists::Items;
@@ -22,6 +23,7 @@ use shunt_report::FileWord;
 use shunt_rows::{ReadError, Row};
 use shunt_station::read_station;
 use shunt_timetable::read_timetable;
+use shunt_zones::{Zones, read_zones};
 use std::alloc::Global;
 
 /// An input file, over what was read before it.
@@ -149,6 +151,32 @@ impl InputFile for CertificateFile<'_> {
 
     fn read(&self, alloc: Global, rows: &Vec<Row>) -> Result<Certificate, ReadError> {
         read_certificate(alloc, self.instance, rows)
+    }
+}
+
+/// A zones file over a station.
+#[derive(Clone, Copy, Drop)]
+pub struct ZonesFile<'s> {
+    pub station: &'s Station,
+}
+
+impl InputFile for ZonesFile<'_> {
+    type Value = Zones;
+
+    ghost word = { words.Zones };
+
+    ghost states = { λ f rows. reading (zones_format f.station.now) rows };
+
+    ghost ready = { λ f. IsStation f.station.now };
+
+    ghost formed = { λ f z. IsZones f.station.now z };
+
+    fn word(&self) -> FileWord {
+        FileWord::Zones
+    }
+
+    fn read(&self, alloc: Global, rows: &Vec<Row>) -> Result<Zones, ReadError> {
+        read_zones(alloc, self.station, rows)
     }
 }
 

@@ -12,10 +12,10 @@ ghost use Rattle.shunt_report.specs.defs.VerdictTexts.{verdict_of};
 ghost use Rattle.shunt_moves.specs.defs.States.{IsState};
 ghost use Rattle.shunt.specs.declared.delivering.Outcome.{Outcome};
 ghost use Rattle.shunt.specs.declared.running.Status.{Status};
-ghost use Rattle.shunt.specs.defs.Words.{Call, Match, Audit, Check, Replay, outputs_of};
-ghost use Rattle.shunt.specs.defs.Inputs.{Agrees, Checkable, Replayable, refused, stated_night, stated_turns, check_in, plans_in, turns_in};
+ghost use Rattle.shunt.specs.defs.Words.{Call, Match, Audit, Check, Zones, Replay, outputs_of};
+ghost use Rattle.shunt.specs.defs.Inputs.{Agrees, Checkable, Passable, Replayable, refused, stated_night, stated_turns, check_in, passing_in, plans_in, turns_in};
 ghost use Rattle.shunt.specs.defs.Replays.{last_of};
-ghost use Rattle.shunt.specs.defs.Replies.{Reply, IsReply, IsReplyOver, IsClean, IsProved, BoundsAll, EndsFeasible, refusal, says};
+ghost use Rattle.shunt.specs.defs.Replies.{Reply, IsReply, IsReplyOver, IsClean, IsProved, BoundsAll, NoneMeet, EndsFeasible, refusal, says};
 ghost use Rattle.shunt.specs.defs.Ends.{Ends, Seen, CutInText, IsWhole, MayWrite, Yields, the_status};
 
 use shunt_audit::laws;
@@ -125,6 +125,22 @@ pub fn check_bounds_every_plan()
 /// Where the files are accepted and neither the store nor the sink fails, `check` ends with `Done`, `Findings` or `Memory`.
 pub fn check_completes()
     ensures { (s t p k : List ℕ) (old new : Seen) (status : Status) (files : Files) (x : Checkable) → old.files ≡ Some files → check_in s t p k files ≡ Ok x → (Rose old.store_faults new.store_faults → ⊥) → (Rose old.sink_faults new.sink_faults → ⊥) → Ends (Check s t p k) old new status → (status ≡ Status.Done) ⊎ ((status ≡ Status.Findings) ⊎ (status ≡ Status.Memory)) }
+{}
+
+/// `zones` ends with `Done` exactly where the files are accepted and no two moves of the plan meet in a zone, and with `Findings` exactly
+/// where they are accepted and two do, unless the store, memory or the sink came first. It never ends with `NoMatching` or `Unfinished`.
+pub fn zones_done_exactly()
+    ensures done { (s t p z : List ℕ) (old new : Seen) (status : Status) (files : Files) (x : Passable) → old.files ≡ Some files → passing_in s t p z files ≡ Ok x → NoneMeet x → Ends (Zones s t p z) old new status → (status ≡ Status.Done) ⊎ Yields status }
+    ensures done_only { (s t p z : List ℕ) (old new : Seen) → Ends (Zones s t p z) old new Status.Done → (files : Files) × Agrees old.files files × ((x : Passable) × (passing_in s t p z files ≡ Ok x) × NoneMeet x) }
+    ensures findings { (s t p z : List ℕ) (old new : Seen) (status : Status) (files : Files) (x : Passable) → old.files ≡ Some files → passing_in s t p z files ≡ Ok x → (NoneMeet x → ⊥) → Ends (Zones s t p z) old new status → (status ≡ Status.Findings) ⊎ Yields status }
+    ensures findings_only { (s t p z : List ℕ) (old new : Seen) → Ends (Zones s t p z) old new Status.Findings → (files : Files) × Agrees old.files files × ((x : Passable) × (passing_in s t p z files ≡ Ok x) × (NoneMeet x → ⊥)) }
+    ensures no_matching { (s t p z : List ℕ) (old new : Seen) → Ends (Zones s t p z) old new Status.NoMatching → ⊥ }
+    ensures no_unfinished { (s t p z : List ℕ) (old new : Seen) → Ends (Zones s t p z) old new Status.Unfinished → ⊥ }
+{}
+
+/// Where the files are accepted and neither the store nor the sink fails, `zones` ends with `Done`, `Findings` or `Memory`.
+pub fn zones_completes()
+    ensures { (s t p z : List ℕ) (old new : Seen) (status : Status) (files : Files) (x : Passable) → old.files ≡ Some files → passing_in s t p z files ≡ Ok x → (Rose old.store_faults new.store_faults → ⊥) → (Rose old.sink_faults new.sink_faults → ⊥) → Ends (Zones s t p z) old new status → (status ≡ Status.Done) ⊎ ((status ≡ Status.Findings) ⊎ (status ≡ Status.Memory)) }
 {}
 
 /// `replay` ends with `Done` exactly where the files are accepted and the blocks that the turns leave are a feasible plan, and

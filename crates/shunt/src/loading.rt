@@ -6,11 +6,14 @@ ghost use Rattle.shunt_plan.specs.defs.Edits.{AreTurns};
 ghost use Rattle.shunt_plan.specs.defs.Plans.{IsPlanInRange};
 ghost use Rattle.shunt_proof.specs.defs.Certificates.{IsCertificate};
 ghost use Rattle.shunt_report.specs.defs.Texts.{input_of};
+ghost use Rattle.shunt_zones.specs.defs.ZonesFormat.{IsZones};
 ghost use Rattle.shunt.specs.declared.loading.Halt.TheVariants as halt;
 ghost use Rattle.shunt.specs.defs.Halts.{IfInput, Loads, LoadsBytes};
-ghost use Rattle.shunt.specs.defs.Inputs.{Holding, most_bytes_of, stated_by, stated_certificate, stated_edits, stated_night, stated_plan};
+ghost use Rattle.shunt.specs.defs.Inputs.{Holding, most_bytes_of, stated_by, stated_certificate, stated_edits, stated_night, stated_plan, stated_zones};
 
-use crate::inputs::{CertificateFile, EditsFile, InputFile, PlanFile, StationFile, TimetableFile};
+use crate::inputs::{
+    CertificateFile, EditsFile, InputFile, PlanFile, StationFile, TimetableFile, ZonesFile,
+};
 use shunt_instance::Instance;
 use shunt_lists::Items;
 use shunt_plan::{Plan, Turn};
@@ -18,6 +21,7 @@ use shunt_proof::Certificate;
 use shunt_report::{FileWord, input_text};
 use shunt_rows::{ReadError, RowFault, records};
 use shunt_store::{ReadAllError, Store, read_all};
+use shunt_zones::Zones;
 use std::alloc::{AllocError, Global};
 
 /// Why a command has no answer, or the text of the input that isn't accepted.
@@ -169,6 +173,24 @@ pub fn load_certificate<S: Store>(
     ensures cause { HasCause Halt.Fault (S.faults store.old) (S.faults store.new) result }
 {
     load_input(alloc, store, name, &CertificateFile { instance })
+}
+
+/// Reads and judges the zones file, over an instance.
+pub fn load_zones<S: Store>(
+    alloc: Global,
+    store: &mut S,
+    instance: &Instance,
+    name: &str,
+) -> Result<Zones, Halt>
+    requires { S.stage store.old ≡ Closed }
+    ensures told { Holding (S.told store.old) name.now (λ z. Loads result (stated_zones instance.now z)) }
+    ensures formed { IfOk result (IsZones instance.now.station) }
+    ensures files { S.told store.new ≡ S.told store.old }
+    ensures closed { (IsErrOf result Halt.Fault → ⊥) → S.stage store.new ≡ Closed }
+    ensures cause { HasCause Halt.Fault (S.faults store.old) (S.faults store.new) result }
+{
+    let station = instance.station();
+    load_input(alloc, store, name, &ZonesFile { station })
 }
 
 /// Reads and judges the edits file, over an instance.

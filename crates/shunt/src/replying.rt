@@ -5,14 +5,15 @@ ghost use Rattle.shunt_store.specs.defs.Causes.{HasCause};
 ghost use Rattle.shunt_plan.specs.defs.Edits.{AreTurns};
 ghost use Rattle.shunt_plan.specs.defs.Plans.{IsPlanInRange};
 ghost use Rattle.shunt_proof.specs.defs.Certificates.{IsCertificate};
+ghost use Rattle.shunt_zones.specs.defs.ZonesFormat.{IsZones};
 ghost use Rattle.shunt.specs.defs.Words.{call_of, IsUsable};
-ghost use Rattle.shunt.specs.defs.Inputs.{Agrees, Holding, stated_check, stated_night, stated_plans, stated_turns};
-ghost use Rattle.shunt.specs.defs.Replies.{IsMatched, IsAudited, IsChecked, IsReplayed, IsReply, Decided, pair_of, reply_of, audit_outcome, check_outcome};
+ghost use Rattle.shunt.specs.defs.Inputs.{Agrees, Holding, stated_check, stated_night, stated_passing, stated_plans, stated_turns};
+ghost use Rattle.shunt.specs.defs.Replies.{IsMatched, IsAudited, IsChecked, IsPassed, IsReplayed, IsReply, Decided, pair_of, reply_of, audit_outcome, check_outcome, meets_outcome};
 ghost use Rattle.shunt.specs.defs.Replays.{last_of, last_plan};
 ghost use Rattle.shunt.specs.defs.Halts.{Replies};
 
 use crate::delivering::{Answer, FileText, Outcome};
-use crate::loading::{Halt, load_certificate, load_edits, load_instance, load_plan};
+use crate::loading::{Halt, load_certificate, load_edits, load_instance, load_plan, load_zones};
 use crate::replaying::do_turns;
 use crate::words::Command;
 use shunt_audit::audit;
@@ -23,9 +24,10 @@ use shunt_matching::{MatchError, first_fit};
 use shunt_moves::Workbench;
 use shunt_plan::{Plan, Turn, write_plan};
 use shunt_proof::Certificate;
-use shunt_report::laws::verdicts;
-use shunt_report::{findings_text, pairs_text, shortage_text, verdict_text};
+use shunt_report::laws::{meets as meets_are_told, verdicts};
+use shunt_report::{findings_text, pairs_text, shortage_text, verdict_text, zones_text};
 use shunt_store::Store;
+use shunt_zones::{Meet, Zones, loads, meets};
 use std::alloc::{AllocError, Global};
 
 /// The answer of a command, after its input files were read and judged.
@@ -46,6 +48,9 @@ pub fn answer_to<S: Store>(
         Command::Audit(first, second, third) => reply_to_audit(alloc, store, first, second, third),
         Command::Check(first, second, third, fourth) => {
             reply_to_check(alloc, store, first, second, third, fourth)
+        }
+        Command::Zones(first, second, third, zones) => {
+            reply_to_zones(alloc, store, first, second, third, zones)
         }
         Command::Replay(first, second, third, fourth, fifth) => {
             reply_to_replay(alloc, store, first, second, third, fourth, fifth)
@@ -105,6 +110,26 @@ fn reply_to_check<S: Store>(
     let plan = load_plan(alloc, store, &instance, plan)?;
     let certificate = load_certificate(alloc, store, &instance, certificate)?;
     Ok(check_answer(alloc, &instance, &plan, &certificate)?)
+}
+
+fn reply_to_zones<S: Store>(
+    alloc: Global,
+    store: &mut S,
+    station: &str,
+    timetable: &str,
+    plan: &str,
+    zones: &str,
+) -> Result<Answer, Halt>
+    requires { S.stage store.old ≡ Closed }
+    ensures told { Holding (S.told store.old) station.now (λ s. Holding (S.told store.old) timetable.now (λ t. Holding (S.told store.old) plan.now (λ p. Holding (S.told store.old) zones.now (λ z. Replies reply_of result (Decided (stated_passing s t p z) IsPassed))))) }
+    ensures files { S.told store.new ≡ S.told store.old }
+    ensures closed { (IsErrOf result Halt.Fault → ⊥) → S.stage store.new ≡ Closed }
+    ensures cause { HasCause Halt.Fault (S.faults store.old) (S.faults store.new) result }
+{
+    let instance = load_instance(alloc, store, station, timetable)?;
+    let plan = load_plan(alloc, store, &instance, plan)?;
+    let zones = load_zones(alloc, store, &instance, zones)?;
+    Ok(zones_answer(alloc, &instance, &plan, &zones)?)
 }
 
 fn reply_to_replay<S: Store>(
@@ -199,6 +224,40 @@ fn check_answer(
         outcome: outcome_of_verdict(&verdict),
         writes: Vec::new(alloc),
         text: verdict_text(alloc, instance, certificate, &verdict)?,
+    })
+}
+
+// How the moves of a plan end that meet so.
+fn outcome_of_meets(meets: &[Meet]) -> Outcome
+    ensures { result ≡ meets_outcome meets.now }
+{
+    if meets.is_empty() {
+        Outcome::Done
+    } else {
+        Outcome::Findings
+    }
+}
+
+// Which moves of a plan meet in a zone, and how many pass each.
+fn zones_answer(
+    alloc: Global,
+    instance: &Instance,
+    plan: &Plan,
+    zones: &Zones,
+) -> Result<Answer, AllocError>
+    requires plan { IsPlanInRange instance.now plan.now }
+    requires zones { IsZones instance.now.station zones.now }
+    ensures { IfOk result (λ a. IsPassed (record { night = instance.now; plan = plan.now; zones = zones.now }) (reply_of a)) }
+{
+    // The calls tell that the night is well formed, and that its meets can be told.
+    instance.station();
+    meets_are_told();
+    let met = meets(alloc, instance, zones, plan)?;
+    let passed = loads(alloc, instance, zones, plan)?;
+    Ok(Answer {
+        outcome: outcome_of_meets(&met),
+        writes: Vec::new(alloc),
+        text: zones_text(alloc, zones, &met, &passed)?,
     })
 }
 

@@ -11,6 +11,8 @@ pub enum Command<'w> {
     Audit(&'w str, &'w str, &'w str),
     /// `check STATION TIMETABLE PLAN CERT`
     Check(&'w str, &'w str, &'w str, &'w str),
+    /// `zones STATION TIMETABLE PLAN ZONES`
+    Zones(&'w str, &'w str, &'w str, &'w str),
     /// `replay STATION TIMETABLE PLAN EDITS NEWPLAN`
     Replay(&'w str, &'w str, &'w str, &'w str, &'w str),
 }
@@ -145,6 +147,9 @@ fn of_four_files<'w>(
     match word.as_str() {
         "check" if are_four_names(first, second, third, fourth) => {
             Some(Command::Check(first, second, third, fourth))
+        }
+        "zones" if are_four_names(first, second, third, fourth) => {
+            Some(Command::Zones(first, second, third, fourth))
         }
         _ => None,
     }

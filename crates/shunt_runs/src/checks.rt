@@ -1,14 +1,11 @@
 // Runs of `check`.
-use crate::inputs::{NIGHT, STATION, store_of, words_of};
+use crate::inputs::{NIGHT, STATION, TIGHT, store_of, words_of};
 use shunt::{Status, run};
 use shunt_store::MemSink;
 use std::alloc::Global;
 use std::test::Fail;
 
-// The tracks of these stations hold one of the two units, and one and a half.
-const TIGHT: &str =
-    "station,1,Demo\ntype,K,500,10\ntype,X,500,10\ntype,Y,500,10\nplatform,P\ntrack,T,500,A\nroute,P,T,A,3\ncost,5,4,100\n";
-
+// The track holds one and a half of the two units.
 const THREE_QUARTERS: &str =
     "station,1,Demo\ntype,K,500,10\ntype,X,500,10\ntype,Y,500,10\nplatform,P\ntrack,T,750,A\nroute,P,T,A,3\ncost,5,4,100\n";
 

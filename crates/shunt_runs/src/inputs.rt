@@ -9,6 +9,10 @@ use std::test::Fail;
 pub(crate) const STATION: &str =
     "station,1,Demo\ntype,K,500,10\ntype,X,500,10\ntype,Y,500,10\nplatform,P\ntrack,T,1000,A\nroute,P,T,A,3\ncost,5,4,100\n";
 
+// The track holds one unit.
+pub(crate) const TIGHT: &str =
+    "station,1,Demo\ntype,K,500,10\ntype,X,500,10\ntype,Y,500,10\nplatform,P\ntrack,T,500,A\nroute,P,T,A,3\ncost,5,4,100\n";
+
 pub(crate) const NIGHT: &str = "timetable,1\narrive,a1,22:00,P,K,K\ndepart,d1,30:00,P,K,K\n";
 
 pub(crate) const STANDING: &str =

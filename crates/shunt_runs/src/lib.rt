@@ -11,3 +11,5 @@ mod inputs;
 mod matches;
 #[cfg(test)]
 mod replays;
+#[cfg(test)]
+mod throats;

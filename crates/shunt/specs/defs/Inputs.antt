@@ -19,7 +19,9 @@ use Rattle.shunt_report.specs.declared.words.FileWord.TheVariants as word
 use Rattle.shunt_report.specs.defs.Texts.{input_of}
 use Rattle.shunt_station.specs.defs.Stating.{station_format}
 use Rattle.shunt_timetable.specs.defs.TimetableFormat.{timetable_format}
-use Rattle.shunt.specs.defs.Words.{Call, Match, Audit, Check, Replay}
+use Rattle.shunt_zones.specs.declared.records.Zones.{Zones as ThroatZones}
+use Rattle.shunt_zones.specs.defs.ZonesFormat.{zones_format}
+use Rattle.shunt.specs.defs.Words.{Call, Match, Audit, Check, Zones, Replay}
 
 -- how many bytes may stand in an input file
 abbrev pub most_bytes_of : FileWord → ℕ
@@ -86,6 +88,25 @@ stated_check s t p k = then_stated (stated_plans s t p) (λ x. then_stated (stat
 abbrev pub check_in : List ℕ → List ℕ → List ℕ → List ℕ → Files → Result Checkable (List ℕ)
 check_in s t p k files = stated_check (content files s) (content files t) (content files p) (content files k)
 
+-- a zones file over a night
+abbrev pub stated_zones : Night → List ℕ → Result ThroatZones (List ℕ)
+stated_zones night bytes = stated word.Zones (zones_format night.station) bytes
+
+-- a night, a plan in it, and the zones of its throat
+pub record Passable : Type 0 where
+  pub night : Night
+  pub plan : Plan
+  pub zones : ThroatZones
+
+-- those that a station file, a timetable file, a plan file and a zones file state, or the line for the first of them that isn't
+-- accepted
+unfoldable pub stated_passing : List ℕ → List ℕ → List ℕ → List ℕ → Result Passable (List ℕ)
+stated_passing s t p z = then_stated (stated_plans s t p) (λ x. then_stated (stated_zones x.0 z) (λ zones. Ok (record { night = x.0; plan = x.1; zones = zones })))
+
+-- the same of what the files of these names hold
+abbrev pub passing_in : List ℕ → List ℕ → List ℕ → List ℕ → Files → Result Passable (List ℕ)
+passing_in s t p z files = stated_passing (content files s) (content files t) (content files p) (content files z)
+
 -- an edits file over a night
 abbrev pub stated_edits : Night → List ℕ → Result (List Turn) (List ℕ)
 stated_edits night bytes = stated word.Edits (edits_format night) bytes
@@ -110,6 +131,7 @@ abbrev pub Value : Call → Type 0
 Value (Match s t) = Night
 Value (Audit s t p) = Night × Plan
 Value (Check s t p k) = Checkable
+Value (Zones s t p z) = Passable
 Value (Replay s t p e n) = Replayable
 
 -- the value that they state, judged in the order of the words, or the line for the first of them that isn't accepted
@@ -117,6 +139,7 @@ abbrev pub stated_in : (c : Call) → Files → Result (Value c) (List ℕ)
 stated_in (Match s t) files = stated_night (content files s) (content files t)
 stated_in (Audit s t p) files = plans_in s t p files
 stated_in (Check s t p k) files = check_in s t p k files
+stated_in (Zones s t p z) files = passing_in s t p z files
 stated_in (Replay s t p e n) files = turns_in s t p e files
 
 -- the line for the first input file that isn't accepted

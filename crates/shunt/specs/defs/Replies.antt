@@ -25,8 +25,14 @@ use Rattle.shunt_checker.specs.defs.Verdicts.{IsVerdict}
 use Rattle.shunt_report.specs.defs.Texts.{pairs_of, shortage_of}
 use Rattle.shunt_report.specs.defs.FindingTexts.{findings_of}
 use Rattle.shunt_report.specs.defs.VerdictTexts.{verdict_of}
-use Rattle.shunt.specs.defs.Words.{Call, Match, Audit, Check, Replay}
-use Rattle.shunt.specs.defs.Inputs.{Value, Checkable, Replayable, stated_in, Agrees}
+use Rattle.shunt_report.specs.defs.ZonesTexts.{zones_of}
+use Rattle.shunt_tracks.specs.declared.run.Event.{Event}
+use Rattle.shunt_zones.specs.declared.records.Meet.{Meet}
+use Rattle.shunt_zones.specs.defs.Loading.{loads_in}
+use Rattle.shunt_zones.specs.defs.Meeting.{Before, MeetIn, meets_in}
+use Rattle.shunt_zones.specs.defs.Moves.{moves_of}
+use Rattle.shunt.specs.defs.Words.{Call, Match, Audit, Check, Zones, Replay}
+use Rattle.shunt.specs.defs.Inputs.{Value, Checkable, Passable, Replayable, stated_in, Agrees}
 use Rattle.shunt.specs.defs.Replays.{last_of, last_plan, replay_lines}
 
 -- how a command ends, which files it writes in their order and what they then hold, and what it prints
@@ -114,6 +120,19 @@ pub record IsChecked (x : Checkable) (r : Reply) : Type 0 where
   pub told : IsVerdict x.night [] x.plan x.certificate verdict
   pub reply : r ≡ says (check_outcome verdict) (verdict_of x.night x.certificate verdict)
 
+-- no two moves of the plan, of which the first comes earlier in key order, meet in a zone
+abbrev pub NoneMeet : Passable → Type 0
+NoneMeet x = (e f : Event) (zone : ℕ) → Before e f (moves_of x.night x.plan.blocks) → MeetIn x.night x.zones e f zone → ⊥
+
+-- what passes the zones ends well where nothing meets
+abbrev pub meets_outcome : List Meet → Outcome
+meets_outcome [] = outcome.Done
+meets_outcome (m ∷ meets) = outcome.Findings
+
+-- the answer of `zones` on a plan: its meets, and the load of each zone, are printed
+abbrev pub IsPassed : Passable → Reply → Type 0
+IsPassed x r = r ≡ says (meets_outcome (meets_in x.night x.zones x.plan)) (zones_of x.zones (meets_in x.night x.zones x.plan) (loads_in x.night x.zones x.plan))
+
 -- the answer of `replay`: the blocks that the turns leave are written as a plan with what they cost; a line for each turn, and then
 -- their findings and their cost, are printed
 pub record IsReplayed (file : List ℕ) (x : Replayable) (r : Reply) : Type 0 where
@@ -128,6 +147,7 @@ abbrev pub IsAnswer : (c : Call) → Value c → Reply → Type 0
 IsAnswer (Match s t) night r = IsMatched night r
 IsAnswer (Audit s t p) x r = IsAudited x r
 IsAnswer (Check s t p k) x r = IsChecked x r
+IsAnswer (Zones s t p z) x r = IsPassed x r
 IsAnswer (Replay s t p e n) x r = IsReplayed n x r
 
 -- the defined answer of a command: the first input file that isn't accepted decides, else the command's own answer

@@ -2,6 +2,7 @@ use Rattle.std.proofs.Common.{ap}
 use Rattle.shunt.specs.defs.Words.{call_of}
 use Rattle.shunt.proofs.Commands.{match_answered, audit_answered}
 use Rattle.shunt.proofs.CheckFiles.{check_answered}
+use Rattle.shunt.proofs.ZonesFiles.{zones_answered}
 use Rattle.shunt.proofs.ReplayFiles.{replay_answered}
 use Rattle.shunt.proofs.replying.answer_to.Goals as goal
 
@@ -13,6 +14,9 @@ returns-in-Audit-clause-told g c = audit_answered _ _ _ _ _ _ (ap call_of c.in-A
 
 pub returns-in-Check-clause-told : goal.returns-in-Check-clause-told
 returns-in-Check-clause-told g c = check_answered _ _ _ _ _ _ _ (ap call_of c.in-Check.is) c.requires.names c.reply_to_check.ensures.told
+
+pub returns-in-Zones-clause-told : goal.returns-in-Zones-clause-told
+returns-in-Zones-clause-told g c = zones_answered _ _ _ _ _ _ _ (ap call_of c.in-Zones.is) c.requires.names c.reply_to_zones.ensures.told
 
 pub returns-in-Replay-clause-told : goal.returns-in-Replay-clause-told
 returns-in-Replay-clause-told g c = replay_answered _ _ _ _ _ _ _ _ (ap call_of c.in-Replay.is) c.requires.names c.reply_to_replay.ensures.told

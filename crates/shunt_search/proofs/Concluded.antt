@@ -1,12 +1,14 @@
 -- The numbers of a search that has ended.
-use Rattle.std.specs.Prelude.{◌≤ℤ◌}
+use Rattle.std.specs.Prelude.{◌≤ℤ◌, Option, IfSome}
 use Rattle.std.proofs.Common.{◌≡◌, ◌⊎◌, ⊎_elim, inl, inr, ℕ, ◌≤◌, ℤ, pos, List, [], sym, subst, ap, ◌∙◌, arith}
 use Rattle.shunt_lists.specs.defs.Members.{In}
 use Rattle.shunt_instance.specs.defs.Instance.{Night}
 use Rattle.shunt_blocks.specs.declared.records.Block.{Block}
 use Rattle.shunt_blocks.specs.defs.Lists.{total_cost}
+use Rattle.shunt_plan.specs.declared.records.Plan.{Plan}
+use Rattle.shunt_proof.specs.declared.records.Node.{Node}
 use Rattle.shunt_search.specs.declared.children.Child.{Child}
-use Rattle.shunt_search.specs.defs.Endings.{IsLeft}
+use Rattle.shunt_search.specs.defs.Endings.{IsLeft, IsShown}
 
 pub low_enough : (night : Night) (blocks slice items : List Block) (cost : ℕ) → slice ≡ items → total_cost night blocks ≤ total_cost night slice → cost ≡ total_cost night items → total_cost night blocks ≤ cost
 low_enough night blocks slice items cost e le is = let same = ap (λ (l : List Block). total_cost night l) e in omega (arith, le, is, same)
@@ -22,3 +24,13 @@ pub left_of : (waiting items : List Child) (best : ℕ) (low : ℤ) → waiting 
 left_of waiting items best low e within left least =
     let is : IsLeft waiting best low = record { within = within; left = left; least = least } in
     subst (λ (l : List Child). IsLeft l best low) e is
+
+-- the same nodes are told at the end
+pub shown_at_end : (night : Night) (pins : List Block) (most : ℕ) (plan : Plan) (b count number : ℕ) (told now : Option (List Node)) → count ≡ number → now ≡ told → IsShown night pins most plan b number told → IsShown night pins most plan b count now
+shown_at_end night pins most plan b count number told now is same h = record {
+  nodes = h.nodes;
+  tells = subst (λ (o : Option (List Node)). IfSome o (λ l. l ≡ h.nodes)) (sym same) h.tells;
+  many = is ∙ h.many;
+  stated = h.stated;
+  meet = h.meet;
+}

@@ -27,7 +27,7 @@ use Rattle.shunt_search.specs.defs.Conditions.{IsPlanFor, IsTidy, IsCheap, IsAbo
 use Rattle.shunt_search.specs.defs.Walking.{IsWalk}
 use Rattle.shunt_search.specs.defs.Roots.{IsAbove}
 use Rattle.shunt_search.specs.defs.Searching.{IsSearch}
-use Rattle.shunt_search.specs.defs.Endings.{IsLeft, IsEnd, certificate_of}
+use Rattle.shunt_search.specs.defs.Endings.{IsLeft, IsEnd, IsShown, certificate_of}
 
 -- what the laws of the walk and of the crates below say
 pub record EndLaws : Type 0 where
@@ -136,4 +136,5 @@ module _ (laws : EndLaws) (night : Night) (i : IsInstance night) (pins : List Bl
       for_plans = for_plans;
       within = within;
       certificate = of_told told s.nodes (λ (l : List Node). IsCertificate night (certificate_of plan b l) × MeetConditions night pins most plan (certificate_of plan b l)) s.tells (stated, meets);
+      shown = record { nodes = s.nodes; tells = s.tells; many = s.many; stated = stated; meet = meets };
     }

@@ -14,7 +14,7 @@ ghost use Rattle.shunt_proof.specs.defs.Certificates.{IsCertificate};
 ghost use Rattle.shunt_proof.specs.defs.Recording.{Open, Finished, Failed};
 ghost use Rattle.shunt_search.specs.defs.Conditions.{MeetConditions, MeetsConditions, IsBoundForPlans};
 ghost use Rattle.shunt_search.specs.defs.Searching.{IsSearch};
-ghost use Rattle.shunt_search.specs.defs.Endings.{IsLeft, certificate_of};
+ghost use Rattle.shunt_search.specs.defs.Endings.{IsLeft, IsShown, certificate_of};
 
 use crate::beginning::begin;
 use crate::ending::searches_end;
@@ -61,6 +61,7 @@ fn conclude<R: Recorder>(
     ensures bound { IfOk result (λ s. IsBoundForPlans instance.now pins.now s.bound) }
     ensures within { IfOk result (λ s. s.bound ≤ s.cost) }
     ensures certificate { IfOk result (λ s. IfSome (R.told recorder.old) (λ told. IsCertificate instance.now (certificate_of s.plan s.bound told) × MeetConditions instance.now pins.now nodes s.plan (certificate_of s.plan s.bound told))) }
+    ensures shown { IfOk result (λ s. IsShown instance.now pins.now nodes s.plan s.bound s.nodes (R.told recorder.new)) }
     ensures told { OnOk result (R.told recorder.new ≡ R.told recorder.old) }
     ensures finished { IfOk result (λ s. R.stage recorder.new ≡ Finished s.cost s.bound) }
     ensures number { IfOk result (λ s. s.nodes ≡ R.number recorder.new) }
@@ -113,6 +114,7 @@ pub fn solve_pinned<R: Recorder>(
     ensures bound { IfOk result (λ s. IsBoundForPlans instance.now pins.now s.bound) }
     ensures within { IfOk result (λ s. s.bound ≤ s.cost) }
     ensures certificate { IfOk result (λ s. BothTold (R.told recorder.old) (R.told recorder.new) (λ old told. IsCertificate instance.now (certificate_of s.plan s.bound told) × MeetConditions instance.now pins.now nodes s.plan (certificate_of s.plan s.bound told))) }
+    ensures shown { IfOk result (λ s. IsShown instance.now pins.now nodes s.plan s.bound s.nodes (R.told recorder.new)) }
     ensures finished { IfOk result (λ s. R.stage recorder.new ≡ Finished s.cost s.bound) }
     ensures number { IfOk result (λ s. s.nodes ≡ R.number recorder.new) }
     ensures exact { (s : OneShortage) → IsErrOf result (SolveError.NoMatching s) → IsShortageOf instance.now (units_taken instance.now pins.now) (positions_taken instance.now pins.now) s }
@@ -151,6 +153,7 @@ pub fn solve<R: Recorder>(
     ensures bound { IfOk result (λ s. (blocks : List OneBlock) → IsFeasible instance.now blocks → s.bound ≤ total_cost instance.now blocks) }
     ensures within { IfOk result (λ s. s.bound ≤ s.cost) }
     ensures certificate { IfOk result (λ s. BothTold (R.told recorder.old) (R.told recorder.new) (λ old told. IsCertificate instance.now (certificate_of s.plan s.bound told) × MeetConditions instance.now [] nodes s.plan (certificate_of s.plan s.bound told))) }
+    ensures shown { IfOk result (λ s. IsShown instance.now [] nodes s.plan s.bound s.nodes (R.told recorder.new)) }
     ensures finished { IfOk result (λ s. R.stage recorder.new ≡ Finished s.cost s.bound) }
     ensures number { IfOk result (λ s. s.nodes ≡ R.number recorder.new) }
     ensures exact { (s : OneShortage) → IsErrOf result (SolveError.NoMatching s) → IsShortageOf instance.now [] [] s }

@@ -1,5 +1,5 @@
 -- What a search has found when it ends.
-use Rattle.std.specs.Prelude.{◌≡◌, ◌⊎◌, ℕ, ◌≤◌, ℤ, pos, ◌≤ℤ◌, List, Option, IfSome}
+use Rattle.std.specs.Prelude.{◌≡◌, ◌⊎◌, ℕ, ◌≤◌, ℤ, pos, ◌≤ℤ◌, List, length, Option, IfSome}
 use Rattle.shunt_lists.specs.defs.Members.{In}
 use Rattle.shunt_instance.specs.defs.Instance.{Night}
 use Rattle.shunt_blocks.specs.declared.records.Block.{Block}
@@ -22,6 +22,15 @@ pub record IsLeft (waiting : List Child) (best : ℕ) (bound : ℤ) : Type 0 whe
 abbrev pub certificate_of : Plan → ℕ → List Node → Certificate
 certificate_of plan bound nodes = record { cost = plan.cost; bound = bound; nodes = nodes }
 
+-- some nodes, so many, and those that are told where any are told, are with the plan's cost and the bound a certificate that a file can
+-- state, and meet the conditions with the plan
+pub record IsShown (night : Night) (pins : List Block) (most : ℕ) (plan : Plan) (b number : ℕ) (told : Option (List Node)) : Type 0 where
+  pub nodes : List Node
+  pub tells : IfSome told (λ now. now ≡ nodes)
+  pub many : number ≡ length nodes
+  pub stated : IsCertificate night (certificate_of plan b nodes)
+  pub meet : MeetConditions night pins most plan (certificate_of plan b nodes)
+
 -- the plan costs at most the opening cost, the bound is one for all plans, and what speaks of no node holds; the nodes that are told, where any are told, are a certificate that a
 -- file can state, and meet the conditions
 pub record IsEnd (night : Night) (pins : List Block) (most nodes : ℕ) (plan : Plan) (b : ℕ) (told : Option (List Node)) : Type 0 where
@@ -31,3 +40,4 @@ pub record IsEnd (night : Night) (pins : List Block) (most nodes : ℕ) (plan : 
   pub for_plans : IsBoundForPlans night pins b
   pub within : b ≤ plan.cost
   pub certificate : IfSome told (λ ns. IsCertificate night (certificate_of plan b ns) × MeetConditions night pins most plan (certificate_of plan b ns))
+  pub shown : IsShown night pins most plan b nodes told

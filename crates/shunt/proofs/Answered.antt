@@ -9,11 +9,11 @@ use Rattle.shunt_plan.specs.declared.records.Plan.{Plan}
 use Rattle.shunt_plan.specs.defs.PlanRows.{rows_of}
 use Rattle.shunt_audit.specs.declared.types.Finding.{Finding}
 use Rattle.shunt_audit.specs.defs.Findings.{AreFindings}
-use Rattle.shunt_moves.specs.defs.Benches.{Bench, started}
+use Rattle.shunt_moves.specs.defs.Benches.{Bench}
 use Rattle.shunt_report.specs.defs.FindingTexts.{findings_of}
 use Rattle.shunt.specs.declared.delivering.Outcome.{Outcome}
 use Rattle.shunt.specs.defs.Inputs.{Replayable}
-use Rattle.shunt.specs.defs.Replays.{after_turns, lines_from, bench_of, last_of, last_plan, replay_lines}
+use Rattle.shunt.specs.defs.Replays.{after_turns, lines_from, bench_of, last_of, replay_lines}
 use Rattle.shunt.specs.defs.Replies.{Reply, IsReplayed, audit_outcome}
 use Rattle.shunt.proofs.Turned.{turns_night}
 

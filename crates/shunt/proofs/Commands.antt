@@ -4,7 +4,7 @@ use Rattle.std.specs.Prelude.{bytes_eq, codes, if◌then◌else◌}
 use Rattle.shunt_store.specs.defs.Files.{Files}
 use Rattle.shunt.specs.declared.delivering.Answer.{Answer}
 use Rattle.shunt.specs.declared.loading.Halt.{Halt}
-use Rattle.shunt.specs.defs.Words.{Call, Match, Audit, Check, Zones, Replay, IsUsable, words_of}
+use Rattle.shunt.specs.defs.Words.{Call, Match, Audit, Check, Zones, Drivers, Roster, Replay, IsUsable, words_of}
 use Rattle.shunt.specs.defs.Inputs.{Agrees, Holding, stated_night, stated_plans}
 use Rattle.shunt.specs.defs.Replies.{IsReply, Decided, IsMatched, IsAudited, reply_of}
 use Rattle.shunt.specs.defs.Halts.{Replies}
@@ -31,7 +31,11 @@ abbrev asked : List (List ℕ) → Option Call
 asked (w ∷ s ∷ t ∷ []) = if bytes_eq w (codes "match") then Some (Match s t) else None
 asked (w ∷ s ∷ t ∷ p ∷ []) = if bytes_eq w (codes "audit") then Some (Audit s t p) else None
 asked (w ∷ s ∷ t ∷ p ∷ k ∷ []) = if bytes_eq w (codes "check") then Some (Check s t p k) else if bytes_eq w (codes "zones") then Some (Zones s t p k) else None
-asked (w ∷ s ∷ t ∷ p ∷ e ∷ n ∷ []) = if bytes_eq w (codes "replay") then Some (Replay s t p e n) else None
+asked (w ∷ s ∷ t ∷ p ∷ e ∷ n ∷ []) =
+    if bytes_eq w (codes "drivers") then Some (Drivers s t p e n)
+    else if bytes_eq w (codes "roster") then Some (Roster s t p e n)
+    else if bytes_eq w (codes "replay") then Some (Replay s t p e n)
+    else None
 asked words = None
 
 asked_is : (c : Call) → asked (words_of c) ≡ Some c
@@ -39,6 +43,8 @@ asked_is (Match s t) = refl
 asked_is (Audit s t p) = refl
 asked_is (Check s t p k) = refl
 asked_is (Zones s t p z) = refl
+asked_is (Drivers s t p c d) = refl
+asked_is (Roster s t p c d) = refl
 asked_is (Replay s t p e n) = refl
 
 -- the words of a command are those of no other

@@ -12,16 +12,18 @@ use Rattle.shunt_audit.specs.declared.types.Finding.{Finding}
 use Rattle.shunt_instance.specs.defs.Instance.{Night}
 use Rattle.shunt_checker.specs.declared.verdict.Verdict.{Verdict}
 use Rattle.shunt_checker.specs.declared.verdict.Verdict.TheVariants as verdict
+use Rattle.shunt_drivers.specs.declared.records.RosterFault.{RosterFault}
+use Rattle.shunt_drivers.specs.defs.RosterFaults.{fault_in}
 use Rattle.shunt_zones.specs.declared.records.Meet.{Meet}
 use Rattle.shunt_zones.specs.defs.Meeting.{meets_in}
 use Rattle.shunt.specs.declared.delivering.Outcome.{Outcome}
 use Rattle.shunt.specs.declared.delivering.Outcome.TheVariants as outcome
 use Rattle.shunt.specs.declared.running.Status.{Status}
 use Rattle.shunt.specs.declared.running.Status.TheVariants as status
-use Rattle.shunt.specs.defs.Words.{Call, Match, Audit, Check, Zones, Replay, outputs_of}
+use Rattle.shunt.specs.defs.Words.{Call, Match, Audit, Check, Zones, Drivers, Roster, Replay, outputs_of}
 use Rattle.shunt.proofs.Writes.{holds_one, whole_may}
 use Rattle.shunt.specs.defs.Inputs.{Agrees, Value, stated_in, refused}
-use Rattle.shunt.specs.defs.Replies.{Reply, IsReply, IsReplyOver, IsAnswer, IsPaired, IsShort, Decided, audit_outcome, check_outcome, meets_outcome, refusal}
+use Rattle.shunt.specs.defs.Replies.{Reply, IsReply, IsReplyOver, IsAnswer, IsPaired, IsShort, Decided, audit_outcome, check_outcome, meets_outcome, roster_outcome, refusal}
 use Rattle.shunt.specs.defs.Ends.{Seen, CutInText, Delivers, StopsEarly, Ends, IsWhole, MayBegin, MayHold, MayWrite, Yields, the_status, written}
 
 -- ---- the status of a delivery
@@ -161,6 +163,10 @@ no_input_met : (ms : List Meet) → meets_outcome ms ≡ outcome.Input → ⊥
 no_input_met [] e = let h : outcome.Done ≡ outcome.Input = e in cc
 no_input_met (m ∷ ms) e = let h : outcome.Findings ≡ outcome.Input = e in cc
 
+no_input_fault : (f : Option RosterFault) → roster_outcome f ≡ outcome.Input → ⊥
+no_input_fault None e = let h : outcome.Done ≡ outcome.Input = e in cc
+no_input_fault (Some f) e = let h : outcome.Findings ≡ outcome.Input = e in cc
+
 -- an answer is never that an input isn't accepted
 no_input : (c : Call) (v : Value c) (r : Reply) → IsAnswer c v r → r.outcome ≡ outcome.Input → ⊥
 no_input (Match s t) night r (inl p) o = let e : outcome.Done ≡ outcome.Input = sym (paired_outcome night r p) ∙ o in cc
@@ -168,6 +174,8 @@ no_input (Match s t) night r (inr p) o = let e : outcome.NoMatching ≡ outcome.
 no_input (Audit s t p) x r is o = no_input_found is.findings (sym (ap (λ (r : Reply). r.outcome) is.reply) ∙ o)
 no_input (Check s t p k) x r is o = no_input_told is.verdict (sym (ap (λ (r : Reply). r.outcome) is.reply) ∙ o)
 no_input (Zones s t p z) x r is o = no_input_met (meets_in x.night x.zones x.plan) (sym (ap (λ (r : Reply). r.outcome) is) ∙ o)
+no_input (Drivers s t p c d) x r is o = let e : outcome.Done ≡ outcome.Input = sym (ap (λ (r : Reply). r.outcome) is.reply) ∙ o in cc
+no_input (Roster s t p c d) x r is o = no_input_fault (fault_in x.night x.crew x.plan x.duties) (sym (ap (λ (r : Reply). r.outcome) is) ∙ o)
 no_input (Replay s t p e n) x r is o = no_input_found is.findings (sym is.outcome ∙ o)
 
 -- a name of one write is the one that is written
@@ -182,6 +190,8 @@ own_writes (Match s t) night r name text (inr p) w = subst (λ (q : Reply). In (
 own_writes (Audit s t p) x r name text is w = subst (λ (q : Reply). In (name, text) q.writes) is.reply w
 own_writes (Check s t p k) x r name text is w = subst (λ (q : Reply). In (name, text) q.writes) is.reply w
 own_writes (Zones s t p z) x r name text is w = subst (λ (q : Reply). In (name, text) q.writes) is w
+own_writes (Drivers s t p c d) x r name text is w = one_write d _ name text (subst (λ (q : Reply). In {X = List ℕ × List ℕ} (name, text) q.writes) is.reply w)
+own_writes (Roster s t p c d) x r name text is w = subst (λ (q : Reply). In (name, text) q.writes) is w
 own_writes (Replay s t p e n) x r name text is w = one_write n _ name text (subst (λ (ws : List (List ℕ × List ℕ)). In {X = List ℕ × List ℕ} (name, text) ws) is.writes w)
 
 -- before its reply is known a command writes no file but its own

@@ -4,6 +4,8 @@ mod Commands
 mod ReplayFiles
 mod CheckFiles
 mod ZonesFiles
+mod DriversFiles
+mod RosterFiles
 mod Ending
 mod Exactly
 mod Matched
@@ -13,3 +15,6 @@ mod Answered
 mod Replayed
 mod Checked
 mod Passed
+mod Shared
+mod Rostered
+mod RosterAccepted

@@ -62,7 +62,7 @@ all_front : {X : Type 0} (P : X → Type 0) (xs ys : List X) → AllByRecursion 
 all_front P [] ys h = tt
 all_front P (x ∷ xs) ys h = (h.0, all_front P xs ys h.1)
 
-front_names : (ns ms : List (List ℕ)) → AreNames (ns ++ ms) → AreNames ns
+pub front_names : (ns ms : List (List ℕ)) → AreNames (ns ++ ms) → AreNames ns
 front_names [] ms h = tt
 front_names (n ∷ ns) ms h = (h.0, all_front (λ m. n ≢ m) ns ms h.1, front_names ns ms h.2)
 

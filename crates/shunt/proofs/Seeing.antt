@@ -119,7 +119,7 @@ HoldingAll told [] P = P []
 HoldingAll told (n ∷ ns) P = Holding told n (λ b. HoldingAll told ns (λ bs. P (b ∷ bs)))
 
 -- files that hold this at the name, and what they held at all others
-extend : (files : Files) (name bytes : List ℕ) (ns : List (List ℕ)) → AllByRecursion (λ m. name ≢ m) ns → map (content (finmap.insert files name bytes)) ns ≡ map (content files) ns
+pub extend : (files : Files) (name bytes : List ℕ) (ns : List (List ℕ)) → AllByRecursion (λ m. name ≢ m) ns → map (content (finmap.insert files name bytes)) ns ≡ map (content files) ns
 extend files name bytes [] ne = refl
 extend files name bytes (n ∷ ns) ne =
     let here : content (finmap.insert files name bytes) n ≡ content files n = ap (λ o. unwrap_or o []) (same_elsewhere files name bytes n (λ e. ne.0 (sym e))) in

@@ -1,5 +1,5 @@
 -- What is told of turns on a workbench, and which blocks they leave.
-use Rattle.std.proofs.Common.{◌≡◌, inl, inr, ℕ, ◌+◌, cond, List, [], ◌∷◌, length, refl, sym, subst, ap, ◌∙◌, arith}
+use Rattle.std.proofs.Common.{◌≡◌, inl, inr, ℕ, ◌+◌, cond, List, [], ◌∷◌, length, refl, subst, ap, ◌∙◌, arith}
 use Rattle.std.specs.Prelude.{◌==◌, count_by, Result, Ok, Err, IfOk, Vec}
 use Rattle.std.specs.List.{AllByRecursion}
 use Rattle.std.proofs.lemmas.List.Sums.{sum_by-cons}

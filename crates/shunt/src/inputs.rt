@@ -13,8 +13,12 @@ ghost use Rattle.shunt_rows.specs.defs.Formats.{reading};
 ghost use Rattle.shunt_rows.specs.defs.Given.{Gives};
 ghost use Rattle.shunt_station.specs.defs.Stating.{station_format};
 ghost use Rattle.shunt_timetable.specs.defs.TimetableFormat.{timetable_format};
+ghost use Rattle.shunt_drivers.specs.defs.CrewFormat.{crew_format, IsCrew};
+ghost use Rattle.shunt_drivers.specs.defs.RosterFormat.{roster_format, IsRoster};
+ghost use Rattle.shunt_zones.specs.defs.Moves.{moves_of};
 ghost use Rattle.shunt_zones.specs.defs.ZonesFormat.{zones_format, IsZones};
 
+use shunt_drivers::{Crew, Duty, read_crew, read_roster};
 use shunt_instance::{Instance, Station, Timetable};
 use shunt_lists::Items;
 use shunt_plan::{Plan, Turn, read_edits, read_plan};
@@ -177,6 +181,59 @@ impl InputFile for ZonesFile<'_> {
 
     fn read(&self, alloc: Global, rows: &Vec<Row>) -> Result<Zones, ReadError> {
         read_zones(alloc, self.station, rows)
+    }
+}
+
+/// A crew file over a station.
+#[derive(Clone, Copy, Drop)]
+pub struct CrewFile<'s> {
+    pub station: &'s Station,
+}
+
+impl InputFile for CrewFile<'_> {
+    type Value = Crew;
+
+    ghost word = { words.Crew };
+
+    ghost states = { λ f rows. reading (crew_format f.station.now) rows };
+
+    ghost ready = { λ f. IsStation f.station.now };
+
+    ghost formed = { λ f c. IsCrew f.station.now c };
+
+    fn word(&self) -> FileWord {
+        FileWord::Crew
+    }
+
+    fn read(&self, alloc: Global, rows: &Vec<Row>) -> Result<Crew, ReadError> {
+        read_crew(alloc, self.station, rows)
+    }
+}
+
+/// A roster file over the moves of a plan.
+#[derive(Clone, Copy, Drop)]
+pub struct RosterFile<'i> {
+    pub instance: &'i Instance,
+    pub plan: &'i Plan,
+}
+
+impl InputFile for RosterFile<'_> {
+    type Value = Items<Duty>;
+
+    ghost word = { words.Roster };
+
+    ghost states = { λ f rows. reading (roster_format (moves_of f.instance.now f.plan.now.blocks)) rows };
+
+    ghost ready = { λ f. IsPlanInRange f.instance.now f.plan.now };
+
+    ghost formed = { λ f duties. IsRoster (moves_of f.instance.now f.plan.now.blocks) duties };
+
+    fn word(&self) -> FileWord {
+        FileWord::Roster
+    }
+
+    fn read(&self, alloc: Global, rows: &Vec<Row>) -> Result<Items<Duty>, ReadError> {
+        Ok(Items::from_vec(read_roster(alloc, self.instance, self.plan, rows)?))
     }
 }
 

@@ -12,14 +12,15 @@ ghost use Rattle.shunt_report.specs.defs.VerdictTexts.{verdict_of};
 ghost use Rattle.shunt_moves.specs.defs.States.{IsState};
 ghost use Rattle.shunt.specs.declared.delivering.Outcome.{Outcome};
 ghost use Rattle.shunt.specs.declared.running.Status.{Status};
-ghost use Rattle.shunt.specs.defs.Words.{Call, Match, Audit, Check, Zones, Replay, outputs_of};
-ghost use Rattle.shunt.specs.defs.Inputs.{Agrees, Checkable, Passable, Replayable, refused, stated_night, stated_turns, check_in, passing_in, plans_in, turns_in};
+ghost use Rattle.shunt.specs.defs.Words.{Call, Match, Audit, Check, Zones, Drivers, Roster, Replay, IsUsable, outputs_of};
+ghost use Rattle.shunt.specs.defs.Inputs.{Agrees, Checkable, Passable, Sharable, Rosterable, Replayable, refused, stated_night, stated_turns, check_in, passing_in, plans_in, rostering_in, sharing_in, turns_in};
 ghost use Rattle.shunt.specs.defs.Replays.{last_of};
-ghost use Rattle.shunt.specs.defs.Replies.{Reply, IsReply, IsReplyOver, IsClean, IsProved, BoundsAll, NoneMeet, EndsFeasible, refusal, says};
+ghost use Rattle.shunt.specs.defs.Replies.{Reply, IsReply, IsReplyOver, IsClean, IsProved, BoundsAll, NoneMeet, SharesAll, EndsFeasible, refusal, says};
 ghost use Rattle.shunt.specs.defs.Ends.{Ends, Seen, CutInText, IsWhole, MayWrite, Yields, the_status};
 
 use shunt_audit::laws;
 use shunt_checker::laws::reasons;
+use shunt_drivers::laws::{roster_fault_in_words, stated_values_are_formed, texts_of_rosters};
 
 /// `Store` comes only where the store failed in the call, and `Sink` only where the sink did, so neither over a store or a
 /// sink whose count of faults is 0. `Words` never comes of words that spell a command.
@@ -142,6 +143,51 @@ pub fn zones_done_exactly()
 pub fn zones_completes()
     ensures { (s t p z : List ℕ) (old new : Seen) (status : Status) (files : Files) (x : Passable) → old.files ≡ Some files → passing_in s t p z files ≡ Ok x → (Rose old.store_faults new.store_faults → ⊥) → (Rose old.sink_faults new.sink_faults → ⊥) → Ends (Zones s t p z) old new status → (status ≡ Status.Done) ⊎ ((status ≡ Status.Findings) ⊎ (status ≡ Status.Memory)) }
 {}
+
+/// `drivers` ends with `Done` exactly where the files are accepted, unless the store, memory or the sink came first. It never ends
+/// with `Findings`, `NoMatching` or `Unfinished`.
+pub fn drivers_done_exactly()
+    ensures done { (s t p c d : List ℕ) (old new : Seen) (status : Status) (files : Files) (x : Sharable) → old.files ≡ Some files → sharing_in s t p c files ≡ Ok x → Ends (Drivers s t p c d) old new status → (status ≡ Status.Done) ⊎ Yields status }
+    ensures done_only { (s t p c d : List ℕ) (old new : Seen) → Ends (Drivers s t p c d) old new Status.Done → (files : Files) × Agrees old.files files × ((x : Sharable) × (sharing_in s t p c files ≡ Ok x)) }
+    ensures no_findings { (s t p c d : List ℕ) (old new : Seen) → Ends (Drivers s t p c d) old new Status.Findings → ⊥ }
+    ensures no_matching { (s t p c d : List ℕ) (old new : Seen) → Ends (Drivers s t p c d) old new Status.NoMatching → ⊥ }
+    ensures no_unfinished { (s t p c d : List ℕ) (old new : Seen) → Ends (Drivers s t p c d) old new Status.Unfinished → ⊥ }
+{}
+
+/// Where the files are accepted and neither the store nor the sink fails, `drivers` ends with `Done` or `Memory`.
+pub fn drivers_completes()
+    ensures { (s t p c d : List ℕ) (old new : Seen) (status : Status) (files : Files) (x : Sharable) → old.files ≡ Some files → sharing_in s t p c files ≡ Ok x → (Rose old.store_faults new.store_faults → ⊥) → (Rose old.sink_faults new.sink_faults → ⊥) → Ends (Drivers s t p c d) old new status → (status ≡ Status.Done) ⊎ (status ≡ Status.Memory) }
+{}
+
+/// `roster` ends with `Done` exactly where the files are accepted and the duties are a sharing of the plan's moves, and with `Findings`
+/// exactly where they are accepted and it isn't so, unless the store, memory or the sink came first. It never ends with `NoMatching` or
+/// `Unfinished`.
+pub fn roster_done_exactly()
+    ensures done { (s t p c d : List ℕ) (old new : Seen) (status : Status) (files : Files) (x : Rosterable) → old.files ≡ Some files → rostering_in s t p c d files ≡ Ok x → SharesAll x → Ends (Roster s t p c d) old new status → (status ≡ Status.Done) ⊎ Yields status }
+    ensures done_only { (s t p c d : List ℕ) (old new : Seen) → Ends (Roster s t p c d) old new Status.Done → (files : Files) × Agrees old.files files × ((x : Rosterable) × (rostering_in s t p c d files ≡ Ok x) × SharesAll x) }
+    ensures findings { (s t p c d : List ℕ) (old new : Seen) (status : Status) (files : Files) (x : Rosterable) → old.files ≡ Some files → rostering_in s t p c d files ≡ Ok x → (SharesAll x → ⊥) → Ends (Roster s t p c d) old new status → (status ≡ Status.Findings) ⊎ Yields status }
+    ensures findings_only { (s t p c d : List ℕ) (old new : Seen) → Ends (Roster s t p c d) old new Status.Findings → (files : Files) × Agrees old.files files × ((x : Rosterable) × (rostering_in s t p c d files ≡ Ok x) × (SharesAll x → ⊥)) }
+    ensures no_matching { (s t p c d : List ℕ) (old new : Seen) → Ends (Roster s t p c d) old new Status.NoMatching → ⊥ }
+    ensures no_unfinished { (s t p c d : List ℕ) (old new : Seen) → Ends (Roster s t p c d) old new Status.Unfinished → ⊥ }
+{
+    stated_values_are_formed();
+    roster_fault_in_words();
+}
+
+/// Where the files are accepted and neither the store nor the sink fails, `roster` ends with `Done`, `Findings` or `Memory`.
+pub fn roster_completes()
+    ensures { (s t p c d : List ℕ) (old new : Seen) (status : Status) (files : Files) (x : Rosterable) → old.files ≡ Some files → rostering_in s t p c d files ≡ Ok x → (Rose old.store_faults new.store_faults → ⊥) → (Rose old.sink_faults new.sink_faults → ⊥) → Ends (Roster s t p c d) old new status → (status ≡ Status.Done) ⊎ ((status ≡ Status.Findings) ⊎ (status ≡ Status.Memory)) }
+{}
+
+/// On the files that `drivers` left with `Done`, `roster` with the same words ends with `Done`, unless the store, memory or the sink
+/// comes first.
+pub fn roster_accepts_what_drivers_wrote()
+    ensures { (s t p c d : List ℕ) (a b old new : Seen) (status : Status) (files after : Files) → IsUsable (Drivers s t p c d) → a.files ≡ Some files → b.files ≡ Some after → old.files ≡ Some after → Ends (Drivers s t p c d) a b Status.Done → Ends (Roster s t p c d) old new status → (status ≡ Status.Done) ⊎ Yields status }
+{
+    stated_values_are_formed();
+    roster_fault_in_words();
+    texts_of_rosters();
+}
 
 /// `replay` ends with `Done` exactly where the files are accepted and the blocks that the turns leave are a feasible plan, and
 /// with `Findings` exactly where they are accepted and it isn't so, whatever cost the plan states and whichever turns were

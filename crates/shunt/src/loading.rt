@@ -6,14 +6,19 @@ ghost use Rattle.shunt_plan.specs.defs.Edits.{AreTurns};
 ghost use Rattle.shunt_plan.specs.defs.Plans.{IsPlanInRange};
 ghost use Rattle.shunt_proof.specs.defs.Certificates.{IsCertificate};
 ghost use Rattle.shunt_report.specs.defs.Texts.{input_of};
+ghost use Rattle.shunt_drivers.specs.defs.CrewFormat.{IsCrew};
+ghost use Rattle.shunt_drivers.specs.defs.RosterFormat.{IsRoster};
+ghost use Rattle.shunt_zones.specs.defs.Moves.{moves_of};
 ghost use Rattle.shunt_zones.specs.defs.ZonesFormat.{IsZones};
 ghost use Rattle.shunt.specs.declared.loading.Halt.TheVariants as halt;
 ghost use Rattle.shunt.specs.defs.Halts.{IfInput, Loads, LoadsBytes};
-ghost use Rattle.shunt.specs.defs.Inputs.{Holding, most_bytes_of, stated_by, stated_certificate, stated_edits, stated_night, stated_plan, stated_zones};
+ghost use Rattle.shunt.specs.defs.Inputs.{Holding, most_bytes_of, stated_by, stated_certificate, stated_crew, stated_edits, stated_night, stated_plan, stated_roster, stated_zones};
 
 use crate::inputs::{
-    CertificateFile, EditsFile, InputFile, PlanFile, StationFile, TimetableFile, ZonesFile,
+    CertificateFile, CrewFile, EditsFile, InputFile, PlanFile, RosterFile, StationFile,
+    TimetableFile, ZonesFile,
 };
+use shunt_drivers::{Crew, Duty};
 use shunt_instance::Instance;
 use shunt_lists::Items;
 use shunt_plan::{Plan, Turn};
@@ -191,6 +196,43 @@ pub fn load_zones<S: Store>(
 {
     let station = instance.station();
     load_input(alloc, store, name, &ZonesFile { station })
+}
+
+/// Reads and judges the crew file, over an instance.
+pub fn load_crew<S: Store>(
+    alloc: Global,
+    store: &mut S,
+    instance: &Instance,
+    name: &str,
+) -> Result<Crew, Halt>
+    requires { S.stage store.old ≡ Closed }
+    ensures told { Holding (S.told store.old) name.now (λ c. Loads result (stated_crew instance.now c)) }
+    ensures formed { IfOk result (IsCrew instance.now.station) }
+    ensures files { S.told store.new ≡ S.told store.old }
+    ensures closed { (IsErrOf result Halt.Fault → ⊥) → S.stage store.new ≡ Closed }
+    ensures cause { HasCause Halt.Fault (S.faults store.old) (S.faults store.new) result }
+{
+    let station = instance.station();
+    load_input(alloc, store, name, &CrewFile { station })
+}
+
+/// Reads and judges the roster file, over the moves of a plan.
+pub fn load_roster<S: Store>(
+    alloc: Global,
+    store: &mut S,
+    instance: &Instance,
+    plan: &Plan,
+    name: &str,
+) -> Result<Items<Duty>, Halt>
+    requires closed { S.stage store.old ≡ Closed }
+    requires plan { IsPlanInRange instance.now plan.now }
+    ensures told { Holding (S.told store.old) name.now (λ d. Loads result (stated_roster instance.now plan.now d)) }
+    ensures formed { IfOk result (IsRoster (moves_of instance.now plan.now.blocks)) }
+    ensures files { S.told store.new ≡ S.told store.old }
+    ensures closed { (IsErrOf result Halt.Fault → ⊥) → S.stage store.new ≡ Closed }
+    ensures cause { HasCause Halt.Fault (S.faults store.old) (S.faults store.new) result }
+{
+    load_input(alloc, store, name, &RosterFile { instance, plan })
 }
 
 /// Reads and judges the edits file, over an instance.

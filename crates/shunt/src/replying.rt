@@ -1,31 +1,40 @@
 // From the files to the answer.
-ghost use Rattle.std.specs.Prelude.{◌≡◌, ◌≤◌, [], ◌∷◌, length, map, IfOk, IsErrOf};
+ghost use Rattle.std.specs.Prelude.{◌≡◌, ◌≤◌, [], ◌∷◌, length, map, IfOk, IsErrOf, option_map};
 ghost use Rattle.shunt_store.specs.defs.Files.{Files, Closed};
 ghost use Rattle.shunt_store.specs.defs.Causes.{HasCause};
 ghost use Rattle.shunt_plan.specs.defs.Edits.{AreTurns};
 ghost use Rattle.shunt_plan.specs.defs.Plans.{IsPlanInRange};
 ghost use Rattle.shunt_proof.specs.defs.Certificates.{IsCertificate};
+ghost use Rattle.shunt_drivers.specs.defs.CrewFormat.{IsCrew};
+ghost use Rattle.shunt_drivers.specs.defs.RosterFormat.{IsRoster};
+ghost use Rattle.shunt_zones.specs.defs.Moves.{moves_of};
 ghost use Rattle.shunt_zones.specs.defs.ZonesFormat.{IsZones};
 ghost use Rattle.shunt.specs.defs.Words.{call_of, IsUsable};
-ghost use Rattle.shunt.specs.defs.Inputs.{Agrees, Holding, stated_check, stated_night, stated_passing, stated_plans, stated_turns};
-ghost use Rattle.shunt.specs.defs.Replies.{IsMatched, IsAudited, IsChecked, IsPassed, IsReplayed, IsReply, Decided, pair_of, reply_of, audit_outcome, check_outcome, meets_outcome};
+ghost use Rattle.shunt.specs.defs.Inputs.{Agrees, Holding, stated_check, stated_night, stated_passing, stated_plans, stated_roster, stated_rostering, stated_sharing, stated_turns};
+ghost use Rattle.shunt.specs.defs.Replies.{IsMatched, IsAudited, IsChecked, IsPassed, IsShared, IsRostered, IsReplayed, IsReply, Decided, pair_of, reply_of, audit_outcome, check_outcome, meets_outcome, roster_outcome};
 ghost use Rattle.shunt.specs.defs.Replays.{last_of, last_plan};
 ghost use Rattle.shunt.specs.defs.Halts.{Replies};
 
 use crate::delivering::{Answer, FileText, Outcome};
-use crate::loading::{Halt, load_certificate, load_edits, load_instance, load_plan, load_zones};
+use crate::loading::{
+    Halt, load_certificate, load_crew, load_edits, load_instance, load_plan, load_roster,
+    load_zones,
+};
 use crate::replaying::do_turns;
 use crate::words::Command;
 use shunt_audit::audit;
 use shunt_audit::types::Finding;
 use shunt_checker::{Verdict, check};
+use shunt_drivers::{Crew, Duty, RosterFault, roster_fault, share_moves, write_roster};
 use shunt_instance::Instance;
 use shunt_matching::{MatchError, first_fit};
 use shunt_moves::Workbench;
 use shunt_plan::{Plan, Turn, write_plan};
 use shunt_proof::Certificate;
 use shunt_report::laws::{meets as meets_are_told, verdicts};
-use shunt_report::{findings_text, pairs_text, shortage_text, verdict_text, zones_text};
+use shunt_report::{
+    findings_text, pairs_text, roster_text, sharing_text, shortage_text, verdict_text, zones_text,
+};
 use shunt_store::Store;
 use shunt_zones::{Meet, Zones, loads, meets};
 use std::alloc::{AllocError, Global};
@@ -51,6 +60,12 @@ pub fn answer_to<S: Store>(
         }
         Command::Zones(first, second, third, zones) => {
             reply_to_zones(alloc, store, first, second, third, zones)
+        }
+        Command::Drivers(first, second, third, crew, roster) => {
+            reply_to_drivers(alloc, store, first, second, third, crew, roster)
+        }
+        Command::Roster(first, second, third, crew, roster) => {
+            reply_to_roster(alloc, store, first, second, third, crew, roster)
         }
         Command::Replay(first, second, third, fourth, fifth) => {
             reply_to_replay(alloc, store, first, second, third, fourth, fifth)
@@ -130,6 +145,69 @@ fn reply_to_zones<S: Store>(
     let plan = load_plan(alloc, store, &instance, plan)?;
     let zones = load_zones(alloc, store, &instance, zones)?;
     Ok(zones_answer(alloc, &instance, &plan, &zones)?)
+}
+
+fn reply_to_drivers<S: Store>(
+    alloc: Global,
+    store: &mut S,
+    station: &str,
+    timetable: &str,
+    plan: &str,
+    crew: &str,
+    roster: &str,
+) -> Result<Answer, Halt>
+    requires { S.stage store.old ≡ Closed }
+    ensures told { Holding (S.told store.old) station.now (λ s. Holding (S.told store.old) timetable.now (λ t. Holding (S.told store.old) plan.now (λ p. Holding (S.told store.old) crew.now (λ c. Replies reply_of result (Decided (stated_sharing s t p c) (IsShared roster.now)))))) }
+    ensures files { S.told store.new ≡ S.told store.old }
+    ensures closed { (IsErrOf result Halt.Fault → ⊥) → S.stage store.new ≡ Closed }
+    ensures cause { HasCause Halt.Fault (S.faults store.old) (S.faults store.new) result }
+{
+    let instance = load_instance(alloc, store, station, timetable)?;
+    let plan = load_plan(alloc, store, &instance, plan)?;
+    let crew = load_crew(alloc, store, &instance, crew)?;
+    Ok(drivers_answer(alloc, &instance, &plan, &crew, roster)?)
+}
+
+fn reply_to_roster<S: Store>(
+    alloc: Global,
+    store: &mut S,
+    station: &str,
+    timetable: &str,
+    plan: &str,
+    crew: &str,
+    roster: &str,
+) -> Result<Answer, Halt>
+    requires { S.stage store.old ≡ Closed }
+    ensures told { Holding (S.told store.old) station.now (λ s. Holding (S.told store.old) timetable.now (λ t. Holding (S.told store.old) plan.now (λ p. Holding (S.told store.old) crew.now (λ c. Holding (S.told store.old) roster.now (λ d. Replies reply_of result (Decided (stated_rostering s t p c d) IsRostered)))))) }
+    ensures files { S.told store.new ≡ S.told store.old }
+    ensures closed { (IsErrOf result Halt.Fault → ⊥) → S.stage store.new ≡ Closed }
+    ensures cause { HasCause Halt.Fault (S.faults store.old) (S.faults store.new) result }
+{
+    let instance = load_instance(alloc, store, station, timetable)?;
+    let plan = load_plan(alloc, store, &instance, plan)?;
+    let crew = load_crew(alloc, store, &instance, crew)?;
+    reply_to_duties(alloc, store, &instance, &plan, &crew, roster)
+}
+
+// The answer of `roster` where all its files but the roster are accepted.
+fn reply_to_duties<S: Store>(
+    alloc: Global,
+    store: &mut S,
+    instance: &Instance,
+    plan: &Plan,
+    crew: &Crew,
+    roster: &str,
+) -> Result<Answer, Halt>
+    requires closed { S.stage store.old ≡ Closed }
+    requires plan { IsPlanInRange instance.now plan.now }
+    requires crew { IsCrew instance.now.station crew.now }
+    ensures told { Holding (S.told store.old) roster.now (λ d. Replies reply_of result (Decided (stated_roster instance.now plan.now d) (λ ds. IsRostered (record { night = instance.now; plan = plan.now; crew = crew.now; duties = ds })))) }
+    ensures files { S.told store.new ≡ S.told store.old }
+    ensures closed { (IsErrOf result Halt.Fault → ⊥) → S.stage store.new ≡ Closed }
+    ensures cause { HasCause Halt.Fault (S.faults store.old) (S.faults store.new) result }
+{
+    let duties = load_roster(alloc, store, instance, plan, roster)?.into_vec();
+    Ok(roster_answer(alloc, instance, plan, crew, &duties)?)
 }
 
 fn reply_to_replay<S: Store>(
@@ -269,6 +347,58 @@ fn one_file(alloc: Global, name: &str, bytes: Vec<u8>) -> Result<Vec<FileText>, 
     let mut writes = Vec::new(alloc);
     writes.push(FileText { name, bytes })?;
     Ok(writes)
+}
+
+// The moves of a plan, shared among as few drivers as can be, which is written as a roster.
+fn drivers_answer(
+    alloc: Global,
+    instance: &Instance,
+    plan: &Plan,
+    crew: &Crew,
+    roster: &str,
+) -> Result<Answer, AllocError>
+    requires plan { IsPlanInRange instance.now plan.now }
+    requires crew { IsCrew instance.now.station crew.now }
+    ensures { IfOk result (λ a. IsShared roster.now (record { night = instance.now; plan = plan.now; crew = crew.now }) (reply_of a)) }
+{
+    let sharing = share_moves(alloc, instance, plan, crew)?;
+    let written = write_roster(alloc, instance, plan, &sharing.duties)?;
+    Ok(Answer {
+        outcome: Outcome::Done,
+        writes: one_file(alloc, roster, written)?,
+        text: sharing_text(alloc, &sharing)?,
+    })
+}
+
+// How a roster ends that has this fault.
+fn outcome_of_fault(fault: Option<&RosterFault>) -> Outcome
+    ensures { result ≡ roster_outcome (option_map (λ f. f.now) fault.entry) }
+{
+    match fault {
+        Some(_) => Outcome::Findings,
+        None => Outcome::Done,
+    }
+}
+
+// What is at fault with duties of a plan's moves.
+fn roster_answer(
+    alloc: Global,
+    instance: &Instance,
+    plan: &Plan,
+    crew: &Crew,
+    duties: &Vec<Duty>,
+) -> Result<Answer, AllocError>
+    requires plan { IsPlanInRange instance.now plan.now }
+    requires crew { IsCrew instance.now.station crew.now }
+    requires duties { IsRoster (moves_of instance.now plan.now.blocks) duties.now.items }
+    ensures { IfOk result (λ a. IsRostered (record { night = instance.now; plan = plan.now; crew = crew.now; duties = duties.now.items }) (reply_of a)) }
+{
+    let fault = roster_fault(alloc, instance, plan, crew, duties)?;
+    Ok(Answer {
+        outcome: outcome_of_fault(fault.as_ref()),
+        writes: Vec::new(alloc),
+        text: roster_text(alloc, duties, fault.as_ref())?,
+    })
 }
 
 // What the turns do to the blocks of a plan, which are written as a new one, and what is then wrong with them.

@@ -39,8 +39,9 @@ pub enum Status {
 /// answer, and then prints its text.
 ///
 /// The words are those behind the program's name. They spell `match STATION TIMETABLE`, `audit STATION TIMETABLE PLAN`,
-/// `check STATION TIMETABLE PLAN CERT`, `zones STATION TIMETABLE PLAN ZONES` or `replay STATION TIMETABLE PLAN EDITS NEWPLAN`, where
-/// the files have names that differ and aren't empty, or the answer is `Words` and nothing is read, written or printed.
+/// `check STATION TIMETABLE PLAN CERT`, `zones STATION TIMETABLE PLAN ZONES`, `drivers STATION TIMETABLE PLAN CREW ROSTER`,
+/// `roster STATION TIMETABLE PLAN CREW ROSTER` or `replay STATION TIMETABLE PLAN EDITS NEWPLAN`, where the files have names that differ
+/// and aren't empty, or the answer is `Words` and nothing is read, written or printed.
 /// `Store` comes only where the store failed in this call and `Sink` only where the sink did; `Memory` may come in place
 /// of any answer but `Words`. Each other status is that of the defined answer, all of which then was written and printed.
 /// Where the store doesn't tell what its files hold, that is the defined answer over some contents of them.

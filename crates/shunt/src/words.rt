@@ -13,6 +13,10 @@ pub enum Command<'w> {
     Check(&'w str, &'w str, &'w str, &'w str),
     /// `zones STATION TIMETABLE PLAN ZONES`
     Zones(&'w str, &'w str, &'w str, &'w str),
+    /// `drivers STATION TIMETABLE PLAN CREW ROSTER`
+    Drivers(&'w str, &'w str, &'w str, &'w str, &'w str),
+    /// `roster STATION TIMETABLE PLAN CREW ROSTER`
+    Roster(&'w str, &'w str, &'w str, &'w str, &'w str),
     /// `replay STATION TIMETABLE PLAN EDITS NEWPLAN`
     Replay(&'w str, &'w str, &'w str, &'w str, &'w str),
 }
@@ -172,6 +176,12 @@ fn of_five_files<'w>(
     match word.as_str() {
         "replay" if are_five_names(first, second, third, fourth, fifth) => {
             Some(Command::Replay(first, second, third, fourth, fifth))
+        }
+        "drivers" if are_five_names(first, second, third, fourth, fifth) => {
+            Some(Command::Drivers(first, second, third, fourth, fifth))
+        }
+        "roster" if are_five_names(first, second, third, fourth, fifth) => {
+            Some(Command::Roster(first, second, third, fourth, fifth))
         }
         _ => None,
     }

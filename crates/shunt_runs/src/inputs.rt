@@ -15,6 +15,13 @@ pub(crate) const TIGHT: &str =
 
 pub(crate) const NIGHT: &str = "timetable,1\narrive,a1,22:00,P,K,K\ndepart,d1,30:00,P,K,K\n";
 
+// X leaves the track in the minute in which Y enters it.
+pub(crate) const ONE_AFTER_THE_OTHER: &str =
+    "timetable,1\narrive,a1,22:00,P,X\narrive,a2,30:00,P,Y\ndepart,d1,30:00,P,X\ndepart,d2,31:00,P,Y\n";
+
+pub(crate) const BOTH: &str =
+    "plan,1\nblock,1,a1,1,1,d1,1,park,T,A,A\nblock,2,a2,1,1,d2,1,park,T,A,A\ncost,12\n";
+
 pub(crate) const STANDING: &str =
     "timetable,2\nstand,s1,T,X\narrive,a1,22:00,P,Y\ndepart,d1,29:00,P,X\ndepart,d2,30:00,P,Y\n";
 

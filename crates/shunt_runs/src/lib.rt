@@ -6,6 +6,8 @@ mod audits;
 #[cfg(test)]
 mod checks;
 #[cfg(test)]
+mod drivers;
+#[cfg(test)]
 mod inputs;
 #[cfg(test)]
 mod matches;

@@ -1,16 +1,9 @@
 // Runs of `zones`.
-use crate::inputs::{STATION, TIGHT, store_of, words_of};
+use crate::inputs::{BOTH, ONE_AFTER_THE_OTHER, STATION, TIGHT, store_of, words_of};
 use shunt::{Status, run};
 use shunt_store::MemSink;
 use std::alloc::Global;
 use std::test::Fail;
-
-// X leaves the track in the minute in which Y enters it.
-const ONE_AFTER_THE_OTHER: &str =
-    "timetable,1\narrive,a1,22:00,P,X\narrive,a2,30:00,P,Y\ndepart,d1,30:00,P,X\ndepart,d2,31:00,P,Y\n";
-
-const BOTH: &str =
-    "plan,1\nblock,1,a1,1,1,d1,1,park,T,A,A\nblock,2,a2,1,1,d2,1,park,T,A,A\ncost,12\n";
 
 const SPLIT_REVERSED: &str =
     "timetable,1\narrive,a1,22:00,P,X,Y\ndepart,d1,29:00,P,Y\ndepart,d2,30:00,P,X\n";

@@ -20,8 +20,13 @@ use Rattle.shunt_report.specs.defs.Texts.{input_of}
 use Rattle.shunt_station.specs.defs.Stating.{station_format}
 use Rattle.shunt_timetable.specs.defs.TimetableFormat.{timetable_format}
 use Rattle.shunt_zones.specs.declared.records.Zones.{Zones as ThroatZones}
+use Rattle.shunt_zones.specs.defs.Moves.{moves_of}
 use Rattle.shunt_zones.specs.defs.ZonesFormat.{zones_format}
-use Rattle.shunt.specs.defs.Words.{Call, Match, Audit, Check, Zones, Replay}
+use Rattle.shunt_drivers.specs.declared.records.Crew.{Crew}
+use Rattle.shunt_drivers.specs.declared.records.Duty.{Duty}
+use Rattle.shunt_drivers.specs.defs.CrewFormat.{crew_format}
+use Rattle.shunt_drivers.specs.defs.RosterFormat.{roster_format}
+use Rattle.shunt.specs.defs.Words.{Call, Match, Audit, Check, Zones, Drivers, Roster, Replay}
 
 -- how many bytes may stand in an input file
 abbrev pub most_bytes_of : FileWord → ℕ
@@ -107,6 +112,45 @@ stated_passing s t p z = then_stated (stated_plans s t p) (λ x. then_stated (st
 abbrev pub passing_in : List ℕ → List ℕ → List ℕ → List ℕ → Files → Result Passable (List ℕ)
 passing_in s t p z files = stated_passing (content files s) (content files t) (content files p) (content files z)
 
+-- a crew file over a night
+abbrev pub stated_crew : Night → List ℕ → Result Crew (List ℕ)
+stated_crew night bytes = stated word.Crew (crew_format night.station) bytes
+
+-- a night, a plan in it, and how long drivers are with moves
+pub record Sharable : Type 0 where
+  pub night : Night
+  pub plan : Plan
+  pub crew : Crew
+
+-- those that a station file, a timetable file, a plan file and a crew file state, or the line for the first of them that isn't
+-- accepted
+unfoldable pub stated_sharing : List ℕ → List ℕ → List ℕ → List ℕ → Result Sharable (List ℕ)
+stated_sharing s t p c = then_stated (stated_plans s t p) (λ x. then_stated (stated_crew x.0 c) (λ crew. Ok (record { night = x.0; plan = x.1; crew = crew })))
+
+-- the same of what the files of these names hold
+abbrev pub sharing_in : List ℕ → List ℕ → List ℕ → List ℕ → Files → Result Sharable (List ℕ)
+sharing_in s t p c files = stated_sharing (content files s) (content files t) (content files p) (content files c)
+
+-- a roster file over the moves of a plan
+abbrev pub stated_roster : Night → Plan → List ℕ → Result (List Duty) (List ℕ)
+stated_roster night plan bytes = stated word.Roster (roster_format (moves_of night plan.blocks)) bytes
+
+-- a night, a plan in it, how long drivers are with moves, and duties of the plan's moves
+pub record Rosterable : Type 0 where
+  pub night : Night
+  pub plan : Plan
+  pub crew : Crew
+  pub duties : List Duty
+
+-- those that a station file, a timetable file, a plan file, a crew file and a roster file state, or the line for the first of them
+-- that isn't accepted
+unfoldable pub stated_rostering : List ℕ → List ℕ → List ℕ → List ℕ → List ℕ → Result Rosterable (List ℕ)
+stated_rostering s t p c d = then_stated (stated_sharing s t p c) (λ x. then_stated (stated_roster x.night x.plan d) (λ duties. Ok (record { night = x.night; plan = x.plan; crew = x.crew; duties = duties })))
+
+-- the same of what the files of these names hold
+abbrev pub rostering_in : List ℕ → List ℕ → List ℕ → List ℕ → List ℕ → Files → Result Rosterable (List ℕ)
+rostering_in s t p c d files = stated_rostering (content files s) (content files t) (content files p) (content files c) (content files d)
+
 -- an edits file over a night
 abbrev pub stated_edits : Night → List ℕ → Result (List Turn) (List ℕ)
 stated_edits night bytes = stated word.Edits (edits_format night) bytes
@@ -132,6 +176,8 @@ Value (Match s t) = Night
 Value (Audit s t p) = Night × Plan
 Value (Check s t p k) = Checkable
 Value (Zones s t p z) = Passable
+Value (Drivers s t p c d) = Sharable
+Value (Roster s t p c d) = Rosterable
 Value (Replay s t p e n) = Replayable
 
 -- the value that they state, judged in the order of the words, or the line for the first of them that isn't accepted
@@ -140,6 +186,8 @@ stated_in (Match s t) files = stated_night (content files s) (content files t)
 stated_in (Audit s t p) files = plans_in s t p files
 stated_in (Check s t p k) files = check_in s t p k files
 stated_in (Zones s t p z) files = passing_in s t p z files
+stated_in (Drivers s t p c d) files = sharing_in s t p c files
+stated_in (Roster s t p c d) files = rostering_in s t p c d files
 stated_in (Replay s t p e n) files = turns_in s t p e files
 
 -- the line for the first input file that isn't accepted

@@ -1,5 +1,5 @@
 -- The defined answer of a command, over the contents of its files.
-use Rattle.std.specs.Prelude.{◌≡◌, ◌⊎◌, ℕ, ◌≤◌, List, [], ◌∷◌, ◌++◌, map, Option, Result, Ok, Err, string_bytes}
+use Rattle.std.specs.Prelude.{◌≡◌, ◌⊎◌, ℕ, ◌≤◌, List, [], ◌∷◌, ◌++◌, map, Option, None, Some, Result, Ok, Err, string_bytes}
 use Rattle.shunt_store.specs.defs.Files.{Files}
 use Rattle.shunt.specs.declared.delivering.Outcome.{Outcome}
 use Rattle.shunt.specs.declared.delivering.Outcome.TheVariants as outcome
@@ -26,13 +26,20 @@ use Rattle.shunt_report.specs.defs.Texts.{pairs_of, shortage_of}
 use Rattle.shunt_report.specs.defs.FindingTexts.{findings_of}
 use Rattle.shunt_report.specs.defs.VerdictTexts.{verdict_of}
 use Rattle.shunt_report.specs.defs.ZonesTexts.{zones_of}
+use Rattle.shunt_report.specs.defs.DriversTexts.{sharing_of, roster_of}
+use Rattle.shunt_drivers.specs.declared.records.Duty.{Duty}
+use Rattle.shunt_drivers.specs.declared.records.RosterFault.{RosterFault}
+use Rattle.shunt_drivers.specs.defs.RosterFaults.{fault_in}
+use Rattle.shunt_drivers.specs.defs.RosterFormat.{IsRoster}
+use Rattle.shunt_drivers.specs.defs.RosterRows.{rows_of as roster_rows}
+use Rattle.shunt_drivers.specs.defs.Shared.{IsFewest, IsSharingOf}
 use Rattle.shunt_tracks.specs.declared.run.Event.{Event}
 use Rattle.shunt_zones.specs.declared.records.Meet.{Meet}
 use Rattle.shunt_zones.specs.defs.Loading.{loads_in}
 use Rattle.shunt_zones.specs.defs.Meeting.{Before, MeetIn, meets_in}
 use Rattle.shunt_zones.specs.defs.Moves.{moves_of}
-use Rattle.shunt.specs.defs.Words.{Call, Match, Audit, Check, Zones, Replay}
-use Rattle.shunt.specs.defs.Inputs.{Value, Checkable, Passable, Replayable, stated_in, Agrees}
+use Rattle.shunt.specs.defs.Words.{Call, Match, Audit, Check, Zones, Drivers, Roster, Replay}
+use Rattle.shunt.specs.defs.Inputs.{Value, Checkable, Passable, Sharable, Rosterable, Replayable, stated_in, Agrees}
 use Rattle.shunt.specs.defs.Replays.{last_of, last_plan, replay_lines}
 
 -- how a command ends, which files it writes in their order and what they then hold, and what it prints
@@ -133,6 +140,29 @@ meets_outcome (m ∷ meets) = outcome.Findings
 abbrev pub IsPassed : Passable → Reply → Type 0
 IsPassed x r = r ≡ says (meets_outcome (meets_in x.night x.zones x.plan)) (zones_of x.zones (meets_in x.night x.zones x.plan) (loads_in x.night x.zones x.plan))
 
+-- the answer of `drivers` on a plan: duties of its moves are written as a roster, and told, which share them among as few drivers as
+-- can be
+pub record IsShared (file : List ℕ) (x : Sharable) (r : Reply) : Type 0 where
+  pub duties : List Duty
+  pub drivers : ℕ
+  pub busy : Option ℕ
+  pub fewest : IsFewest x.night x.crew (moves_of x.night x.plan.blocks) duties drivers busy
+  pub roster : IsRoster (moves_of x.night x.plan.blocks) duties
+  pub reply : r ≡ record { outcome = outcome.Done; writes = (file, text_of_rows (roster_rows duties)) ∷ []; text = sharing_of duties drivers busy }
+
+-- each move of the plan has one duty, and no two of one driver run at one minute
+abbrev pub SharesAll : Rosterable → Type 0
+SharesAll x = IsSharingOf x.night x.crew (moves_of x.night x.plan.blocks) x.duties
+
+-- a roster ends well where it has no fault
+abbrev pub roster_outcome : Option RosterFault → Outcome
+roster_outcome None = outcome.Done
+roster_outcome (Some f) = outcome.Findings
+
+-- the answer of `roster` on a plan and duties: their fault is printed, or the number of drivers
+abbrev pub IsRostered : Rosterable → Reply → Type 0
+IsRostered x r = r ≡ says (roster_outcome (fault_in x.night x.crew x.plan x.duties)) (roster_of x.duties (fault_in x.night x.crew x.plan x.duties))
+
 -- the answer of `replay`: the blocks that the turns leave are written as a plan with what they cost; a line for each turn, and then
 -- their findings and their cost, are printed
 pub record IsReplayed (file : List ℕ) (x : Replayable) (r : Reply) : Type 0 where
@@ -148,6 +178,8 @@ IsAnswer (Match s t) night r = IsMatched night r
 IsAnswer (Audit s t p) x r = IsAudited x r
 IsAnswer (Check s t p k) x r = IsChecked x r
 IsAnswer (Zones s t p z) x r = IsPassed x r
+IsAnswer (Drivers s t p c d) x r = IsShared d x r
+IsAnswer (Roster s t p c d) x r = IsRostered x r
 IsAnswer (Replay s t p e n) x r = IsReplayed n x r
 
 -- the defined answer of a command: the first input file that isn't accepted decides, else the command's own answer

@@ -115,6 +115,31 @@ fn branches_are_checked(rt: HostRuntime) -> Result<(), Fail> {
             "rejected record 7 reason 10 bound 106 best 106\n",
         ),
         (
+            "alpha,6000,6000\nbeta,0,0\nnode,1,branch,same,1,d1,1,park,T,A,A\nend,106,106,2\n",
+            Status::Done,
+            "accepted cost 106 bound 106 nodes 2 optimal\n",
+        ),
+        (
+            "alpha,6000,6000\nbeta,0,0\nnode,1,branch,same,1,d1,1,park,T,A,A\nnode,2,whole,none,1,d2,1,unparked\nnode,1,leaf,same,1,d2,1,unparked\nend,106,106,4\n",
+            Status::Findings,
+            "rejected record 7 reason 6 child 1 d2 1 unparked\n",
+        ),
+        (
+            "alpha,6000,6000\nbeta,0,0\nnode,1,branch,same,1,d1,1,park,T,A,A\nnode,2,whole,none,1,d2,1,unparked\nnode,1,leaf,same,2,d1,1,unparked\nend,106,106,4\n",
+            Status::Findings,
+            "rejected record 7 reason 6 child 2 d1 1 unparked\n",
+        ),
+        (
+            "alpha,6000,6000\nbeta,0,0\nnode,1,branch,same,1,d1,1,park,T,A,A\nnode,2,branch,same,1,d2,1,unparked\nend,106,106,3\n",
+            Status::Findings,
+            "rejected record 6 reason 9\n",
+        ),
+        (
+            "alpha,1000000000000,0\nbeta,0,0\nnode,1,branch,same,1,d1,1,park,T,A,A\nnode,2,whole,none,1,d2,1,unparked\nend,106,106,3\n",
+            Status::Input,
+            "input certificate record 3 field 2 kind 8\n",
+        ),
+        (
             "alpha,6000,6000\nbeta,0,0\nnode,1,branch,same,1,d1,1,park,T,A,A\nnode,2,whole,none,1,d2,1,unparked\nend,106,106,2\n",
             Status::Input,
             "input certificate record 7 field 4 kind 8\n",
@@ -212,6 +237,54 @@ fn prices_and_cases_are_checked(rt: HostRuntime) -> Result<(), Fail> {
             Status::Done,
             optimal,
         ),
+        (
+            THREE_QUARTERS,
+            "case,0,92500\nalpha,192500,192500\nbeta,0,0\nprice,T,a2,373\ncase,160,-93999\nalpha,6000,6000\nbeta,0,0\nend,106,106,1\n",
+            Status::Done,
+            optimal,
+        ),
+        (
+            THREE_QUARTERS,
+            "case,0,92500\nalpha,192500,192500\nbeta,0,0\nprice,T,a2,373\ncase,160,-92999\nalpha,6000,6000\nbeta,0,0\nend,106,106,1\n",
+            Status::Findings,
+            "rejected record 2 reason 3 bound 105 stated 106\n",
+        ),
+        (
+            THREE_QUARTERS,
+            "case,0,92500\nalpha,192500,192500\nbeta,0,0\nprice,T,a2,373\ncase,160,-94000\nalpha,6000,6000\nbeta,0,0\ncase,160,0\nalpha,6000,6000\nbeta,0,0\nend,106,106,1\n",
+            Status::Input,
+            "input certificate record 10 field 1 kind 1\n",
+        ),
+        (
+            THREE_QUARTERS,
+            "case,0,92500\nalpha,192500,192500\nbeta,0,0\nprice,T,a2,373\nend,106,106,1\n",
+            Status::Input,
+            "input certificate record 7 field 1 kind 1\n",
+        ),
+        (
+            THREE_QUARTERS,
+            "case,0,92500\nalpha,192500,192500\nbeta,0,0\nprice,T,a2,373\ncase,1,-94000\nalpha,6000,6000\nbeta,0,0\nend,106,106,1\n",
+            Status::Input,
+            "input certificate record 7 field 2 kind 8\n",
+        ),
+        (
+            THREE_QUARTERS,
+            "alpha,100000,100000\nbeta,0,0\npart,T,a2,1,93999\nend,106,106,1\n",
+            Status::Findings,
+            "rejected record 2 reason 2 block a1 1 1 d1 1 park T A A cost 99999 duals 100000\n",
+        ),
+        (
+            THREE_QUARTERS,
+            "alpha,100000,100000\nbeta,0,0\npart,T,a2,9,94000\nend,106,106,1\n",
+            Status::Input,
+            "input certificate record 5 field 4 kind 8\n",
+        ),
+        (
+            THREE_QUARTERS,
+            "alpha,100000,100000\nbeta,0,0\npart,T,a2,1,94000\npart,T,a2,1,94000\nend,106,106,1\n",
+            Status::Input,
+            "input certificate record 6 field 4 kind 7\n",
+        ),
     ] {
         let mut certificate = String::from_str(rt.alloc(), "certificate,1\nnode,0,leaf,new\n")?;
         certificate.push_str(duals)?;
@@ -219,6 +292,137 @@ fn prices_and_cases_are_checked(rt: HostRuntime) -> Result<(), Fail> {
         let same = checks_with(rt.alloc(), (station, PAIR), PLAN, text, status, printed)?;
         assert!(rt; same, "{duals}");
     }
+    Ok(())
+}
+
+// Where a block is unparked, the first case is closed. In the first certificate it is closed below the root's child alone. In the second
+// one the root's least bound is -94 by the first case, and that of both children 11 by the last.
+#[test]
+fn bounds_are_the_least_of_the_cases_that_are_open(rt: HostRuntime) -> Result<(), Fail> {
+    for nodes in [
+        "case,0,92500\nalpha,6000,6000\nbeta,0,0\ncase,160,-94000\nalpha,6000,6000\nbeta,0,0\nnode,1,branch,same,1,d1,1,park,T,A,A\nnode,2,whole,none,1,d2,1,unparked\n",
+        "case,0,0\nalpha,-100000,6000\nbeta,0,0\ncase,160,-94000\nalpha,6000,-89000\nbeta,0,0\nnode,1,branch,same,1,d1,1,unparked\nnode,1,branch,same,1,d1,1,park,T,A,A\n",
+    ] {
+        let mut certificate = String::from_str(rt.alloc(), "certificate,1\nnode,0,branch,new\n")?;
+        certificate.push_str(nodes)?;
+        certificate.push_str("end,106,106,3\n")?;
+        let (text, night) = (certificate.as_str(), (THREE_QUARTERS, PAIR));
+        let optimal = "accepted cost 106 bound 106 nodes 3 optimal\n";
+        let same = checks_with(rt.alloc(), night, PLAN, text, Status::Done, optimal)?;
+        assert!(rt; same, "{nodes}");
+    }
+    Ok(())
+}
+
+const BRANCH: &str =
+    "certificate,1\nnode,0,branch,new\nalpha,6000,6000\nbeta,0,0\nnode,1,branch,same,1,d1,1,park,T,A,A\n";
+
+// A branch whose one child stands so many times.
+fn repeated(alloc: Global, times: usize, end: &str) -> Result<String, Fail> {
+    let mut text = String::from_str(alloc, BRANCH)?;
+    for _ in 0..times {
+        text.push_str("node,2,whole,none,1,d2,1,unparked\n")?;
+    }
+    text.push_str(end)?;
+    Ok(text)
+}
+
+#[test]
+fn a_child_stands_thousands_of_times(rt: HostRuntime) -> Result<(), Fail> {
+    let alloc = rt.alloc();
+    let night = (STATION, PAIR);
+    let most = repeated(alloc, 4998, "end,106,106,5000\n")?;
+    let twice = "rejected record 7 reason 7 child 1 d2 1 unparked\n";
+    assert!(rt; checks_with(alloc, night, PLAN, most.as_str(), Status::Findings, twice)?);
+    let more = repeated(alloc, 4999, "end,106,106,5001\n")?;
+    let limit = "input certificate record 5004 field 1 kind 8\n";
+    assert!(rt; checks_with(alloc, night, PLAN, more.as_str(), Status::Input, limit)?);
+    Ok(())
+}
+
+// Twenty types of 500 dm.
+fn long_station(alloc: Global) -> Result<String, Fail> {
+    let mut text = String::from_str(alloc, "station,1,Demo\n")?;
+    for kind in 1..21 {
+        let line = format!(in alloc; "type,K{kind},500,10\n")?;
+        text.push_str(line.as_str())?;
+    }
+    text.push_str("platform,P\ntrack,T,1000,A\nroute,P,T,A,3\ncost,5,4,100\n")?;
+    Ok(text)
+}
+
+// A train of eight units of each type comes and goes.
+fn long_timetable(alloc: Global) -> Result<String, Fail> {
+    let mut text = String::from_str(alloc, "timetable,1\n")?;
+    for kind in 1..21 {
+        let units = format!(in alloc;
+            "K{kind},K{kind},K{kind},K{kind},K{kind},K{kind},K{kind},K{kind}\n"
+        )?;
+        let trains = format!(in alloc;
+            "arrive,a{kind},22:00,P,{units}depart,d{kind},30:00,P,{units}"
+        )?;
+        text.push_str(trains.as_str())?;
+    }
+    Ok(text)
+}
+
+// Whether a block of one unit is parked: the first one alone.
+fn option_of(unit: usize) -> &'static str {
+    if unit == 0 { "park,T,A,A" } else { "unparked" }
+}
+
+// Each unit is a block of its own, to the same place of the train of its type.
+fn long_plan(alloc: Global) -> Result<String, Fail> {
+    let mut text = String::from_str(alloc, "plan,1\n")?;
+    for unit in 0..160usize {
+        let (id, train, place) = (unit + 1, unit / 8 + 1, unit % 8 + 1);
+        let option = option_of(unit);
+        let line = format!(in alloc; "block,{id},a{train},{place},1,d{train},{place},{option}\n")?;
+        text.push_str(line.as_str())?;
+    }
+    text.push_str("cost,17166\n")?;
+    Ok(text)
+}
+
+// 160 values of 0 behind a word.
+fn zeros(alloc: Global, word: &str) -> Result<String, Fail> {
+    let mut text = String::from_str(alloc, word)?;
+    for _ in 0..160usize {
+        text.push_str(",0")?;
+    }
+    text.push_str("\n")?;
+    Ok(text)
+}
+
+// The plan's blocks as a chain of branches, with a whole path at its end.
+fn chain(alloc: Global) -> Result<String, Fail> {
+    let mut text = String::from_str(alloc, "certificate,1\nnode,0,branch,new\n")?;
+    text.push_str(zeros(alloc, "alpha")?.as_str())?;
+    text.push_str(zeros(alloc, "beta")?.as_str())?;
+    for unit in 0..160usize {
+        let (depth, train, place) = (unit + 1, unit / 8 + 1, unit % 8 + 1);
+        let shown = if depth == 160 {
+            "whole,none"
+        } else {
+            "branch,same"
+        };
+        let option = option_of(unit);
+        let line = format!(in alloc; "node,{depth},{shown},1,d{train},{place},{option}\n")?;
+        text.push_str(line.as_str())?;
+    }
+    text.push_str("end,17166,0,161\n")?;
+    Ok(text)
+}
+
+#[test]
+fn the_deepest_chain_is_checked(rt: HostRuntime) -> Result<(), Fail> {
+    let alloc = rt.alloc();
+    let (station, timetable) = (long_station(alloc)?, long_timetable(alloc)?);
+    let (plan, certificate) = (long_plan(alloc)?, chain(alloc)?);
+    let night = (station.as_str(), timetable.as_str());
+    let (plan, certificate) = (plan.as_str(), certificate.as_str());
+    let unfinished = "accepted cost 17166 bound 0 nodes 161 unfinished\n";
+    assert!(rt; checks_with(alloc, night, plan, certificate, Status::Done, unfinished)?);
     Ok(())
 }
 

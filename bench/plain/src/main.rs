@@ -11,7 +11,8 @@
 //! reads it;
 //! `plain night NUMBER UNITS STATION TIMETABLE` writes the night that the generator makes of a number;
 //! `plain tree NUMBER UNITS NODES same STATION TIMETABLE PLAN CERT` writes such a night with a plan and a certificate of so many nodes,
-//! each with its parent's duals, or with new ones for `new` in the place of `same`; `plain check STATION TIMETABLE PLAN CERT` checks it.
+//! each with its parent's duals, or with new ones for `new` in the place of `same`; `plain check STATION TIMETABLE PLAN CERT` checks it;
+//! `plain plan STATION TIMETABLE NODES PLAN CERT` plans a night, and writes the plan with a certificate of at most so many nodes.
 
 mod assign;
 mod certificates;
@@ -19,6 +20,7 @@ mod checker;
 mod choices;
 mod duals;
 mod nights;
+mod plan;
 mod trees;
 
 use std::io::Write;
@@ -41,6 +43,7 @@ fn main() {
             trees::write_all(number, units, nodes, duals, [station, timetable, plan, certificate]);
         }
         ["check", station, timetable, plan, certificate] => checker::check(station, timetable, plan, certificate),
+        ["plan", station, timetable, nodes, plan, certificate] => plan::plan([station, timetable], nodes, plan, certificate),
         ["split", ref names @ ..] if !names.is_empty() => names.iter().for_each(|name| split(name)),
         ["choices", station, timetable, walks] => choices::measure(station, timetable, walks.parse().expect("a number")),
         _ => std::process::exit(2),

@@ -118,7 +118,7 @@ impl Tables {
         self.units[shape.u..shape.u + shape.n].iter().map(|unit| self.night.lengths[unit.kind]).sum()
     }
 
-    fn is_pair(&self, u: usize, v: usize) -> bool {
+    pub(crate) fn is_pair(&self, u: usize, v: usize) -> bool {
         let (unit, position) = (self.units[u], self.positions[v]);
         let ready = self.night.arrive[unit.train].minute + self.night.turns[unit.kind];
         unit.kind == position.kind && ready <= self.night.depart[position.train].minute

@@ -142,7 +142,7 @@ fn grown(tables: &Tables, most: usize, new: bool, cost: u64) -> (Vec<Node>, i64)
     (nodes, bound)
 }
 
-fn write_choice(tables: &Tables, text: &mut String, choice: Choice) {
+pub(crate) fn write_choice(tables: &Tables, text: &mut String, choice: Choice) {
     let position = tables.positions[choice.shape.v];
     let depart = &tables.night.depart[position.train].name;
     write!(text, "{},{depart},{}", choice.shape.n, position.place + 1).expect("a string");
@@ -161,7 +161,7 @@ fn write_values(text: &mut String, word: &str, values: &[i64]) {
     text.push('\n');
 }
 
-fn write_case(tables: &Tables, text: &mut String, case: &Case) {
+pub(crate) fn write_case(tables: &Tables, text: &mut String, case: &Case) {
     if (case.to, case.multiplier) != (160, 0) {
         writeln!(text, "case,{},{}", case.to, case.multiplier).expect("a string");
     }
@@ -189,7 +189,7 @@ fn write_nodes(tables: &Tables, text: &mut String, nodes: &[Node], k: usize, dep
 }
 
 // A plan of unparked blocks of one unit, each type's units with its positions in their order, and its cost.
-fn opening_plan(tables: &Tables) -> (String, u64) {
+pub(crate) fn opening_plan(tables: &Tables) -> (String, u64) {
     let mut text = String::from("plan,1\n");
     let mut taken = vec![false; tables.positions.len()];
     let mut sum = 0;

@@ -1,0 +1,227 @@
+//! Better numbers of a case by Shor's r-algorithm, in whole numbers.
+
+use super::evaluate::{Point, Scene, Span, Work};
+use super::model::ONE;
+
+const FINE: u32 = 24;
+const UNIT: u32 = 20;
+const LARGEST: i64 = 1 << 34;
+const FARTHEST: i64 = 1 << 40;
+
+/// Where an ascent goes: which numbers it changes, how far it goes at first, and when it ends.
+#[derive(Clone, Copy)]
+pub(crate) struct Ascent {
+    /// Whether the prices of length change too, which are coarse once they are whole.
+    pub(crate) lengths: bool,
+    pub(crate) multiplier: bool,
+    pub(crate) step: i64,
+    pub(crate) most: usize,
+    pub(crate) goal: i64,
+}
+
+/// The numbers that an ascent changes, one after the other, prices of length 512 to one.
+struct Numbers {
+    at: Vec<i64>,
+    slope: Vec<i64>,
+    slots: Vec<usize>,
+}
+
+// The prices that an ascent changes.
+fn slots_of(scene: &Scene, ascent: Ascent) -> Vec<usize> {
+    let slots = &scene.model.slots;
+    (0..slots.len()).filter(|slot| ascent.lengths || slots[*slot].parts.is_some()).collect()
+}
+
+fn scale(scene: &Scene, slot: usize) -> i64 {
+    if scene.model.slots[slot].parts.is_none() { 512 } else { 1 }
+}
+
+impl Numbers {
+    fn new(scene: &Scene, ascent: Ascent, point: &Point) -> Numbers {
+        let slots = slots_of(scene, ascent);
+        let mut at: Vec<i64> = scene.free.iter().map(|v| point.beta[*v]).collect();
+        at.extend(slots.iter().map(|slot| point.prices[*slot] * scale(scene, *slot)));
+        if ascent.multiplier {
+            at.push(point.multiplier);
+        }
+        let slope = vec![0; at.len()];
+        Numbers { at, slope, slots }
+    }
+
+    fn put(&self, scene: &Scene, ascent: Ascent, at: &[i64], point: &mut Point) {
+        scene.free.iter().zip(at).for_each(|(v, value)| point.beta[*v] = *value);
+        for (slot, value) in self.slots.iter().zip(&at[scene.free.len()..]) {
+            point.prices[*slot] = (value / scale(scene, *slot)).max(0);
+        }
+        if ascent.multiplier {
+            point.multiplier = at[at.len() - 1];
+        }
+    }
+
+    // Slopes 512 to one; a price below 0 counts as 0 and is to rise.
+    fn slopes(&mut self, scene: &Scene, ascent: Ascent, work: &Work) {
+        let betas = scene.free.len();
+        scene.free.iter().zip(&mut self.slope).for_each(|(v, slope)| *slope = 512 * work.slope_beta[*v]);
+        for (place, slot) in self.slots.iter().enumerate() {
+            let falls = self.at[betas + place] < 0;
+            self.slope[betas + place] = if falls { 1536 } else { work.slope_price[*slot] * (512 / scale(scene, *slot)) };
+        }
+        if ascent.multiplier {
+            self.slope[betas + self.slots.len()] = 512 * work.slope_multiplier;
+        }
+    }
+}
+
+/// The whole root of a number that isn't negative.
+fn root(number: i64) -> i64 {
+    let mut root = 0;
+    for bit in (0..31).rev() {
+        let more = root + (1 << bit);
+        if more * more <= number {
+            root = more;
+        }
+    }
+    root
+}
+
+// The vector of length 1, at 2^20 to one, in the same direction; whether there is one.
+fn unit(vector: &[i64], into: &mut [i64]) -> bool {
+    let largest = vector.iter().map(|value| value.saturating_abs()).max().unwrap_or(0);
+    let shift = (64 - largest.leading_zeros()).saturating_sub(26);
+    let square: i64 = vector.iter().map(|value| (value >> shift) * (value >> shift)).sum();
+    let length = root(square);
+    if length == 0 {
+        return false;
+    }
+    into.iter_mut().zip(vector).for_each(|(into, value)| *into = ((value >> shift) << UNIT) / length);
+    true
+}
+
+/// The matrix in which an ascent measures lengths, 2^24 to one, with the vectors that it is used with.
+struct Metric {
+    size: usize,
+    matrix: Vec<i64>,
+    gathered: Vec<i64>,
+    along: Vec<i64>,
+    across: Vec<i64>,
+    /// Where the next step goes, 2^24 to one.
+    direction: Vec<i64>,
+}
+
+impl Metric {
+    fn new(size: usize) -> Metric {
+        let mut matrix = vec![0; size * size];
+        (0..size).for_each(|k| matrix[k * size + k] = 1 << FINE);
+        let none = || vec![0; size];
+        Metric { size, matrix, gathered: none(), along: none(), across: none(), direction: none() }
+    }
+
+    fn gather(&mut self, slope: &[i64]) {
+        self.gathered.fill(0);
+        for (row, slope) in self.matrix.chunks_exact(self.size).zip(slope) {
+            if *slope != 0 {
+                self.gathered.iter_mut().zip(row).for_each(|(sum, value)| *sum += value * slope);
+            }
+        }
+    }
+
+    // The first direction, from the first slopes.
+    fn begin(&mut self, slope: &[i64]) -> bool {
+        self.gather(slope);
+        if !unit(&self.gathered, &mut self.along) {
+            return false;
+        }
+        let size = self.size;
+        self.direction.iter_mut().zip(self.matrix.chunks_exact(size)).for_each(|(to, row)| *to = dot(row, &self.along));
+        true
+    }
+
+    // Shrinks the metric along the change of the slopes to a third, and turns to the new slopes.
+    fn dilate(&mut self, slope: &[i64], before: &mut Vec<i64>) -> bool {
+        self.gather(slope);
+        let change: Vec<i64> = self.gathered.iter().zip(before.iter()).map(|(now, then)| now - then).collect();
+        if !unit(&change, &mut self.across) {
+            return unit(&self.gathered, &mut self.along);
+        }
+        let along = dot(&self.gathered, &self.across);
+        let kept = |(sum, across): (&i64, &i64)| sum - ((2 * i128::from(along) * i128::from(*across) / 3) >> UNIT) as i64;
+        *before = self.gathered.iter().zip(&self.across).map(kept).collect();
+        if !unit(before, &mut self.along) {
+            return false;
+        }
+        for (row, to) in self.matrix.chunks_exact_mut(self.size).zip(&mut self.direction) {
+            let less = 2 * dot(row, &self.across) / 3;
+            for (value, across) in row.iter_mut().zip(&self.across) {
+                *value -= (less * across + (1 << (UNIT - 1))) >> UNIT;
+            }
+            *to = dot(row, &self.along);
+        }
+        true
+    }
+
+    fn double(&mut self) {
+        self.matrix.iter_mut().for_each(|value| *value = (*value * 2).clamp(-LARGEST, LARGEST));
+    }
+}
+
+// The product with a vector at 2^20 to one.
+fn dot(row: &[i64], vector: &[i64]) -> i64 {
+    row.iter().zip(vector).map(|(value, other)| (value * other) >> 8).sum::<i64>() >> (UNIT - 8)
+}
+
+fn moves_on(slope: &[i64], direction: &[i64]) -> bool {
+    slope.iter().zip(direction).map(|(slope, to)| slope * (to >> 8)).sum::<i64>() > 0
+}
+
+/// The best point that an ascent from a point finds, and the sum there; the point itself where none is better.
+pub(crate) fn ascend(scene: &Scene, span: Span, ascent: Ascent, start: &Point, work: &mut Work) -> (Point, i64) {
+    let mut point = start.clone();
+    let mut best = work.evaluate(scene, span, &point);
+    let mut numbers = Numbers::new(scene, ascent, &point);
+    let mut best_at = numbers.at.clone();
+    numbers.slopes(scene, ascent, work);
+    let size = numbers.at.len();
+    let mut metric = Metric::new(size);
+    let (mut step, mut idle, mut dilations, mut spent) = (ascent.step * ONE, 0, 0, 1);
+    if size == 0 || best >= ascent.goal || !metric.begin(&numbers.slope) {
+        return (point, best);
+    }
+    let mut before = metric.gathered.clone();
+    while spent < ascent.most && idle < 60 + size {
+        idle += 1;
+        let mut steps = 0;
+        while spent < ascent.most {
+            for (at, to) in numbers.at.iter_mut().zip(&metric.direction) {
+                *at = (*at + ((i128::from(step) * i128::from(*to)) >> FINE) as i64).clamp(-FARTHEST, FARTHEST);
+            }
+            numbers.put(scene, ascent, &numbers.at, &mut point);
+            let sum = work.evaluate(scene, span, &point);
+            numbers.slopes(scene, ascent, work);
+            (spent, steps) = (spent + 1, steps + 1);
+            if sum > best {
+                (best, idle) = (sum, 0);
+                best_at.copy_from_slice(&numbers.at);
+            }
+            if best >= ascent.goal || !moves_on(&numbers.slope, &metric.direction) {
+                break;
+            }
+            if steps >= 3 {
+                step = (step / 5 * 6).min(1 << 30);
+            }
+        }
+        if steps == 1 {
+            step = step / 20 * 19 + 1;
+        }
+        if best >= ascent.goal || !metric.dilate(&numbers.slope, &mut before) {
+            break;
+        }
+        dilations += 1;
+        if dilations * 100 >= 63 * size {
+            (dilations, step) = (0, step / 2 + 1);
+            metric.double();
+            before.iter_mut().for_each(|value| *value *= 2);
+        }
+    }
+    numbers.put(scene, ascent, &best_at, &mut point);
+    (point, best)
+}

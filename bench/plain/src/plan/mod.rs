@@ -1,6 +1,7 @@
 //! A planner: a plan of little cost, and a certificate of a good bound.
 
 mod ascend;
+mod cases;
 mod draws;
 mod evaluate;
 mod fit;
@@ -14,6 +15,7 @@ mod yard;
 use crate::checker::Path;
 use crate::choices::read;
 use crate::nights::Tables;
+use cases::{Found, cases_at_root};
 use evaluate::{Scene, Work};
 use fit::fit;
 use guide::Guide;
@@ -38,8 +40,21 @@ pub fn plan(files: [&str; 2], nodes: &str, plan_file: &str, certificate_file: &s
     let cost: i64 = plan.iter().map(|choice| tables.cost(*choice).expect("an option") as i64).sum();
     let unparked = plan.iter().filter(|choice| choice.park.is_none()).count();
     eprintln!("found {found} polished {cost} unparked {unparked} in {:?}", start.elapsed());
-    let bound = (whole + 999).div_euclid(1000);
+    let start = std::time::Instant::now();
+    let one = Found { span: prices::EVERY, point, sum };
+    let found = cases_at_root(&scene, one, unparked as i64, cost, &mut work);
+    let cases: Vec<_> = found.iter().map(|found| fit(&scene, found.span, &found.point, &mut work)).collect();
+    eprintln!("cases {:?} in {:?}", found.iter().map(|found| (found.span, found.sum / 1024)).collect::<Vec<_>>(), start.elapsed());
+    let start = std::time::Instant::now();
+    let guide = Guide::new(&model, &cases[cases.len() - 1].0);
+    let (mut other, found) = Search::new(&model, &guide, &plan).run(60_000 + 1_000 * tables.units.len() as i64);
+    polish(&tables, &mut other);
+    let other_cost: i64 = other.iter().map(|choice| tables.cost(*choice).expect("an option") as i64).sum();
+    eprintln!("found {found} polished {other_cost} in {:?}", start.elapsed());
+    let (plan, cost) = if other_cost < cost { (other, other_cost) } else { (plan, cost) };
+    let bound = (cases.iter().map(|case| case.1).min().unwrap() + 999).div_euclid(1000).min(cost);
     std::fs::write(plan_file, writing::plan_text(&tables, &plan)).expect("a folder");
-    std::fs::write(certificate_file, writing::one_node(&tables, case, cost, bound)).expect("a folder");
+    let cases = cases.into_iter().map(|case| case.0).collect();
+    std::fs::write(certificate_file, writing::one_node(&tables, cases, cost, bound)).expect("a folder");
     println!("unfinished cost {cost} bound {bound} nodes 1");
 }

@@ -20,9 +20,9 @@ pub(crate) fn plan_text(tables: &Tables, plan: &[Choice]) -> String {
     text
 }
 
-pub(crate) fn one_node(tables: &Tables, case: Case, cost: i64, bound: i64) -> String {
+pub(crate) fn one_node(tables: &Tables, cases: Vec<Case>, cost: i64, bound: i64) -> String {
     let mut text = String::from("certificate,1\nnode,0,branch,new\n");
-    write_case(tables, &mut text, &case);
+    cases.iter().for_each(|case| write_case(tables, &mut text, case));
     text.push_str(&format!("end,{cost},{bound},1\n"));
     text
 }

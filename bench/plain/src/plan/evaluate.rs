@@ -25,7 +25,8 @@ pub(crate) struct Span {
     pub(crate) to: i64,
 }
 
-/// A choice at the path by its shape and its track, with the least cost of ways that go through.
+/// A choice at the path by its shape and its track, with what it costs.
+#[derive(Clone, Copy)]
 pub(crate) struct Entry {
     pub(crate) row: Row,
     pub(crate) track: Option<usize>,
@@ -117,7 +118,7 @@ impl Work {
     }
 
     // The least that a shape of each group weighs but for its ends, and by which option.
-    fn weigh(&mut self, model: &Model, point: &Point) {
+    pub(crate) fn weigh(&mut self, model: &Model, point: &Point) {
         let tracks = model.tables.night.tracks;
         for (place, group) in model.groups.iter().enumerate() {
             let parked = &mut self.parked[place * tracks..(place + 1) * tracks];
@@ -138,7 +139,7 @@ impl Work {
         }
     }
 
-    fn betas(&self, row: &Row) -> i64 {
+    pub(crate) fn betas(&self, row: &Row) -> i64 {
         self.before[row.shape.v + row.shape.n] - self.before[row.shape.v]
     }
 

@@ -2,32 +2,42 @@
 
 use super::ascend::{Ascent, ascend};
 use super::evaluate::{Point, Scene, Span, Work};
-use super::model::ONE;
+use super::model::{Model, ONE};
+use super::tree::Fixed;
 use crate::checker::{Case, Price};
 
 fn whole(value: i64) -> i64 {
     (value + ONE / 2).div_euclid(ONE)
 }
 
-/// The case of a point whose numbers are made whole: each alpha is what the least cover of its train grows by.
-pub(crate) fn fit(scene: &Scene, span: Span, point: &Point, work: &mut Work) -> (Case, i64) {
-    let mut whole_point = point.clone();
-    whole_point.beta.iter_mut().chain(&mut whole_point.prices).for_each(|value| *value = whole(*value) * ONE);
-    whole_point.multiplier = whole(point.multiplier) * ONE;
-    let slots = &scene.model.slots;
-    let sum = work.evaluate_alone(scene, span, &whole_point) / ONE;
+/// The case of a point whose numbers are made whole, with its sum: each alpha is what the least cover of its train grows by.
+pub(crate) fn alphas(scene: &Scene, span: Span, point: &Point, work: &mut Work) -> (Fixed, i64) {
+    let mut point = point.clone();
+    point.beta.iter_mut().chain(&mut point.prices).for_each(|value| *value = whole(*value) * ONE);
+    point.multiplier = whole(point.multiplier) * ONE;
+    let sum = work.evaluate_alone(scene, span, &point) / ONE;
     let units = &scene.model.tables.units;
     let alpha = (0..units.len()).map(|u| {
         let behind = u + 1 < units.len() && units[u + 1].place > 0 && !scene.covered[u + 1];
         if scene.covered[u] { 0 } else { (work.rest[u] - if behind { work.rest[u + 1] } else { 0 }) / ONE }
     });
     let alpha = alpha.collect();
-    let mut beta = vec![0; whole_point.beta.len()];
-    scene.free.iter().for_each(|v| beta[*v] = whole_point.beta[*v] / ONE);
-    let prices = slots.iter().zip(&whole_point.prices).filter(|(_, value)| **value > 0);
+    let mut beta = vec![0; point.beta.len()];
+    scene.free.iter().for_each(|v| beta[*v] = point.beta[*v]);
+    (Fixed { span, point: Point { beta, ..point }, alpha }, sum)
+}
+
+/// The case as a certificate has it.
+pub(crate) fn case_of(model: &Model, fixed: &Fixed) -> Case {
+    let prices = model.slots.iter().zip(&fixed.point.prices).filter(|(_, value)| **value > 0);
     let prices = prices.map(|(slot, value)| Price { parts: slot.parts, track: slot.track, train: slot.train, value: (value / ONE) as u64 });
-    let (to, multiplier) = (span.to as u64, whole_point.multiplier / ONE);
-    (Case { to, multiplier, alpha, beta, prices: prices.collect() }, sum)
+    Case {
+        to: fixed.span.to as u64,
+        multiplier: fixed.point.multiplier / ONE,
+        alpha: fixed.alpha.clone(),
+        beta: fixed.point.beta.iter().map(|value| value / ONE).collect(),
+        prices: prices.collect(),
+    }
 }
 
 /// The better of a point and those with whole prices near it, whose other numbers then ascend; its prices of length are whole.

@@ -9,52 +9,66 @@ mod guide;
 mod model;
 mod prices;
 mod ruin;
+mod tree;
 mod writing;
 mod yard;
 
 use crate::checker::Path;
 use crate::choices::read;
-use crate::nights::Tables;
+use crate::nights::{Choice, Tables};
 use cases::{Found, cases_at_root};
 use evaluate::{Scene, Work};
-use fit::fit;
+use fit::{alphas, case_of};
 use guide::Guide;
 use model::Model;
-use prices::root_point;
+use prices::{EVERY, root_point};
 use ruin::{Search, opening, polish};
+use tree::{Fixed, Tree};
+
+fn cost_of(tables: &Tables, plan: &[Choice]) -> i64 {
+    plan.iter().map(|choice| tables.cost(*choice).unwrap_or(0) as i64).sum()
+}
+
+fn unparked_in(plan: &[Choice]) -> i64 {
+    plan.iter().filter(|choice| choice.park.is_none()).count() as i64
+}
+
+// The cheapest of a plan and what a search that a case guides finds.
+fn better(model: &Model, case: &Fixed, plan: Vec<Choice>) -> Vec<Choice> {
+    let guide = Guide::new(model, &case_of(model, case));
+    let steps = 60_000 + 1_000 * model.tables.units.len() as i64;
+    let mut other = Search::new(model, &guide, &plan).run(steps);
+    polish(model.tables, &mut other);
+    if cost_of(model.tables, &other) < cost_of(model.tables, &plan) { other } else { plan }
+}
 
 /// Writes a plan and a certificate of at most so many nodes, and prints what they come to.
 pub fn plan(files: [&str; 2], nodes: &str, plan_file: &str, certificate_file: &str) {
     let tables = Tables::new(read(files[0], files[1]));
-    let _most: usize = nodes.parse().expect("a number");
+    let start = std::time::Instant::now();
     let (slots, point, sum) = root_point(&tables);
     let model = Model::new(&tables, slots);
     let scene = Scene::new(&model, &Path::new(&tables));
     let mut work = Work::new(&model);
-    let (case, whole) = fit(&scene, prices::EVERY, &point, &mut work);
-    eprintln!("root {} whole {whole}", sum / 1024);
-    let start = std::time::Instant::now();
-    let guide = Guide::new(&model, &case);
-    let (mut plan, found) = Search::new(&model, &guide, &opening(&tables)).run(60_000 + 1_000 * tables.units.len() as i64);
-    polish(&tables, &mut plan);
-    let cost: i64 = plan.iter().map(|choice| tables.cost(*choice).expect("an option") as i64).sum();
-    let unparked = plan.iter().filter(|choice| choice.park.is_none()).count();
-    eprintln!("found {found} polished {cost} unparked {unparked} in {:?}", start.elapsed());
-    let start = std::time::Instant::now();
-    let one = Found { span: prices::EVERY, point, sum };
-    let found = cases_at_root(&scene, one, unparked as i64, cost, &mut work);
-    let cases: Vec<_> = found.iter().map(|found| fit(&scene, found.span, &found.point, &mut work)).collect();
-    eprintln!("cases {:?} in {:?}", found.iter().map(|found| (found.span, found.sum / 1024)).collect::<Vec<_>>(), start.elapsed());
-    let start = std::time::Instant::now();
-    let guide = Guide::new(&model, &cases[cases.len() - 1].0);
-    let (mut other, found) = Search::new(&model, &guide, &plan).run(60_000 + 1_000 * tables.units.len() as i64);
-    polish(&tables, &mut other);
-    let other_cost: i64 = other.iter().map(|choice| tables.cost(*choice).expect("an option") as i64).sum();
-    eprintln!("found {found} polished {other_cost} in {:?}", start.elapsed());
-    let (plan, cost) = if other_cost < cost { (other, other_cost) } else { (plan, cost) };
-    let bound = (cases.iter().map(|case| case.1).min().unwrap() + 999).div_euclid(1000).min(cost);
-    std::fs::write(plan_file, writing::plan_text(&tables, &plan)).expect("a folder");
-    let cases = cases.into_iter().map(|case| case.0).collect();
-    std::fs::write(certificate_file, writing::one_node(&tables, cases, cost, bound)).expect("a folder");
-    println!("unfinished cost {cost} bound {bound} nodes 1");
+    let one = Found { span: EVERY, point, sum };
+    let (fixed, _) = alphas(&scene, one.span, &one.point, &mut work);
+    eprintln!("root {:?}", start.elapsed());
+    let mut opening = opening(&tables);
+    polish(&tables, &mut opening);
+    let plan = better(&model, &fixed, opening);
+    eprintln!("plan {} {:?}", cost_of(&tables, &plan), start.elapsed());
+    let found = cases_at_root(&scene, one, unparked_in(&plan), cost_of(&tables, &plan), &mut work);
+    let (cases, sums): (Vec<_>, Vec<_>) = found.iter().map(|found| alphas(&scene, found.span, &found.point, &mut work)).unzip();
+    eprintln!("cases {sums:?} {:?}", start.elapsed());
+    let plan = better(&model, &cases[cases.len() - 1], plan);
+    let cost = cost_of(&tables, &plan);
+    eprintln!("plan {cost} {:?}", start.elapsed());
+    let mut tree = Tree::new(&model, cases, sums, plan, cost);
+    let bound = tree.grow(nodes.parse().expect("a number"));
+    eprintln!("tree {:?} {:?}", tree.spent, start.elapsed());
+    std::fs::write(plan_file, writing::plan_text(&tables, &tree.plan)).expect("a folder");
+    let (text, count) = writing::certificate_text(&model, &tree, bound);
+    std::fs::write(certificate_file, text).expect("a folder");
+    let end = if bound == tree.cost { "optimal" } else { "unfinished" };
+    println!("{end} cost {} bound {bound} nodes {count}", tree.cost);
 }

@@ -293,7 +293,7 @@ impl Search<'_> {
     }
 
     /// The cheapest plan that so many steps of ruin and recreation find.
-    pub(crate) fn run(&mut self, steps: i64) -> (Vec<Choice>, i64) {
+    pub(crate) fn run(&mut self, steps: i64) -> Vec<Choice> {
         self.begin();
         let cooling = Cooling::new();
         let (mut best, mut best_cost) = (self.plan(), self.cost);
@@ -315,7 +315,7 @@ impl Search<'_> {
                 (best, best_cost) = (self.plan(), self.cost);
             }
         }
-        (best, best_cost / 1000)
+        best
     }
 }
 

@@ -1,6 +1,8 @@
 //! The texts of a plan and a certificate.
 
-use crate::checker::Case;
+use super::fit::case_of;
+use super::model::Model;
+use super::tree::Tree;
 use crate::nights::{Choice, Tables};
 use crate::trees::{write_case, write_choice};
 use std::fmt::Write;
@@ -20,9 +22,33 @@ pub(crate) fn plan_text(tables: &Tables, plan: &[Choice]) -> String {
     text
 }
 
-pub(crate) fn one_node(tables: &Tables, cases: Vec<Case>, cost: i64, bound: i64) -> String {
-    let mut text = String::from("certificate,1\nnode,0,branch,new\n");
-    cases.iter().for_each(|case| write_case(tables, &mut text, case));
-    text.push_str(&format!("end,{cost},{bound},1\n"));
-    text
+/// Whether a node's own cases are needed for the bound, or those that it would inherit do.
+fn needs_own(tree: &Tree, place: usize, bound: i64) -> bool {
+    let node = &tree.nodes[place];
+    node.own && (place == 0 || !node.children.is_empty() || node.inherited < bound)
+}
+
+fn write_nodes(model: &Model, text: &mut String, tree: &Tree, place: usize, depth: usize, bound: i64) -> usize {
+    let node = &tree.nodes[place];
+    let own = needs_own(tree, place, bound);
+    let duals = if node.whole { "whole,none" } else if own { "branch,new" } else { "branch,same" };
+    write!(text, "node,{depth},{duals}").expect("a string");
+    if let Some(choice) = node.choice {
+        text.push(',');
+        write_choice(model.tables, text, choice);
+    }
+    text.push('\n');
+    if own {
+        node.cases.iter().for_each(|case| write_case(model.tables, text, &case_of(model, case)));
+    }
+    let lean = node.children.iter().filter(|child| tree.nodes[**child].bound < tree.cost);
+    1 + lean.map(|child| write_nodes(model, text, tree, *child, depth + 1, bound)).sum::<usize>()
+}
+
+/// The text of a tree's certificate, and how many nodes it has.
+pub(crate) fn certificate_text(model: &Model, tree: &Tree, bound: i64) -> (String, usize) {
+    let mut text = String::from("certificate,1\n");
+    let nodes = write_nodes(model, &mut text, tree, 0, 0, bound);
+    writeln!(text, "end,{},{bound},{nodes}", tree.cost).expect("a string");
+    (text, nodes)
 }

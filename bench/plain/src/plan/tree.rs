@@ -1,0 +1,265 @@
+//! A tree of partial plans, best first: the node whose bound is least grows next.
+
+use super::ascend::{Ascent, ascend};
+use super::evaluate::{Entry, Point, Scene, Span, Work};
+use super::fit::{alphas, whole_prices};
+use super::model::{Model, ONE};
+use super::yard::{Stay, Yard};
+use crate::checker::Path;
+use crate::nights::Choice;
+use std::cmp::Reverse;
+use std::collections::BinaryHeap;
+use std::rc::Rc;
+
+/// A case with whole numbers, 1024 to one, and its alphas.
+pub(crate) struct Fixed {
+    pub(crate) span: Span,
+    pub(crate) point: Point,
+    pub(crate) alpha: Vec<i64>,
+}
+
+/// A choice that isn't listed, with its bound and its sums by the cases.
+#[derive(Clone)]
+struct Open {
+    bound: i64,
+    choice: Choice,
+    sums: Vec<i64>,
+}
+
+/// A partial plan, or a whole one.
+pub(crate) struct Node {
+    above: usize,
+    depth: usize,
+    pub(crate) choice: Option<Choice>,
+    pub(crate) bound: i64,
+    pub(crate) whole: bool,
+    pub(crate) cases: Vec<Rc<Fixed>>,
+    /// Whether the cases are its own and not inherited.
+    pub(crate) own: bool,
+    sums: Vec<i64>,
+    key: i64,
+    /// The least bound of its choices by the inherited cases.
+    pub(crate) inherited: i64,
+    choices: Option<Vec<Open>>,
+    pub(crate) children: Vec<usize>,
+    tried: i64,
+}
+
+/// A tree while it grows, with the best plan known.
+pub(crate) struct Tree<'m> {
+    model: &'m Model<'m>,
+    pub(crate) nodes: Vec<Node>,
+    queue: BinaryHeap<(Reverse<i64>, usize, Reverse<usize>)>,
+    work: Work,
+    pub(crate) cost: i64,
+    pub(crate) plan: Vec<Choice>,
+    pub(crate) spent: [u64; 4],
+}
+
+fn up(sum: i64) -> i64 {
+    sum.div_euclid(1000) + i64::from(sum.rem_euclid(1000) > 0)
+}
+
+// The choices at a path that go through: by shape and track, with the ways.
+fn entries(model: &Model, path: &Path, scene: &Scene, next: usize) -> Vec<(Entry, Choice)> {
+    let yard = Yard::of(model.tables, &path.blocks);
+    let mut entries = vec![];
+    for row in &scene.rows[scene.starts[next]..scene.starts[next + 1]] {
+        for park in crate::checker::options(model.tables) {
+            let choice = Choice { shape: row.shape, park };
+            if park.is_some_and(|park| model.groups[row.group].ways[park.track] >= super::model::NO_WAY) {
+                continue;
+            }
+            let Some(cost) = model.tables.cost(choice) else { continue };
+            if park.is_none_or(|park| yard.goes_through(park.track, &Stay::new(model.tables, row.shape, park))) {
+                entries.push((Entry { row: *row, track: park.map(|park| park.track), cost: 1000 * ONE * cost as i64 }, choice));
+            }
+        }
+    }
+    entries
+}
+
+impl Tree<'_> {
+    pub(crate) fn new<'m>(model: &'m Model<'m>, cases: Vec<Fixed>, sums: Vec<i64>, plan: Vec<Choice>, cost: i64) -> Tree<'m> {
+        let key = sums.iter().map(|sum| up(*sum)).min().unwrap_or(0);
+        let root = Node {
+            above: 0,
+            depth: 0,
+            choice: None,
+            bound: i64::MIN,
+            whole: false,
+            cases: cases.into_iter().map(Rc::new).collect(),
+            own: true,
+            sums,
+            key,
+            inherited: i64::MIN,
+            choices: None,
+            children: vec![],
+            tried: i64::MIN,
+        };
+        let queue = BinaryHeap::from([(Reverse(key), 0, Reverse(0))]);
+        Tree { model, nodes: vec![root], queue, work: Work::new(model), cost, plan, spent: [0; 4] }
+    }
+
+    fn path(&self, place: usize) -> Path {
+        let mut choices = vec![];
+        let mut at = place;
+        while let Some(choice) = self.nodes[at].choice {
+            choices.push(choice);
+            at = self.nodes[at].above;
+        }
+        let mut path = Path::new(self.model.tables);
+        choices.into_iter().rev().for_each(|choice| path.push(choice));
+        path
+    }
+
+    // The choices with these cases that bound less than the best plan costs, the least first, and the least bound.
+    fn opened(&mut self, scene: &Scene, found: &[(Entry, Choice)], cases: &[Rc<Fixed>], sums: &[i64]) -> (Vec<Open>, i64) {
+        let tracks = self.model.tables.night.tracks;
+        let mut all: Vec<Vec<i64>> = vec![vec![]; found.len()];
+        for (case, sum) in cases.iter().zip(sums) {
+            self.work.weigh(self.model, &case.point);
+            for (all, (entry, _)) in all.iter_mut().zip(found) {
+                let (shape, group) = (entry.row.shape, entry.row.group);
+                let option = match entry.track {
+                    None => case.point.multiplier,
+                    Some(track) => self.work.parked[group * tracks + track] - self.model.groups[group].ways[track],
+                };
+                let alphas: i64 = case.alpha[shape.u..shape.u + shape.n].iter().sum();
+                all.push(sum + (entry.cost + option - self.work.betas(&entry.row)) / ONE - alphas);
+            }
+        }
+        let mut choices = vec![];
+        let mut least = self.cost;
+        for (sums, (_, choice)) in all.into_iter().zip(found) {
+            let unparked = scene.unparked + i64::from(choice.park.is_none());
+            let open = |k: usize| k + 1 == cases.len() || unparked <= cases[k].span.to;
+            let bound = (0..cases.len()).filter(|k| open(*k)).map(|k| up(sums[k])).min().unwrap_or(i64::MAX);
+            least = least.min(bound);
+            if bound < self.cost {
+                choices.push(Open { bound, choice: *choice, sums });
+            }
+        }
+        choices.sort_by_key(|open| Reverse(open.bound));
+        (choices, least)
+    }
+
+    fn put_back(&mut self, place: usize) {
+        let node = &self.nodes[place];
+        if node.key < self.cost {
+            self.queue.push((Reverse(node.key), node.depth, Reverse(place)));
+        }
+    }
+
+    // Finds the choices of a node by the cases that it inherits.
+    fn open(&mut self, place: usize) {
+        let path = self.path(place);
+        let Some(next) = path.next() else { return };
+        let scene = Scene::new(self.model, &path);
+        let found = entries(self.model, &path, &scene, next);
+        let (cases, sums) = (self.nodes[place].cases.clone(), self.nodes[place].sums.clone());
+        let (choices, key) = self.opened(&scene, &found, &cases, &sums);
+        let node = &mut self.nodes[place];
+        (node.choices, node.key, node.inherited) = (Some(choices), key.max(node.key), key.max(node.key));
+    }
+
+    // Looks for cases of a node that bound all its choices above the level, and takes them where its least bound rises.
+    fn lift(&mut self, place: usize, level: i64) {
+        self.nodes[place].tried = level;
+        let path = self.path(place);
+        let Some(next) = path.next() else { return };
+        let mut scene = Scene::new(self.model, &path);
+        let found = entries(self.model, &path, &scene, next);
+        let old = self.nodes[place].cases.clone();
+        let goal = (1000 * (level + 4).min(self.cost - 1) + 1 + 3000) * ONE;
+        let most = if path.blocks.len() < 2 { 240 } else { 60 };
+        let (mut cases, mut sums) = (vec![], vec![]);
+        for (k, case) in old.iter().enumerate() {
+            let last = k + 1 == old.len();
+            let open = |entry: &Entry| last || scene.unparked + i64::from(entry.track.is_none()) <= case.span.to;
+            let some: Vec<Entry> = found.iter().map(|found| found.0).filter(open).collect();
+            if some.is_empty() || up(self.nodes[place].sums[k]) > level + 4 {
+                cases.push(case.clone());
+                sums.push(self.nodes[place].sums[k]);
+                continue;
+            }
+            scene.entries = some;
+            let ascent = Ascent { lengths: true, multiplier: old.len() > 1, step: 6_000, most, goal };
+            let (point, _) = ascend(&scene, case.span, ascent, &case.point, &mut self.work);
+            let ascent = Ascent { step: 300, most: 20, goal: goal - 3000 * ONE, ..ascent };
+            let (point, _) = whole_prices(&scene, case.span, ascent, &[5], &point, &mut self.work);
+            let (fixed, sum) = alphas(&scene, case.span, &point, &mut self.work);
+            cases.push(Rc::new(fixed));
+            sums.push(sum);
+        }
+        let (choices, key) = self.opened(&scene, &found, &cases, &sums);
+        if key > self.nodes[place].key {
+            let node = &mut self.nodes[place];
+            (node.choices, node.key, node.cases, node.sums, node.own) = (Some(choices), key, cases, sums, true);
+        }
+    }
+
+    // Lists the choices of a node that bound no more than the level, while there are nodes left.
+    fn list(&mut self, place: usize, level: i64, most: usize) {
+        let mut choices = self.nodes[place].choices.take().unwrap_or_default();
+        while self.nodes.len() < most && choices.last().is_some_and(|open| open.bound <= level) {
+            let Some(open) = choices.pop() else { break };
+            let node = Node {
+                above: place,
+                depth: self.nodes[place].depth + 1,
+                choice: Some(open.choice),
+                bound: open.bound,
+                whole: false,
+                cases: self.nodes[place].cases.clone(),
+                own: false,
+                sums: open.sums,
+                key: open.bound,
+                inherited: open.bound,
+                choices: None,
+                children: vec![],
+                tried: i64::MIN,
+            };
+            let child = self.nodes.len();
+            self.nodes.push(node);
+            self.nodes[place].children.push(child);
+            self.arrive(child);
+        }
+        let node = &mut self.nodes[place];
+        node.key = choices.last().map_or(i64::MAX, |open| open.bound);
+        node.choices = Some(choices);
+    }
+
+    // A new node waits, or is a whole plan.
+    fn arrive(&mut self, child: usize) {
+        let path = self.path(child);
+        if path.next().is_some() {
+            return self.put_back(child);
+        }
+        let cost = path.blocks.iter().map(|block| self.model.tables.cost(*block).unwrap_or(0) as i64).sum();
+        self.nodes[child].whole = true;
+        if cost < self.cost {
+            (self.cost, self.plan) = (cost, path.blocks);
+        }
+    }
+
+    /// Grows the tree to so many nodes, or until nothing is below the best plan. Answers the bound.
+    pub(crate) fn grow(&mut self, most: usize) -> i64 {
+        while let Some((Reverse(key), _, Reverse(place))) = self.queue.pop() {
+            if key >= self.cost || self.nodes.len() >= most && self.nodes[place].choices.is_some() {
+                return key.min(self.cost);
+            }
+            self.spent[0] += 1;
+            if self.nodes[place].choices.is_none() {
+                self.open(place);
+            } else if self.nodes[place].children.is_empty() && self.nodes[place].tried < key {
+                self.spent[1] += 1;
+                self.lift(place, key);
+                self.spent[2] += u64::from(self.nodes[place].key > key);
+            } else {
+                self.list(place, key, most);
+            }
+            self.put_back(place);
+        }
+        self.cost
+    }
+}

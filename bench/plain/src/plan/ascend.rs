@@ -6,7 +6,7 @@ use super::model::ONE;
 const FINE: u32 = 24;
 const UNIT: u32 = 20;
 const LARGEST: i64 = 1 << 34;
-const FARTHEST: i64 = 1 << 40;
+const FARTHEST: i64 = 999_999_999 * ONE;
 
 /// Where an ascent goes: which numbers it changes, how far it goes at first, and when it ends.
 #[derive(Clone, Copy)]

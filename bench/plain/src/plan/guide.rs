@@ -4,11 +4,10 @@ use super::model::{Model, NO_WAY, ONE};
 use crate::checker::Case;
 use crate::nights::{Choice, Park};
 
-/// A way to park the shapes of a group: what it weighs but for their ends, and what it costs.
+/// A way to park the shapes of a group, and what it weighs but for their ends.
 #[derive(Clone, Copy)]
 pub(crate) struct Spot {
     pub(crate) weight: i64,
-    pub(crate) cost: i64,
     pub(crate) park: Park,
 }
 
@@ -57,7 +56,7 @@ impl Guide {
                 let park = Park { track, sides: [side / 2, side % 2] };
                 let Some(cost) = model.tables.ways(shape, park) else { continue };
                 let cost = 1000 * cost as i64;
-                spots.push(Spot { weight: cost + self.parts[group * self.tracks + track], cost, park });
+                spots.push(Spot { weight: cost + self.parts[group * self.tracks + track], park });
             }
         }
         spots.sort_by_key(|spot| spot.weight);

@@ -34,9 +34,8 @@ fn unparked_in(plan: &[Choice]) -> i64 {
 }
 
 // The cheapest of a plan and what a search that a case guides finds.
-fn better(model: &Model, case: &Fixed, plan: Vec<Choice>) -> Vec<Choice> {
+fn better(model: &Model, case: &Fixed, plan: Vec<Choice>, steps: i64) -> Vec<Choice> {
     let guide = Guide::new(model, &case_of(model, case));
-    let steps = 60_000 + 1_000 * model.tables.units.len() as i64;
     let mut other = Search::new(model, &guide, &plan).run(steps);
     polish(model.tables, &mut other);
     if cost_of(model.tables, &other) < cost_of(model.tables, &plan) { other } else { plan }
@@ -55,17 +54,17 @@ pub fn plan(files: [&str; 2], nodes: &str, plan_file: &str, certificate_file: &s
     eprintln!("root {:?}", start.elapsed());
     let mut opening = opening(&tables);
     polish(&tables, &mut opening);
-    let plan = better(&model, &fixed, opening);
+    let plan = better(&model, &fixed, opening, 60_000 + 1_000 * tables.units.len() as i64);
     eprintln!("plan {} {:?}", cost_of(&tables, &plan), start.elapsed());
     let found = cases_at_root(&scene, one, unparked_in(&plan), cost_of(&tables, &plan), &mut work);
     let (cases, sums): (Vec<_>, Vec<_>) = found.iter().map(|found| alphas(&scene, found.span, &found.point, &mut work)).unzip();
     eprintln!("cases {sums:?} {:?}", start.elapsed());
-    let plan = better(&model, &cases[cases.len() - 1], plan);
+    let plan = better(&model, &cases[cases.len() - 1], plan, 300_000);
     let cost = cost_of(&tables, &plan);
     eprintln!("plan {cost} {:?}", start.elapsed());
     let mut tree = Tree::new(&model, cases, sums, plan, cost);
     let bound = tree.grow(nodes.parse().expect("a number"));
-    eprintln!("tree {:?} {:?}", tree.spent, start.elapsed());
+    eprintln!("tree {:?}", start.elapsed());
     std::fs::write(plan_file, writing::plan_text(&tables, &tree.plan)).expect("a folder");
     let (text, count) = writing::certificate_text(&model, &tree, bound);
     std::fs::write(certificate_file, text).expect("a folder");

@@ -4,7 +4,7 @@ use super::draws::{Cooling, Draws};
 use super::guide::Guide;
 use super::model::{Model, ONE};
 use super::yard::{Stay, Yard};
-use crate::nights::{Choice, Shape, Tables};
+use crate::nights::{Choice, Park, Shape, Tables};
 
 const NO_BLOCK: usize = usize::MAX;
 
@@ -12,6 +12,8 @@ const NO_BLOCK: usize = usize::MAX;
 pub(crate) struct Search<'m> {
     model: &'m Model<'m>,
     guide: &'m Guide,
+    /// For each shape its stay by sides A.
+    stays: Vec<Stay>,
     draws: Draws,
     blocks: Vec<Option<Choice>>,
     units: Vec<usize>,
@@ -31,6 +33,7 @@ impl Search<'_> {
         let mut search = Search {
             model,
             guide,
+            stays: model.rows.iter().map(|row| Stay::new(tables, row.shape, Park { track: 0, sides: [0, 0] })).collect(),
             draws: Draws::new(1),
             blocks: vec![None; units],
             units: vec![NO_BLOCK; units],
@@ -228,8 +231,10 @@ impl Search<'_> {
                         break;
                     }
                     let key = base + spot.weight + ((self.draws.draw() as i64 * noise) >> 15);
-                    let stay = Stay::new(self.model.tables, row.shape, spot.park);
-                    if least.is_none_or(|least| key < least.0) && self.yard.goes_through(spot.park.track, &stay) {
+                    if least.is_some_and(|least| key >= least.0) {
+                        continue;
+                    }
+                    if self.yard.goes_through(spot.park.track, &self.stays[first + k].by(spot.park.sides)) {
                         least = Some((key, Choice { shape: row.shape, park: Some(spot.park) }));
                     }
                 }
@@ -294,6 +299,9 @@ impl Search<'_> {
 
     /// The cheapest plan that so many steps of ruin and recreation find.
     pub(crate) fn run(&mut self, steps: i64) -> Vec<Choice> {
+        if self.units.is_empty() {
+            return vec![];
+        }
         self.begin();
         let cooling = Cooling::new();
         let (mut best, mut best_cost) = (self.plan(), self.cost);

@@ -43,6 +43,8 @@ pub(crate) struct Node {
     choices: Option<Vec<Open>>,
     pub(crate) children: Vec<usize>,
     tried: i64,
+    /// Its part of the work that is left at the level, 2^40 in all.
+    share: i64,
 }
 
 /// A tree while it grows, with the best plan known.
@@ -53,8 +55,18 @@ pub(crate) struct Tree<'m> {
     work: Work,
     pub(crate) cost: i64,
     pub(crate) plan: Vec<Choice>,
-    pub(crate) spent: [u64; 4],
+    level: Level,
 }
+
+/// The work at one bound: how many nodes it took, what share of it is done, and whether its nodes aren't lifted any more.
+struct Level {
+    bound: i64,
+    nodes: i64,
+    done: i64,
+    given_up: bool,
+}
+
+const WHOLE_WORK: i64 = 1 << 40;
 
 fn up(sum: i64) -> i64 {
     sum.div_euclid(1000) + i64::from(sum.rem_euclid(1000) > 0)
@@ -87,7 +99,7 @@ impl Tree<'_> {
             depth: 0,
             choice: None,
             bound: i64::MIN,
-            whole: false,
+            whole: model.tables.units.is_empty(),
             cases: cases.into_iter().map(Rc::new).collect(),
             own: true,
             sums,
@@ -96,9 +108,11 @@ impl Tree<'_> {
             choices: None,
             children: vec![],
             tried: i64::MIN,
+            share: 0,
         };
+        let level = Level { bound: i64::MIN, nodes: 0, done: 0, given_up: false };
         let queue = BinaryHeap::from([(Reverse(key), 0, Reverse(0))]);
-        Tree { model, nodes: vec![root], queue, work: Work::new(model), cost, plan, spent: [0; 4] }
+        Tree { model, nodes: vec![root], queue, work: Work::new(model), cost, plan, level }
     }
 
     fn path(&self, place: usize) -> Path {
@@ -163,6 +177,18 @@ impl Tree<'_> {
         (node.choices, node.key, node.inherited) = (Some(choices), key.max(node.key), key.max(node.key));
     }
 
+    // A case of a node whose scene has its choices, lifted to a level.
+    fn lifted(&mut self, scene: &Scene, case: &Fixed, level: i64, many: bool, depth: usize) -> (Rc<Fixed>, i64) {
+        let goal = 1000 * (level + 4).min(self.cost - 1) + 1;
+        let most = if depth < 2 { 240 } else { 60 };
+        let ascent = Ascent { lengths: true, multiplier: many, step: 6_000, most, goal: (goal + 3000) * ONE };
+        let (point, _) = ascend(scene, case.span, ascent, &case.point, &mut self.work);
+        let ascent = Ascent { step: 300, most: 20, goal: goal * ONE, ..ascent };
+        let (point, _) = whole_prices(scene, case.span, ascent, &[5], &point, &mut self.work);
+        let (fixed, sum) = alphas(scene, case.span, &point, &mut self.work);
+        (Rc::new(fixed), sum)
+    }
+
     // Looks for cases of a node that bound all its choices above the level, and takes them where its least bound rises.
     fn lift(&mut self, place: usize, level: i64) {
         self.nodes[place].tried = level;
@@ -170,27 +196,15 @@ impl Tree<'_> {
         let Some(next) = path.next() else { return };
         let mut scene = Scene::new(self.model, &path);
         let found = entries(self.model, &path, &scene, next);
-        let old = self.nodes[place].cases.clone();
-        let goal = (1000 * (level + 4).min(self.cost - 1) + 1 + 3000) * ONE;
-        let most = if path.blocks.len() < 2 { 240 } else { 60 };
-        let (mut cases, mut sums) = (vec![], vec![]);
-        for (k, case) in old.iter().enumerate() {
-            let last = k + 1 == old.len();
-            let open = |entry: &Entry| last || scene.unparked + i64::from(entry.track.is_none()) <= case.span.to;
+        let (mut cases, mut sums) = (self.nodes[place].cases.clone(), self.nodes[place].sums.clone());
+        let many = cases.len();
+        for k in 0..many {
+            let open = |entry: &Entry| k + 1 == many || scene.unparked + i64::from(entry.track.is_none()) <= cases[k].span.to;
             let some: Vec<Entry> = found.iter().map(|found| found.0).filter(open).collect();
-            if some.is_empty() || up(self.nodes[place].sums[k]) > level + 4 {
-                cases.push(case.clone());
-                sums.push(self.nodes[place].sums[k]);
-                continue;
+            if !some.is_empty() && up(sums[k]) <= level + 4 {
+                scene.entries = some;
+                (cases[k], sums[k]) = self.lifted(&scene, &cases[k].clone(), level, many > 1, path.blocks.len());
             }
-            scene.entries = some;
-            let ascent = Ascent { lengths: true, multiplier: old.len() > 1, step: 6_000, most, goal };
-            let (point, _) = ascend(&scene, case.span, ascent, &case.point, &mut self.work);
-            let ascent = Ascent { step: 300, most: 20, goal: goal - 3000 * ONE, ..ascent };
-            let (point, _) = whole_prices(&scene, case.span, ascent, &[5], &point, &mut self.work);
-            let (fixed, sum) = alphas(&scene, case.span, &point, &mut self.work);
-            cases.push(Rc::new(fixed));
-            sums.push(sum);
         }
         let (choices, key) = self.opened(&scene, &found, &cases, &sums);
         if key > self.nodes[place].key {
@@ -202,6 +216,7 @@ impl Tree<'_> {
     // Lists the choices of a node that bound no more than the level, while there are nodes left.
     fn list(&mut self, place: usize, level: i64, most: usize) {
         let mut choices = self.nodes[place].choices.take().unwrap_or_default();
+        let share = self.nodes[place].share / choices.iter().filter(|open| open.bound <= level).count().max(1) as i64;
         while self.nodes.len() < most && choices.last().is_some_and(|open| open.bound <= level) {
             let Some(open) = choices.pop() else { break };
             let node = Node {
@@ -218,7 +233,9 @@ impl Tree<'_> {
                 choices: None,
                 children: vec![],
                 tried: i64::MIN,
+                share,
             };
+            self.level.nodes += 1;
             let child = self.nodes.len();
             self.nodes.push(node);
             self.nodes[place].children.push(child);
@@ -237,8 +254,41 @@ impl Tree<'_> {
         }
         let cost = path.blocks.iter().map(|block| self.model.tables.cost(*block).unwrap_or(0) as i64).sum();
         self.nodes[child].whole = true;
+        self.level.done += self.nodes[child].share;
         if cost < self.cost {
             (self.cost, self.plan) = (cost, path.blocks);
+        }
+    }
+
+    // Begins a new level with a node: those that wait at it share its work.
+    fn begin_level(&mut self, key: i64, place: usize) {
+        self.level = Level { bound: key, nodes: 0, done: 0, given_up: false };
+        let waiting = self.queue.iter().filter(|node| node.0.0 <= key).map(|node| node.2.0);
+        let waiting: Vec<usize> = waiting.chain([place]).collect();
+        let share = WHOLE_WORK / waiting.len() as i64;
+        waiting.into_iter().for_each(|node| self.nodes[node].share = share);
+    }
+
+    // Whether a level is given up: by the share that is done it would take more than three times the nodes that are left.
+    fn gives_up(&self, left: usize) -> bool {
+        let level = &self.level;
+        let work = i128::from(level.nodes) * i128::from(WHOLE_WORK);
+        level.given_up || level.nodes >= 300 && work > 3 * i128::from(level.done) * (left as i128 + i128::from(level.nodes))
+    }
+
+    // A node at the level is opened, lifted, or its choices are listed.
+    fn step(&mut self, place: usize, key: i64, most: usize) {
+        let node = &self.nodes[place];
+        let is_new = node.choices.is_none();
+        if is_new {
+            self.open(place);
+        } else if node.children.is_empty() && node.tried < key && !self.level.given_up {
+            self.lift(place, key);
+        } else {
+            return self.list(place, key, most);
+        }
+        if self.nodes[place].key > key {
+            self.level.done += self.nodes[place].share;
         }
     }
 
@@ -248,16 +298,11 @@ impl Tree<'_> {
             if key >= self.cost || self.nodes.len() >= most && self.nodes[place].choices.is_some() {
                 return key.min(self.cost);
             }
-            self.spent[0] += 1;
-            if self.nodes[place].choices.is_none() {
-                self.open(place);
-            } else if self.nodes[place].children.is_empty() && self.nodes[place].tried < key {
-                self.spent[1] += 1;
-                self.lift(place, key);
-                self.spent[2] += u64::from(self.nodes[place].key > key);
-            } else {
-                self.list(place, key, most);
+            if key > self.level.bound {
+                self.begin_level(key, place);
             }
+            self.level.given_up = self.gives_up(most.saturating_sub(self.nodes.len()));
+            self.step(place, key, most);
             self.put_back(place);
         }
         self.cost

@@ -39,7 +39,13 @@ fn write_nodes(model: &Model, text: &mut String, tree: &Tree, place: usize, dept
     }
     text.push('\n');
     if own {
-        node.cases.iter().for_each(|case| write_case(model.tables, text, &case_of(model, case)));
+        for case in &node.cases {
+            let case = case_of(model, case);
+            if node.cases.len() > 1 && (case.to, case.multiplier) == (160, 0) {
+                text.push_str("case,160,0\n");
+            }
+            write_case(model.tables, text, &case);
+        }
     }
     let lean = node.children.iter().filter(|child| tree.nodes[**child].bound < tree.cost);
     1 + lean.map(|child| write_nodes(model, text, tree, *child, depth + 1, bound)).sum::<usize>()

@@ -27,6 +27,11 @@ impl Stay {
         }
     }
 
+    /// The same stay by other sides.
+    pub(crate) fn by(self, sides: [usize; 2]) -> Stay {
+        Stay { sides, ..self }
+    }
+
     // Whether it crosses another that entered before.
     fn crosses(&self, earlier: &Stay) -> bool {
         let end = if self.leaves < earlier.leaves { self.sides[1] } else { 1 - earlier.sides[1] };

@@ -173,55 +173,92 @@ fn moves_on(slope: &[i64], direction: &[i64]) -> bool {
     slope.iter().zip(direction).map(|(slope, to)| slope * (to >> 8)).sum::<i64>() > 0
 }
 
-/// The best point that an ascent from a point finds, and the sum there; the point itself where none is better.
-pub(crate) fn ascend(scene: &Scene, span: Span, ascent: Ascent, start: &Point, work: &mut Work) -> (Point, i64) {
-    let mut point = start.clone();
-    let mut best = work.evaluate(scene, span, &point);
-    let mut numbers = Numbers::new(scene, ascent, &point);
-    let mut best_at = numbers.at.clone();
-    numbers.slopes(scene, ascent, work);
-    let size = numbers.at.len();
-    let mut metric = Metric::new(size);
-    let (mut step, mut idle, mut dilations, mut spent) = (ascent.step * ONE, 0, 0, 1);
-    if size == 0 || best >= ascent.goal || !metric.begin(&numbers.slope) {
-        return (point, best);
+/// An ascent under way.
+struct Climb<'s, 'm> {
+    scene: &'s Scene<'m>,
+    span: Span,
+    ascent: Ascent,
+    point: Point,
+    numbers: Numbers,
+    metric: Metric,
+    /// How far a step goes, 1024 to one.
+    step: i64,
+    best: i64,
+    best_at: Vec<i64>,
+    /// How many evaluations there were, and how many dilations since one was the best.
+    spent: usize,
+    idle: usize,
+}
+
+impl Climb<'_, '_> {
+    fn is_over(&self) -> bool {
+        self.best >= self.ascent.goal || self.spent >= self.ascent.most
     }
-    let mut before = metric.gathered.clone();
-    while spent < ascent.most && idle < 60 + size {
-        idle += 1;
+
+    // One step in the direction of the metric, and the sum and the slopes there.
+    fn step_on(&mut self, work: &mut Work) {
+        for (at, to) in self.numbers.at.iter_mut().zip(&self.metric.direction) {
+            *at = (*at + ((i128::from(self.step) * i128::from(*to)) >> FINE) as i64).clamp(-FARTHEST, FARTHEST);
+        }
+        self.numbers.put(self.scene, self.ascent, &self.numbers.at, &mut self.point);
+        let sum = work.evaluate(self.scene, self.span, &self.point);
+        self.numbers.slopes(self.scene, self.ascent, work);
+        self.spent += 1;
+        if sum > self.best {
+            (self.best, self.idle) = (sum, 0);
+            self.best_at.copy_from_slice(&self.numbers.at);
+        }
+    }
+
+    // Steps while the sum rises along the direction, longer ones from the third on.
+    fn walk(&mut self, work: &mut Work) {
+        self.idle += 1;
         let mut steps = 0;
-        while spent < ascent.most {
-            for (at, to) in numbers.at.iter_mut().zip(&metric.direction) {
-                *at = (*at + ((i128::from(step) * i128::from(*to)) >> FINE) as i64).clamp(-FARTHEST, FARTHEST);
-            }
-            numbers.put(scene, ascent, &numbers.at, &mut point);
-            let sum = work.evaluate(scene, span, &point);
-            numbers.slopes(scene, ascent, work);
-            (spent, steps) = (spent + 1, steps + 1);
-            if sum > best {
-                (best, idle) = (sum, 0);
-                best_at.copy_from_slice(&numbers.at);
-            }
-            if best >= ascent.goal || !moves_on(&numbers.slope, &metric.direction) {
+        while self.spent < self.ascent.most {
+            self.step_on(work);
+            steps += 1;
+            if self.best >= self.ascent.goal || !moves_on(&self.numbers.slope, &self.metric.direction) {
                 break;
             }
             if steps >= 3 {
-                step = (step / 5 * 6).min(1 << 30);
+                self.step = (self.step / 5 * 6).min(1 << 30);
             }
         }
         if steps == 1 {
-            step = step / 20 * 19 + 1;
-        }
-        if best >= ascent.goal || !metric.dilate(&numbers.slope, &mut before) {
-            break;
-        }
-        dilations += 1;
-        if dilations * 100 >= 63 * size {
-            (dilations, step) = (0, step / 2 + 1);
-            metric.double();
-            before.iter_mut().for_each(|value| *value *= 2);
+            self.step = self.step / 20 * 19 + 1;
         }
     }
-    numbers.put(scene, ascent, &best_at, &mut point);
-    (point, best)
+
+    // Walks and dilates by turns; each dilation leaves less room, so that the metric is doubled now and then.
+    fn climb(&mut self, work: &mut Work) {
+        let size = self.numbers.at.len();
+        let (mut before, mut dilations) = (self.metric.gathered.clone(), 0);
+        while !self.is_over() && self.idle < 60 + size {
+            self.walk(work);
+            if self.best >= self.ascent.goal || !self.metric.dilate(&self.numbers.slope, &mut before) {
+                break;
+            }
+            dilations += 1;
+            if dilations * 100 >= 63 * size {
+                (dilations, self.step) = (0, self.step / 2 + 1);
+                self.metric.double();
+                before.iter_mut().for_each(|value| *value *= 2);
+            }
+        }
+    }
+}
+
+/// The best point that an ascent from a point finds, and the sum there; the point itself where none is better.
+pub(crate) fn ascend(scene: &Scene, span: Span, ascent: Ascent, start: &Point, work: &mut Work) -> (Point, i64) {
+    let best = work.evaluate(scene, span, start);
+    let mut numbers = Numbers::new(scene, ascent, start);
+    numbers.slopes(scene, ascent, work);
+    let (best_at, metric) = (numbers.at.clone(), Metric::new(numbers.at.len()));
+    let (point, step) = (start.clone(), ascent.step * ONE);
+    let mut climb = Climb { scene, span, ascent, point, numbers, metric, step, best, best_at, spent: 1, idle: 0 };
+    if !climb.best_at.is_empty() && !climb.is_over() && climb.metric.begin(&climb.numbers.slope) {
+        climb.climb(work);
+        climb.numbers.put(scene, ascent, &climb.best_at, &mut climb.point);
+    }
+    (climb.point, climb.best)
 }

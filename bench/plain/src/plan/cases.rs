@@ -51,7 +51,6 @@ pub(crate) fn cases_at_root(scene: &Scene, one: Found, unparked: i64, cost: i64,
         seen.push(many);
         let cases = two(scene, &point, many, goal, work);
         let sums = (cases[0].sum, cases[1].sum);
-        eprintln!("many {many} first {} last {}", sums.0 / ONE, sums.1 / ONE);
         if least(&cases) > least(&best).max(alone + close) {
             best = cases;
         }

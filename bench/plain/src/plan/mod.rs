@@ -44,27 +44,21 @@ fn better(model: &Model, case: &Fixed, plan: Vec<Choice>, steps: i64) -> Vec<Cho
 /// Writes a plan and a certificate of at most so many nodes, and prints what they come to.
 pub fn plan(files: [&str; 2], nodes: &str, plan_file: &str, certificate_file: &str) {
     let tables = Tables::new(read(files[0], files[1]));
-    let start = std::time::Instant::now();
     let (slots, point, sum) = root_point(&tables);
     let model = Model::new(&tables, slots);
     let scene = Scene::new(&model, &Path::new(&tables));
     let mut work = Work::new(&model);
     let one = Found { span: EVERY, point, sum };
     let (fixed, _) = alphas(&scene, one.span, &one.point, &mut work);
-    eprintln!("root {:?}", start.elapsed());
     let mut opening = opening(&tables);
     polish(&tables, &mut opening);
     let plan = better(&model, &fixed, opening, 60_000 + 1_000 * tables.units.len() as i64);
-    eprintln!("plan {} {:?}", cost_of(&tables, &plan), start.elapsed());
     let found = cases_at_root(&scene, one, unparked_in(&plan), cost_of(&tables, &plan), &mut work);
     let (cases, sums): (Vec<_>, Vec<_>) = found.iter().map(|found| alphas(&scene, found.span, &found.point, &mut work)).unzip();
-    eprintln!("cases {sums:?} {:?}", start.elapsed());
     let plan = better(&model, &cases[cases.len() - 1], plan, 300_000);
     let cost = cost_of(&tables, &plan);
-    eprintln!("plan {cost} {:?}", start.elapsed());
     let mut tree = Tree::new(&model, cases, sums, plan, cost);
     let bound = tree.grow(nodes.parse().expect("a number"));
-    eprintln!("tree {:?}", start.elapsed());
     std::fs::write(plan_file, writing::plan_text(&tables, &tree.plan)).expect("a folder");
     let (text, count) = writing::certificate_text(&model, &tree, bound);
     std::fs::write(certificate_file, text).expect("a folder");

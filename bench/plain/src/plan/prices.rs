@@ -19,28 +19,63 @@ pub(crate) fn betas_alone(units: usize) -> Ascent {
     Ascent { lengths: false, multiplier: false, step: 300, most: 60 + 2 * units, goal: i64::MAX }
 }
 
+// The best point with these prices at the path without blocks.
+fn ascended(model: &Model, point: &Point, most: usize) -> Point {
+    let scene = Scene::new(model, &Path::new(model.tables));
+    ascend(&scene, EVERY, Ascent { most, ..FIRST }, point, &mut Work::new(model)).0
+}
+
 /// The prices that are worth a place, the best case at the path without blocks with these, and its sum.
 pub(crate) fn root_point(tables: &Tables) -> (Vec<Slot>, Point, i64) {
-    let all = moments(tables).into_iter().flat_map(|train| (0..tables.night.tracks).map(move |track| Slot { parts: None, track, train }));
-    let model = Model::new(tables, all.collect());
-    let scene = Scene::new(&model, &Path::new(tables));
-    let mut work = Work::new(&model);
-    let (point, sum) = ascend(&scene, EVERY, FIRST, &Point::new(&model), &mut work);
-    eprintln!("length {}", sum / 1024);
+    let (slots, point) = length_prices(tables);
+    let model = Model::new(tables, slots);
+    let point = ascended(&model, &point, FIRST.most);
     let (slots, point) = with_parts(&model, &point);
     let model = Model::new(tables, slots);
-    let scene = Scene::new(&model, &Path::new(tables));
-    let mut work = Work::new(&model);
-    let (point, sum) = ascend(&scene, EVERY, FIRST, &point, &mut work);
-    eprintln!("parts {}", sum / 1024);
+    let point = ascended(&model, &point, FIRST.most);
     let (slots, point) = best_slots(&model, &point);
     let model = Model::new(tables, slots);
+    let point = ascended(&model, &point, FIRST.most);
     let scene = Scene::new(&model, &Path::new(tables));
-    let mut work = Work::new(&model);
-    let (point, sum) = ascend(&scene, EVERY, FIRST, &point, &mut work);
-    eprintln!("kept {}", sum / 1024);
-    let (point, sum) = whole_prices(&scene, EVERY, betas_alone(tables.units.len()), &TENTHS, &point, &mut work);
+    let (point, sum) = whole_prices(&scene, EVERY, betas_alone(tables.units.len()), &TENTHS, &point, &mut Work::new(&model));
     (model.slots, point, sum)
+}
+
+// The prices of length to begin with: all, or where these are too many those that ten rounds find.
+fn length_prices(tables: &Tables) -> (Vec<Slot>, Point) {
+    let all = moments(tables).into_iter().flat_map(|train| (0..tables.night.tracks).map(move |track| Slot { parts: None, track, train }));
+    let full = Model::new(tables, all.collect());
+    let none = Point::new(&full);
+    if full.slots.len() <= MOST {
+        return (full.slots, none);
+    }
+    let mut places = fullest(&full, &none, &[]);
+    let mut point = none;
+    for _ in 0..10 {
+        let model = Model::new(tables, places.iter().map(|place| full.slots[*place]).collect());
+        let start = Point { prices: places.iter().map(|place| point.prices[*place]).collect(), ..point.clone() };
+        let found = ascended(&model, &start, 1_500);
+        point = Point { prices: vec![0; full.slots.len()], ..found.clone() };
+        places.iter().zip(&found.prices).for_each(|(place, value)| point.prices[*place] = *value);
+        places.retain(|place| point.prices[*place] > 0);
+        let more = fullest(&full, &point, &places);
+        places.extend(more);
+        places.sort_unstable();
+    }
+    (places.iter().map(|place| full.slots[*place]).collect(), Point { prices: places.iter().map(|place| point.prices[*place]).collect(), ..point })
+}
+
+// For each track the moment at which the chosen shapes exceed its length most, but for those that are known.
+fn fullest(full: &Model, point: &Point, known: &[usize]) -> Vec<usize> {
+    let scene = Scene::new(full, &Path::new(full.tables));
+    let mut work = Work::new(full);
+    work.evaluate(&scene, EVERY, point);
+    let at = |track: usize| {
+        let places = (0..full.slots.len()).filter(move |place| full.slots[*place].track == track && !known.contains(place));
+        places.max_by_key(|place| (work.slope_price[*place], std::cmp::Reverse(*place)))
+    };
+    let found = (0..full.tables.night.tracks).filter_map(at);
+    found.filter(|place| known.is_empty() || work.slope_price[*place] > 0).collect()
 }
 
 // The numbers of parts for which some length counts more for its most than its length does.
@@ -62,7 +97,12 @@ fn with_parts(model: &Model, point: &Point) -> (Vec<Slot>, Point) {
     lengths.sort_unstable();
     lengths.dedup();
     let mut slots = model.slots.clone();
-    for slot in &model.slots {
+    let mut trains: Vec<usize> = slots.iter().map(|slot| slot.train).collect();
+    trains.dedup();
+    for (slot, value) in model.slots.iter().zip(&point.prices) {
+        if trains.len() > 32 && *value == 0 {
+            continue;
+        }
         for parts in useful_parts(tables, slot.track, &lengths) {
             slots.push(Slot { parts: Some(parts), ..*slot });
         }

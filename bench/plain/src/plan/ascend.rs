@@ -143,7 +143,8 @@ impl Metric {
         if !unit(&change, &mut self.across) {
             return unit(&self.gathered, &mut self.along);
         }
-        let along = dot(&self.gathered, &self.across);
+        let parts = self.gathered.iter().zip(&self.across).map(|(value, across)| i128::from(*value) * i128::from(*across));
+        let along = (parts.sum::<i128>() >> UNIT) as i64;
         let kept = |(sum, across): (&i64, &i64)| sum - ((2 * i128::from(along) * i128::from(*across) / 3) >> UNIT) as i64;
         *before = self.gathered.iter().zip(&self.across).map(kept).collect();
         if !unit(before, &mut self.along) {

@@ -9,7 +9,7 @@ use crate::nights::Tables;
 
 pub(crate) const EVERY: Span = Span { from: 0, to: 160 };
 pub(crate) const MOST: usize = 64;
-pub(crate) const TENTHS: [i64; 7] = [5, 4, 6, 3, 7, 2, 8];
+pub(crate) const TENTHS: [i64; 1] = [5];
 
 /// An ascent at the path without blocks.
 pub(crate) const FIRST: Ascent = Ascent { lengths: true, multiplier: false, step: 20_000, most: 6_000, goal: i64::MAX };

@@ -1,4 +1,7 @@
 // Runs of `drivers` and of `roster`.
+ghost use Rattle.std.specs.Prelude.{◌≡◌, IfOk};
+ghost use Rattle.shunt_store.specs.defs.Files.{Closed};
+
 use crate::inputs::{BOTH, ONE_AFTER_THE_OTHER, STATION, TIGHT, store_of, words_of};
 use shunt::{Status, run};
 use shunt_store::{MemSink, MemStore};
@@ -8,12 +11,9 @@ use std::test::Fail;
 const HOUR: &str = "crew,1\nelse,60\n";
 
 // The files of a night, its plan and a crew.
-fn store_with(
-    alloc: Global,
-    night: (&str, &str),
-    plan: &str,
-    crew: &str,
-) -> Result<MemStore, Fail> {
+fn store_with(alloc: Global, night: (&str, &str), plan: &str, crew: &str) -> Result<MemStore, Fail>
+    ensures { IfOk result (λ s. s.stage ≡ Closed) }
+{
     let (station, timetable) = night;
     let mut store = store_of(alloc, station, timetable)?;
     store.put("P", plan.as_bytes())?;
@@ -34,8 +34,10 @@ fn shares_with(
     let mut store = store_with(alloc, night, plan, crew)?;
     let mut out = MemSink::new(alloc);
     let drivers = words_of(alloc, &["drivers", "S", "T", "P", "C", "R"])?;
-    let ended = run(alloc, &drivers, &mut store, &mut out);
-    let shared = ended == Status::Done && out.bytes() == printed.as_bytes();
+    let shared = match run(alloc, &drivers, &mut store, &mut out) {
+        Status::Done => out.bytes() == printed.as_bytes(),
+        _ => return Ok(false),
+    };
     let mut out = MemSink::new(alloc);
     let roster = words_of(alloc, &["roster", "S", "T", "P", "C", "R"])?;
     let ended = run(alloc, &roster, &mut store, &mut out);

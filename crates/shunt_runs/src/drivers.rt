@@ -10,6 +10,10 @@ use std::test::Fail;
 
 const HOUR: &str = "crew,1\nelse,60\n";
 
+// A move of two hours that begins at 23:00 ends as the next one begins.
+const PAST_MIDNIGHT: &str =
+    "timetable,1\narrive,a1,23:00,P,X\narrive,a2,25:00,P,Y\ndepart,d1,29:00,P,X\ndepart,d2,31:00,P,Y\n";
+
 // The files of a night, its plan and a crew.
 fn store_with(alloc: Global, night: (&str, &str), plan: &str, crew: &str) -> Result<MemStore, Fail>
     ensures { IfOk result (λ s. s.stage ≡ Closed) }
@@ -53,6 +57,19 @@ fn moves_are_shared_and_their_roster_is_accepted(rt: HostRuntime) -> Result<(), 
     let longer = "crew,1\nelse,61\n";
     let three = "drivers 3 busy 31:00 moves 4\n";
     assert!(rt; shares_with(alloc, night, BOTH, longer, three, "roster ok drivers 3\n")?);
+    let two_hours = "crew,1\nelse,120\n";
+    let midnight = "drivers 1 busy 23:00 moves 4\n";
+    let handed = (TIGHT, PAST_MIDNIGHT);
+    assert!(rt;
+        shares_with(
+            alloc,
+            handed,
+            BOTH,
+            two_hours,
+            midnight,
+            "roster ok drivers 1\n"
+        )?
+    );
     let none = (STATION, "timetable,1\n");
     let nothing = "plan,1\ncost,0\n";
     let no_moves = "drivers 0 moves 0\n";
@@ -112,6 +129,11 @@ fn faults_of_rosters_are_told(rt: HostRuntime) -> Result<(), Fail> {
             "roster,1\nduty,9,enter,1\nduty,1,leave,1\nduty,2,enter,2\nduty,1,leave,2\n",
             Status::Done,
             "roster ok drivers 3\n",
+        ),
+        (
+            "roster,1\nduty,1,leave,2\nduty,2,enter,2\nduty,1,leave,1\nduty,1,enter,1\n",
+            Status::Done,
+            "roster ok drivers 2\n",
         ),
         (
             "roster,1\nduty,1,enter,3\n",

@@ -2,7 +2,8 @@
 use Rattle.std.specs.Prelude.{is_some, Option, Some, None, slice_index, nat_le, nat_lt, ◌==◌}
 use Rattle.std.specs.List.{flat_map, filter}
 use Rattle.std.proofs.Common.{◌≡◌, ◌≢◌, inl, inr, ⊎_elim, ℕ, zero, suc, ◌<◌, ◌≤◌, Bool, true, false, List, [], ◌∷◌, ◌++◌, length, take, get_or, refl, sym, subst, ap, ◌∙◌, arith}
-use Rattle.std.proofs.lemmas.Bool.{cases_Bool, ne_eqb, cases_lt, lt-ltb, false_from_ne_true, false≢true}
+use Rattle.std.proofs.lemmas.Bool.{cases_Bool, ne_eqb, cases_lt, lt-ltb, ltb-true, false_from_ne_true, false≢true}
+use Rattle.std.proofs.lemmas.List.{take_all}
 use Rattle.std.proofs.lemmas.List.Concat.{flat_map-cons}
 use Rattle.std.proofs.lemmas.List.Elements.{filter-append}
 use Rattle.shunt_lists.proofs.Members.{filter_yes, filter_no, filter_from, filter_to, of_flat}
@@ -25,7 +26,7 @@ use Rattle.shunt_audit.specs.defs.Listed.{noted, noted_below, by_id, bare_units,
 use Rattle.shunt_audit.proofs.Lists.{of_below_noted, of_flat_noted}
 use Rattle.shunt_audit.proofs.Exactly.{exactly}
 use Rattle.shunt_audit.proofs.Feasible.{no_member}
-use Rattle.shunt_delay.specs.defs.Kept.{of_train, AreOthersApart}
+use Rattle.shunt_delay.specs.defs.Kept.{of_train, AreOthersApart, AreOthersWithin, too_longs_of}
 use Rattle.shunt_delay.specs.defs.Delays.{StaysFeasible, is_of_delay, delay_findings, first}
 
 -- ---- which findings are those of a delay
@@ -222,10 +223,20 @@ own_crossers i stays own b o is apart there other e =
 lt_true : (m n : ℕ) → m < n → nat_lt m n ≡ true
 lt_true m n lt = lt-ltb m n lt
 
-pub at_over : (lengths : List ℕ) (stays : List Stay) (k : ℕ) (d : Stay) (load room : ℕ) → k < length stays → flat_map (λ s. too_long_at lengths s (load_after stays s)) (take k stays) ≡ []
-    → load ≡ load_after stays (get_or stays k d) → room ≡ slice_index lengths (get_or stays k d).track.0 → room < load → Some (TooLong (get_or stays k d).id load) ≡ first (too_longs lengths stays)
-at_over lengths stays k d load room lt before is track above =
-    let s = get_or stays k d in
+-- the entries of other trains fit, so that only the late train's may not
+pub own_longs : (i : ℕ) (lengths : List ℕ) (stays own : List Stay) → own ≡ filter (of_train i) stays → AreOthersWithin i lengths stays → too_longs_of lengths stays own ≡ too_longs lengths stays
+own_longs i lengths stays own is within = ap (too_longs_of lengths stays) is ∙ flat_filtered (of_train i) (λ (s : Stay). too_long_at lengths s (load_after stays s)) stays
+    (λ s j p. ap (λ (t : Bool). noted t (TooLong s.id (load_after stays s))) (false_from_ne_true (nat_lt (slice_index lengths s.track.0) (load_after stays s))
+    (λ t. let fits = within s j p in absurd (omega (arith, ltb-true (slice_index lengths s.track.0) (load_after stays s) t)))))
+
+pub at_over : (lengths : List ℕ) (stays own : List Stay) (k : ℕ) (d : Stay) (load room : ℕ) → k < length own → too_longs_of lengths stays (take k own) ≡ [] → too_longs_of lengths stays own ≡ too_longs lengths stays
+    → load ≡ load_after stays (get_or own k d) → room ≡ slice_index lengths (get_or own k d).track.0 → room < load → Some (TooLong (get_or own k d).id load) ≡ first (too_longs lengths stays)
+at_over lengths stays own k d load room lt before alone is track above =
+    let s = get_or own k d in
     let over : slice_index lengths s.track.0 < load_after stays s = omega arith in
     ap (λ (n : ℕ). Some (TooLong s.id n)) is
-    ∙ seen_some (λ (s : Stay). too_long_at lengths s (load_after stays s)) stays k d s (Some (TooLong s.id (load_after stays s))) lt refl before (first_noted (nat_lt (slice_index lengths s.track.0) (load_after stays s)) (TooLong s.id (load_after stays s)) (lt_true (slice_index lengths s.track.0) (load_after stays s) over)) refl
+    ∙ seen_some (λ (s : Stay). too_long_at lengths s (load_after stays s)) own k d s (Some (TooLong s.id (load_after stays s))) lt refl before (first_noted (nat_lt (slice_index lengths s.track.0) (load_after stays s)) (TooLong s.id (load_after stays s)) (lt_true (slice_index lengths s.track.0) (load_after stays s) over)) refl
+    ∙ ap first alone
+
+pub none_over : (lengths : List ℕ) (stays own : List Stay) (k : ℕ) → length own ≤ k → too_longs_of lengths stays (take k own) ≡ [] → too_longs_of lengths stays own ≡ too_longs lengths stays → None ≡ first (too_longs lengths stays)
+none_over lengths stays own k le before alone = sym (ap first (sym alone ∙ ap (too_longs_of lengths stays) (sym (take_all k own le)) ∙ before))

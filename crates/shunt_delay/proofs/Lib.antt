@@ -2,6 +2,8 @@ pub mod Delayed
 pub mod Lately
 pub mod Formed
 pub mod Found
+pub mod InTime
+pub mod Loads
 pub mod Moved
 pub mod Others
 pub mod Greatest

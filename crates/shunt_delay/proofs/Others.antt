@@ -1,5 +1,5 @@
 -- The stays of a train, and those of all others, while the train is late.
-use Rattle.std.specs.Prelude.{◌↔◌, Some, map, not}
+use Rattle.std.specs.Prelude.{◌↔◌, Some, map, not, slice_index}
 use Rattle.std.specs.List.{filter}
 use Rattle.std.proofs.Common.{◌≡◌, ◌≢◌, ◌⊎◌, inl, inr, ⊎_elim, ℕ, ◌+◌, ◌<◌, ◌≤◌, Bool, true, false, List, [], ◌∷◌, length, refl, sym, subst, ap, ◌∙◌, arith}
 use Rattle.std.proofs.lemmas.Bool.{cases_Bool, false_from_ne_true, false≢true, eq-eqb, eqb-true, ne_eqb}
@@ -8,7 +8,7 @@ use Rattle.shunt_lists.specs.defs.Members.{In}
 use Rattle.shunt_base.specs.declared.keys.Stay.{Stay}
 use Rattle.shunt_base.specs.defs.Keys.{IsWellFormed, AreStays}
 use Rattle.shunt_stays.specs.defs.Run.{GoesThrough}
-use Rattle.shunt_stays.specs.defs.Crossing.{crosses}
+use Rattle.shunt_stays.specs.defs.Crossing.{crosses, load_after}
 use Rattle.shunt_stays.proofs.Crossings.{crosses_is, through_clear}
 use Rattle.shunt_stays.proofs.Fewer.{stays_filter, on_tracks}
 use Rattle.shunt_instance.specs.defs.Instance.{Night, IsInstance}
@@ -20,9 +20,10 @@ use Rattle.shunt_timeline.specs.defs.Holdings.{Holding}
 use Rattle.shunt_audit.proofs.Standing.{of_some, to_some, in_range, few_stays}
 use Rattle.shunt_delay.specs.defs.Late.{late}
 use Rattle.shunt_delay.specs.defs.Delays.{StaysFeasible}
-use Rattle.shunt_delay.specs.defs.Kept.{late_by, is_too_soon_by, later, IsApart, CanCome, Hold, of_train, AreAll, AreOthers, AreOthersApart}
+use Rattle.shunt_delay.specs.defs.Kept.{late_by, is_too_soon_by, later, IsApart, CanCome, Hold, of_train, AreAll, AreOthers, AreOthersApart, AreOthersWithin}
 use Rattle.shunt_delay.proofs.Lately.{stay_late, soon_late, which, never_late}
 use Rattle.shunt_delay.proofs.Formed.{Laws, stay_is, of_late, to_late, arrives, stays_late}
+use Rattle.shunt_delay.proofs.Loads.{loads_less}
 use Rattle.shunt_delay.proofs.Moved.{member_formed, one_id, as_many}
 
 abbrev own_of : Night → List Block → ℕ → List Stay
@@ -107,6 +108,11 @@ module _ (laws : Laws) (night : Night) (blocks : List Block) (n : IsInstance nig
   pub others_apart : (i d : ℕ) → StaysFeasible night blocks → AreOthersApart i (stays_of (late i d night) blocks)
   others_apart i d feasible b c j k p q = false_from_ne_true (crosses b c) (λ t.
       (through_clear (track_lengths night.station) (stays_of night blocks) formed (laws.tracks night blocks (laws.can_stand night blocks h)) feasible.through).0 b c (other_same i d b j p) (other_same i d c k q) ((crosses_is b c).0 t))
+
+  pub others_within : (i d : ℕ) → StaysFeasible night blocks → AreOthersWithin i (track_lengths night.station) (stays_of (late i d night) blocks)
+  others_within i d feasible b j p =
+      let within : load_after (stays_of night blocks) b ≤ slice_index (track_lengths night.station) b.track.0 = (through_clear (track_lengths night.station) (stays_of night blocks) formed (laws.tracks night blocks (laws.can_stand night blocks h)) feasible.through).1 b (other_same i d b j p) in
+      omega (arith, within, loads_less laws.units i d night blocks b.track.0 b.enter (λ c k. (in_range night blocks c h k).within.runs))
 
   -- ---- counts
 

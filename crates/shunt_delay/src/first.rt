@@ -7,7 +7,7 @@ ghost use Rattle.shunt_blocks.specs.defs.Lists.{track_lengths};
 ghost use Rattle.shunt_audit.specs.defs.Listed.{too_soons, crossings_of, crossings, too_longs};
 ghost use Rattle.shunt_delay.specs.defs.Late.{late};
 ghost use Rattle.shunt_delay.specs.defs.Delays.{is_of_delay, delay_findings, first, told};
-ghost use Rattle.shunt_delay.specs.defs.Kept.{Stops, IsReady, of_train, AreOthersApart};
+ghost use Rattle.shunt_delay.specs.defs.Kept.{Stops, IsReady, of_train, AreOthersApart, too_longs_of};
 
 use crate::late::{becomes_too_soon, late_stays};
 use crate::records::Stop;
@@ -86,14 +86,15 @@ fn track_length(instance: &Instance, stay: &Stay) -> u64
     u64::from(instance.station().tracks.as_slice()[usize::from(stay.track.0)].length)
 }
 
-/// The first entry that leaves more than its track's length.
-fn first_too_long(instance: &Instance, stays: &[Stay]) -> Option<Finding>
+/// The first entry that leaves more than its track's length, where only these may.
+fn first_too_long(instance: &Instance, stays: &[Stay], own: &[Stay]) -> Option<Finding>
     requires stays { AreStays stays.now }
-    requires tracks { AreOnTracks (track_lengths instance.now.station) stays.now }
     requires few { length stays.now ≤ 65536 }
+    requires tracks { AreOnTracks (track_lengths instance.now.station) own.now }
+    requires alone { too_longs_of (track_lengths instance.now.station) stays.now own.now ≡ too_longs (track_lengths instance.now.station) stays.now }
     ensures { result ≡ first (too_longs (track_lengths instance.now.station) stays.now) }
 {
-    for stay in stays {
+    for stay in own {
         let load = load_after(stays, stay);
         if load > track_length(instance, stay) {
             return Some(Finding::TooLong(stay.id, load));
@@ -131,7 +132,7 @@ fn first_finding(
     if crossing.is_some() {
         return Ok(crossing);
     }
-    Ok(first_too_long(instance, stays))
+    Ok(first_too_long(instance, stays, own))
 }
 
 /// The stop that tells a finding.

@@ -1,11 +1,12 @@
 // Blocks and stays of a night in which one train is late.
-ghost use Rattle.std.specs.Prelude.{◌≡◌, ◌<◌, ◌≤◌, false, All, IfOk};
+ghost use Rattle.std.specs.Prelude.{◌≡◌, ℕ, ◌<◌, ◌≤◌, false, All, IfOk};
 ghost use Rattle.shunt_blocks.specs.defs.Shapes.{IsInRange, IsWithinTrains, shape_of};
 ghost use Rattle.shunt_blocks.specs.defs.Standing.{is_too_soon, stay_of};
 ghost use Rattle.shunt_blocks.specs.defs.Lists.{stays_of};
 ghost use Rattle.shunt_delay.specs.defs.Late.{late};
 ghost use Rattle.shunt_delay.specs.defs.Kept.{late_by, is_too_soon_by, later};
 
+use crate::train::LIMIT;
 use shunt_base::{ArrId, EventKey, Stay};
 use shunt_blocks::{Block, laws, shape_of, stay, unit_from};
 use shunt_instance::Instance;
@@ -55,6 +56,28 @@ pub(crate) fn becomes_too_soon(
         return is_too_soon_by(instance, block, minutes);
     }
     false
+}
+
+/// How late a train may be, in minutes up to 120, so that a block that is in time isn't too soon.
+pub(crate) fn minutes_in_time(instance: &Instance, block: &Block, train: ArrId) -> u16
+    requires within { IsWithinTrains instance.now block.now }
+    requires in_time { is_too_soon instance.now (shape_of block.now) ≡ false }
+    ensures few { result ≤ 120 }
+    ensures in_time { (d : ℕ) → d ≤ result → is_too_soon (late train.0 d instance.now) (shape_of block.now) ≡ false }
+{
+    // It tells which units a shape has.
+    laws::places();
+    if block.arr.0 != train.0 {
+        return LIMIT;
+    }
+    let shape = shape_of(block);
+    let from = unit_from(instance, shape);
+    let leave = instance.depart(shape.dep).minute.number();
+    let mut minutes = LIMIT;
+    for k in 0..shape.n as usize {
+        minutes = minutes.min(leave.saturating_sub(instance.ready(from + k)));
+    }
+    minutes
 }
 
 /// The stay with so many minutes more before it begins.

@@ -1,16 +1,12 @@
 // How late one train can be.
-ghost use Rattle.std.specs.Prelude.{◌≡◌, ◌≤◌, false, filter, IfOk};
-ghost use Rattle.shunt_lists.specs.defs.Members.{In};
-ghost use Rattle.shunt_blocks.specs.declared.records.Block.{Block as OneBlock};
-ghost use Rattle.shunt_blocks.specs.defs.Shapes.{shape_of};
-ghost use Rattle.shunt_blocks.specs.defs.Standing.{is_too_soon};
+ghost use Rattle.std.specs.Prelude.{◌≡◌, ℕ, ◌≤◌, filter, IfOk};
 ghost use Rattle.shunt_blocks.specs.defs.Lists.{stays_of};
 ghost use Rattle.shunt_delay.specs.defs.Late.{late};
 ghost use Rattle.shunt_delay.specs.defs.Delays.{IsDelay};
-ghost use Rattle.shunt_delay.specs.defs.Kept.{IsReady, AreOthers, AreAll, Hold, Stops, of_train};
+ghost use Rattle.shunt_delay.specs.defs.Kept.{AreInTime, IsReady, AreOthers, AreAll, Hold, Stops, of_train};
 
 use crate::first::first_stop;
-use crate::late::becomes_too_soon;
+use crate::late::minutes_in_time;
 use crate::moving::{goes_through, put, take};
 use crate::records::{Delay, Stop};
 use shunt_base::{ArrId, Stay};
@@ -20,23 +16,22 @@ use shunt_timeline::Timelines;
 use std::alloc::{AllocError, Global};
 
 /// No greater delay is tried, in minutes.
-const LIMIT: u16 = 120;
+pub(crate) const LIMIT: u16 = 120;
 
-/// Whether a block of the train is too soon, so many minutes late.
-fn any_too_soon(instance: &Instance, blocks: &[Block], train: ArrId, minutes: u16) -> bool
-    requires ready { IsReady instance.now blocks.now }
-    requires few { minutes ≤ 120 }
-    ensures { result ≡ false → (b : OneBlock) → In b blocks.now → is_too_soon (late train.0 minutes instance.now) (shape_of b) ≡ false }
+/// How late a train may be, in minutes up to 120, so that none of its blocks is too soon.
+fn train_in_time(instance: &Instance, blocks: &[Block], train: ArrId) -> u16
+    requires { IsReady instance.now blocks.now }
+    ensures few { result ≤ 120 }
+    ensures in_time { (d : ℕ) → d ≤ result → AreInTime (late train.0 d instance.now) blocks.now }
 {
+    let mut minutes = LIMIT;
     for block in blocks {
-        if becomes_too_soon(instance, block, train, minutes) {
-            return true;
-        }
+        minutes = minutes.min(minutes_in_time(instance, block, train));
     }
-    false
+    minutes
 }
 
-/// What stops a train from being so late; nothing exactly where the plan stays feasible.
+/// What stops a train from being so late that no block is too soon; nothing exactly where the plan stays feasible.
 ///
 /// The timelines hold the stays of all other trains.
 fn stop_at(
@@ -50,13 +45,11 @@ fn stop_at(
 ) -> Result<Option<Stop>, AllocError>
     requires ready { IsReady instance.now blocks.now }
     requires few { minutes ≤ 120 }
+    requires in_time { AreInTime (late train.0 minutes instance.now) blocks.now }
     requires others { AreOthers instance.now blocks.now train.0 own.now timelines.old }
     ensures stops { IfOk result (λ o. Stops (late train.0 minutes instance.now) blocks.now o) }
     ensures same { Hold timelines.old timelines.new }
 {
-    if any_too_soon(instance, blocks, train, minutes) {
-        return first_stop(alloc, instance, blocks, train, minutes);
-    }
     // The calls tell that the night is well formed, and how the stays of blocks stand.
     instance.station();
     laws::places();
@@ -83,8 +76,14 @@ fn greatest(
     ensures delay { IfOk result (λ d. (d.train ≡ train) × IsDelay instance.now blocks.now d) }
     ensures same { Hold timelines.old timelines.new }
 {
+    let in_time = train_in_time(instance, blocks, train);
     for minutes in 1..LIMIT + 1 {
-        if let Some(stop) = stop_at(alloc, instance, blocks, train, own, timelines, minutes)? {
+        let found = if minutes <= in_time {
+            stop_at(alloc, instance, blocks, train, own, timelines, minutes)?
+        } else {
+            first_stop(alloc, instance, blocks, train, minutes)?
+        };
+        if let Some(stop) = found {
             return Ok(Delay {
                 train,
                 minutes: minutes - 1,

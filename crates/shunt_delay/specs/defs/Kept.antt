@@ -1,18 +1,20 @@
 -- Words of the proofs: the same without a late night.
-use Rattle.std.specs.Prelude.{◌≡◌, ◌≢◌, ◌↔◌, ℕ, ◌+◌, ◌≤◌, ◌<◌, ◌==◌, nat_le, Bool, false, not, Option, None, Some, List, length, map, filter, if◌then◌else◌}
+use Rattle.std.specs.Prelude.{◌≡◌, ◌≢◌, ◌↔◌, ℕ, ◌+◌, ◌≤◌, ◌<◌, ◌==◌, nat_le, Bool, false, not, Option, None, Some, List, length, map, filter, slice_index, if◌then◌else◌}
+use Rattle.std.specs.List.{flat_map}
 use Rattle.shunt_lists.specs.defs.Below.{all_below}
 use Rattle.shunt_lists.specs.defs.Members.{In}
 use Rattle.shunt_base.specs.declared.keys.Stay.{Stay}
 use Rattle.shunt_base.specs.defs.Keys.{AreStays}
-use Rattle.shunt_stays.specs.defs.Crossing.{crosses}
+use Rattle.shunt_stays.specs.defs.Crossing.{crosses, load_after}
 use Rattle.shunt_instance.specs.defs.Instance.{Night, ready}
 use Rattle.shunt_blocks.specs.declared.records.Shape.{Shape}
 use Rattle.shunt_blocks.specs.declared.records.Block.{Block}
-use Rattle.shunt_blocks.specs.defs.Shapes.{unit_from}
-use Rattle.shunt_blocks.specs.defs.Standing.{leave_minute}
+use Rattle.shunt_blocks.specs.defs.Shapes.{shape_of, unit_from}
+use Rattle.shunt_blocks.specs.defs.Standing.{leave_minute, is_too_soon}
 use Rattle.shunt_blocks.specs.defs.Lists.{AreInRange, track_lengths, stays_of}
 use Rattle.shunt_timeline.specs.defs.Holdings.{Holding}
-use Rattle.shunt_audit.specs.defs.Listed.{by_id}
+use Rattle.shunt_audit.specs.declared.types.Finding.{Finding}
+use Rattle.shunt_audit.specs.defs.Listed.{by_id, too_long_at}
 use Rattle.shunt_delay.specs.declared.records.Stop.{Stop}
 use Rattle.shunt_delay.specs.defs.Delays.{told, first, delay_findings, StaysFeasible}
 
@@ -23,6 +25,10 @@ late_by i d b = if b.arr.0 == i then d else 0
 -- whether the departing train leaves before one of the units is ready, so many minutes late
 abbrev pub is_too_soon_by : Night → ℕ → Shape → Bool
 is_too_soon_by night d s = not (all_below s.n (λ k. nat_le (ready night (unit_from night s + k) + d) (leave_minute night s)))
+
+-- no block is too soon
+abbrev pub AreInTime : Night → List Block → Type 0
+AreInTime night blocks = (b : Block) → In b blocks → is_too_soon night (shape_of b) ≡ false
 
 -- a stay that begins so many minutes later
 abbrev pub later : ℕ → Stay → Stay
@@ -79,3 +85,11 @@ pub record AreOthers (night : Night) (blocks : List Block) (i : ℕ) (own : List
 -- no two stays of other trains than i cross
 abbrev pub AreOthersApart : ℕ → List Stay → Type 0
 AreOthersApart i stays = (b c : Stay) → In b stays → In c stays → of_train i b ≡ false → of_train i c ≡ false → crosses b c ≡ false
+
+-- no entry of a stay of another train than i leaves more than its track's length
+abbrev pub AreOthersWithin : ℕ → List ℕ → List Stay → Type 0
+AreOthersWithin i lengths stays = (b : Stay) → In b stays → of_train i b ≡ false → load_after stays b ≤ slice_index lengths b.track.0
+
+-- those of these entries that leave more than their track's length
+abbrev pub too_longs_of : List ℕ → List Stay → List Stay → List Finding
+too_longs_of lengths stays own = flat_map (λ s. too_long_at lengths s (load_after stays s)) own

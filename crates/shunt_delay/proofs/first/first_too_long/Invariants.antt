@@ -1,9 +1,7 @@
-use Rattle.std.specs.List.{flat_map}
 use Rattle.std.proofs.Common.{◌≡◌, [], take}
-use Rattle.shunt_stays.specs.defs.Crossing.{load_after}
 use Rattle.shunt_blocks.specs.defs.Lists.{track_lengths}
-use Rattle.shunt_audit.specs.defs.Listed.{too_long_at}
+use Rattle.shunt_delay.specs.defs.Kept.{too_longs_of}
 use Rattle.shunt_delay.proofs.first.first_too_long.Given as goal
 
 abbrev pub invariant-loop-stay : goal.invariant-loop-stay
-invariant-loop-stay l = flat_map (λ s. too_long_at (track_lengths l.instance.station) s (load_after l.stays s)) (take l.stay-index l.stays) ≡ []
+invariant-loop-stay l = too_longs_of (track_lengths l.instance.station) l.stays (take l.stay-index l.own) ≡ []

@@ -7,6 +7,7 @@ mod Longer
 mod Lowness
 mod Missed
 mod Growing
+mod Dear
 mod Parking
 mod Options
 mod Looked

@@ -4,6 +4,7 @@ pub mod NodeFaults
 pub mod Verdicts
 pub mod Firsts
 pub mod Searches
+pub mod Ways
 pub mod Lights
 pub mod Opened
 pub mod Stops

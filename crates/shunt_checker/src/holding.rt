@@ -7,12 +7,14 @@ ghost use Rattle.shunt_choices.specs.defs.Free.{AreMasksOf};
 ghost use Rattle.shunt_choices.specs.defs.Choices.{IsFreeShape, ParkBefore};
 ghost use Rattle.shunt_prices.specs.defs.Limits.{ArePrices, IsCase};
 ghost use Rattle.shunt_checker.specs.defs.Firsts.{Finds};
+ghost use Rattle.shunt_checker.specs.defs.Ways.{AreLeastWays};
 ghost use Rattle.shunt_checker.specs.defs.Lights.{IsLightPark, IsLightBy, IsLightOn, IsLightParked, IsLight, IsLightShape, IsFreeLight, IsFreePair, offered};
 ghost use Rattle.shunt_checker.specs.defs.NodeFaults.{EarlierChoice};
 
 use crate::offer::Offer;
 use crate::pricing::{cost_with, length_of, room_on, sum_over, taken_on_tracks};
 use crate::seeking::{Sought, first_found};
+use crate::ways::{LeastWays, least_on, least_parked, least_ways};
 use shunt_base::{Case, Price, Side, TrackId};
 use shunt_blocks::{Park, Shape, is_option, is_pair, position_from, unit_from};
 use shunt_choices::Covered;
@@ -66,7 +68,7 @@ fn light_by(
     None
 }
 
-/// The first such way to park a shape on a track. A track that is too short has none.
+/// The first such way to park a shape on a track. A track that is too short has none, nor has one whose least ways cost too much.
 fn light_on(
     instance: &Instance,
     shape: Shape,
@@ -84,18 +86,32 @@ fn light_on(
     if long > room_on(instance, track) {
         return None;
     }
+    if sum <= least_on(instance, shape, track, part) as i64 {
+        return None;
+    }
     if let Some(park) = light_by(instance, shape, track, Side::A, sum, part) {
         return Some(park);
     }
     light_by(instance, shape, track, Side::B, sum, part)
 }
 
-/// The first such way to park a shape on a track that is long enough for it. Each track is priced once.
-fn light_parked(instance: &Instance, prices: &[Price], shape: Shape, sum: i64) -> Option<Park>
+/// The first such way to park a shape on a track that is long enough for it. Each track is priced once. Prices only add to a weight,
+/// so where the least ways of the shape's trains cost too much already, neither prices nor tracks are looked at.
+fn light_parked(
+    instance: &Instance,
+    ways: &LeastWays,
+    prices: &[Price],
+    shape: Shape,
+    sum: i64,
+) -> Option<Park>
+    requires ways { AreLeastWays instance.now ways.now }
     requires prices { ArePrices instance.now prices.now }
     requires within { AreRunsWithin instance.now shape }
     ensures { Finds (IsLightParked instance.now prices.now shape sum) ParkBefore result }
 {
+    if sum <= least_parked(instance, ways, shape) as i64 {
+        return None;
+    }
     let long = length_of(instance, shape);
     let taken = taken_on_tracks(instance, prices, shape, long);
     for t in 0..instance.station().tracks.len() {
@@ -121,7 +137,8 @@ fn offered(shape: Shape, park: Option<Park>) -> Option<Offer>
 }
 
 /// The first option of a shape that has room and weighs less in a case than the shape's duals.
-fn light_option(instance: &Instance, case: &Case, shape: Shape) -> Option<Offer>
+fn light_option(instance: &Instance, ways: &LeastWays, case: &Case, shape: Shape) -> Option<Offer>
+    requires ways { AreLeastWays instance.now ways.now }
     requires case { IsCase instance.now case.now }
     requires within { AreRunsWithin instance.now shape }
     ensures { Finds (IsLightShape instance.now case.now shape) (EarlierChoice instance.now) result }
@@ -131,7 +148,8 @@ fn light_option(instance: &Instance, case: &Case, shape: Shape) -> Option<Offer>
     if sum > unparked as i64 + case.multiplier {
         return Some(Offer { shape, park: None });
     }
-    let park = light_parked(instance, case.duals.prices.as_slice(), shape, sum);
+    let prices = case.duals.prices.as_slice();
+    let park = light_parked(instance, ways, prices, shape, sum);
     offered(shape, park)
 }
 
@@ -167,14 +185,15 @@ pub(crate) fn is_free(instance: &Instance, covered: &Covered, shape: Shape) -> b
     true
 }
 
-/// What is light in a case.
+/// What is light in a case, with the least ways of the night's trains.
 #[derive(Clone, Copy)]
 struct Light<'a> {
     case: &'a Case,
+    ways: &'a LeastWays,
 }
 
 impl Sought for Light<'_> {
-    ghost fits = { λ s night covered. IsCase night s.case.now };
+    ghost fits = { λ s night covered. IsCase night s.case.now × AreLeastWays night s.ways.now };
 
     ghost holds = { λ s night. IsLight night s.case.now };
 
@@ -185,7 +204,7 @@ impl Sought for Light<'_> {
         _covered: &Covered,
         shape: Shape,
     ) -> Result<Option<Offer>, AllocError> {
-        Ok(light_option(instance, self.case, shape))
+        Ok(light_option(instance, self.ways, self.case, shape))
     }
 }
 
@@ -201,5 +220,7 @@ pub(crate) fn first_light(
     requires case { IsCase instance.now case.now }
     ensures { IfOk result (Finds (IsFreeLight instance.now covered.now case.now) (EarlierChoice instance.now)) }
 {
-    first_found(alloc, instance, covered, &Light { case })
+    let ways = least_ways(instance);
+    let light = Light { case, ways: &ways };
+    first_found(alloc, instance, covered, &light)
 }

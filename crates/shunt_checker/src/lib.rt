@@ -22,6 +22,7 @@ mod running;
 mod seeking;
 mod verdict;
 mod walk;
+mod ways;
 
 pub use checking::{check, check_pinned};
 pub use verdict::{PlanFault, Reason, Verdict};

@@ -32,4 +32,4 @@ returns c =
     subst (Finds (IsLightShape c.args.instance.now c.args.case.now c.args.shape) (EarlierChoice c.args.instance.now)) (sym c.offered.ensures)
     (light_among c.args.instance.now c.args.case.now c.args.shape x (seen ∙ c.sum_over-sum.ensures.exact)
     (omega (arith, ints, f, w.exact, w.small, s.low, s.high, m.low, m.high)) c.light_parked-park.result
-    (subst (λ (ps : List Price). Finds (IsLightParked c.args.instance.now ps c.args.shape x) ParkBefore c.light_parked-park.result) c.as_slice.ensures c.light_parked-park.ensures))
+    (subst (λ (ps : List Price). Finds (IsLightParked c.args.instance.now ps c.args.shape x) ParkBefore c.light_parked-park.result) c.as_slice-prices.ensures c.light_parked-park.ensures))

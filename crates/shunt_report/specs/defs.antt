@@ -6,6 +6,7 @@ pub mod VerdictTexts
 pub mod MoveTexts
 pub mod ZonesTexts
 pub mod DriversTexts
+pub mod DelaysTexts
 pub mod PlanTexts
 pub mod SheetTexts
 pub mod JsonTexts

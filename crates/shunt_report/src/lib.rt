@@ -1,6 +1,7 @@
 //! Every text that the program prints.
 #![tactic(auto)]
 
+mod delays;
 mod drivers;
 mod found;
 mod json;
@@ -15,6 +16,7 @@ mod verdicts;
 mod words;
 mod zones;
 
+pub use delays::delays_text;
 pub use drivers::{roster_text, sharing_text};
 pub use found::findings_text;
 pub use json::json_text;

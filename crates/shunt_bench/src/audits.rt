@@ -30,8 +30,8 @@ fn count_matched(alloc: Global, instance: &Instance) -> usize {
     }
 }
 
-// Audits so many times: the findings, and the time of one audit in microseconds.
-fn time_audits(
+/// Audits so many times: the findings, and the time of one audit in microseconds.
+pub(crate) fn time_audits(
     rt: &(impl AllocGlobal + CpuClock),
     instance: &Instance,
     plan: &Plan,

@@ -1,13 +1,14 @@
 //! Measures, by the first word: `records FILE`, `tracks`, `timelines`, `choices STATION TIMETABLE WALKS`, `audit STATION
-//! TIMETABLE PLAN RUNS`, `assign STATION TIMETABLE RUNS`, `duals STATION TIMETABLE RUNS`, `moves STATION TIMETABLE PLAN
-//! EDITS`, `certificate write STATION TIMETABLE FILE` and `certificate read STATION TIMETABLE FILE`. Without words it prints
-//! nothing.
+//! TIMETABLE PLAN RUNS`, `delay STATION TIMETABLE PLAN RUNS`, `assign STATION TIMETABLE RUNS`, `duals STATION TIMETABLE
+//! RUNS`, `moves STATION TIMETABLE PLAN EDITS`, `certificate write STATION TIMETABLE FILE` and `certificate read STATION
+//! TIMETABLE FILE`. Without words it prints nothing.
 #![tactic(auto)]
 
 mod assignments;
 mod audits;
 mod certificates;
 mod choices;
+mod delays;
 mod duals;
 mod moves;
 mod nights;
@@ -19,6 +20,7 @@ use assignments::measure_assign;
 use audits::measure_audit;
 use certificates::measure_certificate;
 use choices::measure_choices;
+use delays::measure_delay;
 use duals::measure_duals;
 use moves::measure_moves;
 use shunt_rows::records;
@@ -79,6 +81,15 @@ fn main(rt: HostRuntime) -> io::Result<()> {
         }
         ("audit", (Some(station), Some(timetable), Some(plan), Some(runs))) => {
             measure_audit(
+                &rt,
+                station.as_str(),
+                timetable.as_str(),
+                plan.as_str(),
+                runs.as_str(),
+            )
+        }
+        ("delay", (Some(station), Some(timetable), Some(plan), Some(runs))) => {
+            measure_delay(
                 &rt,
                 station.as_str(),
                 timetable.as_str(),

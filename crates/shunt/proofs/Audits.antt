@@ -1,37 +1,25 @@
 -- When each status of `audit` comes.
-use Rattle.std.proofs.Common.{◌≡◌, Some, None, sym, subst, ap, inl, inr, refl, ⊎_elim, Bool, true, false, Result, Ok, Err, List, [], ◌∷◌, length, ◌∙◌, ℕ}
-use Rattle.std.specs.Prelude.{◌↔◌, ◌⊎◌, nat_le, if◌then◌else◌}
+use Rattle.std.proofs.Common.{◌≡◌, Some, sym, subst, ap, inl, inr, refl, ⊎_elim, Result, Ok, Err, List, [], ◌∷◌, ◌∙◌, ℕ}
+use Rattle.std.specs.Prelude.{◌↔◌, ◌⊎◌}
 use Rattle.shunt_store.specs.defs.Files.{Files, content}
 use Rattle.shunt_store.specs.defs.Causes.{Rose}
-use Rattle.shunt_rows.specs.declared.fault.RowFault.{RowFault}
-use Rattle.shunt_rows.specs.defs.Formats.{Format, reading}
-use Rattle.shunt_rows.specs.defs.Records.{records_of}
-use Rattle.shunt_instance.specs.defs.Instance.{Night, night_of, IsInstance}
-use Rattle.shunt_instance.proofs.Orders.{night_is, closed}
+use Rattle.shunt_instance.specs.defs.Instance.{Night, IsInstance}
 use Rattle.shunt_blocks.specs.defs.Lists.{AreInRange, IsFeasible, total_cost}
 use Rattle.shunt_plan.specs.declared.records.Plan.{Plan}
-use Rattle.shunt_plan.specs.defs.PlanFormat.{plan_format}
-use Rattle.shunt_plan.specs.defs.Plans.{IsPlanInRange}
-use Rattle.shunt_plan.proofs.Formed.{plan_formed}
-use Rattle.shunt_station.specs.defs.Stating.{station_format}
-use Rattle.shunt_station.proofs.Formed.{station_formed}
-use Rattle.shunt_timetable.specs.defs.TimetableFormat.{timetable_format}
-use Rattle.shunt_timetable.proofs.Formed.{timetable_formed}
-use Rattle.shunt_report.specs.declared.words.FileWord.{FileWord}
-use Rattle.shunt_report.specs.declared.words.FileWord.TheVariants as word
-use Rattle.shunt_report.specs.defs.Texts.{input_of}
 use Rattle.shunt_audit.specs.declared.types.Finding.{Finding}
 use Rattle.shunt_audit.specs.defs.Plans.{ArePlanFindings, plan_findings}
 use Rattle.shunt_audit.proofs.Stated.{only_plan}
-use Rattle.shunt.specs.declared.delivering.Outcome.{Outcome}
-use Rattle.shunt.specs.declared.delivering.Outcome.TheVariants as outcome
+use Rattle.shunt_inputs.specs.declared.answers.Outcome.{Outcome}
+use Rattle.shunt_inputs.specs.declared.answers.Outcome.TheVariants as outcome
 use Rattle.shunt.specs.declared.running.Status.{Status}
 use Rattle.shunt.specs.declared.running.Status.TheVariants as status
 use Rattle.shunt.specs.defs.Words.{Audit}
-use Rattle.shunt.specs.defs.Inputs.{Agrees, most_bytes_of, value_or, stated, then_stated, stated_station, stated_timetable, stated_night, stated_plan, stated_plans, plans_in}
-use Rattle.shunt.specs.defs.Replies.{Reply, IsAudited, Decided, IsClean, audit_outcome}
+use Rattle.shunt_inputs.specs.defs.Inputs.{Agrees, stated_plans, plans_in}
+use Rattle.shunt_inputs.specs.defs.Replies.{Reply, Decided}
+use Rattle.shunt_judging.specs.defs.Audited.{IsAudited, IsClean, audit_outcome}
 use Rattle.shunt.specs.defs.Ends.{Seen, Ends, Yields, the_status}
 use Rattle.shunt.proofs.Exactly.{decides, has_reply, completes, reply_at, EndsAs}
+use Rattle.shunt_inputs.proofs.Stated.{plan_stated}
 
 -- ---- the outcome of a reply, by what the files state
 
@@ -40,49 +28,17 @@ audited x y r e is = subst (λ x. Decided x IsAudited r) e is
 
 -- ---- what the files state is a night and a plan in it
 
-ok_value : {X : Type 0} (file : FileWord) (x : Result X RowFault) (v : X) → value_or file x ≡ Ok v → x ≡ Ok v
-ok_value file (Ok y) v e = cc
-ok_value file (Err fault) v e = absurd (let h : Err (input_of file (Some fault)) ≡ Ok v = e in cc)
-
-pub stated_value : {S X : Type 0} (file : FileWord) (format : Format S X) (bytes : List ℕ) (v : X) → stated file format bytes ≡ Ok v → reading format (records_of bytes) ≡ Ok v
-stated_value file format bytes v e = at (nat_le (length bytes) (most_bytes_of file)) e
-  where
-    at : (short : Bool) → (if short then value_or file (reading format (records_of bytes)) else Err (input_of file None)) ≡ Ok v → reading format (records_of bytes) ≡ Ok v
-    at true h = ok_value file (reading format (records_of bytes)) v h
-    at false h = absurd (let no : Err (input_of file None) ≡ Ok v = h in cc)
-
--- a value of both comes of a value of the first
-pub parted : {X Y : Type 0} (first : Result X (List ℕ)) (rest : X → Result Y (List ℕ)) (v : Y) → then_stated first rest ≡ Ok v → (x : X) × (first ≡ Ok x) × (rest x ≡ Ok v)
-parted (Ok x) rest v e = (x, refl, e)
-parted (Err text) rest v e = absurd (let h : Err text ≡ Ok v = e in cc)
-
-pub night_stated : (s t : List ℕ) (night : Night) → stated_night s t ≡ Ok night → IsInstance night
-night_stated s t night e =
-    let first = parted (stated_station s) _ night e in
-    let second = parted (stated_timetable first.0 t) _ night first.2 in
-    let station = station_formed (records_of s) first.0 (stated_value word.Station station_format s first.0 first.1) in
-    let timetable = timetable_formed first.0 (records_of t) second.0 (stated_value word.Timetable (timetable_format first.0) t second.0 second.1) in
-    let made : night_of first.0 second.0 ≡ night = cc (second.2) in
-    subst IsInstance made (closed (night_of first.0 second.0) (night_is first.0 second.0 station timetable))
-
-pub plan_stated : (s t p : List ℕ) (y : Night × Plan) → stated_plans s t p ≡ Ok y → IsInstance y.0 × IsPlanInRange y.0 y.1
-plan_stated s t p y e =
-    let first = parted (stated_night s t) _ y e in
-    let second = parted (stated_plan first.0 p) _ y first.2 in
-    let made : (first.0, second.0) ≡ y = cc (second.2) in
-    subst (λ (z : Night × Plan). IsInstance z.0 × IsPlanInRange z.0 z.1) made (night_stated s t first.0 first.1, plan_formed first.0 (records_of p) second.0 (stated_value word.Plan (plan_format first.0) p second.0 second.1))
-
 -- ---- exactly when each comes
 
 -- that a plan has no finding exactly where it is feasible and states its cost
 abbrev pub FoundNone : Type 0
 FoundNone = (night : Night) (plan : Plan) → IsInstance night → AreInRange night plan.blocks → (plan_findings night plan ≡ []) ↔ IsFeasible night plan.blocks × (plan.cost ≡ total_cost night plan.blocks)
 
-sound_where : (law : FoundNone) (s t p : List ℕ) (y : Night × Plan) → stated_plans s t p ≡ Ok y → (plan_findings y.0 y.1 ≡ []) ↔ IsClean y
+pub sound_where : (law : FoundNone) (s t p : List ℕ) (y : Night × Plan) → stated_plans s t p ≡ Ok y → (plan_findings y.0 y.1 ≡ []) ↔ IsClean y
 sound_where law s t p y e = let h = plan_stated s t p y e in law y.0 y.1 h.0 h.1.blocks
 
 -- the findings that are told are those that the audit computes
-told_is : (s t p : List ℕ) (y : Night × Plan) (fs : List Finding) → stated_plans s t p ≡ Ok y → ArePlanFindings y.0 y.1 fs → fs ≡ plan_findings y.0 y.1
+pub told_is : (s t p : List ℕ) (y : Night × Plan) (fs : List Finding) → stated_plans s t p ≡ Ok y → ArePlanFindings y.0 y.1 fs → fs ≡ plan_findings y.0 y.1
 told_is s t p y fs e told = only_plan y.0 y.1 fs (plan_stated s t p y e).1.blocks told.in_order told.exactly
 
 told_outcome : (y : Night × Plan) (r : Reply) (a : IsAudited y r) → r.outcome ≡ audit_outcome a.findings

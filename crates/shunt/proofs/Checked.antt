@@ -1,5 +1,5 @@
 -- When each status of `check` comes.
-use Rattle.std.proofs.Common.{◌≡◌, ◌≤◌, Some, sym, subst, ap, inl, inr, refl, ⊎_elim, Result, Ok, Err, List, [], ◌∙◌, ℕ, arith, rules}
+use Rattle.std.proofs.Common.{◌≡◌, ◌≤◌, Some, sym, subst, ap, inl, inr, refl, ⊎_elim, Result, Ok, Err, List, [], ◌∙◌, ℕ, arith}
 use Rattle.std.specs.Prelude.{◌↔◌, ◌⊎◌}
 use Rattle.shunt_store.specs.defs.Files.{Files, content}
 use Rattle.shunt_store.specs.defs.Causes.{Rose}
@@ -20,16 +20,19 @@ use Rattle.shunt_checker.specs.declared.verdict.Verdict.TheVariants as verdict
 use Rattle.shunt_checker.specs.defs.Verdicts.{IsVerdict, Accepts}
 use Rattle.shunt_report.specs.declared.words.FileWord.TheVariants as word
 use Rattle.shunt_report.specs.defs.VerdictTexts.{verdict_of}
-use Rattle.shunt.specs.declared.delivering.Outcome.{Outcome}
-use Rattle.shunt.specs.declared.delivering.Outcome.TheVariants as outcome
+use Rattle.shunt_inputs.specs.declared.answers.Outcome.{Outcome}
+use Rattle.shunt_inputs.specs.declared.answers.Outcome.TheVariants as outcome
 use Rattle.shunt.specs.declared.running.Status.{Status}
 use Rattle.shunt.specs.declared.running.Status.TheVariants as status
 use Rattle.shunt.specs.defs.Words.{Check}
-use Rattle.shunt.specs.defs.Inputs.{Agrees, Checkable, stated_plans, stated_certificate, stated_check, check_in}
-use Rattle.shunt.specs.defs.Replies.{Reply, IsChecked, Decided, IsProved, BoundsAll, check_outcome, says}
+use Rattle.shunt_inputs.specs.defs.Inputs.{Agrees, stated_plans, stated_certificate}
+use Rattle.shunt_judging.specs.defs.Checked.{Checkable, stated_check, check_in, IsChecked, IsProved, BoundsAll, check_outcome}
+use Rattle.shunt_inputs.specs.defs.Replies.{Reply, Decided, says}
 use Rattle.shunt.specs.defs.Ends.{Seen, Ends, IsWhole, Yields, the_status}
+use Rattle.shunt_planning.proofs.Sought.{usable_none}
 use Rattle.shunt.proofs.Exactly.{decides, has_reply, completes, reply_at, EndsAs}
-use Rattle.shunt.proofs.Audits.{parted, plan_stated, stated_value, EndsWell}
+use Rattle.shunt_inputs.proofs.Stated.{parted, plan_stated, stated_value}
+use Rattle.shunt.proofs.Audits.{EndsWell}
 
 -- ---- what the files state
 
@@ -56,16 +59,8 @@ check_stated s t p k y is =
 
 -- ---- without pins
 
-keeps_none : (blocks : List Block) → Keeps blocks []
+pub keeps_none : (blocks : List Block) → Keeps blocks []
 keeps_none blocks = λ k d lt. absurd (omega (arith, lt))
-
-usable_none : (night : Night) → AreUsable night []
-usable_none night = record {
-  in_range = record { few = omega arith; each = λ k d lt. absurd (omega (arith, lt)); ids = search rules };
-  each = λ k d lt. absurd (omega (arith, lt));
-  apart = record { units = λ u. omega arith; positions = λ v. omega arith };
-  through = refl;
-}
 
 -- ---- what the verdict tells
 

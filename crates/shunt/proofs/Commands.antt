@@ -1,14 +1,29 @@
 -- From what the files of a command hold to its defined answer.
-use Rattle.std.proofs.Common.{◌≡◌, ◌∙◌, ℕ, List, [], ◌∷◌, Option, Some, None, get_or, refl, subst, sym, ap, Result}
-use Rattle.std.specs.Prelude.{bytes_eq, codes, if◌then◌else◌}
+use Rattle.std.proofs.Common.{arith, ◌≡◌, ℕ, List, [], ◌∷◌, get_or, Option, Some, sym, subst, ap, ◌∙◌, refl, Result}
+use Rattle.std.specs.Prelude.{None, if◌then◌else◌, bytes_eq, codes}
+use Rattle.std.specs.Str.Parse.{digits_value}
+use Rattle.shunt_base.proofs.Decimal.{value_again}
 use Rattle.shunt_store.specs.defs.Files.{Files}
-use Rattle.shunt.specs.declared.delivering.Answer.{Answer}
-use Rattle.shunt.specs.declared.loading.Halt.{Halt}
-use Rattle.shunt.specs.defs.Words.{Call, Match, Audit, Check, Zones, Drivers, Roster, Replay, IsUsable, words_of}
-use Rattle.shunt.specs.defs.Inputs.{Agrees, Holding, stated_night, stated_plans}
-use Rattle.shunt.specs.defs.Replies.{IsReply, Decided, IsMatched, IsAudited, reply_of}
-use Rattle.shunt.specs.defs.Halts.{Replies}
-use Rattle.shunt.proofs.Seeing.{seen_all}
+use Rattle.shunt.specs.defs.Words.{Call, Match, Follow, Audit, Delay, Report, Check, Zones, Sheet, Upgrade, Drivers, Roster, Replay, MakePlan, IsUsable, words_of}
+use Rattle.shunt_throat.specs.defs.Shared.{stated_sharing, IsShared}
+use Rattle.shunt_inputs.specs.defs.Inputs.{Agrees, stated_night, stated_plans, Holding}
+use Rattle.shunt_judging.specs.defs.Audited.{IsAudited}
+use Rattle.shunt_inputs.specs.defs.Replies.{Decided, reply_of}
+use Rattle.shunt_inputs.specs.declared.answers.Answer.{Answer}
+use Rattle.shunt_inputs.specs.declared.loading.Halt.{Halt}
+use Rattle.shunt_judging.specs.defs.Checked.{stated_check, IsChecked}
+use Rattle.shunt_inputs.specs.defs.Halts.{Replies}
+use Rattle.shunt_inputs.proofs.Seeing.{front_names, seen_all}
+use Rattle.shunt.specs.defs.Replies.{IsReply}
+use Rattle.shunt_judging.specs.defs.Replayed.{stated_turns, IsReplayed}
+use Rattle.shunt_throat.specs.defs.Rostered.{stated_rostering, IsRostered}
+use Rattle.shunt_dispatch.specs.defs.Delayed.{IsDelayed}
+use Rattle.shunt_dispatch.specs.defs.Ordered.{IsOrdered}
+use Rattle.shunt_dispatch.specs.defs.Followed.{IsFollowed, stated_following}
+use Rattle.shunt_exchange.specs.defs.Reported.{IsReported}
+use Rattle.shunt_exchange.specs.defs.Upgraded.{IsUpgraded, stated_upgrade}
+use Rattle.shunt_throat.specs.defs.Passed.{stated_passing, IsPassed}
+use Rattle.shunt_planning.specs.defs.Matched.{IsMatched}
 
 -- what was answered is a defined answer of the command
 abbrev pub IsAnswered : Option Files → Result Answer Halt → Call → Type 0
@@ -26,27 +41,100 @@ audit_answered told c s t p r is usable h =
     let names : IsUsable (Audit s t p) = subst IsUsable is usable in
     subst (IsAnswered told r) (sym is) (seen_all told (s ∷ t ∷ p ∷ []) P names h)
 
+pub check_answered : (told : Option Files) (c : Call) (s t p k : List ℕ) (r : Result Answer Halt) → c ≡ Check s t p k → IsUsable c → Holding told s (λ x. Holding told t (λ y. Holding told p (λ z. Holding told k (λ w. Replies reply_of r (Decided (stated_check x y z w) IsChecked))))) → IsAnswered told r c
+check_answered told c s t p k r is usable h =
+    let P : List (List ℕ) → Type 0 = λ bs. Replies reply_of r (Decided (stated_check (get_or bs 0 []) (get_or bs 1 []) (get_or bs 2 []) (get_or bs 3 [])) IsChecked) in
+    let names : IsUsable (Check s t p k) = subst IsUsable is usable in
+    subst (IsAnswered told r) (sym is) (seen_all told (s ∷ t ∷ p ∷ k ∷ []) P names h)
+
+pub zones_answered : (told : Option Files) (c : Call) (s t p z : List ℕ) (r : Result Answer Halt) → c ≡ Zones s t p z → IsUsable c → Holding told s (λ u. Holding told t (λ v. Holding told p (λ x. Holding told z (λ y. Replies reply_of r (Decided (stated_passing u v x y) IsPassed))))) → IsAnswered told r c
+zones_answered told c s t p z r is usable h =
+    let P : List (List ℕ) → Type 0 = λ bs. Replies reply_of r (Decided (stated_passing (get_or bs 0 []) (get_or bs 1 []) (get_or bs 2 []) (get_or bs 3 [])) IsPassed) in
+    let names : IsUsable (Zones s t p z) = subst IsUsable is usable in
+    subst (IsAnswered told r) (sym is) (seen_all told (s ∷ t ∷ p ∷ z ∷ []) P names h)
+
+pub drivers_answered : (told : Option Files) (k : Call) (s t p c d : List ℕ) (r : Result Answer Halt) → k ≡ Drivers s t p c d → IsUsable k → Holding told s (λ u. Holding told t (λ v. Holding told p (λ x. Holding told c (λ y. Replies reply_of r (Decided (stated_sharing u v x y) (IsShared d)))))) → IsAnswered told r k
+drivers_answered told k s t p c d r is usable h =
+    let P : List (List ℕ) → Type 0 = λ bs. Replies reply_of r (Decided (stated_sharing (get_or bs 0 []) (get_or bs 1 []) (get_or bs 2 []) (get_or bs 3 [])) (IsShared d)) in
+    let names : IsUsable (Drivers s t p c d) = subst IsUsable is usable in
+    subst (IsAnswered told r) (sym is) (seen_all told (s ∷ t ∷ p ∷ c ∷ []) P (front_names (s ∷ t ∷ p ∷ c ∷ []) (d ∷ []) names) h)
+
+pub roster_answered : (told : Option Files) (k : Call) (s t p c d : List ℕ) (r : Result Answer Halt) → k ≡ Roster s t p c d → IsUsable k
+    → Holding told s (λ u. Holding told t (λ v. Holding told p (λ x. Holding told c (λ y. Holding told d (λ z. Replies reply_of r (Decided (stated_rostering u v x y z) IsRostered)))))) → IsAnswered told r k
+roster_answered told k s t p c d r is usable h =
+    let P : List (List ℕ) → Type 0 = λ bs. Replies reply_of r (Decided (stated_rostering (get_or bs 0 []) (get_or bs 1 []) (get_or bs 2 []) (get_or bs 3 []) (get_or bs 4 [])) IsRostered) in
+    let names : IsUsable (Roster s t p c d) = subst IsUsable is usable in
+    subst (IsAnswered told r) (sym is) (seen_all told (s ∷ t ∷ p ∷ c ∷ d ∷ []) P names h)
+
+pub replay_answered : (told : Option Files) (c : Call) (s t p e n : List ℕ) (r : Result Answer Halt) → c ≡ Replay s t p e n → IsUsable c → Holding told s (λ x. Holding told t (λ y. Holding told p (λ z. Holding told e (λ w. Replies reply_of r (Decided (stated_turns x y z w) (IsReplayed n)))))) → IsAnswered told r c
+replay_answered told c s t p e n r is usable h =
+    let P : List (List ℕ) → Type 0 = λ bs. Replies reply_of r (Decided (stated_turns (get_or bs 0 []) (get_or bs 1 []) (get_or bs 2 []) (get_or bs 3 [])) (IsReplayed n)) in
+    let names : IsUsable (Replay s t p e n) = subst IsUsable is usable in
+    subst (IsAnswered told r) (sym is) (seen_all told (s ∷ t ∷ p ∷ e ∷ []) P (front_names (s ∷ t ∷ p ∷ e ∷ []) (n ∷ []) names) h)
+
+pub follow_answered : (told : Option Files) (c : Call) (s o : List ℕ) (r : Result Answer Halt) → c ≡ Follow s o → IsUsable c → Holding told s (λ x. Holding told o (λ y. Replies reply_of r (Decided (stated_following x y) IsFollowed))) → IsAnswered told r c
+follow_answered told c s o r is usable h =
+    let P : List (List ℕ) → Type 0 = λ bs. Replies reply_of r (Decided (stated_following (get_or bs 0 []) (get_or bs 1 [])) IsFollowed) in
+    let names : IsUsable (Follow s o) = subst IsUsable is usable in
+    subst (IsAnswered told r) (sym is) (seen_all told (s ∷ o ∷ []) P names h)
+
+pub delay_answered : (told : Option Files) (c : Call) (s t p : List ℕ) (r : Result Answer Halt) → c ≡ Delay s t p → IsUsable c → Holding told s (λ x. Holding told t (λ y. Holding told p (λ z. Replies reply_of r (Decided (stated_plans x y z) IsDelayed)))) → IsAnswered told r c
+delay_answered told c s t p r is usable h =
+    let P : List (List ℕ) → Type 0 = λ bs. Replies reply_of r (Decided (stated_plans (get_or bs 0 []) (get_or bs 1 []) (get_or bs 2 [])) IsDelayed) in
+    let names : IsUsable (Delay s t p) = subst IsUsable is usable in
+    subst (IsAnswered told r) (sym is) (seen_all told (s ∷ t ∷ p ∷ []) P names h)
+
+pub sheet_answered : (told : Option Files) (c : Call) (s t p n : List ℕ) (r : Result Answer Halt) → c ≡ Sheet s t p n → IsUsable c → Holding told s (λ x. Holding told t (λ y. Holding told p (λ z. Replies reply_of r (Decided (stated_plans x y z) (IsOrdered n))))) → IsAnswered told r c
+sheet_answered told c s t p n r is usable h =
+    let P : List (List ℕ) → Type 0 = λ bs. Replies reply_of r (Decided (stated_plans (get_or bs 0 []) (get_or bs 1 []) (get_or bs 2 [])) (IsOrdered n)) in
+    let names : IsUsable (Sheet s t p n) = subst IsUsable is usable in
+    subst (IsAnswered told r) (sym is) (seen_all told (s ∷ t ∷ p ∷ []) P (front_names (s ∷ t ∷ p ∷ []) (n ∷ []) names) h)
+
+pub report_answered : (told : Option Files) (c : Call) (s t p : List ℕ) (r : Result Answer Halt) → c ≡ Report s t p → IsUsable c → Holding told s (λ x. Holding told t (λ y. Holding told p (λ z. Replies reply_of r (Decided (stated_plans x y z) IsReported)))) → IsAnswered told r c
+report_answered told c s t p r is usable h =
+    let P : List (List ℕ) → Type 0 = λ bs. Replies reply_of r (Decided (stated_plans (get_or bs 0 []) (get_or bs 1 []) (get_or bs 2 [])) IsReported) in
+    let names : IsUsable (Report s t p) = subst IsUsable is usable in
+    subst (IsAnswered told r) (sym is) (seen_all told (s ∷ t ∷ p ∷ []) P names h)
+
+pub upgrade_answered : (told : Option Files) (c : Call) (s t n m : List ℕ) (r : Result Answer Halt) → c ≡ Upgrade s t n m → IsUsable c → Holding told s (λ x. Holding told t (λ y. Replies reply_of r (Decided (stated_upgrade x y) (IsUpgraded n m)))) → IsAnswered told r c
+upgrade_answered told c s t n m r is usable h =
+    let P : List (List ℕ) → Type 0 = λ bs. Replies reply_of r (Decided (stated_upgrade (get_or bs 0 []) (get_or bs 1 [])) (IsUpgraded n m)) in
+    let names : IsUsable (Upgrade s t n m) = subst IsUsable is usable in
+    subst (IsAnswered told r) (sym is) (seen_all told (s ∷ t ∷ []) P (front_names (s ∷ t ∷ []) (n ∷ m ∷ []) names) h)
+
 -- the command that words ask for
 abbrev asked : List (List ℕ) → Option Call
-asked (w ∷ s ∷ t ∷ []) = if bytes_eq w (codes "match") then Some (Match s t) else None
-asked (w ∷ s ∷ t ∷ p ∷ []) = if bytes_eq w (codes "audit") then Some (Audit s t p) else None
-asked (w ∷ s ∷ t ∷ p ∷ k ∷ []) = if bytes_eq w (codes "check") then Some (Check s t p k) else if bytes_eq w (codes "zones") then Some (Zones s t p k) else None
+asked (w ∷ s ∷ t ∷ []) = if bytes_eq w (codes "match") then Some (Match s t) else if bytes_eq w (codes "follow") then Some (Follow s t) else None
+asked (w ∷ s ∷ t ∷ p ∷ []) = if bytes_eq w (codes "audit") then Some (Audit s t p) else if bytes_eq w (codes "delay") then Some (Delay s t p) else if bytes_eq w (codes "report") then Some (Report s t p) else None
+asked (w ∷ s ∷ t ∷ p ∷ k ∷ []) =
+    if bytes_eq w (codes "check") then Some (Check s t p k)
+    else if bytes_eq w (codes "zones") then Some (Zones s t p k)
+    else if bytes_eq w (codes "sheet") then Some (Sheet s t p k)
+    else if bytes_eq w (codes "upgrade") then Some (Upgrade s t p k)
+    else None
 asked (w ∷ s ∷ t ∷ p ∷ e ∷ n ∷ []) =
     if bytes_eq w (codes "drivers") then Some (Drivers s t p e n)
     else if bytes_eq w (codes "roster") then Some (Roster s t p e n)
     else if bytes_eq w (codes "replay") then Some (Replay s t p e n)
+    else if bytes_eq w (codes "plan") then Some (MakePlan s t (digits_value 10 p) e n)
     else None
 asked words = None
 
-asked_is : (c : Call) → asked (words_of c) ≡ Some c
-asked_is (Match s t) = refl
-asked_is (Audit s t p) = refl
-asked_is (Check s t p k) = refl
-asked_is (Zones s t p z) = refl
-asked_is (Drivers s t p c d) = refl
-asked_is (Roster s t p c d) = refl
-asked_is (Replay s t p e n) = refl
+asked_is : (c : Call) → IsUsable c → asked (words_of c) ≡ Some c
+asked_is (Match s t) u = refl
+asked_is (Follow s o) u = refl
+asked_is (Audit s t p) u = refl
+asked_is (Delay s t p) u = refl
+asked_is (Report s t p) u = refl
+asked_is (Check s t p k) u = refl
+asked_is (Zones s t p z) u = refl
+asked_is (Sheet s t p n) u = refl
+asked_is (Upgrade s t n m) u = refl
+asked_is (Drivers s t p c d) u = refl
+asked_is (Roster s t p c d) u = refl
+asked_is (Replay s t p e n) u = refl
+asked_is (MakePlan s t m p k) u = ap (λ (x : ℕ). Some (MakePlan s t x p k)) (value_again m (let few = u.2 in omega (arith, few)))
 
--- the words of a command are those of no other
-pub same_call : (c d : Call) → words_of c ≡ words_of d → c ≡ d
-same_call c d is = let same : Some c ≡ Some d = sym (asked_is c) ∙ ap asked is ∙ asked_is d in cc
+-- the words of a command that can be used are those of no other
+pub same_call : (c d : Call) → IsUsable c → IsUsable d → words_of c ≡ words_of d → c ≡ d
+same_call c d u v is = let same : Some c ≡ Some d = sym (asked_is c u) ∙ ap asked is ∙ asked_is d v in cc

@@ -1,6 +1,6 @@
 -- When each status comes, and what then stands, of every command.
-use Rattle.std.proofs.Common.{◌≡◌, Some, None, sym, subst, ap, inl, inr, refl, Result, Ok, Err, List, [], ◌∷◌, ◌∙◌, Option, ℕ, arith, append-nil}
-use Rattle.std.specs.Prelude.{IfSome, ◌⊎◌}
+use Rattle.std.proofs.Common.{◌≡◌, Some, None, sym, subst, ap, inl, inr, refl, Result, Ok, Err, List, [], ◌∷◌, ◌∙◌, Option, ℕ, arith, append-nil, Bool, true, false}
+use Rattle.std.specs.Prelude.{IfSome, ◌⊎◌, ◌==◌, if◌then◌else◌}
 use Rattle.std.specs.Result.{result_err}
 use Rattle.std.specs.FinMap as map
 use Rattle.shunt_lists.specs.defs.Members.{In}
@@ -16,15 +16,33 @@ use Rattle.shunt_drivers.specs.declared.records.RosterFault.{RosterFault}
 use Rattle.shunt_drivers.specs.defs.RosterFaults.{fault_in}
 use Rattle.shunt_zones.specs.declared.records.Meet.{Meet}
 use Rattle.shunt_zones.specs.defs.Meeting.{meets_in}
-use Rattle.shunt.specs.declared.delivering.Outcome.{Outcome}
-use Rattle.shunt.specs.declared.delivering.Outcome.TheVariants as outcome
+use Rattle.shunt_inputs.specs.declared.answers.Outcome.{Outcome}
+use Rattle.shunt_inputs.specs.declared.answers.Outcome.TheVariants as outcome
 use Rattle.shunt.specs.declared.running.Status.{Status}
 use Rattle.shunt.specs.declared.running.Status.TheVariants as status
-use Rattle.shunt.specs.defs.Words.{Call, Match, Audit, Check, Zones, Drivers, Roster, Replay, outputs_of}
+use Rattle.shunt.specs.defs.Words.{Call, Match, Follow, Audit, Delay, Report, Check, Zones, Sheet, Upgrade, Drivers, Roster, Replay, MakePlan, outputs_of}
 use Rattle.shunt.proofs.Writes.{holds_one, whole_may}
-use Rattle.shunt.specs.defs.Inputs.{Agrees, Value, stated_in, refused}
-use Rattle.shunt.specs.defs.Replies.{Reply, IsReply, IsReplyOver, IsAnswer, IsPaired, IsShort, Decided, audit_outcome, check_outcome, meets_outcome, roster_outcome, refusal}
-use Rattle.shunt.specs.defs.Ends.{Seen, CutInText, Delivers, StopsEarly, Ends, IsWhole, MayBegin, MayHold, MayWrite, Yields, the_status, written}
+use Rattle.shunt_inputs.specs.defs.Inputs.{Agrees}
+use Rattle.shunt.specs.defs.Inputs.{Value, stated_in, refused}
+use Rattle.shunt_inputs.specs.defs.Replies.{Reply, Decided, refusal}
+use Rattle.shunt.specs.defs.Replies.{IsReply, IsReplyOver, IsAnswer}
+use Rattle.shunt_planning.specs.defs.Matched.{IsPaired, IsShort}
+use Rattle.shunt_judging.specs.defs.Audited.{IsFaulty, audit_outcome}
+use Rattle.shunt_judging.specs.defs.Checked.{check_outcome}
+use Rattle.shunt_dispatch.specs.defs.Delayed.{HasDelays}
+use Rattle.shunt_dispatch.specs.defs.Followed.{followed_outcome}
+use Rattle.shunt_plan.specs.declared.records.Plan.{Plan}
+use Rattle.shunt_sheet.specs.declared.records.Followed.{Followed}
+use Rattle.shunt_sheet.specs.declared.records.Followed.TheVariants as answers
+use Rattle.shunt_sheet.specs.defs.Following.{followed}
+use Rattle.shunt_exchange.specs.defs.Reported.{HasReport}
+use Rattle.shunt_throat.specs.defs.Passed.{meets_outcome}
+use Rattle.shunt_throat.specs.defs.Rostered.{roster_outcome}
+use Rattle.shunt_inputs.specs.defs.Writes.{MayHold, MayWrite, written}
+use Rattle.shunt_planning.specs.defs.Begun.{MaySearch}
+use Rattle.shunt_planning.specs.defs.Planned.{search_outcome, certificate_file}
+use Rattle.shunt_proof.specs.declared.records.Certificate.{Certificate}
+use Rattle.shunt.specs.defs.Ends.{Seen, CutInText, Delivers, StopsEarly, Ends, IsWhole, MayBegin, Yields, the_status}
 
 -- ---- the status of a delivery
 
@@ -58,7 +76,7 @@ its_own r old new status.NoMatching h = inl h
 its_own r old new status.Unfinished h = inl h
 its_own r old new status.Sink h = inr (inr (inr refl))
 
-early : (c : Call) (old new : Seen) (s : Status) → StopsEarly c old new s → Yields s
+pub early : (c : Call) (old new : Seen) (s : Status) → StopsEarly c old new s → Yields s
 early c old new status.Done h = absurd h
 early c old new status.Findings h = absurd h
 early c old new status.Words h = absurd h
@@ -151,6 +169,12 @@ paired_outcome night r p = ap (λ (r : Reply). r.outcome) p.reply
 pub short_outcome : (night : Night) (r : Reply) → IsShort night r → r.outcome ≡ outcome.NoMatching
 short_outcome night r p = ap (λ (r : Reply). r.outcome) p.reply.2
 
+pub faulty_outcome : (x : Night × Plan) (r : Reply) → IsFaulty x r → r.outcome ≡ outcome.Findings
+faulty_outcome x r f = ap (λ (r : Reply). r.outcome) f.reply
+
+pub delays_outcome : (x : Night × Plan) (r : Reply) → HasDelays x r → r.outcome ≡ outcome.Done
+delays_outcome x r d = ap (λ (r : Reply). r.outcome) d.reply
+
 no_input_found : (fs : List Finding) → audit_outcome fs ≡ outcome.Input → ⊥
 no_input_found [] e = let h : outcome.Done ≡ outcome.Input = e in cc
 no_input_found (f ∷ fs) e = let h : outcome.Findings ≡ outcome.Input = e in cc
@@ -167,6 +191,21 @@ no_input_fault : (f : Option RosterFault) → roster_outcome f ≡ outcome.Input
 no_input_fault None e = let h : outcome.Done ≡ outcome.Input = e in cc
 no_input_fault (Some f) e = let h : outcome.Findings ≡ outcome.Input = e in cc
 
+no_input_sought : (cost bound : ℕ) → search_outcome cost bound ≡ outcome.Input → ⊥
+no_input_sought cost bound e = at (bound == cost) e
+  where
+    at : (same : Bool) → (if same then outcome.Done else outcome.Unfinished) ≡ outcome.Input → ⊥
+    at true e = let h : outcome.Done ≡ outcome.Input = e in cc
+    at false e = let h : outcome.Unfinished ≡ outcome.Input = e in cc
+
+no_input_followed : (f : Followed) → followed_outcome f ≡ outcome.Input → ⊥
+no_input_followed (answers.Through left) e = let h : outcome.Done ≡ outcome.Input = e in cc
+no_input_followed (answers.Blocked number) e = let h : outcome.Findings ≡ outcome.Input = e in cc
+no_input_followed (answers.Over number load) e = let h : outcome.Findings ≡ outcome.Input = e in cc
+
+pub report_outcome : (x : Night × Plan) (r : Reply) → HasReport x r → r.outcome ≡ outcome.Done
+report_outcome x r d = ap (λ (r : Reply). r.outcome) d.reply
+
 -- an answer is never that an input isn't accepted
 no_input : (c : Call) (v : Value c) (r : Reply) → IsAnswer c v r → r.outcome ≡ outcome.Input → ⊥
 no_input (Match s t) night r (inl p) o = let e : outcome.Done ≡ outcome.Input = sym (paired_outcome night r p) ∙ o in cc
@@ -177,11 +216,31 @@ no_input (Zones s t p z) x r is o = no_input_met (meets_in x.night x.zones x.pla
 no_input (Drivers s t p c d) x r is o = let e : outcome.Done ≡ outcome.Input = sym (ap (λ (r : Reply). r.outcome) is.reply) ∙ o in cc
 no_input (Roster s t p c d) x r is o = no_input_fault (fault_in x.night x.crew x.plan x.duties) (sym (ap (λ (r : Reply). r.outcome) is) ∙ o)
 no_input (Replay s t p e n) x r is o = no_input_found is.findings (sym is.outcome ∙ o)
+no_input (MakePlan s t m p k) night r (inl is) o = no_input_sought is.1.certificate.cost is.1.certificate.bound (sym (ap (λ (r : Reply). r.outcome) is.1.reply) ∙ o)
+no_input (MakePlan s t m p k) night r (inr is) o = let e : outcome.NoMatching ≡ outcome.Input = sym (short_outcome night r is) ∙ o in cc
+no_input (Follow s n) x r is o = no_input_followed (followed x.station x.orders) (sym (ap (λ (r : Reply). r.outcome) is) ∙ o)
+no_input (Delay s t p) x r (inl f) o = let e : outcome.Findings ≡ outcome.Input = sym (faulty_outcome x r f) ∙ o in cc
+no_input (Delay s t p) x r (inr d) o = let e : outcome.Done ≡ outcome.Input = sym (delays_outcome x r d) ∙ o in cc
+no_input (Sheet s t p n) x r (inl f) o = let e : outcome.Findings ≡ outcome.Input = sym (faulty_outcome x r f) ∙ o in cc
+no_input (Sheet s t p n) x r (inr d) o = let e : outcome.Done ≡ outcome.Input = sym d.outcome ∙ o in cc
+no_input (Report s t p) x r (inl f) o = let e : outcome.Findings ≡ outcome.Input = sym (faulty_outcome x r f) ∙ o in cc
+no_input (Report s t p) x r (inr d) o = let e : outcome.Done ≡ outcome.Input = sym (report_outcome x r d) ∙ o in cc
+no_input (Upgrade s t n m) x r is o = let e : outcome.Done ≡ outcome.Input = sym (ap (λ (r : Reply). r.outcome) is) ∙ o in cc
 
 -- a name of one write is the one that is written
 one_write : (n content name text : List ℕ) → In {X = List ℕ × List ℕ} (name, text) ((n, content) ∷ []) → In name (n ∷ [])
 one_write n content name text (inl e) = inl (ap (λ (w : List ℕ × List ℕ). w.0) e)
 one_write n content name text (inr h) = absurd h
+
+two_writes : (p k plan certificate name text : List ℕ) → In {X = List ℕ × List ℕ} (name, text) ((k, certificate) ∷ (p, plan) ∷ []) → In name (p ∷ k ∷ [])
+two_writes p k plan certificate name text (inl e) = inr (inl (ap (λ (w : List ℕ × List ℕ). w.0) e))
+two_writes p k plan certificate name text (inr (inl e)) = inl (ap (λ (w : List ℕ × List ℕ). w.0) e)
+two_writes p k plan certificate name text (inr (inr h)) = absurd h
+
+in_both : (n m station timetable name text : List ℕ) → In {X = List ℕ × List ℕ} (name, text) ((n, station) ∷ (m, timetable) ∷ []) → In name (n ∷ m ∷ [])
+in_both n m station timetable name text (inl e) = inl (ap (λ (w : List ℕ × List ℕ). w.0) e)
+in_both n m station timetable name text (inr (inl e)) = inr (inl (ap (λ (w : List ℕ × List ℕ). w.0) e))
+in_both n m station timetable name text (inr (inr h)) = absurd h
 
 -- an answer writes no file but the command's own
 own_writes : (c : Call) (v : Value c) (r : Reply) (name text : List ℕ) → IsAnswer c v r → In (name, text) r.writes → In name (outputs_of c)
@@ -193,10 +252,33 @@ own_writes (Zones s t p z) x r name text is w = subst (λ (q : Reply). In (name,
 own_writes (Drivers s t p c d) x r name text is w = one_write d _ name text (subst (λ (q : Reply). In {X = List ℕ × List ℕ} (name, text) q.writes) is.reply w)
 own_writes (Roster s t p c d) x r name text is w = subst (λ (q : Reply). In (name, text) q.writes) is w
 own_writes (Replay s t p e n) x r name text is w = one_write n _ name text (subst (λ (ws : List (List ℕ × List ℕ)). In {X = List ℕ × List ℕ} (name, text) ws) is.writes w)
+own_writes (MakePlan s t m p k) night r name text (inl is) w = two_writes p k _ _ name text (subst (λ (q : Reply). In {X = List ℕ × List ℕ} (name, text) q.writes) is.1.reply w)
+own_writes (MakePlan s t m p k) night r name text (inr is) w = absurd (subst (λ (q : Reply). In (name, text) q.writes) is.reply.2 w)
+own_writes (Follow s o) x r name text is w = subst (λ (q : Reply). In (name, text) q.writes) is w
+own_writes (Delay s t p) x r name text (inl f) w = subst (λ (q : Reply). In (name, text) q.writes) f.reply w
+own_writes (Delay s t p) x r name text (inr d) w = subst (λ (q : Reply). In (name, text) q.writes) d.reply w
+own_writes (Sheet s t p n) x r name text (inl f) w = absurd (subst (λ (q : Reply). In (name, text) q.writes) f.reply w)
+own_writes (Sheet s t p n) x r name text (inr d) w = one_write n _ name text (subst (λ (ws : List (List ℕ × List ℕ)). In {X = List ℕ × List ℕ} (name, text) ws) d.writes w)
+own_writes (Report s t p) x r name text (inl f) w = subst (λ (q : Reply). In (name, text) q.writes) f.reply w
+own_writes (Report s t p) x r name text (inr d) w = subst (λ (q : Reply). In (name, text) q.writes) d.reply w
+own_writes (Upgrade s t n m) x r name text is w = in_both n m _ _ name text (subst (λ (q : Reply). In {X = List ℕ × List ℕ} (name, text) q.writes) is w)
 
 -- before its reply is known a command writes no file but its own
 own_begins : (c : Call) (a b : Files) (name : List ℕ) → (In name (outputs_of c) → ⊥) → MayBegin c a b → map.get b name ≡ map.get a name
-own_begins c a b name other e = ap (λ f. map.get f name) e
+own_begins c a b name other (inl e) = ap (λ f. map.get f name) e
+own_begins c a b name other (inr h) = at h.searched.begun
+  where
+    its_own : In name (h.certificate ∷ []) → In name (outputs_of c)
+    its_own (inl e) = subst (λ (d : Call). In name (outputs_of d)) (sym h.is) (inr (inl e))
+    its_own (inr w) = absurd w
+
+    one : (c : Certificate) → MayHold ((h.certificate, certificate_file h.searched.night c) ∷ []) a b name → map.get b name ≡ map.get a name
+    one c (inl e) = e
+    one c (inr w) = absurd (other (its_own (one_write h.certificate (certificate_file h.searched.night c) name w.0 w.1)))
+
+    at : MaySearch h.searched.night h.certificate a b → map.get b name ≡ map.get a name
+    at (inl e) = ap (λ f. map.get f name) e
+    at (inr s) = one s.0 (s.2 name)
 
 -- ---- the first input that isn't accepted
 
@@ -300,9 +382,9 @@ may_whole ws a b e = subst (MayWrite ws a) (sym e) (λ name. subst (λ vs. MayHo
 
 -- nothing was written, or the writing of a defined reply was cut short
 abbrev Begun : Call → Seen → Files → Files → Type 0
-Begun c old a b = (b ≡ a) ⊎ ((r : Reply) × IsReplyOver c old.files r × MayWrite r.writes a b)
+Begun c old a b = MayBegin c a b ⊎ ((r : Reply) × IsReplyOver c old.files r × MayWrite r.writes a b)
 
-pub after_failure : (c : Call) (old new : Seen) (s : Status) → (s ≡ status.Store) ⊎ (s ≡ status.Memory) → Ends c old new s → BothTold old.files new.files (λ a b. (b ≡ a) ⊎ ((r : Reply) × IsReplyOver c old.files r × MayWrite r.writes a b))
+pub after_failure : (c : Call) (old new : Seen) (s : Status) → (s ≡ status.Store) ⊎ (s ≡ status.Memory) → Ends c old new s → BothTold old.files new.files (λ a b. MayBegin c a b ⊎ ((r : Reply) × IsReplyOver c old.files r × MayWrite r.writes a b))
 after_failure c old new s (inl is) ends = at (subst (Ends c old new) is ends)
   where
     at : Ends c old new status.Store → BothTold old.files new.files (Begun c old)

@@ -1,20 +1,19 @@
 mod Writes
-mod Seeing
 mod Commands
-mod ReplayFiles
-mod CheckFiles
-mod ZonesFiles
-mod DriversFiles
-mod RosterFiles
 mod Ending
 mod Exactly
 mod Matched
 pub mod Audits
-mod Turned
-mod Answered
 mod Replayed
 mod Checked
 mod Passed
 mod Shared
 mod Rostered
 mod RosterAccepted
+mod Firsts
+mod Planned
+mod OwnPlans
+mod Sound
+mod Always
+mod Either
+mod Gone

@@ -5,13 +5,14 @@ use Rattle.shunt_store.specs.defs.Files.{Files, content}
 use Rattle.shunt_store.specs.defs.Causes.{Rose}
 use Rattle.shunt_instance.specs.defs.Instance.{Night}
 use Rattle.shunt_matching.specs.defs.Nights.{Matches}
-use Rattle.shunt.specs.declared.delivering.Outcome.{Outcome}
-use Rattle.shunt.specs.declared.delivering.Outcome.TheVariants as outcome
+use Rattle.shunt_inputs.specs.declared.answers.Outcome.{Outcome}
+use Rattle.shunt_inputs.specs.declared.answers.Outcome.TheVariants as outcome
 use Rattle.shunt.specs.declared.running.Status.{Status}
 use Rattle.shunt.specs.declared.running.Status.TheVariants as status
 use Rattle.shunt.specs.defs.Words.{Match}
-use Rattle.shunt.specs.defs.Inputs.{Agrees, stated_night}
-use Rattle.shunt.specs.defs.Replies.{Reply, IsMatched, Decided}
+use Rattle.shunt_inputs.specs.defs.Inputs.{Agrees, stated_night}
+use Rattle.shunt_inputs.specs.defs.Replies.{Reply, Decided}
+use Rattle.shunt_planning.specs.defs.Matched.{IsMatched}
 use Rattle.shunt.specs.defs.Ends.{Seen, Ends, Yields, the_status}
 use Rattle.shunt.proofs.Exactly.{completes, decides, has_reply, reply_at, EndsAs, paired_outcome, short_outcome}
 

@@ -8,13 +8,14 @@ use Rattle.shunt_tracks.specs.declared.run.Event.{Event}
 use Rattle.shunt_zones.specs.declared.records.Meet.{Meet}
 use Rattle.shunt_zones.specs.defs.Meeting.{meets_in}
 use Rattle.shunt_zones.proofs.InWords.{all_meets}
-use Rattle.shunt.specs.declared.delivering.Outcome.{Outcome}
-use Rattle.shunt.specs.declared.delivering.Outcome.TheVariants as outcome
+use Rattle.shunt_inputs.specs.declared.answers.Outcome.{Outcome}
+use Rattle.shunt_inputs.specs.declared.answers.Outcome.TheVariants as outcome
 use Rattle.shunt.specs.declared.running.Status.{Status}
 use Rattle.shunt.specs.declared.running.Status.TheVariants as status
 use Rattle.shunt.specs.defs.Words.{Zones}
-use Rattle.shunt.specs.defs.Inputs.{Agrees, Passable, passing_in}
-use Rattle.shunt.specs.defs.Replies.{Reply, IsPassed, Decided, NoneMeet, meets_outcome}
+use Rattle.shunt_inputs.specs.defs.Inputs.{Agrees}
+use Rattle.shunt_throat.specs.defs.Passed.{Passable, passing_in, IsPassed, NoneMeet, meets_outcome}
+use Rattle.shunt_inputs.specs.defs.Replies.{Reply, Decided}
 use Rattle.shunt.specs.defs.Ends.{Seen, Ends, Yields, the_status}
 use Rattle.shunt.proofs.Exactly.{decides, has_reply, completes, reply_at, EndsAs}
 use Rattle.shunt.proofs.Audits.{EndsWell}

@@ -12,18 +12,20 @@ use Rattle.shunt_audit.specs.defs.Findings.{AreFindings}
 use Rattle.shunt_audit.specs.defs.Listed.{findings_in}
 use Rattle.shunt_audit.proofs.Exactly.{only_one}
 use Rattle.shunt_moves.specs.defs.States.{IsState}
-use Rattle.shunt.specs.declared.delivering.Outcome.{Outcome}
-use Rattle.shunt.specs.declared.delivering.Outcome.TheVariants as outcome
+use Rattle.shunt_inputs.specs.declared.answers.Outcome.{Outcome}
+use Rattle.shunt_inputs.specs.declared.answers.Outcome.TheVariants as outcome
 use Rattle.shunt.specs.declared.running.Status.{Status}
 use Rattle.shunt.specs.declared.running.Status.TheVariants as status
 use Rattle.shunt.specs.defs.Words.{Replay}
-use Rattle.shunt.specs.defs.Inputs.{Agrees, Replayable, stated_plans, stated_edits, stated_turns, turns_in}
-use Rattle.shunt.specs.defs.Replays.{last_of}
-use Rattle.shunt.specs.defs.Replies.{Reply, IsReplayed, Decided, EndsFeasible, audit_outcome}
+use Rattle.shunt_inputs.specs.defs.Inputs.{Agrees, stated_plans, stated_edits}
+use Rattle.shunt_judging.specs.defs.Replayed.{Replayable, stated_turns, turns_in, last_of, IsReplayed, EndsFeasible}
+use Rattle.shunt_inputs.specs.defs.Replies.{Reply, Decided}
+use Rattle.shunt_judging.specs.defs.Audited.{audit_outcome}
 use Rattle.shunt.specs.defs.Ends.{Seen, Ends, Yields, the_status}
 use Rattle.shunt.proofs.Exactly.{decides, has_reply, completes, reply_at, EndsAs}
-use Rattle.shunt.proofs.Audits.{parted, plan_stated, some_found, none_found, found_some, neither, well, EndsWell}
-use Rattle.shunt.proofs.Turned.{last_state, last_in_range}
+use Rattle.shunt_inputs.proofs.Stated.{parted, plan_stated}
+use Rattle.shunt.proofs.Audits.{some_found, none_found, found_some, neither, well, EndsWell}
+use Rattle.shunt_judging.proofs.Turned.{last_state, last_in_range}
 
 -- ---- what the files state, and the findings of the blocks that are left
 

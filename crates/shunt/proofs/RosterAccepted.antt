@@ -1,44 +1,40 @@
 -- The roster that `drivers` writes is a sharing of the plan's moves.
-use Rattle.std.proofs.Common.{◌≡◌, ◌≢◌, ◌≤◌, ℕ, List, [], ◌∷◌, ◌++◌, length, get_or, Option, Some, sym, subst, ap, ◌∙◌, Ok, Err, arith}
+use Rattle.std.proofs.Common.{◌≡◌, ◌≢◌, ◌≤◌, ℕ, List, [], ◌∷◌, ◌++◌, length, get_or, Option, Some, sym, subst, ap, ◌∙◌, Ok, arith}
 use Rattle.std.specs.List.{AllByRecursion}
-use Rattle.std.specs.Prelude.{◌⊎◌, unwrap_or, None, if◌then◌else◌}
-use Rattle.std.proofs.lemmas.Bool.{le-leb}
+use Rattle.std.specs.Prelude.{◌⊎◌, unwrap_or}
 use Rattle.shunt_store.specs.defs.Files.{Files, BothTold, content}
 use Rattle.shunt_store.proofs.TableLaws.{get_here}
-use Rattle.shunt_rows.specs.defs.Formats.{Format, reading}
-use Rattle.shunt_rows.specs.defs.Records.{records_of, text_of_rows}
+use Rattle.shunt_rows.specs.defs.Records.{text_of_rows}
 use Rattle.shunt_tracks.specs.declared.run.Event.{Event}
 use Rattle.shunt_zones.specs.defs.Moves.{moves_of}
 use Rattle.shunt_drivers.specs.declared.records.Duty.{Duty}
 use Rattle.shunt_drivers.specs.defs.RosterFormat.{roster_format, IsRoster}
 use Rattle.shunt_drivers.specs.defs.RosterRows.{rows_of, ReadsAsRoster}
-use Rattle.shunt_report.specs.declared.words.FileWord.{FileWord}
 use Rattle.shunt_report.specs.declared.words.FileWord.TheVariants as word
-use Rattle.shunt_report.specs.defs.Texts.{input_of}
-use Rattle.shunt.specs.declared.delivering.Outcome.TheVariants as outcome
+use Rattle.shunt_inputs.specs.declared.answers.Outcome.TheVariants as outcome
 use Rattle.shunt.specs.declared.running.Status.{Status}
 use Rattle.shunt.specs.declared.running.Status.TheVariants as status
-use Rattle.shunt.specs.defs.Words.{Drivers, Roster, AreNames, IsUsable}
-use Rattle.shunt.specs.defs.Inputs.{Sharable, most_bytes_of, value_or, stated, stated_sharing, stated_roster, sharing_in, rostering_in}
-use Rattle.shunt.specs.defs.Replies.{Reply, IsShared}
-use Rattle.shunt.specs.defs.Ends.{Seen, Ends, Yields, written}
-use Rattle.shunt.proofs.DriversFiles.{rosterable, then_roster}
+use Rattle.shunt.specs.defs.Words.{Drivers, Roster, IsUsable}
+use Rattle.shunt_inputs.specs.defs.Names.{AreNames}
+use Rattle.shunt_throat.specs.defs.Shared.{Sharable, stated_sharing, sharing_in, IsShared}
+use Rattle.shunt_inputs.specs.defs.Inputs.{stated_roster}
+use Rattle.shunt_throat.specs.defs.Rostered.{rostering_in}
+use Rattle.shunt_inputs.specs.defs.Replies.{Reply}
+use Rattle.shunt_inputs.specs.defs.Writes.{written}
+use Rattle.shunt.specs.defs.Ends.{Seen, Ends, Yields}
+use Rattle.shunt_throat.proofs.DriversFiles.{rosterable, then_roster}
 use Rattle.shunt.proofs.Exactly.{has_reply, reply_at}
 use Rattle.shunt.proofs.Rostered.{DriverLaws, done_there}
-use Rattle.shunt.proofs.Seeing.{extend}
+use Rattle.shunt_inputs.proofs.Seeing.{extend}
 use Rattle.shunt.proofs.Shared.{tells}
+use Rattle.shunt_inputs.proofs.Stated.{stated_again}
 
 -- what the laws of drivers say of the texts of rosters
 pub record RosterTexts : Type 0 where
   pub again : (moves : List Event) (duties : List Duty) → IsRoster moves duties → ReadsAsRoster moves duties (text_of_rows (rows_of duties))
   pub short : (moves : List Event) (duties : List Duty) → IsRoster moves duties → length (text_of_rows (rows_of duties)) ≤ 27209
 
-stated_short : {S X : Type 0} (file : FileWord) (format : Format S X) (bytes : List ℕ) (v : X) → length bytes ≤ most_bytes_of file → reading format (records_of bytes) ≡ Ok v → stated file format bytes ≡ Ok v
-stated_short file format bytes v le e =
-    ap (λ b. if b then value_or file (reading format (records_of bytes)) else Err (input_of file None)) (le-leb (length bytes) (most_bytes_of file) le)
-    ∙ ap (value_or file) e
-
-both_here : {A : Type 0} (o p : Option A) (x y : A) (R : A → A → Type 0) → o ≡ Some x → p ≡ Some y → BothTold o p R → R x y
+pub both_here : {A : Type 0} (o p : Option A) (x y : A) (R : A → A → Type 0) → o ≡ Some x → p ≡ Some y → BothTold o p R → R x y
 both_here o p x y R e f h = subst (λ q. BothTold (Some x) q R) f (subst (λ q. BothTold q p R) e h)
 
 -- where a file is written, it holds what was written, and others hold what they held
@@ -55,7 +51,7 @@ all_last : {X : Type 0} (P : X → Type 0) (xs : List X) (y : X) → AllByRecurs
 all_last P [] y h = h.0
 all_last P (x ∷ xs) y h = all_last P xs y h.1
 
-other_than : (ns : List (List ℕ)) (d : List ℕ) → AreNames (ns ++ d ∷ []) → AllByRecursion (λ m. d ≢ m) ns
+pub other_than : (ns : List (List ℕ)) (d : List ℕ) → AreNames (ns ++ d ∷ []) → AllByRecursion (λ m. d ≢ m) ns
 other_than [] d h = tt
 other_than (n ∷ ns) d h = (λ e. all_last (λ m. n ≢ m) ns d h.1 (sym e), other_than ns d h.2)
 
@@ -72,7 +68,7 @@ module _ (texts : RosterTexts) (s t p c d : List ℕ) (files : Files) (usable : 
       let moves = moves_of x.night x.plan.blocks in
       let short = texts.short moves is.duties is.roster in
       ap (stated_roster x.night x.plan) (here files d text)
-      ∙ stated_short word.Roster (roster_format moves) text is.duties (omega (arith, short)) (texts.again moves is.duties is.roster).value
+      ∙ stated_again word.Roster (roster_format moves) text is.duties (omega (arith, short)) (texts.again moves is.duties is.roster).value
 
   states : rostering_in s t p c d (written ((d, text) ∷ []) files) ≡ Ok (rosterable x is.duties)
   states =

@@ -17,16 +17,19 @@ use Rattle.shunt_drivers.specs.defs.CrewFormat.{crew_format, IsCrew}
 use Rattle.shunt_drivers.specs.defs.RosterFormat.{roster_format, AreDuties, IsRoster}
 use Rattle.shunt_drivers.specs.defs.RosterFaults.{fault_in, InWords}
 use Rattle.shunt_report.specs.declared.words.FileWord.TheVariants as word
-use Rattle.shunt.specs.declared.delivering.Outcome.{Outcome}
-use Rattle.shunt.specs.declared.delivering.Outcome.TheVariants as outcome
+use Rattle.shunt_inputs.specs.declared.answers.Outcome.{Outcome}
+use Rattle.shunt_inputs.specs.declared.answers.Outcome.TheVariants as outcome
 use Rattle.shunt.specs.declared.running.Status.{Status}
 use Rattle.shunt.specs.declared.running.Status.TheVariants as status
 use Rattle.shunt.specs.defs.Words.{Roster}
-use Rattle.shunt.specs.defs.Inputs.{Agrees, Sharable, Rosterable, stated_plans, stated_crew, stated_sharing, stated_roster, stated_rostering, rostering_in}
-use Rattle.shunt.specs.defs.Replies.{Reply, IsRostered, Decided, SharesAll, roster_outcome}
+use Rattle.shunt_inputs.specs.defs.Inputs.{Agrees, stated_plans, stated_crew, stated_roster}
+use Rattle.shunt_throat.specs.defs.Shared.{Sharable, stated_sharing}
+use Rattle.shunt_throat.specs.defs.Rostered.{Rosterable, stated_rostering, rostering_in, IsRostered, SharesAll, roster_outcome}
+use Rattle.shunt_inputs.specs.defs.Replies.{Reply, Decided}
 use Rattle.shunt.specs.defs.Ends.{Seen, Ends, Yields, the_status}
 use Rattle.shunt.proofs.Exactly.{decides, has_reply, completes, reply_at, EndsAs}
-use Rattle.shunt.proofs.Audits.{parted, stated_value, EndsWell}
+use Rattle.shunt_inputs.proofs.Stated.{parted, stated_value}
+use Rattle.shunt.proofs.Audits.{EndsWell}
 
 -- ---- what the files state
 

@@ -9,9 +9,9 @@ use Rattle.shunt_lists.specs.defs.Members.{In}
 use Rattle.shunt_store.specs.defs.Files.{Files, BothTold, Leaves}
 use Rattle.shunt_store.proofs.Texts.{both_then}
 use Rattle.shunt_store.proofs.TableLaws.{at_name, named, get_here}
-use Rattle.shunt.specs.declared.delivering.FileText.{FileText}
-use Rattle.shunt.specs.defs.Replies.{pair_of}
-use Rattle.shunt.specs.defs.Ends.{written, MayHold, MayWrite}
+use Rattle.shunt_inputs.specs.declared.answers.FileText.{FileText}
+use Rattle.shunt_inputs.specs.defs.Replies.{pair_of}
+use Rattle.shunt_inputs.specs.defs.Writes.{written, MayHold, MayWrite}
 
 pub written-append : (ws vs : List (List ℕ × List ℕ)) (a : Files) → written (ws ++ vs) a ≡ written vs (written ws a)
 written-append [] vs a = refl

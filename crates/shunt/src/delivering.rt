@@ -2,36 +2,13 @@
 ghost use Rattle.std.specs.Prelude.{◌≡◌, OnOk, OnErr, IsErrOf, map};
 ghost use Rattle.shunt_store.specs.defs.Files.{Closed, BothTold};
 ghost use Rattle.shunt_store.specs.defs.Causes.{HasCause};
-ghost use Rattle.shunt.specs.defs.Replies.{pair_of, reply_of};
-ghost use Rattle.shunt.specs.defs.Ends.{written, MayWrite, Delivers, the_status, seen};
+ghost use Rattle.shunt_inputs.specs.defs.Replies.{pair_of, reply_of};
+ghost use Rattle.shunt_inputs.specs.defs.Writes.{written, MayWrite};
+ghost use Rattle.shunt.specs.defs.Ends.{Delivers, the_status, seen};
 
 use crate::running::Status;
+use shunt_inputs::{Answer, FileText, Outcome};
 use shunt_store::{Sink, SinkError, Store, StoreError, print, write_all_to};
-
-/// How a command ended that was carried out.
-#[derive(Clone, Copy, Debug, PartialEq, Eq)]
-pub enum Outcome {
-    Done,
-    Findings,
-    Input,
-    NoMatching,
-    Unfinished,
-}
-
-/// A file by its name, and what it is to hold.
-#[derive(Debug, Drop)]
-pub struct FileText {
-    pub name: String,
-    pub bytes: Vec<u8>,
-}
-
-/// What a command answers: the files that it writes, in their order, and the text that it prints.
-#[derive(Debug, Drop)]
-pub struct Answer {
-    pub outcome: Outcome,
-    pub writes: Vec<FileText>,
-    pub text: Vec<u8>,
-}
 
 // Writes the files one after the other.
 fn write_files<S: Store>(store: &mut S, writes: &[FileText]) -> Result<(), StoreError>

@@ -1,5 +1,5 @@
 //! What follows from the contract of `run` on when each status comes and what then stands: of every command, and then of each.
-ghost use Rattle.std.specs.Prelude.{◌≡◌, ◌⊎◌, List, ℕ, Some, Ok};
+ghost use Rattle.std.specs.Prelude.{◌≡◌, ◌⊎◌, List, [], ◌<◌, ℕ, Some, Ok};
 ghost use Rattle.std.specs.FinMap as map;
 ghost use Rattle.shunt_lists.specs.defs.Members.{In};
 ghost use Rattle.shunt_store.specs.defs.Files.{Files, BothTold, content};
@@ -9,18 +9,39 @@ ghost use Rattle.shunt_matching.specs.defs.Nights.{Matches};
 ghost use Rattle.shunt_plan.specs.declared.records.Plan.{Plan};
 ghost use Rattle.shunt_checker.specs.declared.verdict.Verdict.TheVariants as verdict;
 ghost use Rattle.shunt_report.specs.defs.VerdictTexts.{verdict_of};
+ghost use Rattle.shunt_report.specs.defs.SheetTexts.{followed_of};
+ghost use Rattle.shunt_sheet.specs.declared.records.Order.{Order};
+ghost use Rattle.shunt_sheet.specs.declared.records.Followed.TheVariants as answers;
 ghost use Rattle.shunt_moves.specs.defs.States.{IsState};
-ghost use Rattle.shunt.specs.declared.delivering.Outcome.{Outcome};
+ghost use Rattle.shunt_inputs.specs.declared.answers.Outcome.{Outcome};
 ghost use Rattle.shunt.specs.declared.running.Status.{Status};
-ghost use Rattle.shunt.specs.defs.Words.{Call, Match, Audit, Check, Zones, Drivers, Roster, Replay, IsUsable, outputs_of};
-ghost use Rattle.shunt.specs.defs.Inputs.{Agrees, Checkable, Passable, Sharable, Rosterable, Replayable, refused, stated_night, stated_turns, check_in, passing_in, plans_in, rostering_in, sharing_in, turns_in};
-ghost use Rattle.shunt.specs.defs.Replays.{last_of};
-ghost use Rattle.shunt.specs.defs.Replies.{Reply, IsReply, IsReplyOver, IsClean, IsProved, BoundsAll, NoneMeet, SharesAll, EndsFeasible, refusal, says};
-ghost use Rattle.shunt.specs.defs.Ends.{Ends, Seen, CutInText, IsWhole, MayWrite, Yields, the_status};
+ghost use Rattle.shunt_planning.specs.defs.Planned.{planned};
+ghost use Rattle.shunt_planning.specs.defs.Found.{IsBounded, IsCheapest, AreDifferent};
+ghost use Rattle.shunt_choices.specs.defs.Choices.{partial_plans};
+ghost use Rattle.shunt_proof.specs.declared.records.Certificate.{Certificate};
+ghost use Rattle.shunt_exchange.specs.defs.Upgraded.{Upgradable, upgrade_in};
+ghost use Rattle.shunt_dispatch.specs.defs.Followed.{Followable, following_in, GoesThrough};
+ghost use Rattle.shunt.specs.defs.Words.{Call, Match, Follow, Audit, Delay, Report, Check, Zones, Sheet, Upgrade, Drivers, Roster, Replay, MakePlan, IsUsable, outputs_of};
+ghost use Rattle.shunt_inputs.specs.defs.Inputs.{Agrees, stated_night, plans_in};
+ghost use Rattle.shunt_judging.specs.defs.Checked.{Checkable, check_in, IsProved, BoundsAll};
+ghost use Rattle.shunt_throat.specs.defs.Passed.{Passable, passing_in, NoneMeet};
+ghost use Rattle.shunt_throat.specs.defs.Shared.{Sharable, sharing_in};
+ghost use Rattle.shunt_throat.specs.defs.Rostered.{Rosterable, rostering_in, SharesAll};
+ghost use Rattle.shunt_judging.specs.defs.Replayed.{Replayable, stated_turns, turns_in, last_of, EndsFeasible};
+ghost use Rattle.shunt.specs.defs.Inputs.{refused};
+ghost use Rattle.shunt_inputs.specs.defs.Replies.{Reply, refusal, says};
+ghost use Rattle.shunt.specs.defs.Replies.{IsReply, IsReplyOver};
+ghost use Rattle.shunt_judging.specs.defs.Audited.{IsClean};
+ghost use Rattle.shunt_inputs.specs.defs.Writes.{MayWrite};
+ghost use Rattle.shunt.specs.defs.Ends.{Ends, Seen, CutInText, IsWhole, MayBegin, Yields, the_status};
 
 use shunt_audit::laws;
 use shunt_checker::laws::reasons;
 use shunt_drivers::laws::{roster_fault_in_words, stated_values_are_formed, texts_of_rosters};
+use shunt_plan::laws::texts_of_plans;
+use shunt_proof::laws::{few_nodes, known_by_paths, proved_bounds, trees};
+use shunt_proof::text_laws::texts_of_certificates;
+use shunt_sheet::laws::{sheets_of_plans, texts_of_sheets};
 
 /// `Store` comes only where the store failed in the call, and `Sink` only where the sink did, so neither over a store or a
 /// sink whose count of faults is 0. `Words` never comes of words that spell a command.
@@ -49,12 +70,12 @@ pub fn statuses_are_of_replies()
 
 /// No file but those that the command writes is changed, whatever the status. After `Store` nothing was printed. After
 /// `Memory` nothing was, or the files of a defined reply were written and a front of its text was printed, as after `Sink`.
-/// After `Store` and `Memory` no file was touched, or each file that a defined reply writes holds what it held, nothing, or a
-/// front of its text.
+/// After `Store` and `Memory` no file was touched, but that the certificate of `plan` may be absent or hold a front of the text of
+/// one; or each file that a defined reply writes holds what it held, nothing, or a front of its text.
 pub fn what_stands_after()
     ensures others { (c : Call) (old new : Seen) (status : Status) (name : List ℕ) → (In name (outputs_of c) → ⊥) → Ends c old new status → BothTold old.files new.files (λ a b. map.get b name ≡ map.get a name) }
     ensures store { (c : Call) (old new : Seen) → Ends c old new Status.Store → new.output ≡ old.output }
-    ensures files { (c : Call) (old new : Seen) (status : Status) → (status ≡ Status.Store) ⊎ (status ≡ Status.Memory) → Ends c old new status → BothTold old.files new.files (λ a b. (b ≡ a) ⊎ ((r : Reply) × IsReplyOver c old.files r × MayWrite r.writes a b)) }
+    ensures files { (c : Call) (old new : Seen) (status : Status) → (status ≡ Status.Store) ⊎ (status ≡ Status.Memory) → Ends c old new status → BothTold old.files new.files (λ a b. MayBegin c a b ⊎ ((r : Reply) × IsReplyOver c old.files r × MayWrite r.writes a b)) }
     ensures memory { (c : Call) (old new : Seen) → Ends c old new Status.Memory → (new.output ≡ old.output) ⊎ ((r : Reply) × IsReplyOver c old.files r × CutInText r old new) }
     ensures sink { (c : Call) (old new : Seen) → Ends c old new Status.Sink → (r : Reply) × IsReplyOver c old.files r × CutInText r old new }
 {}
@@ -100,6 +121,59 @@ pub fn audit_completes()
     ensures { (s t p : List ℕ) (old new : Seen) (status : Status) (files : Files) (x : Night × Plan) → old.files ≡ Some files → plans_in s t p files ≡ Ok x → (Rose old.store_faults new.store_faults → ⊥) → (Rose old.sink_faults new.sink_faults → ⊥) → Ends (Audit s t p) old new status → (status ≡ Status.Done) ⊎ ((status ≡ Status.Findings) ⊎ (status ≡ Status.Memory)) }
 {}
 
+/// `delay` ends with `Done` exactly where the files are accepted and the plan is feasible and states its cost, and with
+/// `Findings` exactly where they are accepted and it isn't so, unless the store, memory or the sink came first. It never ends
+/// with `NoMatching` or `Unfinished`.
+pub fn delay_done_exactly()
+    ensures done { (s t p : List ℕ) (old new : Seen) (status : Status) (files : Files) (x : Night × Plan) → old.files ≡ Some files → plans_in s t p files ≡ Ok x → IsClean x → Ends (Delay s t p) old new status → (status ≡ Status.Done) ⊎ Yields status }
+    ensures done_only { (s t p : List ℕ) (old new : Seen) → Ends (Delay s t p) old new Status.Done → (files : Files) × Agrees old.files files × ((x : Night × Plan) × (plans_in s t p files ≡ Ok x) × IsClean x) }
+    ensures findings { (s t p : List ℕ) (old new : Seen) (status : Status) (files : Files) (x : Night × Plan) → old.files ≡ Some files → plans_in s t p files ≡ Ok x → (IsClean x → ⊥) → Ends (Delay s t p) old new status → (status ≡ Status.Findings) ⊎ Yields status }
+    ensures findings_only { (s t p : List ℕ) (old new : Seen) → Ends (Delay s t p) old new Status.Findings → (files : Files) × Agrees old.files files × ((x : Night × Plan) × (plans_in s t p files ≡ Ok x) × (IsClean x → ⊥)) }
+    ensures no_matching { (s t p : List ℕ) (old new : Seen) → Ends (Delay s t p) old new Status.NoMatching → ⊥ }
+    ensures no_unfinished { (s t p : List ℕ) (old new : Seen) → Ends (Delay s t p) old new Status.Unfinished → ⊥ }
+{
+    laws::plan_findings();
+}
+
+/// Where the files are accepted and neither the store nor the sink fails, `delay` ends with `Done`, `Findings` or `Memory`.
+pub fn delay_completes()
+    ensures { (s t p : List ℕ) (old new : Seen) (status : Status) (files : Files) (x : Night × Plan) → old.files ≡ Some files → plans_in s t p files ≡ Ok x → (Rose old.store_faults new.store_faults → ⊥) → (Rose old.sink_faults new.sink_faults → ⊥) → Ends (Delay s t p) old new status → (status ≡ Status.Done) ⊎ ((status ≡ Status.Findings) ⊎ (status ≡ Status.Memory)) }
+{}
+
+/// `report` ends with `Done` exactly where the files are accepted and the plan is feasible and states its cost, and with
+/// `Findings` exactly where they are accepted and it isn't so, unless the store, memory or the sink came first. It never ends
+/// with `NoMatching` or `Unfinished`.
+pub fn report_done_exactly()
+    ensures done { (s t p : List ℕ) (old new : Seen) (status : Status) (files : Files) (x : Night × Plan) → old.files ≡ Some files → plans_in s t p files ≡ Ok x → IsClean x → Ends (Report s t p) old new status → (status ≡ Status.Done) ⊎ Yields status }
+    ensures done_only { (s t p : List ℕ) (old new : Seen) → Ends (Report s t p) old new Status.Done → (files : Files) × Agrees old.files files × ((x : Night × Plan) × (plans_in s t p files ≡ Ok x) × IsClean x) }
+    ensures findings { (s t p : List ℕ) (old new : Seen) (status : Status) (files : Files) (x : Night × Plan) → old.files ≡ Some files → plans_in s t p files ≡ Ok x → (IsClean x → ⊥) → Ends (Report s t p) old new status → (status ≡ Status.Findings) ⊎ Yields status }
+    ensures findings_only { (s t p : List ℕ) (old new : Seen) → Ends (Report s t p) old new Status.Findings → (files : Files) × Agrees old.files files × ((x : Night × Plan) × (plans_in s t p files ≡ Ok x) × (IsClean x → ⊥)) }
+    ensures no_matching { (s t p : List ℕ) (old new : Seen) → Ends (Report s t p) old new Status.NoMatching → ⊥ }
+    ensures no_unfinished { (s t p : List ℕ) (old new : Seen) → Ends (Report s t p) old new Status.Unfinished → ⊥ }
+{
+    laws::plan_findings();
+}
+
+/// Where the files are accepted and neither the store nor the sink fails, `report` ends with `Done`, `Findings` or `Memory`.
+pub fn report_completes()
+    ensures { (s t p : List ℕ) (old new : Seen) (status : Status) (files : Files) (x : Night × Plan) → old.files ≡ Some files → plans_in s t p files ≡ Ok x → (Rose old.store_faults new.store_faults → ⊥) → (Rose old.sink_faults new.sink_faults → ⊥) → Ends (Report s t p) old new status → (status ≡ Status.Done) ⊎ ((status ≡ Status.Findings) ⊎ (status ≡ Status.Memory)) }
+{}
+
+/// `upgrade` ends with `Done` exactly where the files are accepted, unless the store, memory or the sink came first. It never ends
+/// with `Findings`, `NoMatching` or `Unfinished`.
+pub fn upgrade_done_exactly()
+    ensures done { (s t n m : List ℕ) (old new : Seen) (status : Status) (files : Files) (x : Upgradable) → old.files ≡ Some files → upgrade_in s t files ≡ Ok x → Ends (Upgrade s t n m) old new status → (status ≡ Status.Done) ⊎ Yields status }
+    ensures done_only { (s t n m : List ℕ) (old new : Seen) → Ends (Upgrade s t n m) old new Status.Done → (files : Files) × Agrees old.files files × ((x : Upgradable) × (upgrade_in s t files ≡ Ok x)) }
+    ensures no_findings { (s t n m : List ℕ) (old new : Seen) → Ends (Upgrade s t n m) old new Status.Findings → ⊥ }
+    ensures no_matching { (s t n m : List ℕ) (old new : Seen) → Ends (Upgrade s t n m) old new Status.NoMatching → ⊥ }
+    ensures no_unfinished { (s t n m : List ℕ) (old new : Seen) → Ends (Upgrade s t n m) old new Status.Unfinished → ⊥ }
+{}
+
+/// Where the files are accepted and neither the store nor the sink fails, `upgrade` ends with `Done` or `Memory`.
+pub fn upgrade_completes()
+    ensures { (s t n m : List ℕ) (old new : Seen) (status : Status) (files : Files) (x : Upgradable) → old.files ≡ Some files → upgrade_in s t files ≡ Ok x → (Rose old.store_faults new.store_faults → ⊥) → (Rose old.sink_faults new.sink_faults → ⊥) → Ends (Upgrade s t n m) old new status → (status ≡ Status.Done) ⊎ (status ≡ Status.Memory) }
+{}
+
 /// `check` ends with `Done` exactly where the files are accepted and the certificate is accepted with the plan, and with `Findings`
 /// exactly where they are accepted and it isn't so, unless the store, memory or the sink came first. It never ends with `NoMatching`
 /// or `Unfinished`.
@@ -143,6 +217,52 @@ pub fn zones_done_exactly()
 pub fn zones_completes()
     ensures { (s t p z : List ℕ) (old new : Seen) (status : Status) (files : Files) (x : Passable) → old.files ≡ Some files → passing_in s t p z files ≡ Ok x → (Rose old.store_faults new.store_faults → ⊥) → (Rose old.sink_faults new.sink_faults → ⊥) → Ends (Zones s t p z) old new status → (status ≡ Status.Done) ⊎ ((status ≡ Status.Findings) ⊎ (status ≡ Status.Memory)) }
 {}
+
+/// `sheet` ends with `Done` exactly where the files are accepted and the plan is feasible and states its cost, and with
+/// `Findings` exactly where they are accepted and it isn't so, unless the store, memory or the sink came first. It never ends
+/// with `NoMatching` or `Unfinished`.
+pub fn sheet_done_exactly()
+    ensures done { (s t p n : List ℕ) (old new : Seen) (status : Status) (files : Files) (x : Night × Plan) → old.files ≡ Some files → plans_in s t p files ≡ Ok x → IsClean x → Ends (Sheet s t p n) old new status → (status ≡ Status.Done) ⊎ Yields status }
+    ensures done_only { (s t p n : List ℕ) (old new : Seen) → Ends (Sheet s t p n) old new Status.Done → (files : Files) × Agrees old.files files × ((x : Night × Plan) × (plans_in s t p files ≡ Ok x) × IsClean x) }
+    ensures findings { (s t p n : List ℕ) (old new : Seen) (status : Status) (files : Files) (x : Night × Plan) → old.files ≡ Some files → plans_in s t p files ≡ Ok x → (IsClean x → ⊥) → Ends (Sheet s t p n) old new status → (status ≡ Status.Findings) ⊎ Yields status }
+    ensures findings_only { (s t p n : List ℕ) (old new : Seen) → Ends (Sheet s t p n) old new Status.Findings → (files : Files) × Agrees old.files files × ((x : Night × Plan) × (plans_in s t p files ≡ Ok x) × (IsClean x → ⊥)) }
+    ensures no_matching { (s t p n : List ℕ) (old new : Seen) → Ends (Sheet s t p n) old new Status.NoMatching → ⊥ }
+    ensures no_unfinished { (s t p n : List ℕ) (old new : Seen) → Ends (Sheet s t p n) old new Status.Unfinished → ⊥ }
+{
+    laws::plan_findings();
+}
+
+/// Where the files are accepted and neither the store nor the sink fails, `sheet` ends with `Done`, `Findings` or `Memory`.
+pub fn sheet_completes()
+    ensures { (s t p n : List ℕ) (old new : Seen) (status : Status) (files : Files) (x : Night × Plan) → old.files ≡ Some files → plans_in s t p files ≡ Ok x → (Rose old.store_faults new.store_faults → ⊥) → (Rose old.sink_faults new.sink_faults → ⊥) → Ends (Sheet s t p n) old new status → (status ≡ Status.Done) ⊎ ((status ≡ Status.Findings) ⊎ (status ≡ Status.Memory)) }
+{}
+
+/// `follow` ends with `Done` exactly where the files are accepted and all orders can be followed, and with `Findings` exactly where they
+/// are accepted and one can't, unless the store, memory or the sink came first. It never ends with `NoMatching` or `Unfinished`.
+pub fn follow_done_exactly()
+    ensures done { (s n : List ℕ) (old new : Seen) (status : Status) (files : Files) (x : Followable) → old.files ≡ Some files → following_in s n files ≡ Ok x → GoesThrough x → Ends (Follow s n) old new status → (status ≡ Status.Done) ⊎ Yields status }
+    ensures done_only { (s n : List ℕ) (old new : Seen) → Ends (Follow s n) old new Status.Done → (files : Files) × Agrees old.files files × ((x : Followable) × (following_in s n files ≡ Ok x) × GoesThrough x) }
+    ensures findings { (s n : List ℕ) (old new : Seen) (status : Status) (files : Files) (x : Followable) → old.files ≡ Some files → following_in s n files ≡ Ok x → (GoesThrough x → ⊥) → Ends (Follow s n) old new status → (status ≡ Status.Findings) ⊎ Yields status }
+    ensures findings_only { (s n : List ℕ) (old new : Seen) → Ends (Follow s n) old new Status.Findings → (files : Files) × Agrees old.files files × ((x : Followable) × (following_in s n files ≡ Ok x) × (GoesThrough x → ⊥)) }
+    ensures no_matching { (s n : List ℕ) (old new : Seen) → Ends (Follow s n) old new Status.NoMatching → ⊥ }
+    ensures no_unfinished { (s n : List ℕ) (old new : Seen) → Ends (Follow s n) old new Status.Unfinished → ⊥ }
+{}
+
+/// Where the files are accepted and neither the store nor the sink fails, `follow` ends with `Done`, `Findings` or `Memory`.
+pub fn follow_completes()
+    ensures { (s n : List ℕ) (old new : Seen) (status : Status) (files : Files) (x : Followable) → old.files ≡ Some files → following_in s n files ≡ Ok x → (Rose old.store_faults new.store_faults → ⊥) → (Rose old.sink_faults new.sink_faults → ⊥) → Ends (Follow s n) old new status → (status ≡ Status.Done) ⊎ ((status ≡ Status.Findings) ⊎ (status ≡ Status.Memory)) }
+{}
+
+/// On the files that `sheet` left with `Done`, `follow` of the sheet ends with `Done` and tells that no block is left, unless the store,
+/// memory or the sink comes first.
+pub fn written_sheets_go_through()
+    ensures { (s t p n : List ℕ) (a b old new : Seen) (status : Status) (files after : Files) → IsUsable (Sheet s t p n) → a.files ≡ Some files → b.files ≡ Some after → old.files ≡ Some after → Ends (Sheet s t p n) a b Status.Done → Ends (Follow s n) old new status
+        → ((status ≡ Status.Done) × ((orders : List Order) × IsWhole (says Outcome.Done (followed_of orders (answers.Through 0))) old new)) ⊎ Yields status }
+{
+    laws::plan_findings();
+    sheets_of_plans();
+    texts_of_sheets();
+}
 
 /// `drivers` ends with `Done` exactly where the files are accepted, unless the store, memory or the sink came first. It never ends
 /// with `Findings`, `NoMatching` or `Unfinished`.
@@ -212,3 +332,49 @@ pub fn replay_completes()
 pub fn replay_leaves_a_state()
     ensures { (s t p e : List ℕ) (x : Replayable) → stated_turns s t p e ≡ Ok x → IsState x.night (last_of x) }
 {}
+
+/// `plan` ends with `NoMatching` exactly where both input files are accepted and no list is a matching, unless the store, memory or
+/// the sink came first. It never ends with `Findings`.
+pub fn plan_no_matching_exactly()
+    ensures there { (s t : List ℕ) (m : ℕ) (p k : List ℕ) (old new : Seen) (status : Status) (files : Files) (night : Night) → old.files ≡ Some files → stated_night (content files s) (content files t) ≡ Ok night → ((place : List ℕ) → Matches night place → ⊥) → Ends (MakePlan s t m p k) old new status → (status ≡ Status.NoMatching) ⊎ Yields status }
+    ensures only { (s t : List ℕ) (m : ℕ) (p k : List ℕ) (old new : Seen) → Ends (MakePlan s t m p k) old new Status.NoMatching → (files : Files) × Agrees old.files files × ((night : Night) × (stated_night (content files s) (content files t) ≡ Ok night) × ((place : List ℕ) → Matches night place → ⊥)) }
+    ensures no_findings { (s t : List ℕ) (m : ℕ) (p k : List ℕ) (old new : Seen) → Ends (MakePlan s t m p k) old new Status.Findings → ⊥ }
+{}
+
+/// Where `plan` ends with `Done`, the plan file holds the text of a feasible plan that states its cost, no feasible plan of the night
+/// costs less, and that cost was printed as optimal, and as the bound.
+pub fn plan_is_cheapest()
+    ensures { (s t : List ℕ) (m : ℕ) (p k : List ℕ) (old new : Seen) → Ends (MakePlan s t m p k) old new Status.Done → (files : Files) × Agrees old.files files × ((night : Night) × (stated_night (content files s) (content files t) ≡ Ok night) × ((plan : Plan) × (c : Certificate) × IsCheapest night plan × (c.bound ≡ plan.cost) × IsWhole (planned Outcome.Done p k night plan c) old new)) }
+{
+    proved_bounds();
+}
+
+/// Where `plan` ends with `Unfinished`, the certificate file holds the text of exactly as many nodes as were allowed, whose paths are
+/// different partial plans; the plan file holds that of a feasible plan that states its cost; and every feasible plan of the night costs
+/// at least the bound that was printed, which is below the plan's cost.
+pub fn plan_is_unfinished()
+    ensures { (s t : List ℕ) (m : ℕ) (p k : List ℕ) (old new : Seen) → Ends (MakePlan s t m p k) old new Status.Unfinished → (files : Files) × Agrees old.files files × ((night : Night) × (stated_night (content files s) (content files t) ≡ Ok night) × ((plan : Plan) × (c : Certificate) × IsBounded night plan c.bound × (c.bound < plan.cost) × AreDifferent night c.nodes m × IsWhole (planned Outcome.Unfinished p k night plan c) old new)) }
+{
+    few_nodes();
+    known_by_paths();
+    proved_bounds();
+    trees();
+}
+
+/// Where both input files are accepted, a matching exists, and more nodes are allowed than there are partial plans, `plan` ends with
+/// `Done`, unless the store, memory or the sink came first. Where neither the store nor the sink fails, it ends with `Done`,
+/// `NoMatching`, `Unfinished` or `Memory`.
+pub fn plan_completes()
+    ensures done { (s t : List ℕ) (m : ℕ) (p k : List ℕ) (old new : Seen) (status : Status) (files : Files) (night : Night) → old.files ≡ Some files → stated_night (content files s) (content files t) ≡ Ok night → ((place : List ℕ) × Matches night place) → partial_plans night [] < m → Ends (MakePlan s t m p k) old new status → (status ≡ Status.Done) ⊎ Yields status }
+    ensures ends { (s t : List ℕ) (m : ℕ) (p k : List ℕ) (old new : Seen) (status : Status) (files : Files) (night : Night) → old.files ≡ Some files → stated_night (content files s) (content files t) ≡ Ok night → (Rose old.store_faults new.store_faults → ⊥) → (Rose old.sink_faults new.sink_faults → ⊥) → Ends (MakePlan s t m p k) old new status → (status ≡ Status.Done) ⊎ ((status ≡ Status.NoMatching) ⊎ ((status ≡ Status.Unfinished) ⊎ (status ≡ Status.Memory))) }
+{}
+
+/// `check` of the files that `plan` left, whether with `Done` or with `Unfinished`, accepts them, unless the store, memory or the sink
+/// came first.
+pub fn own_plans_are_accepted()
+    ensures { (s t : List ℕ) (m : ℕ) (p k : List ℕ) (old mid before new : Seen) (first status : Status) (files : Files) → IsUsable (MakePlan s t m p k) → Ends (MakePlan s t m p k) old mid first → (first ≡ Status.Done) ⊎ (first ≡ Status.Unfinished) → mid.files ≡ Some files → before.files ≡ Some files → Ends (Check s t p k) before new status → (status ≡ Status.Done) ⊎ Yields status }
+{
+    reasons();
+    texts_of_plans();
+    texts_of_certificates();
+}

@@ -2,10 +2,7 @@
 #![tactic(auto)]
 
 mod delivering;
-mod inputs;
 pub mod laws;
-mod loading;
-mod replaying;
 mod replying;
 mod running;
 mod words;

@@ -3,12 +3,12 @@ ghost use Rattle.std.specs.Prelude.{◌≡◌, ◌↔◌};
 ghost use Rattle.shunt_store.specs.defs.Files.{Closed};
 ghost use Rattle.shunt.specs.defs.Words.{Call, IsUsable, Spells, texts, call_of};
 ghost use Rattle.shunt.specs.defs.Ends.{Ends, seen};
-ghost use Rattle.shunt.specs.defs.Replies.{reply_of, refusal};
+ghost use Rattle.shunt_inputs.specs.defs.Replies.{reply_of, refusal};
 
-use crate::delivering::{Answer, Outcome, deliver};
-use crate::loading::Halt;
+use crate::delivering::deliver;
 use crate::replying::answer_to;
 use crate::words::{Command, command_of};
+use shunt_inputs::{Answer, Halt, Outcome};
 use shunt_store::{Sink, Store};
 use std::alloc::Global;
 
@@ -40,8 +40,9 @@ pub enum Status {
 ///
 /// The words are those behind the program's name. They spell `match STATION TIMETABLE`, `audit STATION TIMETABLE PLAN`,
 /// `check STATION TIMETABLE PLAN CERT`, `zones STATION TIMETABLE PLAN ZONES`, `drivers STATION TIMETABLE PLAN CREW ROSTER`,
-/// `roster STATION TIMETABLE PLAN CREW ROSTER` or `replay STATION TIMETABLE PLAN EDITS NEWPLAN`, where the files have names that differ
-/// and aren't empty, or the answer is `Words` and nothing is read, written or printed.
+/// `roster STATION TIMETABLE PLAN CREW ROSTER`, `replay STATION TIMETABLE PLAN EDITS NEWPLAN` or `plan STATION TIMETABLE NODES PLAN CERT`,
+/// where the files have names that differ and aren't empty and NODES is a number from 1 to 5,000, or the answer is `Words` and nothing is
+/// read, written or printed. The certificate of `plan` is written while it is found, before the other file.
 /// `Store` comes only where the store failed in this call and `Sink` only where the sink did; `Memory` may come in place
 /// of any answer but `Words`. Each other status is that of the defined answer, all of which then was written and printed.
 /// Where the store doesn't tell what its files hold, that is the defined answer over some contents of them.

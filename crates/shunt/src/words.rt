@@ -1,24 +1,40 @@
 // The words of the command line.
-ghost use Rattle.std.specs.Prelude.{◌≡◌, ◌↔◌, ◌∷◌, [], IfSome, IsSome, IsTrue};
-ghost use Rattle.shunt.specs.defs.Words.{AreNames, Call, Spells, texts, call_of};
+ghost use Rattle.std.specs.Prelude.{◌≡◌, ◌↔◌, ◌∷◌, [], ℕ, ◌≤◌, codes, Some, IfSome, IsSome, IsTrue};
+ghost use Rattle.std.specs.Fmt.{decimal};
+ghost use Rattle.shunt_inputs.specs.defs.Names.{AreNames};
+ghost use Rattle.shunt.specs.defs.Words.{Call, Spells, texts, call_of};
 
-/// What is asked for, by the names of the files.
+use shunt_base::parse_decimal;
+
+/// What is asked for, by the names of the files, and how many nodes a search may note.
 #[derive(Clone, Copy, Drop)]
 pub enum Command<'w> {
     /// `match STATION TIMETABLE`
     Match(&'w str, &'w str),
+    /// `follow STATION SHEET`
+    Follow(&'w str, &'w str),
     /// `audit STATION TIMETABLE PLAN`
     Audit(&'w str, &'w str, &'w str),
+    /// `delay STATION TIMETABLE PLAN`
+    Delay(&'w str, &'w str, &'w str),
+    /// `report STATION TIMETABLE PLAN`
+    Report(&'w str, &'w str, &'w str),
     /// `check STATION TIMETABLE PLAN CERT`
     Check(&'w str, &'w str, &'w str, &'w str),
     /// `zones STATION TIMETABLE PLAN ZONES`
     Zones(&'w str, &'w str, &'w str, &'w str),
+    /// `sheet STATION TIMETABLE PLAN SHEET`
+    Sheet(&'w str, &'w str, &'w str, &'w str),
+    /// `upgrade STATION TIMETABLE NEWSTATION NEWTIMETABLE`
+    Upgrade(&'w str, &'w str, &'w str, &'w str),
     /// `drivers STATION TIMETABLE PLAN CREW ROSTER`
     Drivers(&'w str, &'w str, &'w str, &'w str, &'w str),
     /// `roster STATION TIMETABLE PLAN CREW ROSTER`
     Roster(&'w str, &'w str, &'w str, &'w str, &'w str),
     /// `replay STATION TIMETABLE PLAN EDITS NEWPLAN`
     Replay(&'w str, &'w str, &'w str, &'w str, &'w str),
+    /// `plan STATION TIMETABLE NODES PLAN CERT`
+    MakePlan(&'w str, &'w str, u32, &'w str, &'w str),
 }
 
 /// The command that the words spell. None exactly where they spell none.
@@ -112,6 +128,7 @@ fn of_two_files<'w>(word: &'w String, first: &'w String, second: &'w String) -> 
     let (first, second) = (first.as_str(), second.as_str());
     match word.as_str() {
         "match" if are_two_names(first, second) => Some(Command::Match(first, second)),
+        "follow" if are_two_names(first, second) => Some(Command::Follow(first, second)),
         _ => None,
     }
 }
@@ -130,6 +147,12 @@ fn of_three_files<'w>(
     match word.as_str() {
         "audit" if are_three_names(first, second, third) => {
             Some(Command::Audit(first, second, third))
+        }
+        "delay" if are_three_names(first, second, third) => {
+            Some(Command::Delay(first, second, third))
+        }
+        "report" if are_three_names(first, second, third) => {
+            Some(Command::Report(first, second, third))
         }
         _ => None,
     }
@@ -154,6 +177,12 @@ fn of_four_files<'w>(
         }
         "zones" if are_four_names(first, second, third, fourth) => {
             Some(Command::Zones(first, second, third, fourth))
+        }
+        "sheet" if are_four_names(first, second, third, fourth) => {
+            Some(Command::Sheet(first, second, third, fourth))
+        }
+        "upgrade" if are_four_names(first, second, third, fourth) => {
+            Some(Command::Upgrade(first, second, third, fourth))
         }
         _ => None,
     }
@@ -183,6 +212,41 @@ fn of_five_files<'w>(
         "roster" if are_five_names(first, second, third, fourth, fifth) => {
             Some(Command::Roster(first, second, third, fourth, fifth))
         }
+        "plan" => of_search(first, second, third, fourth, fifth),
         _ => None,
+    }
+}
+
+// The number of nodes that a word allows.
+fn node_count(word: &str) -> Option<u32>
+    ensures some { IfSome result (λ m. (word.now ≡ decimal m) × (1 ≤ m) × (m ≤ 5000)) }
+    ensures only { (m : ℕ) → 1 ≤ m → m ≤ 5000 → word.now ≡ decimal m → result ≡ Some m }
+{
+    let number = parse_decimal(word.as_bytes())?;
+    if number < 1 {
+        return None;
+    }
+    if number > 5000 {
+        return None;
+    }
+    Some(number as u32)
+}
+
+// The search that the names of four files and a number of nodes ask for.
+fn of_search<'w>(
+    first: &'w str,
+    second: &'w str,
+    number: &'w str,
+    third: &'w str,
+    fourth: &'w str,
+) -> Option<Command<'w>>
+    ensures some { IfSome result (λ c. Spells (codes "plan" ∷ first.now ∷ second.now ∷ number.now ∷ third.now ∷ fourth.now ∷ []) (call_of c)) }
+    ensures only { (c : Call) → Spells (codes "plan" ∷ first.now ∷ second.now ∷ number.now ∷ third.now ∷ fourth.now ∷ []) c → IsSome result }
+{
+    let nodes = node_count(number)?;
+    if are_four_names(first, second, third, fourth) {
+        Some(Command::MakePlan(first, second, nodes, third, fourth))
+    } else {
+        None
     }
 }

@@ -2,7 +2,8 @@
 ghost use Rattle.std.specs.Prelude.{◌≡◌, IfOk};
 ghost use Rattle.shunt_store.specs.defs.Files.{Closed};
 
-use shunt_store::MemStore;
+use shunt::{Status, run};
+use shunt_store::{MemSink, MemStore};
 use std::alloc::Global;
 use std::test::Fail;
 
@@ -40,4 +41,18 @@ pub(crate) fn store_of(alloc: Global, station: &str, timetable: &str) -> Result<
     store.put("S", station.as_bytes())?;
     store.put("T", timetable.as_bytes())?;
     Ok(store)
+}
+
+// Whether the words end with this status and print this text over the store.
+pub(crate) fn runs_with(
+    alloc: Global,
+    store: &mut MemStore,
+    words: &[&str],
+    status: Status,
+    printed: &str,
+) -> Result<bool, Fail> {
+    let words = words_of(alloc, words)?;
+    let mut out = MemSink::new(alloc);
+    let ended = run(alloc, &words, store, &mut out);
+    Ok(ended == status && out.bytes() == printed.as_bytes())
 }

@@ -6,12 +6,20 @@ mod audits;
 #[cfg(test)]
 mod checks;
 #[cfg(test)]
+mod delays;
+#[cfg(test)]
 mod drivers;
+#[cfg(test)]
+mod exchanges;
 #[cfg(test)]
 mod inputs;
 #[cfg(test)]
 mod matches;
 #[cfg(test)]
+mod plans;
+#[cfg(test)]
 mod replays;
+#[cfg(test)]
+mod sheets;
 #[cfg(test)]
 mod throats;

@@ -185,6 +185,7 @@ fn words_spell_a_command(rt: HostRuntime) -> Result<(), Fail> {
     assert!(rt; are_no_words(alloc, &["match", "S", "T", "U"])?);
     assert!(rt; are_no_words(alloc, &["audit", "S", "T"])?);
     assert!(rt; are_no_words(alloc, &["audit", "S", "T", "S"])?);
+    assert!(rt; are_no_words(alloc, &["delay", "S", "T", "S"])?);
     assert!(rt; are_no_words(alloc, &["check", "S", "T", "P"])?);
     assert!(rt; are_no_words(alloc, &["check", "S", "T", "P", "S"])?);
     assert!(rt; are_no_words(alloc, &["zones", "S", "T", "P", "P"])?);

@@ -23,6 +23,6 @@ mod Ended
 mod Prepared
 mod Tidied
 mod Telling
-mod Free
+pub mod Free
 mod Concluded
 mod Reordered

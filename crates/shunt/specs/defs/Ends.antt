@@ -1,15 +1,16 @@
 -- How a run ends.
-use Rattle.std.specs.Prelude.{◌≡◌, ◌⊎◌, ℕ, ◌≤◌, List, [], ◌∷◌, ◌++◌, length, take, Option, None, Some}
-use Rattle.std.specs.FinMap as map
-use Rattle.shunt_lists.specs.defs.Members.{In}
+use Rattle.std.specs.Prelude.{◌≡◌, ◌⊎◌, ℕ, List, ◌++◌, Option}
 use Rattle.shunt_store.specs.defs.Files.{Files, BothTold, AddsFront}
 use Rattle.shunt_store.specs.defs.Causes.{Rose}
-use Rattle.shunt.specs.declared.delivering.Outcome.{Outcome}
-use Rattle.shunt.specs.declared.delivering.Outcome.TheVariants as outcome
+use Rattle.shunt_inputs.specs.declared.answers.Outcome.{Outcome}
+use Rattle.shunt_inputs.specs.declared.answers.Outcome.TheVariants as outcome
 use Rattle.shunt.specs.declared.running.Status.{Status}
 use Rattle.shunt.specs.declared.running.Status.TheVariants as status
-use Rattle.shunt.specs.defs.Words.{Call}
-use Rattle.shunt.specs.defs.Replies.{Reply, IsReplyOver}
+use Rattle.shunt_inputs.specs.defs.Writes.{written, MayWrite}
+use Rattle.shunt_planning.specs.defs.Begun.{HasSearched}
+use Rattle.shunt.specs.defs.Words.{Call, MakePlan}
+use Rattle.shunt_inputs.specs.defs.Replies.{Reply}
+use Rattle.shunt.specs.defs.Replies.{IsReplyOver}
 
 -- what can be known of the store and the sink at a moment
 pub record Seen : Type 0 where
@@ -20,19 +21,6 @@ pub record Seen : Type 0 where
 
 abbrev pub seen : {S O : Type 0} → (S → Option Files) → (S → ℕ) → (O → Option (List ℕ)) → (O → ℕ) → S → O → Seen
 seen files store_faults output sink_faults store out = record { files = files store; store_faults = store_faults store; output = output out; sink_faults = sink_faults out }
-
--- the files after these were written one after the other
-abbrev pub written : List (List ℕ × List ℕ) → Files → Files
-written [] files = files
-written (w ∷ ws) files = written ws (map.insert files w.0 w.1)
-
--- a name holds what it held, nothing, or a front of a text that was to be written there
-abbrev pub MayHold : List (List ℕ × List ℕ) → Files → Files → List ℕ → Type 0
-MayHold ws old new name = (map.get new name ≡ map.get old name) ⊎ ((t : List ℕ) × In (name, t) ws × ((map.get new name ≡ None) ⊎ ((n : ℕ) × (n ≤ length t) × (map.get new name ≡ Some (take n t)))))
-
--- so does every name
-abbrev pub MayWrite : List (List ℕ × List ℕ) → Files → Files → Type 0
-MayWrite ws old new = (name : List ℕ) → MayHold ws old new name
 
 -- the writing was cut short, and no byte was printed
 pub record CutInFiles (r : Reply) (old new : Seen) : Type 0 where
@@ -64,9 +52,19 @@ Delivers r old new status.Memory = CutInFiles r old new ⊎ CutInText r old new
 Delivers r old new status.Sink = Rose old.sink_faults new.sink_faults × CutInText r old new
 Delivers r old new s = (s ≡ the_status r.outcome) × IsWhole r old new
 
--- what a command may have done to the files before its reply is known: nothing
+-- the command searches, its input files are accepted, and no file was changed but that of its certificate
+pub record HasBegun (c : Call) (old new : Files) : Type 0 where
+  pub station : List ℕ
+  pub timetable : List ℕ
+  pub most : ℕ
+  pub plan : List ℕ
+  pub certificate : List ℕ
+  pub is : c ≡ MakePlan station timetable most plan certificate
+  pub searched : HasSearched station timetable certificate old new
+
+-- what a command may have done to the files before its reply is known: nothing, but that a search writes its certificate
 abbrev pub MayBegin : Call → Files → Files → Type 0
-MayBegin c old new = new ≡ old
+MayBegin c old new = (new ≡ old) ⊎ HasBegun c old new
 
 -- the run stopped before there was a reply, and nothing was printed
 abbrev pub StopsEarly : Call → Seen → Seen → Status → Type 0

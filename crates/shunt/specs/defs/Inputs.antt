@@ -1,203 +1,51 @@
 -- What the input files of a command state.
-use Rattle.std.specs.Prelude.{◌≡◌, ℕ, nat_le, List, length, Option, Some, None, Result, Ok, Err, IfSome, if◌then◌else◌}
-use Rattle.std.specs.Result.{result_err}
+use Rattle.std.specs.Prelude.{ℕ, List, Option, Result}
 use Rattle.shunt_store.specs.defs.Files.{Files, content}
-use Rattle.shunt_rows.specs.declared.fault.RowFault.{RowFault}
-use Rattle.shunt_rows.specs.defs.Formats.{Format, reading}
-use Rattle.shunt_rows.specs.defs.Records.{records_of}
-use Rattle.shunt_instance.specs.declared.records.Station.{Station}
-use Rattle.shunt_instance.specs.declared.records.Timetable.{Timetable}
-use Rattle.shunt_instance.specs.defs.Instance.{Night, night_of}
-use Rattle.shunt_plan.specs.declared.edits.Turn.{Turn}
+use Rattle.shunt_instance.specs.defs.Instance.{Night}
 use Rattle.shunt_plan.specs.declared.records.Plan.{Plan}
-use Rattle.shunt_plan.specs.defs.Edits.{edits_format}
-use Rattle.shunt_plan.specs.defs.PlanFormat.{plan_format}
-use Rattle.shunt_proof.specs.declared.records.Certificate.{Certificate}
-use Rattle.shunt_proof.specs.defs.CertificateFormat.{certificate_format}
-use Rattle.shunt_report.specs.declared.words.FileWord.{FileWord}
-use Rattle.shunt_report.specs.declared.words.FileWord.TheVariants as word
-use Rattle.shunt_report.specs.defs.Texts.{input_of}
-use Rattle.shunt_station.specs.defs.Stating.{station_format}
-use Rattle.shunt_timetable.specs.defs.TimetableFormat.{timetable_format}
-use Rattle.shunt_zones.specs.declared.records.Zones.{Zones as ThroatZones}
-use Rattle.shunt_zones.specs.defs.Moves.{moves_of}
-use Rattle.shunt_zones.specs.defs.ZonesFormat.{zones_format}
-use Rattle.shunt_drivers.specs.declared.records.Crew.{Crew}
-use Rattle.shunt_drivers.specs.declared.records.Duty.{Duty}
-use Rattle.shunt_drivers.specs.defs.CrewFormat.{crew_format}
-use Rattle.shunt_drivers.specs.defs.RosterFormat.{roster_format}
-use Rattle.shunt.specs.defs.Words.{Call, Match, Audit, Check, Zones, Drivers, Roster, Replay}
-
--- how many bytes may stand in an input file
-abbrev pub most_bytes_of : FileWord → ℕ
-most_bytes_of word.Certificate = 67108864
-most_bytes_of file = 4194304
-
--- what the records of an input file state, or the line for it with their first fault
-abbrev pub value_or : {X : Type 0} → FileWord → Result X RowFault → Result X (List ℕ)
-value_or file (Ok x) = Ok x
-value_or file (Err fault) = Err (input_of file (Some fault))
-
--- what an input file states by such a reading of its records, or the line for it where it is too long or has a first fault
-abbrev pub stated_by : {X : Type 0} → FileWord → (List (List (List ℕ)) → Result X RowFault) → List ℕ → Result X (List ℕ)
-stated_by file states bytes = if nat_le (length bytes) (most_bytes_of file) then value_or file (states (records_of bytes)) else Err (input_of file None)
-
--- the same in a format
-abbrev pub stated : {S X : Type 0} → FileWord → Format S X → List ℕ → Result X (List ℕ)
-stated file format bytes = stated_by file (reading format) bytes
-
-abbrev pub stated_station : List ℕ → Result Station (List ℕ)
-stated_station bytes = stated word.Station station_format bytes
-
-abbrev pub stated_timetable : Station → List ℕ → Result Timetable (List ℕ)
-stated_timetable station bytes = stated word.Timetable (timetable_format station) bytes
-
--- a value of the first, and then what is stated over it
-abbrev pub then_stated : {X Y : Type 0} → Result X (List ℕ) → (X → Result Y (List ℕ)) → Result Y (List ℕ)
-then_stated (Ok x) rest = rest x
-then_stated (Err text) rest = Err text
-
--- the night that a station file and a timetable file state, or the line for the first of them that isn't accepted
-abbrev pub stated_night : List ℕ → List ℕ → Result Night (List ℕ)
-stated_night s t = then_stated (stated_station s) (λ station. then_stated (stated_timetable station t) (λ timetable. Ok (night_of station timetable)))
-
--- a plan file over a night
-abbrev pub stated_plan : Night → List ℕ → Result Plan (List ℕ)
-stated_plan night bytes = stated word.Plan (plan_format night) bytes
-
--- the night that a station file and a timetable file state, and the plan that a plan file states in it, or the line for the first
--- of them that isn't accepted
-abbrev pub stated_plans : List ℕ → List ℕ → List ℕ → Result (Night × Plan) (List ℕ)
-stated_plans s t p = then_stated (stated_night s t) (λ night. then_stated (stated_plan night p) (λ plan. Ok (night, plan)))
-
--- the same of what the files of these names hold
-abbrev pub plans_in : List ℕ → List ℕ → List ℕ → Files → Result (Night × Plan) (List ℕ)
-plans_in s t p files = stated_plans (content files s) (content files t) (content files p)
-
--- a certificate file over a night
-abbrev pub stated_certificate : Night → List ℕ → Result Certificate (List ℕ)
-stated_certificate night bytes = stated word.Certificate (certificate_format night) bytes
-
--- a night, a plan in it, and a certificate that is to be checked with the plan
-pub record Checkable : Type 0 where
-  pub night : Night
-  pub plan : Plan
-  pub certificate : Certificate
-
--- those that a station file, a timetable file, a plan file and a certificate file state, or the line for the first of them that isn't
--- accepted
-unfoldable pub stated_check : List ℕ → List ℕ → List ℕ → List ℕ → Result Checkable (List ℕ)
-stated_check s t p k = then_stated (stated_plans s t p) (λ x. then_stated (stated_certificate x.0 k) (λ certificate. Ok (record { night = x.0; plan = x.1; certificate = certificate })))
-
--- the same of what the files of these names hold
-abbrev pub check_in : List ℕ → List ℕ → List ℕ → List ℕ → Files → Result Checkable (List ℕ)
-check_in s t p k files = stated_check (content files s) (content files t) (content files p) (content files k)
-
--- a zones file over a night
-abbrev pub stated_zones : Night → List ℕ → Result ThroatZones (List ℕ)
-stated_zones night bytes = stated word.Zones (zones_format night.station) bytes
-
--- a night, a plan in it, and the zones of its throat
-pub record Passable : Type 0 where
-  pub night : Night
-  pub plan : Plan
-  pub zones : ThroatZones
-
--- those that a station file, a timetable file, a plan file and a zones file state, or the line for the first of them that isn't
--- accepted
-unfoldable pub stated_passing : List ℕ → List ℕ → List ℕ → List ℕ → Result Passable (List ℕ)
-stated_passing s t p z = then_stated (stated_plans s t p) (λ x. then_stated (stated_zones x.0 z) (λ zones. Ok (record { night = x.0; plan = x.1; zones = zones })))
-
--- the same of what the files of these names hold
-abbrev pub passing_in : List ℕ → List ℕ → List ℕ → List ℕ → Files → Result Passable (List ℕ)
-passing_in s t p z files = stated_passing (content files s) (content files t) (content files p) (content files z)
-
--- a crew file over a night
-abbrev pub stated_crew : Night → List ℕ → Result Crew (List ℕ)
-stated_crew night bytes = stated word.Crew (crew_format night.station) bytes
-
--- a night, a plan in it, and how long drivers are with moves
-pub record Sharable : Type 0 where
-  pub night : Night
-  pub plan : Plan
-  pub crew : Crew
-
--- those that a station file, a timetable file, a plan file and a crew file state, or the line for the first of them that isn't
--- accepted
-unfoldable pub stated_sharing : List ℕ → List ℕ → List ℕ → List ℕ → Result Sharable (List ℕ)
-stated_sharing s t p c = then_stated (stated_plans s t p) (λ x. then_stated (stated_crew x.0 c) (λ crew. Ok (record { night = x.0; plan = x.1; crew = crew })))
-
--- the same of what the files of these names hold
-abbrev pub sharing_in : List ℕ → List ℕ → List ℕ → List ℕ → Files → Result Sharable (List ℕ)
-sharing_in s t p c files = stated_sharing (content files s) (content files t) (content files p) (content files c)
-
--- a roster file over the moves of a plan
-abbrev pub stated_roster : Night → Plan → List ℕ → Result (List Duty) (List ℕ)
-stated_roster night plan bytes = stated word.Roster (roster_format (moves_of night plan.blocks)) bytes
-
--- a night, a plan in it, how long drivers are with moves, and duties of the plan's moves
-pub record Rosterable : Type 0 where
-  pub night : Night
-  pub plan : Plan
-  pub crew : Crew
-  pub duties : List Duty
-
--- those that a station file, a timetable file, a plan file, a crew file and a roster file state, or the line for the first of them
--- that isn't accepted
-unfoldable pub stated_rostering : List ℕ → List ℕ → List ℕ → List ℕ → List ℕ → Result Rosterable (List ℕ)
-stated_rostering s t p c d = then_stated (stated_sharing s t p c) (λ x. then_stated (stated_roster x.night x.plan d) (λ duties. Ok (record { night = x.night; plan = x.plan; crew = x.crew; duties = duties })))
-
--- the same of what the files of these names hold
-abbrev pub rostering_in : List ℕ → List ℕ → List ℕ → List ℕ → List ℕ → Files → Result Rosterable (List ℕ)
-rostering_in s t p c d files = stated_rostering (content files s) (content files t) (content files p) (content files c) (content files d)
-
--- an edits file over a night
-abbrev pub stated_edits : Night → List ℕ → Result (List Turn) (List ℕ)
-stated_edits night bytes = stated word.Edits (edits_format night) bytes
-
--- a night, a plan in it, and the turns that are to be done on its blocks
-pub record Replayable : Type 0 where
-  pub night : Night
-  pub plan : Plan
-  pub turns : List Turn
-
--- those that a station file, a timetable file, a plan file and an edits file state, or the line for the first of them that isn't
--- accepted
-unfoldable pub stated_turns : List ℕ → List ℕ → List ℕ → List ℕ → Result Replayable (List ℕ)
-stated_turns s t p e = then_stated (stated_plans s t p) (λ x. then_stated (stated_edits x.0 e) (λ turns. Ok (record { night = x.0; plan = x.1; turns = turns })))
-
--- the same of what the files of these names hold
-abbrev pub turns_in : List ℕ → List ℕ → List ℕ → List ℕ → Files → Result Replayable (List ℕ)
-turns_in s t p e files = stated_turns (content files s) (content files t) (content files p) (content files e)
+use Rattle.shunt.specs.defs.Words.{Call, Match, Follow, Audit, Delay, Report, Check, Zones, Sheet, Upgrade, Drivers, Roster, Replay, MakePlan}
+use Rattle.shunt_judging.specs.defs.Checked.{Checkable, check_in}
+use Rattle.shunt_throat.specs.defs.Passed.{Passable, passing_in}
+use Rattle.shunt_throat.specs.defs.Shared.{Sharable, sharing_in}
+use Rattle.shunt_throat.specs.defs.Rostered.{Rosterable, rostering_in}
+use Rattle.shunt_judging.specs.defs.Replayed.{Replayable, turns_in}
+use Rattle.shunt_dispatch.specs.defs.Followed.{Followable, following_in}
+use Rattle.shunt_exchange.specs.defs.Upgraded.{Upgradable, upgrade_in}
+use Rattle.std.specs.Result.{result_err}
+use Rattle.shunt_inputs.specs.defs.Inputs.{stated_night, plans_in}
 
 -- what the input files of a command state together
 abbrev pub Value : Call → Type 0
 Value (Match s t) = Night
+Value (Follow s o) = Followable
 Value (Audit s t p) = Night × Plan
+Value (Delay s t p) = Night × Plan
+Value (Report s t p) = Night × Plan
 Value (Check s t p k) = Checkable
 Value (Zones s t p z) = Passable
+Value (Sheet s t p n) = Night × Plan
+Value (Upgrade s t n m) = Upgradable
 Value (Drivers s t p c d) = Sharable
 Value (Roster s t p c d) = Rosterable
 Value (Replay s t p e n) = Replayable
+Value (MakePlan s t m p k) = Night
 
 -- the value that they state, judged in the order of the words, or the line for the first of them that isn't accepted
 abbrev pub stated_in : (c : Call) → Files → Result (Value c) (List ℕ)
 stated_in (Match s t) files = stated_night (content files s) (content files t)
+stated_in (Follow s o) files = following_in s o files
 stated_in (Audit s t p) files = plans_in s t p files
+stated_in (Delay s t p) files = plans_in s t p files
+stated_in (Report s t p) files = plans_in s t p files
 stated_in (Check s t p k) files = check_in s t p k files
 stated_in (Zones s t p z) files = passing_in s t p z files
+stated_in (Sheet s t p n) files = plans_in s t p files
+stated_in (Upgrade s t n m) files = upgrade_in s t files
 stated_in (Drivers s t p c d) files = sharing_in s t p c files
 stated_in (Roster s t p c d) files = rostering_in s t p c d files
 stated_in (Replay s t p e n) files = turns_in s t p e files
+stated_in (MakePlan s t m p k) files = stated_night (content files s) (content files t)
 
 -- the line for the first input file that isn't accepted
 abbrev pub refused : Call → Files → Option (List ℕ)
 refused c files = result_err (stated_in c files)
-
--- what all files hold is what is told, where it is told
-abbrev pub Agrees : Option Files → Files → Type 0
-Agrees told files = IfSome told (λ known. known ≡ files)
-
--- the fact holds of what a name holds, where that is told, or else of some bytes
-abbrev pub Holding : Option Files → List ℕ → (List ℕ → Type 0) → Type 0
-Holding told name P = (bytes : List ℕ) × IfSome told (λ files. bytes ≡ content files name) × P bytes

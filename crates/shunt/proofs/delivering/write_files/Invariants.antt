@@ -1,7 +1,7 @@
 use Rattle.std.proofs.Common.{◌≡◌, ◌≤◌, map, take}
 use Rattle.shunt_store.specs.defs.Files.{Closed, BothTold}
-use Rattle.shunt.specs.defs.Replies.{pair_of}
-use Rattle.shunt.specs.defs.Ends.{written}
+use Rattle.shunt_inputs.specs.defs.Replies.{pair_of}
+use Rattle.shunt_inputs.specs.defs.Writes.{written}
 use Rattle.shunt.proofs.delivering.write_files.Given as goal
 
 abbrev pub invariant-files : goal.invariant-files

@@ -1,29 +1,44 @@
 use Rattle.std.proofs.Common.{ap}
 use Rattle.shunt.specs.defs.Words.{call_of}
-use Rattle.shunt.proofs.Commands.{match_answered, audit_answered}
-use Rattle.shunt.proofs.CheckFiles.{check_answered}
-use Rattle.shunt.proofs.ZonesFiles.{zones_answered}
-use Rattle.shunt.proofs.DriversFiles.{drivers_answered, roster_answered}
-use Rattle.shunt.proofs.ReplayFiles.{replay_answered}
+use Rattle.shunt.proofs.Firsts.{plain, planned_leads}
+use Rattle.shunt.proofs.Commands.{match_answered, report_answered, upgrade_answered, follow_answered, audit_answered, delay_answered, sheet_answered, check_answered, zones_answered, drivers_answered, roster_answered, replay_answered}
 use Rattle.shunt.proofs.replying.answer_to.Goals as goal
 
-pub returns-in-Match-clause-told : goal.returns-in-Match-clause-told
-returns-in-Match-clause-told g c = match_answered _ _ _ _ _ (ap call_of c.in-Match.is) c.requires.names c.reply_to_match.ensures.told
+pub returns-in-Match-clause-leads : goal.returns-in-Match-clause-leads
+returns-in-Match-clause-leads g c = plain _ _ _ _ c.reply_to_match.ensures.files (match_answered _ _ _ _ _ (ap call_of c.in-Match.is) c.requires.names c.reply_to_match.ensures.told)
 
-pub returns-in-Audit-clause-told : goal.returns-in-Audit-clause-told
-returns-in-Audit-clause-told g c = audit_answered _ _ _ _ _ _ (ap call_of c.in-Audit.is) c.requires.names c.reply_to_audit.ensures.told
+pub returns-in-Audit-clause-leads : goal.returns-in-Audit-clause-leads
+returns-in-Audit-clause-leads g c = plain _ _ _ _ c.reply_to_audit.ensures.files (audit_answered _ _ _ _ _ _ (ap call_of c.in-Audit.is) c.requires.names c.reply_to_audit.ensures.told)
 
-pub returns-in-Check-clause-told : goal.returns-in-Check-clause-told
-returns-in-Check-clause-told g c = check_answered _ _ _ _ _ _ _ (ap call_of c.in-Check.is) c.requires.names c.reply_to_check.ensures.told
+pub returns-in-Check-clause-leads : goal.returns-in-Check-clause-leads
+returns-in-Check-clause-leads g c = plain _ _ _ _ c.reply_to_check.ensures.files (check_answered _ _ _ _ _ _ _ (ap call_of c.in-Check.is) c.requires.names c.reply_to_check.ensures.told)
 
-pub returns-in-Zones-clause-told : goal.returns-in-Zones-clause-told
-returns-in-Zones-clause-told g c = zones_answered _ _ _ _ _ _ _ (ap call_of c.in-Zones.is) c.requires.names c.reply_to_zones.ensures.told
+pub returns-in-Zones-clause-leads : goal.returns-in-Zones-clause-leads
+returns-in-Zones-clause-leads g c = plain _ _ _ _ c.reply_to_zones.ensures.files (zones_answered _ _ _ _ _ _ _ (ap call_of c.in-Zones.is) c.requires.names c.reply_to_zones.ensures.told)
 
-pub returns-in-Drivers-clause-told : goal.returns-in-Drivers-clause-told
-returns-in-Drivers-clause-told g c = drivers_answered _ _ _ _ _ _ _ _ (ap call_of c.in-Drivers.is) c.requires.names c.reply_to_drivers.ensures.told
+pub returns-in-Drivers-clause-leads : goal.returns-in-Drivers-clause-leads
+returns-in-Drivers-clause-leads g c = plain _ _ _ _ c.reply_to_drivers.ensures.files (drivers_answered _ _ _ _ _ _ _ _ (ap call_of c.in-Drivers.is) c.requires.names c.reply_to_drivers.ensures.told)
 
-pub returns-in-Roster-clause-told : goal.returns-in-Roster-clause-told
-returns-in-Roster-clause-told g c = roster_answered _ _ _ _ _ _ _ _ (ap call_of c.in-Roster.is) c.requires.names c.reply_to_roster.ensures.told
+pub returns-in-Roster-clause-leads : goal.returns-in-Roster-clause-leads
+returns-in-Roster-clause-leads g c = plain _ _ _ _ c.reply_to_roster.ensures.files (roster_answered _ _ _ _ _ _ _ _ (ap call_of c.in-Roster.is) c.requires.names c.reply_to_roster.ensures.told)
 
-pub returns-in-Replay-clause-told : goal.returns-in-Replay-clause-told
-returns-in-Replay-clause-told g c = replay_answered _ _ _ _ _ _ _ _ (ap call_of c.in-Replay.is) c.requires.names c.reply_to_replay.ensures.told
+pub returns-in-Replay-clause-leads : goal.returns-in-Replay-clause-leads
+returns-in-Replay-clause-leads g c = plain _ _ _ _ c.reply_to_replay.ensures.files (replay_answered _ _ _ _ _ _ _ _ (ap call_of c.in-Replay.is) c.requires.names c.reply_to_replay.ensures.told)
+
+pub returns-in-MakePlan-clause-leads : goal.returns-in-MakePlan-clause-leads
+returns-in-MakePlan-clause-leads g c = planned_leads _ _ _ _ _ _ _ _ _ (ap call_of c.in-MakePlan.is) c.reply_to_plan.ensures.leads
+
+pub returns-in-Follow-clause-leads : goal.returns-in-Follow-clause-leads
+returns-in-Follow-clause-leads g c = plain _ _ _ _ c.reply_to_follow.ensures.files (follow_answered _ _ _ _ _ (ap call_of c.in-Follow.is) c.requires.names c.reply_to_follow.ensures.told)
+
+pub returns-in-Delay-clause-leads : goal.returns-in-Delay-clause-leads
+returns-in-Delay-clause-leads g c = plain _ _ _ _ c.reply_to_delay.ensures.files (delay_answered _ _ _ _ _ _ (ap call_of c.in-Delay.is) c.requires.names c.reply_to_delay.ensures.told)
+
+pub returns-in-Sheet-clause-leads : goal.returns-in-Sheet-clause-leads
+returns-in-Sheet-clause-leads g c = plain _ _ _ _ c.reply_to_sheet.ensures.files (sheet_answered _ _ _ _ _ _ _ (ap call_of c.in-Sheet.is) c.requires.names c.reply_to_sheet.ensures.told)
+
+pub returns-in-Report-clause-leads : goal.returns-in-Report-clause-leads
+returns-in-Report-clause-leads g c = plain _ _ _ _ c.reply_to_report.ensures.files (report_answered _ _ _ _ _ _ (ap call_of c.in-Report.is) c.requires.names c.reply_to_report.ensures.told)
+
+pub returns-in-Upgrade-clause-leads : goal.returns-in-Upgrade-clause-leads
+returns-in-Upgrade-clause-leads g c = plain _ _ _ _ c.reply_to_upgrade.ensures.files (upgrade_answered _ _ _ _ _ _ _ (ap call_of c.in-Upgrade.is) c.requires.names c.reply_to_upgrade.ensures.told)

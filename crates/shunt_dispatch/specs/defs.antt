@@ -1,0 +1,4 @@
+-- The definitions of this crate.
+pub mod Delayed
+pub mod Ordered
+pub mod Followed

@@ -1,0 +1,3 @@
+pub mod Seeing
+pub mod Stated
+pub mod Leading

@@ -1,0 +1,6 @@
+-- The definitions of this crate.
+pub mod Names
+pub mod Inputs
+pub mod Replies
+pub mod Halts
+pub mod Writes

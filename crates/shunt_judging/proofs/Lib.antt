@@ -1,0 +1,4 @@
+pub mod Turned
+mod Answered
+pub mod CheckFiles
+mod ReplayFiles

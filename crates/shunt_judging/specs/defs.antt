@@ -1,0 +1,4 @@
+-- The definitions of this crate.
+pub mod Audited
+pub mod Checked
+pub mod Replayed

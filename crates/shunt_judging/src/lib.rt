@@ -1,0 +1,11 @@
+//! The commands that judge a plan: `audit`, `check`, and `replay` with a planner's edits.
+#![tactic(auto)]
+
+mod auditing;
+mod checking;
+mod replaying;
+mod turning;
+
+pub use auditing::{fault_answer, reply_to_audit};
+pub use checking::reply_to_check;
+pub use replaying::reply_to_replay;

@@ -1,0 +1,2 @@
+mod Certified
+pub mod Sought

@@ -1,0 +1,8 @@
+use Rattle.std.proofs.Common.{sym}
+use Rattle.shunt_planning.proofs.searching.solve_into.Goals as goal
+
+pub returns-clause-same_reference : goal.returns-clause-same_reference
+returns-clause-same_reference g c = sym c.solve_pinned.ensures.keeps.0
+
+pub returns-clause-keeps : goal.returns-clause-keeps
+returns-clause-keeps g c = c.solve_pinned.ensures.keeps.1

@@ -1,0 +1,5 @@
+-- The definitions of this crate.
+pub mod Matched
+pub mod Planned
+pub mod Begun
+pub mod Found

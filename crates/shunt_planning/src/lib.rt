@@ -1,0 +1,9 @@
+//! The commands that plan a night: `match` and `plan`.
+#![tactic(auto)]
+
+mod pairing;
+mod planning;
+mod searching;
+
+pub use pairing::reply_to_match;
+pub use planning::reply_to_plan;

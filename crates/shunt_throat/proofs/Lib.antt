@@ -1,0 +1,4 @@
+mod ZonesFiles
+pub mod DriversFiles
+mod RosterFiles
+mod SharedDuties

@@ -1,0 +1,50 @@
+use Rattle.std.proofs.Common.{◌∙◌}
+use Rattle.shunt_inputs.specs.declared.answers.Answer.{Answer}
+use Rattle.shunt_throat.specs.defs.Rostered.{stated_rostering, IsRostered}
+use Rattle.shunt_inputs.specs.defs.Replies.{reply_of}
+use Rattle.shunt_throat.proofs.DriversFiles.{night_refused, plan_refused, crew_refused, sharing_refused}
+use Rattle.shunt_throat.proofs.RosterFiles.{rostering_decided}
+use Rattle.shunt_inputs.proofs.Stated.{cause_later}
+use Rattle.shunt_inputs.proofs.Seeing.{some_bytes, holding_at, holding_map, replies_failed, closed_failed, cause_failed, later_still, halted}
+use Rattle.shunt_throat.proofs.rostering.reply_to_roster.Goals as goal
+
+pub returns-in_err-instance-clause-told : goal.returns-in_err-instance-clause-told
+returns-in_err-instance-clause-told g c =
+    holding_map _ _ _ _ (λ s hs. holding_map _ _ _ _ (λ t h. some_bytes _ _ _ (λ p. some_bytes _ _ _ (λ k. some_bytes _ _ _ (λ d.
+    replies_failed _ _ _ _ c.from_residual.ensures (halted {A = Answer} reply_of _ (stated_rostering s t p k d) IsRostered (sharing_refused _ s t p k d (night_refused _ s t p k h))))))) hs) c.in_err-instance.ensures.told
+
+pub returns-in_err-plan-clause-told : goal.returns-in_err-plan-clause-told
+returns-in_err-plan-clause-told g c =
+    let third = holding_at _ _ _ _ c.in_ok-instance.ensures.files c.in_err-plan.ensures.told in
+    holding_map _ _ _ _ (λ s hs. holding_map _ _ _ _ (λ t is. holding_map _ _ _ _ (λ p h. some_bytes _ _ _ (λ k. some_bytes _ _ _ (λ d.
+    replies_failed _ _ _ _ c.from_residual-in_err-plan.ensures (halted {A = Answer} reply_of _ (stated_rostering s t p k d) IsRostered (sharing_refused _ s t p k d (plan_refused _ s t p k _ is h)))))) third) hs) c.in_ok-instance.ensures.told
+
+pub returns-in_err-crew-clause-told : goal.returns-in_err-crew-clause-told
+returns-in_err-crew-clause-told g c =
+    let third = holding_at _ _ _ _ c.in_ok-instance.ensures.files c.in_ok-plan.ensures.told in
+    let fourth = holding_at _ _ _ _ (c.in_ok-plan.ensures.files ∙ c.in_ok-instance.ensures.files) c.in_err-crew.ensures.told in
+    holding_map _ _ _ _ (λ s hs. holding_map _ _ _ _ (λ t is. holding_map _ _ _ _ (λ p ps. holding_map _ _ _ _ (λ k h. some_bytes _ _ _ (λ d.
+    replies_failed _ _ _ _ c.from_residual-in_err-crew.ensures (halted {A = Answer} reply_of _ (stated_rostering s t p k d) IsRostered (sharing_refused _ s t p k d (crew_refused _ s t p k _ _ is ps h))))) fourth) third) hs) c.in_ok-instance.ensures.told
+
+pub returns-clause-told : goal.returns-clause-told
+returns-clause-told g c =
+    let third = holding_at _ _ _ _ c.in_ok-instance.ensures.files c.in_ok-plan.ensures.told in
+    let fourth = holding_at _ _ _ _ (c.in_ok-plan.ensures.files ∙ c.in_ok-instance.ensures.files) c.in_ok-crew.ensures.told in
+    let fifth = holding_at _ _ _ _ (c.in_ok-crew.ensures.files ∙ c.in_ok-plan.ensures.files ∙ c.in_ok-instance.ensures.files) c.reply_to_duties.ensures.told in
+    holding_map _ _ _ _ (λ s hs. holding_map _ _ _ _ (λ t is. holding_map _ _ _ _ (λ p ps. holding_map _ _ _ _ (λ k ks. holding_map _ _ _ _ (λ d h.
+    rostering_decided s t p k d _ _ _ _ is ps ks h) fifth) fourth) third) hs) c.in_ok-instance.ensures.told
+
+pub returns-in_err-plan-clause-closed : goal.returns-in_err-plan-clause-closed
+returns-in_err-plan-clause-closed g c = closed_failed _ _ _ c.from_residual-in_err-plan.ensures c.in_err-plan.ensures.closed
+
+pub returns-in_err-crew-clause-closed : goal.returns-in_err-crew-clause-closed
+returns-in_err-crew-clause-closed g c = closed_failed _ _ _ c.from_residual-in_err-crew.ensures c.in_err-crew.ensures.closed
+
+pub returns-in_err-plan-clause-cause : goal.returns-in_err-plan-clause-cause
+returns-in_err-plan-clause-cause g c = cause_failed _ _ _ _ _ c.from_residual-in_err-plan.ensures c.in_ok-instance.ensures.cause.later c.in_err-plan.ensures.cause
+
+pub returns-in_err-crew-clause-cause : goal.returns-in_err-crew-clause-cause
+returns-in_err-crew-clause-cause g c = cause_failed _ _ _ _ _ c.from_residual-in_err-crew.ensures (later_still _ _ _ c.in_ok-instance.ensures.cause.later c.in_ok-plan.ensures.cause.later) c.in_err-crew.ensures.cause
+
+pub returns-clause-cause : goal.returns-clause-cause
+returns-clause-cause g c = cause_later _ _ _ _ (later_still _ _ _ (later_still _ _ _ c.in_ok-instance.ensures.cause.later c.in_ok-plan.ensures.cause.later) c.in_ok-crew.ensures.cause.later) c.reply_to_duties.ensures.cause

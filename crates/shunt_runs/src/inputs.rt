@@ -50,7 +50,9 @@ pub(crate) fn runs_with(
     words: &[&str],
     status: Status,
     printed: &str,
-) -> Result<bool, Fail> {
+) -> Result<bool, Fail>
+    requires { store.old.stage ≡ Closed }
+{
     let words = words_of(alloc, words)?;
     let mut out = MemSink::new(alloc);
     let ended = run(alloc, &words, store, &mut out);

@@ -14,16 +14,11 @@ fn a_sheet_is_written_and_followed(rt: HostRuntime) -> Result<(), Fail> {
     let sheet = ["sheet", "S", "T", "P", "O"];
     assert!(rt; runs_with(alloc, &mut store, &sheet, Status::Done, "sheet orders 4\n")?);
     assert!(rt; store.file("O") == Some(ORDERS.as_bytes()));
+    let mut store = store_of(alloc, TIGHT, "")?;
+    store.put("O", ORDERS.as_bytes())?;
     let through = "followed orders 4 left 0\n";
-    assert!(rt;
-        runs_with(
-            alloc,
-            &mut store,
-            &["follow", "S", "O"],
-            Status::Done,
-            through
-        )?
-    );
+    let follow = ["follow", "S", "O"];
+    assert!(rt; runs_with(alloc, &mut store, &follow, Status::Done, through)?);
     Ok(())
 }
 

@@ -72,16 +72,6 @@ cause_done {A = A} before now a le = record {
   failed = λ is. absurd (let h : ended_well A a ≡ err_of A halt.Fault = is in cc);
 }
 
-replies_map : {A : Type 0} (view : A → Reply) (r : Result A Halt) (P Q : Reply → Type 0) → ((q : Reply) → P q → Q q) → Replies view r P → Replies view r Q
-replies_map view (Ok x) P Q step h = step (view x) h
-replies_map view (Err (halt.Input text)) P Q step h = step (refusal text.items) h
-replies_map view (Err halt.Fault) P Q step h = tt
-replies_map view (Err halt.Memory) P Q step h = tt
-
-decided_by : {X Y : Type 0} (x : Result X (List ℕ)) (f : X → Y) (P : Y → Reply → Type 0) (r : Reply) → Decided x (λ v. P (f v)) r → Decided (then_stated x (λ v. Ok (f v))) P r
-decided_by (Ok v) f P r h = h
-decided_by (Err text) f P r h = h
-
 -- a later step's cause is one of the whole
 pub cause_later : {A : Type 0} (before mid now : ℕ) (r : Result A Halt) → before ≤ mid → HasCause halt.Fault mid now r → HasCause halt.Fault before now r
 cause_later before mid now r le cause = record {

@@ -2,6 +2,8 @@
 ghost use Rattle.std.specs.Prelude.{◌≡◌, ℕ, List, Result, IfOk};
 ghost use Rattle.shunt_instance.specs.defs.Wellformed.{IsStation, IsTimetable};
 ghost use Rattle.shunt_plan.specs.defs.Edits.{AreTurns, edits_format};
+ghost use Rattle.shunt_blocks.specs.defs.Lists.{AreInRange};
+ghost use Rattle.shunt_plan.specs.defs.PinsFormat.{pins_format};
 ghost use Rattle.shunt_plan.specs.defs.PlanFormat.{plan_format};
 ghost use Rattle.shunt_plan.specs.defs.Plans.{IsPlanInRange};
 ghost use Rattle.shunt_proof.specs.defs.CertificateFormat.{certificate_format};
@@ -19,10 +21,11 @@ ghost use Rattle.shunt_sheet.specs.defs.SheetFormat.{sheet_format, AreOrders};
 ghost use Rattle.shunt_zones.specs.defs.Moves.{moves_of};
 ghost use Rattle.shunt_zones.specs.defs.ZonesFormat.{zones_format, IsZones};
 
+use shunt_blocks::Block;
 use shunt_drivers::{Crew, Duty, read_crew, read_roster};
 use shunt_instance::{Instance, Station, Timetable};
 use shunt_lists::Items;
-use shunt_plan::{Plan, Turn, read_edits, read_plan};
+use shunt_plan::{Plan, Turn, read_edits, read_pins, read_plan};
 use shunt_proof::{Certificate, read_certificate};
 use shunt_report::FileWord;
 use shunt_rows::{ReadError, Row};
@@ -262,6 +265,32 @@ impl InputFile for RosterFile<'_> {
 
     fn read(&self, alloc: Global, rows: &Vec<Row>) -> Result<Items<Duty>, ReadError> {
         Ok(Items::from_vec(read_roster(alloc, self.instance, self.plan, rows)?))
+    }
+}
+
+/// A pins file over an instance.
+#[derive(Clone, Copy, Drop)]
+pub struct PinsFile<'i> {
+    pub instance: &'i Instance,
+}
+
+impl InputFile for PinsFile<'_> {
+    type Value = Items<Block>;
+
+    ghost word = { words.Pins };
+
+    ghost states = { λ f rows. reading (pins_format f.instance.now) rows };
+
+    ghost ready = { λ _. Unit {0} };
+
+    ghost formed = { λ f pins. AreInRange f.instance.now pins };
+
+    fn word(&self) -> FileWord {
+        FileWord::Pins
+    }
+
+    fn read(&self, alloc: Global, rows: &Vec<Row>) -> Result<Items<Block>, ReadError> {
+        Ok(Items::from_vec(read_pins(alloc, self.instance, rows)?))
     }
 }
 

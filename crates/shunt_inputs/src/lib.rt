@@ -7,10 +7,10 @@ mod loading;
 
 pub use answers::{Answer, FileText, Outcome, one_file};
 pub use inputs::{
-    CertificateFile, CrewFile, EditsFile, InputFile, PlanFile, RosterFile, SheetFile, StationFile,
-    TimetableFile, ZonesFile,
+    CertificateFile, CrewFile, EditsFile, InputFile, PinsFile, PlanFile, RosterFile, SheetFile,
+    StationFile, TimetableFile, ZonesFile,
 };
 pub use loading::{
-    Halt, load_certificate, load_crew, load_edits, load_input, load_instance, load_plan,
+    Halt, load_certificate, load_crew, load_edits, load_input, load_instance, load_pins, load_plan,
     load_roster, load_sheet, load_station, load_timetable, load_zones,
 };

@@ -3,6 +3,7 @@ ghost use Rattle.std.specs.Prelude.{◌≡◌, ◌-◌, ◌^◌, ◌<◌, ◌≤
 ghost use Rattle.shunt_store.specs.defs.Files.{Closed};
 ghost use Rattle.shunt_store.specs.defs.Causes.{HasCause};
 ghost use Rattle.shunt_plan.specs.defs.Edits.{AreTurns};
+ghost use Rattle.shunt_blocks.specs.defs.Lists.{AreInRange};
 ghost use Rattle.shunt_plan.specs.defs.Plans.{IsPlanInRange};
 ghost use Rattle.shunt_proof.specs.defs.Certificates.{IsCertificate};
 ghost use Rattle.shunt_report.specs.defs.Texts.{input_of};
@@ -14,12 +15,13 @@ ghost use Rattle.shunt_zones.specs.defs.Moves.{moves_of};
 ghost use Rattle.shunt_zones.specs.defs.ZonesFormat.{IsZones};
 ghost use Rattle.shunt_inputs.specs.declared.loading.Halt.TheVariants as halt;
 ghost use Rattle.shunt_inputs.specs.defs.Halts.{IfInput, Loads, LoadsBytes};
-ghost use Rattle.shunt_inputs.specs.defs.Inputs.{Holding, most_bytes_of, stated_by, stated_certificate, stated_crew, stated_edits, stated_night, stated_plan, stated_roster, stated_sheet, stated_station, stated_timetable, stated_zones};
+ghost use Rattle.shunt_inputs.specs.defs.Inputs.{Holding, most_bytes_of, stated_by, stated_certificate, stated_crew, stated_edits, stated_night, stated_pins, stated_plan, stated_roster, stated_sheet, stated_station, stated_timetable, stated_zones};
 
 use crate::inputs::{
-    CertificateFile, CrewFile, EditsFile, InputFile, PlanFile, RosterFile, SheetFile, StationFile,
-    TimetableFile, ZonesFile,
+    CertificateFile, CrewFile, EditsFile, InputFile, PinsFile, PlanFile, RosterFile, SheetFile,
+    StationFile, TimetableFile, ZonesFile,
 };
+use shunt_blocks::Block;
 use shunt_drivers::{Crew, Duty};
 use shunt_instance::{Instance, Station, Timetable};
 use shunt_lists::Items;
@@ -164,6 +166,23 @@ pub fn load_plan<S: Store>(
     ensures cause { HasCause Halt.Fault (S.faults store.old) (S.faults store.new) result }
 {
     load_input(alloc, store, name, &PlanFile { instance })
+}
+
+/// Reads and judges the pins file, over an instance.
+pub fn load_pins<S: Store>(
+    alloc: Global,
+    store: &mut S,
+    instance: &Instance,
+    name: &str,
+) -> Result<Items<Block>, Halt>
+    requires { S.stage store.old ≡ Closed }
+    ensures told { Holding (S.told store.old) name.now (λ p. Loads result (stated_pins instance.now p)) }
+    ensures in_range { IfOk result (AreInRange instance.now) }
+    ensures files { S.told store.new ≡ S.told store.old }
+    ensures closed { (IsErrOf result Halt.Fault → ⊥) → S.stage store.new ≡ Closed }
+    ensures cause { HasCause Halt.Fault (S.faults store.old) (S.faults store.new) result }
+{
+    load_input(alloc, store, name, &PinsFile { instance })
 }
 
 /// Reads and judges the certificate file, over an instance.

@@ -18,7 +18,7 @@ pub use edits::{Edit, Turn, read_edits};
 pub use kept::lost_pin;
 pub use pins::read_pins;
 pub use plan::read_plan;
-pub use ranges::{plan_cost, plan_in_range};
+pub use ranges::{blocks_cost, plan_cost, plan_in_range};
 pub use records::Plan;
 pub use writing::{arr_name, dep_name, track_name, write_option, write_plan};
 pub use writing_edits::write_edits;

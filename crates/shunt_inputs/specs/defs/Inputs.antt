@@ -12,6 +12,8 @@ use Rattle.shunt_instance.specs.declared.records.Station.{Station}
 use Rattle.shunt_instance.specs.declared.records.Timetable.{Timetable}
 use Rattle.shunt_plan.specs.declared.edits.Turn.{Turn}
 use Rattle.shunt_plan.specs.defs.Edits.{edits_format}
+use Rattle.shunt_blocks.specs.declared.records.Block.{Block}
+use Rattle.shunt_plan.specs.defs.PinsFormat.{pins_format}
 use Rattle.shunt_plan.specs.defs.PlanFormat.{plan_format}
 use Rattle.shunt_proof.specs.declared.records.Certificate.{Certificate}
 use Rattle.shunt_proof.specs.defs.CertificateFormat.{certificate_format}
@@ -73,6 +75,19 @@ stated_plans s t p = then_stated (stated_night s t) (λ night. then_stated (stat
 -- the same of what the files of these names hold
 abbrev pub plans_in : List ℕ → List ℕ → List ℕ → Files → Result (Night × Plan) (List ℕ)
 plans_in s t p files = stated_plans (content files s) (content files t) (content files p)
+
+-- a pins file over a night
+abbrev pub stated_pins : Night → List ℕ → Result (List Block) (List ℕ)
+stated_pins night bytes = stated word.Pins (pins_format night) bytes
+
+-- the night that a station file and a timetable file state, and the pins that a pins file states in it, or the line for the first
+-- of them that isn't accepted
+abbrev pub stated_pinned : List ℕ → List ℕ → List ℕ → Result (Night × List Block) (List ℕ)
+stated_pinned s t p = then_stated (stated_night s t) (λ night. then_stated (stated_pins night p) (λ pins. Ok (night, pins)))
+
+-- the same of what the files of these names hold
+abbrev pub pinned_in : List ℕ → List ℕ → List ℕ → Files → Result (Night × List Block) (List ℕ)
+pinned_in s t p files = stated_pinned (content files s) (content files t) (content files p)
 
 -- a certificate file over a night
 abbrev pub stated_certificate : Night → List ℕ → Result Certificate (List ℕ)

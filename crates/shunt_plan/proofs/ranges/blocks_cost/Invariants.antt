@@ -1,6 +1,6 @@
 use Rattle.std.proofs.Common.{◌≡◌, ◌≤◌, ◌*◌, take}
 use Rattle.shunt_blocks.specs.defs.Lists.{total_cost}
-use Rattle.shunt_plan.proofs.ranges.sum_costs.Given as goal
+use Rattle.shunt_plan.proofs.ranges.blocks_cost.Given as goal
 
 abbrev pub invariant-loop-block : goal.invariant-loop-block
 invariant-loop-block l = record {

@@ -1,0 +1,382 @@
+// Which prices the cases of a night have, and the best case without a multiplier.
+ghost use Rattle.std.specs.Prelude.{◌<◌, length};
+ghost use Rattle.shunt_choices.specs.defs.Paths.{IsTrailOf};
+
+use crate::ascending::{Ascent, ascend};
+use crate::evaluating::Work;
+use crate::numbers::{NOTHING, Number, at};
+use crate::points::{EVERY, Point};
+use crate::scenes::Scene;
+use crate::slots::{Slot, count_of, length_slot};
+use shunt_base::{ArrId, DepId, PriceKind, TrackId};
+use shunt_choices::Path;
+use shunt_instance::Instance;
+use std::alloc::{AllocError, Global};
+use std::num::Wrapping;
+
+/// How many prices a case has at most.
+const MOST: usize = 64;
+
+/// An ascent at a root.
+pub(crate) const FIRST: Ascent = Ascent {
+    lengths: true,
+    multiplier: false,
+    step: 20_000,
+    most: 6_000,
+    goal: Wrapping(i64::MAX),
+};
+
+/// A price with its value.
+#[derive(Clone, Copy)]
+struct Priced {
+    slot: Slot,
+    value: Number,
+}
+
+/// Values of positions, and prices with theirs.
+#[derive(Drop)]
+pub(crate) struct Draft {
+    beta: Vec<Number>,
+    prices: Vec<Priced>,
+}
+
+impl Draft {
+    /// The prices without their values.
+    pub(crate) fn slots(&self, alloc: Global) -> Result<Vec<Slot>, AllocError> {
+        let mut slots = Vec::with_capacity(alloc, self.prices.len())?;
+        for price in &self.prices {
+            slots.push(price.slot)?;
+        }
+        Ok(slots)
+    }
+
+    /// The point with these values, for a scene whose prices are these.
+    pub(crate) fn point(&self, alloc: Global) -> Result<Point, AllocError> {
+        let mut prices = Vec::with_capacity(alloc, self.prices.len())?;
+        for price in &self.prices {
+            prices.push(price.value)?;
+        }
+        Ok(Point {
+            beta: Vec::from_slice(alloc, &self.beta)?,
+            prices,
+            multiplier: NOTHING,
+        })
+    }
+
+    // The value of a price, and nothing where it isn't among these.
+    fn value_of(&self, slot: &Slot) -> Number {
+        for price in &self.prices {
+            if price.slot == *slot {
+                return price.value;
+            }
+        }
+        NOTHING
+    }
+
+    fn has(&self, slot: &Slot) -> bool {
+        for price in &self.prices {
+            if price.slot == *slot {
+                return true;
+            }
+        }
+        false
+    }
+
+    fn add(&mut self, slot: Slot) -> Result<(), AllocError> {
+        self.prices.push(Priced {
+            slot,
+            value: NOTHING,
+        })?;
+        Ok(())
+    }
+}
+
+// The draft of a point of a scene.
+fn draft_of(alloc: Global, scene: &Scene, point: Point) -> Result<Draft, AllocError> {
+    let mut prices = Vec::with_capacity(alloc, scene.slots.len())?;
+    for (slot, value) in scene.slots.iter().zip(&point.prices) {
+        prices.push(Priced {
+            slot: *slot,
+            value: *value,
+        })?;
+    }
+    Ok(Draft {
+        beta: point.beta,
+        prices,
+    })
+}
+
+// The best draft with the same prices that an ascent finds.
+fn ascended(
+    alloc: Global,
+    instance: &Instance,
+    path: &Path,
+    draft: &Draft,
+    most: usize,
+) -> Result<Draft, AllocError>
+    requires { IsTrailOf instance.now path.now }
+{
+    let scene = Scene::new(alloc, instance, path, draft.slots(alloc)?)?;
+    let mut work = Work::new(alloc, &scene)?;
+    let ascent = Ascent { most, ..FIRST };
+    let start = draft.point(alloc)?;
+    let (point, _) = ascend(alloc, &scene, EVERY, ascent, &start, &mut work)?;
+    draft_of(alloc, &scene, point)
+}
+
+// The minute of the arriving train with a number, and none behind the last.
+fn minute_of(instance: &Instance, train: usize) -> u16 {
+    if train >= instance.arrivals() {
+        return u16::MAX;
+    }
+    instance.arrive(ArrId(train as u8)).minute.number()
+}
+
+// Whether a departure lies behind the moment of an arriving train and before the next.
+fn is_moment(instance: &Instance, train: usize) -> bool {
+    let first = minute_of(instance, train);
+    let next = minute_of(instance, train.saturating_add(1));
+    for dep in 0..instance.departures() {
+        let minute = instance.depart(DepId(dep as u8)).minute.number();
+        if first < minute && minute <= next {
+            return true;
+        }
+    }
+    false
+}
+
+// The prices of length at a train's moment for all tracks.
+fn add_slots(instance: &Instance, train: ArrId, slots: &mut Vec<Slot>) -> Result<(), AllocError>
+    requires { train.0 < length instance.now.arrive }
+{
+    for track in 0..instance.station().tracks.len() {
+        slots.push(length_slot(instance, TrackId(track as u8), train))?;
+    }
+    Ok(())
+}
+
+// The prices of length at the moments that no later one takes the place of.
+fn all_slots(alloc: Global, instance: &Instance) -> Result<Vec<Slot>, AllocError> {
+    let mut slots = Vec::new(alloc);
+    for train in 0..instance.arrivals() {
+        if is_moment(instance, train) {
+            add_slots(instance, ArrId(train as u8), &mut slots)?;
+        }
+    }
+    Ok(slots)
+}
+
+// A draft of these prices in which all is nothing.
+fn empty_draft(alloc: Global, instance: &Instance, slots: &[Slot]) -> Result<Draft, AllocError> {
+    let mut draft = Draft {
+        beta: vec![in alloc; NOTHING; instance.positions()]?,
+        prices: Vec::new(alloc),
+    };
+    for slot in slots {
+        draft.add(*slot)?;
+    }
+    Ok(draft)
+}
+
+// The price of a track whose blocks exceed its length most, but for those that a draft has.
+fn fullest(full: &Scene, work: &Work, draft: &Draft, track: usize) -> Option<Slot> {
+    let mut found = None;
+    let mut most = NOTHING;
+    for (place, slot) in full.slots.iter().enumerate() {
+        let over = at(&work.slopes.prices, place);
+        if slot.track.0 as usize == track && over > most && !draft.has(slot) {
+            found = Some(*slot);
+            most = over;
+        }
+    }
+    found
+}
+
+// The point of a scene with all prices that a draft stands for.
+fn full_point(alloc: Global, full: &Scene, draft: &Draft) -> Result<Point, AllocError> {
+    let mut prices = Vec::with_capacity(alloc, full.slots.len())?;
+    for slot in &full.slots {
+        prices.push(draft.value_of(slot))?;
+    }
+    Ok(Point {
+        beta: Vec::from_slice(alloc, &draft.beta)?,
+        prices,
+        multiplier: NOTHING,
+    })
+}
+
+// Adds for each track the price whose moment is the fullest, where its blocks exceed its length there.
+fn add_fullest(
+    alloc: Global,
+    full: &Scene,
+    work: &mut Work,
+    draft: &mut Draft,
+) -> Result<(), AllocError> {
+    let point = full_point(alloc, full, draft)?;
+    work.evaluate(full, EVERY, &point);
+    for track in 0..full.tracks {
+        if let Some(slot) = fullest(full, work, draft, track) {
+            draft.add(slot)?;
+        }
+    }
+    Ok(())
+}
+
+// Drops the prices that cost nothing.
+fn drop_free(draft: &mut Draft) {
+    draft.prices.retain(|price| price.value > NOTHING);
+}
+
+// The prices of length that ten rounds find, each of which begins with those that cost anything and the fullest of the others.
+fn chosen_lengths(
+    alloc: Global,
+    instance: &Instance,
+    path: &Path,
+    slots: Vec<Slot>,
+) -> Result<Draft, AllocError>
+    requires { IsTrailOf instance.now path.now }
+{
+    let full = Scene::new(alloc, instance, path, slots)?;
+    let mut work = Work::new(alloc, &full)?;
+    let mut draft = empty_draft(alloc, instance, &[])?;
+    add_fullest(alloc, &full, &mut work, &mut draft)?;
+    for _ in 0..10 {
+        draft = ascended(alloc, instance, path, &draft, 1_500)?;
+        drop_free(&mut draft);
+        add_fullest(alloc, &full, &mut work, &mut draft)?;
+    }
+    Ok(draft)
+}
+
+// The prices of length to begin with: all, or where these are too many those that rounds find.
+fn length_prices(alloc: Global, instance: &Instance, path: &Path) -> Result<Draft, AllocError>
+    requires { IsTrailOf instance.now path.now }
+{
+    let slots = all_slots(alloc, instance)?;
+    if slots.len() > MOST {
+        return chosen_lengths(alloc, instance, path, slots);
+    }
+    empty_draft(alloc, instance, &slots)
+}
+
+// What a length counts for a kind of price, times a number.
+fn counts(kind: PriceKind, room: u32, long: u32, times: u64) -> u64 {
+    count_of(kind, room, long).saturating_mul(times)
+}
+
+// The lengths of the shapes of a scene that a track has room for.
+fn lengths_within(alloc: Global, scene: &Scene, room: u32) -> Result<Vec<u32>, AllocError> {
+    let mut lengths = Vec::new(alloc);
+    for group in &scene.groups {
+        let long = group.long();
+        if long <= room {
+            lengths.push(long)?;
+        }
+    }
+    Ok(lengths)
+}
+
+// Whether some length counts more of so many parts than of the track's length.
+fn are_useful(parts: u8, room: u32, lengths: &[u32]) -> bool {
+    for long in lengths {
+        let count = counts(PriceKind::Parts(parts), room, *long, u64::from(room));
+        if count > counts(PriceKind::Length, room, *long, u64::from(parts)) {
+            return true;
+        }
+    }
+    false
+}
+
+// Whether each length counts as much of one number of parts, for its most, as of another.
+fn rules(one: u8, other: u8, room: u32, lengths: &[u32]) -> bool {
+    for long in lengths {
+        let count = counts(PriceKind::Parts(one), room, *long, u64::from(other));
+        if count < counts(PriceKind::Parts(other), room, *long, u64::from(one)) {
+            return false;
+        }
+    }
+    true
+}
+
+/// How many parts are tried at most.
+const PARTS: u8 = 4;
+
+// Whether another useful number of parts takes the place of one.
+fn is_ruled(parts: u8, room: u32, lengths: &[u32]) -> bool {
+    for other in 1..=PARTS {
+        let stronger = other != parts
+            && are_useful(other, room, lengths)
+            && rules(other, parts, room, lengths);
+        if stronger && (other < parts || !rules(parts, other, room, lengths)) {
+            return true;
+        }
+    }
+    false
+}
+
+// Adds the prices of parts for a price's track and moment that may be worth more than that of length.
+fn add_parts(
+    alloc: Global,
+    scene: &Scene,
+    slot: &Slot,
+    draft: &mut Draft,
+) -> Result<(), AllocError> {
+    let lengths = lengths_within(alloc, scene, slot.room)?;
+    for parts in 1..=PARTS {
+        if are_useful(parts, slot.room, &lengths) && !is_ruled(parts, slot.room, &lengths) {
+            draft.add(Slot {
+                kind: PriceKind::Parts(parts),
+                ..*slot
+            })?;
+        }
+    }
+    Ok(())
+}
+
+// Above so many prices only those that cost anything get prices of parts beside them.
+const MANY: usize = 64;
+
+// Adds prices of parts at the moments of a draft.
+fn with_parts(
+    alloc: Global,
+    instance: &Instance,
+    path: &Path,
+    draft: Draft,
+) -> Result<Draft, AllocError>
+    requires { IsTrailOf instance.now path.now }
+{
+    let scene = Scene::new(alloc, instance, path, draft.slots(alloc)?)?;
+    let mut all = draft_of(alloc, &scene, draft.point(alloc)?)?;
+    let many = draft.prices.len() >= MANY;
+    for price in &draft.prices {
+        if !many || price.value > NOTHING {
+            add_parts(alloc, &scene, &price.slot, &mut all)?;
+        }
+    }
+    Ok(all)
+}
+
+// Keeps the 64 prices with the greatest values for their mosts.
+fn keep_dearest(draft: &mut Draft) {
+    drop_free(draft);
+    draft
+        .prices
+        .sort_unstable_by_key(|price| -(price.value * price.slot.most()));
+    draft.prices.truncate(MOST);
+}
+
+/// The prices that are worth a place in the cases at a path, with the best values for one case. Err is want of memory.
+pub(crate) fn first_draft(
+    alloc: Global,
+    instance: &Instance,
+    path: &Path,
+) -> Result<Draft, AllocError>
+    requires { IsTrailOf instance.now path.now }
+{
+    let lengths = length_prices(alloc, instance, path)?;
+    let lengths = ascended(alloc, instance, path, &lengths, FIRST.most)?;
+    let all = with_parts(alloc, instance, path, lengths)?;
+    let mut all = ascended(alloc, instance, path, &all, FIRST.most)?;
+    keep_dearest(&mut all);
+    ascended(alloc, instance, path, &all, FIRST.most)
+}

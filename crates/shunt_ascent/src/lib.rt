@@ -1,0 +1,18 @@
+//! Proposals of cases for a path: values of positions, prices and multipliers that bound much, with values of units that let them hold.
+//! Whether they hold is another's to judge.
+#![tactic(auto)]
+
+mod ascending;
+mod drafts;
+mod evaluating;
+mod metric;
+mod numbers;
+mod parting;
+mod points;
+mod proposing;
+mod scenes;
+mod settling;
+mod slots;
+mod stating;
+
+pub use proposing::propose_cases;

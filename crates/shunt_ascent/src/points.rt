@@ -1,0 +1,45 @@
+// The numbers of a case while they are searched for.
+use crate::numbers::{NOTHING, Number};
+use std::alloc::{AllocError, Global};
+use std::num::Wrapping;
+
+/// Values of positions, values of prices and a multiplier, so many to one.
+#[derive(Drop)]
+pub(crate) struct Point {
+    pub beta: Vec<Number>,
+    pub prices: Vec<Number>,
+    pub multiplier: Number,
+}
+
+/// The numbers of unparked blocks that a case speaks of.
+#[derive(Clone, Copy, Debug, Drop)]
+pub(crate) struct Span {
+    pub from: u8,
+    pub to: u8,
+}
+
+/// All numbers of unparked blocks.
+pub(crate) const EVERY: Span = Span { from: 0, to: 160 };
+
+impl Span {
+    /// The number of unparked blocks for which a multiplier takes most.
+    pub(crate) fn dearest(&self, multiplier: Number) -> Number {
+        let many = if multiplier >= NOTHING {
+            self.to
+        } else {
+            self.from
+        };
+        Wrapping(i64::from(many))
+    }
+}
+
+impl Point {
+    /// The same point.
+    pub(crate) fn copied(&self, alloc: Global) -> Result<Point, AllocError> {
+        Ok(Point {
+            beta: Vec::from_slice(alloc, &self.beta)?,
+            prices: Vec::from_slice(alloc, &self.prices)?,
+            multiplier: self.multiplier,
+        })
+    }
+}

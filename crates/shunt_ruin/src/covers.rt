@@ -1,0 +1,204 @@
+// A plan under change: which blocks it has, what they cover, where they stand, and what they cost.
+ghost use Rattle.std.specs.Prelude.{◌≡◌};
+
+use crate::tables::{Row, Spot, Tables, block_with};
+use crate::yard::{Standing, Yard};
+use shunt_blocks::{Block, Park};
+use std::alloc::{AllocError, Global};
+
+/// Stands for no block.
+pub(crate) const NO_BLOCK: u16 = 65535;
+
+/// A shape, and where it is parked, if it is.
+#[derive(Clone, Copy, Debug, Drop)]
+pub(crate) struct Placed {
+    pub(crate) row: Row,
+    pub(crate) spot: Option<Spot>,
+}
+
+impl Placed {
+    /// What it costs, in thousandths of a cost unit.
+    fn cost(&self, tables: &Tables) -> i64 {
+        match self.spot {
+            Some(spot) => self.row.ends.wrapping_add(spot.cost),
+            None => self.row.ends.wrapping_add(tables.unparked),
+        }
+    }
+
+    /// What the prices take of it.
+    fn part(&self) -> i64 {
+        match self.spot {
+            Some(spot) => spot.weight.wrapping_sub(spot.cost),
+            None => 0,
+        }
+    }
+
+    /// Its option.
+    fn park(&self) -> Option<Park> {
+        Some(self.spot?.park)
+    }
+
+    /// It as a block.
+    pub(crate) fn block(&self, id: u32) -> Block
+        ensures { result.id ≡ id }
+    {
+        block_with(self.row.shape, self.park(), id)
+    }
+}
+
+/// Sets a number, where the place is there.
+fn set(numbers: &mut [u16], place: usize, number: u16) {
+    if place < numbers.len() {
+        numbers[place] = number;
+    }
+}
+
+/// Sets so many numbers from a place on.
+fn set_all(numbers: &mut [u16], from: u16, many: u8, number: u16) {
+    for k in 0..usize::from(many) {
+        set(numbers, usize::from(from) + k, number);
+    }
+}
+
+/// Which block has a unit, or a position.
+pub(crate) fn block_of(numbers: &[u16], place: usize) -> u16 {
+    numbers.get(place).copied().unwrap_or(NO_BLOCK)
+}
+
+/// A number of copies of one.
+fn copies(alloc: Global, number: u16, many: usize) -> Result<Vec<u16>, AllocError> {
+    let mut numbers = Vec::with_capacity(alloc, many)?;
+    for _copy in 0..many {
+        numbers.push(number)?;
+    }
+    Ok(numbers)
+}
+
+/// Numbers from 0 on.
+fn count_up(alloc: Global, many: usize) -> Result<Vec<u16>, AllocError> {
+    let mut numbers = Vec::with_capacity(alloc, many)?;
+    for number in 0..many {
+        numbers.push(u16::try_from(number).unwrap_or(NO_BLOCK))?;
+    }
+    Ok(numbers)
+}
+
+/// So many places without a block.
+pub(crate) fn no_blocks(alloc: Global, many: usize) -> Result<Vec<Option<Placed>>, AllocError> {
+    let mut blocks = Vec::with_capacity(alloc, many)?;
+    for _unit in 0..many {
+        blocks.push(None)?;
+    }
+    Ok(blocks)
+}
+
+/// Blocks by their first units, with what they cover and cost.
+#[derive(Debug, Drop)]
+pub(crate) struct Covers {
+    pub(crate) blocks: Vec<Option<Placed>>,
+    /// For each unit and each position the first unit of its block.
+    pub(crate) units: Vec<u16>,
+    pub(crate) positions: Vec<u16>,
+    /// The positions that no block has.
+    pub(crate) free: Vec<u16>,
+    pub(crate) yard: Yard,
+    /// What the blocks cost, in thousandths of a cost unit.
+    pub(crate) cost: i64,
+    /// What the prices take of them.
+    pub(crate) part: i64,
+}
+
+impl Covers {
+    /// No blocks. Err is want of memory.
+    pub(crate) fn new(alloc: Global, tables: &Tables) -> Result<Covers, AllocError> {
+        Ok(Covers {
+            blocks: no_blocks(alloc, tables.units)?,
+            units: copies(alloc, NO_BLOCK, tables.units)?,
+            positions: copies(alloc, NO_BLOCK, tables.positions)?,
+            free: count_up(alloc, tables.positions)?,
+            yard: Yard::new(alloc, tables.rooms.len())?,
+            cost: 0,
+            part: 0,
+        })
+    }
+
+    /// The block whose first unit this is.
+    pub(crate) fn block(&self, unit: usize) -> Option<Placed> {
+        self.blocks.get(unit).copied()?
+    }
+
+    /// There is this block with a first unit, or none.
+    fn set_block(&mut self, unit: usize, block: Option<Placed>) {
+        if unit < self.blocks.len() {
+            self.blocks[unit] = block;
+        }
+    }
+
+    /// A position isn't free any more.
+    fn cover(&mut self, position: u16) {
+        let Some(place) = self.free.iter().position(|free| *free == position) else {
+            return;
+        };
+        if place < self.free.len() {
+            self.free.swap_remove(place);
+        }
+    }
+
+    /// Its positions aren't free any more.
+    fn cover_all(&mut self, row: &Row) {
+        for k in 0..u16::from(row.shape.n) {
+            self.cover(row.position.wrapping_add(k));
+        }
+    }
+
+    /// Its positions are free again. Err is want of memory.
+    fn free_all(&mut self, row: &Row) -> Result<(), AllocError> {
+        for k in 0..u16::from(row.shape.n) {
+            self.free.push(row.position.wrapping_add(k))?;
+        }
+        Ok(())
+    }
+
+    /// A block comes. Err is want of memory.
+    pub(crate) fn put(&mut self, tables: &Tables, placed: Placed) -> Result<(), AllocError> {
+        let row = placed.row;
+        let place = usize::from(row.unit);
+        if place >= self.blocks.len() {
+            return Ok(());
+        }
+        set_all(&mut self.units, row.unit, row.shape.n, row.unit);
+        set_all(&mut self.positions, row.position, row.shape.n, row.unit);
+        self.cover_all(&row);
+        if let Some(spot) = placed.spot {
+            let standing = Standing::new(&row, &spot);
+            self.yard.come(usize::from(spot.park.track.0), standing)?;
+        }
+        self.set_block(place, Some(placed));
+        self.cost = self.cost.wrapping_add(placed.cost(tables));
+        self.part = self.part.wrapping_add(placed.part());
+        Ok(())
+    }
+
+    /// The block of a first unit goes, where there is one. Err is want of memory.
+    pub(crate) fn take(
+        &mut self,
+        tables: &Tables,
+        unit: u16,
+    ) -> Result<Option<Placed>, AllocError> {
+        let place = usize::from(unit);
+        let Some(placed) = self.block(place) else {
+            return Ok(None);
+        };
+        let row = placed.row;
+        set_all(&mut self.units, row.unit, row.shape.n, NO_BLOCK);
+        set_all(&mut self.positions, row.position, row.shape.n, NO_BLOCK);
+        self.free_all(&row)?;
+        if let Some(spot) = placed.spot {
+            self.yard.go(usize::from(spot.park.track.0), row.unit);
+        }
+        self.set_block(place, None);
+        self.cost = self.cost.wrapping_sub(placed.cost(tables));
+        self.part = self.part.wrapping_sub(placed.part());
+        Ok(Some(placed))
+    }
+}

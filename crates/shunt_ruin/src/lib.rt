@@ -1,0 +1,13 @@
+//! Cheaper plans from a plan: blocks are taken away by chance, others are put in their place, and what is found is judged.
+#![tactic(auto)]
+
+mod covers;
+mod draws;
+mod judging;
+mod recreating;
+mod running;
+mod search;
+mod tables;
+mod yard;
+
+pub use running::ruin_and_recreate;

@@ -10,6 +10,13 @@ use std::test::Fail;
 const LAST_IN_FIRST_OUT: &str =
     "timetable,1\narrive,a1,22:00,P,X\narrive,a2,23:00,P,Y\ndepart,d1,29:00,P,Y\ndepart,d2,30:00,P,X\n";
 
+// With a delay of 31 minutes a1 comes while a2 stands there, and with one of 51 after a2 has gone.
+const GONE_SOON: &str =
+    "timetable,1\narrive,a1,22:00,P,X\narrive,a2,22:30,P,Y\ndepart,d1,22:50,P,Y\ndepart,d2,30:00,P,X\n";
+
+const THREE: &str =
+    "timetable,1\narrive,a1,22:00,P,X,Y,X\ndepart,d1,23:00,P,X\ndepart,d2,29:30,P,Y\ndepart,d3,30:00,P,X\n";
+
 const LAST_OUT: &str =
     "plan,1\nblock,1,a1,1,1,d2,1,park,T,A,A\nblock,2,a2,1,1,d1,1,park,T,A,A\ncost,12\n";
 
@@ -36,6 +43,12 @@ fn delays_are_told(rt: HostRuntime) -> Result<(), Fail> {
     let crossing = "delay a1 60 crossing 2 1\ndelay a2 120 limit\ndelays 2\n";
     let last = (STATION, LAST_IN_FIRST_OUT);
     assert!(rt; bears_with(alloc, last, LAST_OUT, Status::Done, crossing)?);
+    let again = "delay a1 30 crossing 2 1\ndelay a2 10 too-soon 2\ndelays 2\n";
+    assert!(rt; bears_with(alloc, (STATION, GONE_SOON), LAST_OUT, Status::Done, again)?);
+    let three =
+        "plan,1\nblock,1,a1,1,1,d3,1,park,T,A,A\nblock,2,a1,2,1,d2,1,park,T,A,A\nblock,3,a1,3,1,d1,1,unparked\ncost,122\n";
+    let third = "delay a1 50 too-soon 3\ndelays 1\n";
+    assert!(rt; bears_with(alloc, (STATION, THREE), three, Status::Done, third)?);
     let too_soon = "delay a1 120 limit\ndelay a2 50 too-soon 2\ndelays 2\n";
     let after = (TIGHT, ONE_AFTER_THE_OTHER);
     assert!(rt; bears_with(alloc, after, BOTH, Status::Done, too_soon)?);

@@ -69,3 +69,19 @@ fn orders_that_cannot_be_done_are_told(rt: HostRuntime) -> Result<(), Fail> {
     }
     Ok(())
 }
+
+#[test]
+fn a_block_leaves_the_track_that_it_entered(rt: HostRuntime) -> Result<(), Fail> {
+    let alloc = rt.alloc();
+    let station =
+        "station,1,Demo\ntype,K,500,10\nplatform,P\ntrack,T,500,A\ntrack,U,500,A\nroute,P,T,A,3\ncost,5,4,100\n";
+    let mut store = store_of(alloc, station, "")?;
+    store.put(
+        "O",
+        b"sheet,1\norder,22:00,enter,1,200,T,A\norder,23:00,leave,1,200,U,A\n",
+    )?;
+    let unknown = "input sheet record 3 field 6 kind 6\n";
+    let follow = ["follow", "S", "O"];
+    assert!(rt; runs_with(alloc, &mut store, &follow, Status::Input, unknown)?);
+    Ok(())
+}

@@ -88,7 +88,7 @@ rejected_found : (v : Verdict) → (Accepts v → ⊥) → check_outcome v ≡ o
 rejected_found (verdict.Accepted bound) never = absurd (never tt)
 rejected_found (verdict.Rejected row r) never = refl
 
-done_accepts : (v : Verdict) → check_outcome v ≡ outcome.Done → Accepts v
+pub done_accepts : (v : Verdict) → check_outcome v ≡ outcome.Done → Accepts v
 done_accepts (verdict.Accepted bound) e = tt
 done_accepts (verdict.Rejected row r) e = absurd (let h : outcome.Findings ≡ outcome.Done = e in cc)
 
@@ -97,9 +97,9 @@ found_rejects (verdict.Accepted bound) e h = let no : outcome.Done ≡ outcome.F
 found_rejects (verdict.Rejected row r) e h = h
 
 -- it accepts with the certificate's bound
-bound_told : (y : Checkable) (v : Verdict) → IsVerdict y.night [] y.plan y.certificate v → Accepts v → v ≡ verdict.Accepted y.certificate.bound
-bound_told y (verdict.Accepted bound) h accepts = ap verdict.Accepted h.answers.0
-bound_told y (verdict.Rejected row r) h accepts = absurd accepts
+pub bound_told : (night : Night) (pins : List Block) (plan : Plan) (c : Certificate) (v : Verdict) → IsVerdict night pins plan c v → Accepts v → v ≡ verdict.Accepted c.bound
+bound_told night pins plan c (verdict.Accepted bound) h accepts = ap verdict.Accepted h.answers.0
+bound_told night pins plan c (verdict.Rejected row r) h accepts = absurd accepts
 
 -- ---- exactly when each comes
 
@@ -162,7 +162,7 @@ bounds_all : (judges : Judges) (bounds : Bounds) (s t p k : List ℕ) (y : Check
 bounds_all judges bounds s t p k y v is told accepts =
     let formed = check_stated s t p k y is in
     let proved : IsProved y = (proved_where judges s t p k y v is told).0 accepts in
-    let with_bound : IsVerdict y.night [] y.plan y.certificate (verdict.Accepted y.certificate.bound) = subst (IsVerdict y.night [] y.plan y.certificate) (bound_told y v told accepts) told in
+    let with_bound : IsVerdict y.night [] y.plan y.certificate (verdict.Accepted y.certificate.bound) = subst (IsVerdict y.night [] y.plan y.certificate) (bound_told y.night [] y.plan y.certificate v told accepts) told in
     record {
       feasible = proved.feasible;
       states = proved.states;
@@ -179,7 +179,7 @@ done_bounds judges bounds s t p k old new ends =
     let y = at.value in
     let accepts = done_accepts at.is.verdict at.outcome in
     let told : h.0 ≡ says outcome.Done (verdict_of y.night y.certificate (verdict.Accepted y.certificate.bound)) =
-    at.is.reply ∙ ap (λ (v : Verdict). says (check_outcome v) (verdict_of y.night y.certificate v)) (bound_told y at.is.verdict at.is.told accepts) in (
+    at.is.reply ∙ ap (λ (v : Verdict). says (check_outcome v) (verdict_of y.night y.certificate v)) (bound_told y.night [] y.plan y.certificate at.is.verdict at.is.told accepts) in (
       files,
       h.1.1,
       (

@@ -1,4 +1,4 @@
--- When each status comes of a command that ends well exactly on some of what it accepts, and with findings on the rest.
+-- When each status comes of a command that ends well exactly on some of what its files can state, and with findings on the rest.
 use Rattle.std.proofs.Common.{◌≡◌, Some, sym, subst, ap, inl, inr, refl, ⊎_elim, Result, Ok, Err, List, ◌∙◌, ℕ}
 use Rattle.std.specs.Prelude.{◌⊎◌}
 use Rattle.shunt_store.specs.defs.Files.{Files}
@@ -20,7 +20,7 @@ use Rattle.shunt.proofs.Audits.{EndsWell}
 abbrev pub Parts : Type 0 → Outcome → Type 0
 Parts Good o = (Good × (o ≡ outcome.Done)) ⊎ ((Good → ⊥) × (o ≡ outcome.Findings))
 
-module _ (c : Call) (Good : Value c → Type 0) (parts : (v : Value c) (r : Reply) → IsAnswer c v r → Parts (Good v) r.outcome) where
+module _ (c : Call) (Good : Value c → Type 0) (parts : (files : Files) (v : Value c) (r : Reply) → stated_in c files ≡ Ok v → IsAnswer c v r → Parts (Good v) r.outcome) where
   answer_at : (x : Result (Value c) (List ℕ)) (v : Value c) (r : Reply) → x ≡ Ok v → Decided x (IsAnswer c) r → IsAnswer c v r
   answer_at x v r e is = subst (λ x. Decided x (IsAnswer c) r) e is
 
@@ -41,32 +41,32 @@ module _ (c : Call) (Good : Value c → Type 0) (parts : (v : Value c) (r : Repl
   found_bad v o e (inr h) good = h.0 good
 
   pub done_there : (old new : Seen) (x : Status) (files : Files) (v : Value c) → old.files ≡ Some files → stated_in c files ≡ Ok v → Good v → Ends c old new x → (x ≡ status.Done) ⊎ Yields x
-  done_there old new x files v known ok good ends = decides c outcome.Done old new x files known (λ r is. good_done v r.outcome good (parts v r (answer_at (stated_in c files) v r ok is))) ends
+  done_there old new x files v known ok good ends = decides c outcome.Done old new x files known (λ r is. good_done v r.outcome good (parts files v r ok (answer_at (stated_in c files) v r ok is))) ends
 
   pub findings_there : (old new : Seen) (x : Status) (files : Files) (v : Value c) → old.files ≡ Some files → stated_in c files ≡ Ok v → (Good v → ⊥) → Ends c old new x → (x ≡ status.Findings) ⊎ Yields x
-  findings_there old new x files v known ok bad ends = decides c outcome.Findings old new x files known (λ r is. bad_found v r.outcome bad (parts v r (answer_at (stated_in c files) v r ok is))) ends
+  findings_there old new x files v known ok bad ends = decides c outcome.Findings old new x files known (λ r is. bad_found v r.outcome bad (parts files v r ok (answer_at (stated_in c files) v r ok is))) ends
 
   -- an outcome of accepted files is that of an answer on what they state
-  tells : (x : Result (Value c) (List ℕ)) (r : Reply) (o : Outcome) → (o ≡ outcome.Input → ⊥) → Decided x (IsAnswer c) r → r.outcome ≡ o → (v : Value c) × (x ≡ Ok v) × Parts (Good v) o
-  tells (Err text) r o other is e = absurd (other (sym e ∙ ap (λ (r : Reply). r.outcome) is))
-  tells (Ok v) r o other is e = (v, refl, subst (Parts (Good v)) e (parts v r is))
+  tells : (files : Files) (x : Result (Value c) (List ℕ)) (r : Reply) (o : Outcome) → stated_in c files ≡ x → (o ≡ outcome.Input → ⊥) → Decided x (IsAnswer c) r → r.outcome ≡ o → (v : Value c) × (x ≡ Ok v) × Parts (Good v) o
+  tells files (Err text) r o ok other is e = absurd (other (sym e ∙ ap (λ (r : Reply). r.outcome) is))
+  tells files (Ok v) r o ok other is e = (v, refl, subst (Parts (Good v)) e (parts files v r ok is))
 
   pub done_only : (old new : Seen) → Ends c old new status.Done → (files : Files) × Agrees old.files files × ((v : Value c) × (stated_in c files ≡ Ok v) × Good v)
   done_only old new ends =
       let h = has_reply c outcome.Done old new ends in
-      let at = tells (stated_in c h.1.0) h.0 outcome.Done (λ e. cc) h.1.2 h.2 in
+      let at = tells h.1.0 (stated_in c h.1.0) h.0 outcome.Done refl (λ e. cc) h.1.2 h.2 in
       (h.1.0, h.1.1, (at.0, at.1, done_good at.0 outcome.Done refl at.2))
 
   pub findings_only : (old new : Seen) → Ends c old new status.Findings → (files : Files) × Agrees old.files files × ((v : Value c) × (stated_in c files ≡ Ok v) × (Good v → ⊥))
   findings_only old new ends =
       let h = has_reply c outcome.Findings old new ends in
-      let at = tells (stated_in c h.1.0) h.0 outcome.Findings (λ e. cc) h.1.2 h.2 in
+      let at = tells h.1.0 (stated_in c h.1.0) h.0 outcome.Findings refl (λ e. cc) h.1.2 h.2 in
       (h.1.0, h.1.1, (at.0, at.1, found_bad at.0 outcome.Findings refl at.2))
 
   never : (o : Outcome) (old new : Seen) → (o ≡ outcome.Done → ⊥) → (o ≡ outcome.Findings → ⊥) → (o ≡ outcome.Input → ⊥) → Ends c old new (the_status o) → ⊥
   never o old new a b d ends =
       let h = has_reply c o old new ends in
-      let at = tells (stated_in c h.1.0) h.0 o d h.1.2 h.2 in
+      let at = tells h.1.0 (stated_in c h.1.0) h.0 o refl d h.1.2 h.2 in
       ⊎_elim (λ p. a p.1) (λ p. b p.1) at.2
 
   pub no_matching : (old new : Seen) → Ends c old new status.NoMatching → ⊥
@@ -80,4 +80,4 @@ module _ (c : Call) (Good : Value c → Type 0) (parts : (v : Value c) (r : Repl
     where
       at : EndsAs c old x → EndsWell x
       at (inl m) = inr (inr m)
-      at (inr h) = ⊎_elim (λ p. inl (h.2 ∙ ap the_status p.1)) (λ p. inr (inl (h.2 ∙ ap the_status p.1))) (parts v h.0 (answer_at (stated_in c files) v h.0 ok (reply_at c old.files files h.0 known h.1)))
+      at (inr h) = ⊎_elim (λ p. inl (h.2 ∙ ap the_status p.1)) (λ p. inr (inl (h.2 ∙ ap the_status p.1))) (parts files v h.0 ok (answer_at (stated_in c files) v h.0 ok (reply_at c old.files files h.0 known h.1)))

@@ -10,6 +10,8 @@ use Rattle.shunt_store.proofs.Texts.{both_map}
 use Rattle.shunt_store.proofs.TableLaws.{same_elsewhere}
 use Rattle.shunt_audit.specs.declared.types.Finding.{Finding}
 use Rattle.shunt_instance.specs.defs.Instance.{Night}
+use Rattle.shunt_blocks.specs.declared.records.Block.{Block}
+use Rattle.shunt_blocks.specs.defs.Lists.{units_taken, positions_taken}
 use Rattle.shunt_checker.specs.declared.verdict.Verdict.{Verdict}
 use Rattle.shunt_checker.specs.declared.verdict.Verdict.TheVariants as verdict
 use Rattle.shunt_drivers.specs.declared.records.RosterFault.{RosterFault}
@@ -18,19 +20,22 @@ use Rattle.shunt_zones.specs.declared.records.Meet.{Meet}
 use Rattle.shunt_zones.specs.defs.Meeting.{meets_in}
 use Rattle.shunt_inputs.specs.declared.answers.Outcome.{Outcome}
 use Rattle.shunt_inputs.specs.declared.answers.Outcome.TheVariants as outcome
+use Rattle.shunt_inputs.specs.defs.Pins.{IsUnusable}
 use Rattle.shunt.specs.declared.running.Status.{Status}
 use Rattle.shunt.specs.declared.running.Status.TheVariants as status
-use Rattle.shunt.specs.defs.Words.{Call, Match, Follow, Audit, Delay, Report, Check, Zones, Sheet, Upgrade, Drivers, Roster, Replay, MakePlan, outputs_of}
+use Rattle.shunt.specs.defs.Words.{Call, Match, Follow, Audit, Delay, Report, Check, Zones, Sheet, Upgrade, Trial, Drivers, Roster, CheckPinned, Replay, MakePlan, MakePinned, outputs_of}
 use Rattle.shunt.proofs.Writes.{holds_one, whole_may}
 use Rattle.shunt_inputs.specs.defs.Inputs.{Agrees}
 use Rattle.shunt.specs.defs.Inputs.{Value, stated_in, refused}
 use Rattle.shunt_inputs.specs.defs.Replies.{Reply, Decided, refusal}
 use Rattle.shunt.specs.defs.Replies.{IsReply, IsReplyOver, IsAnswer}
-use Rattle.shunt_planning.specs.defs.Matched.{IsPaired, IsShort}
+use Rattle.shunt_planning.specs.defs.Matched.{IsPaired, IsShortBeside}
 use Rattle.shunt_judging.specs.defs.Audited.{IsFaulty, audit_outcome}
 use Rattle.shunt_judging.specs.defs.Checked.{check_outcome}
+use Rattle.shunt_judging.specs.defs.Pinned.{PinChecked, IsLost, IsPinVerdict}
 use Rattle.shunt_dispatch.specs.defs.Delayed.{HasDelays}
 use Rattle.shunt_dispatch.specs.defs.Followed.{followed_outcome}
+use Rattle.shunt_blocks.specs.declared.records.Block.{Block}
 use Rattle.shunt_plan.specs.declared.records.Plan.{Plan}
 use Rattle.shunt_sheet.specs.declared.records.Followed.{Followed}
 use Rattle.shunt_sheet.specs.declared.records.Followed.TheVariants as answers
@@ -39,10 +44,9 @@ use Rattle.shunt_exchange.specs.defs.Reported.{HasReport}
 use Rattle.shunt_throat.specs.defs.Passed.{meets_outcome}
 use Rattle.shunt_throat.specs.defs.Rostered.{roster_outcome}
 use Rattle.shunt_inputs.specs.defs.Writes.{MayHold, MayWrite, written}
-use Rattle.shunt_planning.specs.defs.Begun.{MaySearch}
-use Rattle.shunt_planning.specs.defs.Planned.{search_outcome, certificate_file}
-use Rattle.shunt_proof.specs.declared.records.Certificate.{Certificate}
-use Rattle.shunt.specs.defs.Ends.{Seen, CutInText, Delivers, StopsEarly, Ends, IsWhole, MayBegin, Yields, the_status}
+use Rattle.shunt_planning.specs.defs.Begun.{MaySearch, MaySearchFor}
+use Rattle.shunt_planning.specs.defs.Planned.{IsSoughtOver, search_outcome, certificate_file}
+use Rattle.shunt.specs.defs.Ends.{Seen, Begins, CutInText, Delivers, StopsEarly, Ends, IsWhole, MayBegin, Yields, the_status}
 
 -- ---- the status of a delivery
 
@@ -166,7 +170,7 @@ sink_never c old new e h = never_rose _ _ e (sink_rose c old new h)
 pub paired_outcome : (night : Night) (r : Reply) → IsPaired night r → r.outcome ≡ outcome.Done
 paired_outcome night r p = ap (λ (r : Reply). r.outcome) p.reply
 
-pub short_outcome : (night : Night) (r : Reply) → IsShort night r → r.outcome ≡ outcome.NoMatching
+pub short_outcome : {units places : List Bool} (night : Night) (r : Reply) → IsShortBeside units places night r → r.outcome ≡ outcome.NoMatching
 short_outcome night r p = ap (λ (r : Reply). r.outcome) p.reply.2
 
 pub faulty_outcome : (x : Night × Plan) (r : Reply) → IsFaulty x r → r.outcome ≡ outcome.Findings
@@ -174,6 +178,15 @@ faulty_outcome x r f = ap (λ (r : Reply). r.outcome) f.reply
 
 pub delays_outcome : (x : Night × Plan) (r : Reply) → HasDelays x r → r.outcome ≡ outcome.Done
 delays_outcome x r d = ap (λ (r : Reply). r.outcome) d.reply
+
+pub unusable_outcome : (night : Night) (pins : List Block) (r : Reply) → IsUnusable night pins r → r.outcome ≡ outcome.Findings
+unusable_outcome night pins r u = ap (λ (r : Reply). r.outcome) u.reply
+
+pub lost_outcome : (x : PinChecked) (r : Reply) → IsLost x r → r.outcome ≡ outcome.Findings
+lost_outcome x r l = ap (λ (r : Reply). r.outcome) l.reply
+
+pub kept_outcome : (x : PinChecked) (r : Reply) (v : IsPinVerdict x r) → r.outcome ≡ check_outcome v.verdict
+kept_outcome x r v = ap (λ (r : Reply). r.outcome) v.reply
 
 no_input_found : (fs : List Finding) → audit_outcome fs ≡ outcome.Input → ⊥
 no_input_found [] e = let h : outcome.Done ≡ outcome.Input = e in cc
@@ -206,6 +219,10 @@ no_input_followed (answers.Over number load) e = let h : outcome.Findings ≡ ou
 pub report_outcome : (x : Night × Plan) (r : Reply) → HasReport x r → r.outcome ≡ outcome.Done
 report_outcome x r d = ap (λ (r : Reply). r.outcome) d.reply
 
+no_input_searched : (pins : List Block) (units places : List Bool) (m : ℕ) (p k : List ℕ) (night : Night) (r : Reply) → IsSoughtOver pins units places m p k night r → r.outcome ≡ outcome.Input → ⊥
+no_input_searched pins units places m p k night r (inl is) o = no_input_sought is.1.certificate.cost is.1.certificate.bound (sym (ap (λ (r : Reply). r.outcome) is.1.reply) ∙ o)
+no_input_searched pins units places m p k night r (inr is) o = let e : outcome.NoMatching ≡ outcome.Input = sym (short_outcome night r is) ∙ o in cc
+
 -- an answer is never that an input isn't accepted
 no_input : (c : Call) (v : Value c) (r : Reply) → IsAnswer c v r → r.outcome ≡ outcome.Input → ⊥
 no_input (Match s t) night r (inl p) o = let e : outcome.Done ≡ outcome.Input = sym (paired_outcome night r p) ∙ o in cc
@@ -215,9 +232,13 @@ no_input (Check s t p k) x r is o = no_input_told is.verdict (sym (ap (λ (r : R
 no_input (Zones s t p z) x r is o = no_input_met (meets_in x.night x.zones x.plan) (sym (ap (λ (r : Reply). r.outcome) is) ∙ o)
 no_input (Drivers s t p c d) x r is o = let e : outcome.Done ≡ outcome.Input = sym (ap (λ (r : Reply). r.outcome) is.reply) ∙ o in cc
 no_input (Roster s t p c d) x r is o = no_input_fault (fault_in x.night x.crew x.plan x.duties) (sym (ap (λ (r : Reply). r.outcome) is) ∙ o)
+no_input (CheckPinned s t i p k) x r (inl u) o = let e : outcome.Findings ≡ outcome.Input = sym (unusable_outcome x.night x.pins r u) ∙ o in cc
+no_input (CheckPinned s t i p k) x r (inr (usable, inl l)) o = let e : outcome.Findings ≡ outcome.Input = sym (lost_outcome x r l) ∙ o in cc
+no_input (CheckPinned s t i p k) x r (inr (usable, inr v)) o = no_input_told v.verdict (sym (kept_outcome x r v) ∙ o)
 no_input (Replay s t p e n) x r is o = no_input_found is.findings (sym is.outcome ∙ o)
-no_input (MakePlan s t m p k) night r (inl is) o = no_input_sought is.1.certificate.cost is.1.certificate.bound (sym (ap (λ (r : Reply). r.outcome) is.1.reply) ∙ o)
-no_input (MakePlan s t m p k) night r (inr is) o = let e : outcome.NoMatching ≡ outcome.Input = sym (short_outcome night r is) ∙ o in cc
+no_input (MakePlan s t m p k) night r is o = no_input_searched [] [] [] m p k night r is o
+no_input (MakePinned s t i m p k) x r (inl f) o = let e : outcome.Findings ≡ outcome.Input = sym (unusable_outcome x.instance x.pins r f) ∙ o in cc
+no_input (MakePinned s t i m p k) x r (inr is) o = no_input_searched x.pins (units_taken x.instance x.pins) (positions_taken x.instance x.pins) m p k x.instance r is.1 o
 no_input (Follow s n) x r is o = no_input_followed (followed x.station x.orders) (sym (ap (λ (r : Reply). r.outcome) is) ∙ o)
 no_input (Delay s t p) x r (inl f) o = let e : outcome.Findings ≡ outcome.Input = sym (faulty_outcome x r f) ∙ o in cc
 no_input (Delay s t p) x r (inr d) o = let e : outcome.Done ≡ outcome.Input = sym (delays_outcome x r d) ∙ o in cc
@@ -225,6 +246,7 @@ no_input (Sheet s t p n) x r (inl f) o = let e : outcome.Findings ≡ outcome.In
 no_input (Sheet s t p n) x r (inr d) o = let e : outcome.Done ≡ outcome.Input = sym d.outcome ∙ o in cc
 no_input (Report s t p) x r (inl f) o = let e : outcome.Findings ≡ outcome.Input = sym (faulty_outcome x r f) ∙ o in cc
 no_input (Report s t p) x r (inr d) o = let e : outcome.Done ≡ outcome.Input = sym (report_outcome x r d) ∙ o in cc
+no_input (Trial n u m s t p k) x r is o = let e : outcome.Done ≡ outcome.Input = sym (ap (λ (r : Reply). r.outcome) is.reply) ∙ o in cc
 no_input (Upgrade s t n m) x r is o = let e : outcome.Done ≡ outcome.Input = sym (ap (λ (r : Reply). r.outcome) is) ∙ o in cc
 
 -- a name of one write is the one that is written
@@ -242,6 +264,16 @@ in_both n m station timetable name text (inl e) = inl (ap (λ (w : List ℕ × L
 in_both n m station timetable name text (inr (inl e)) = inr (inl (ap (λ (w : List ℕ × List ℕ). w.0) e))
 in_both n m station timetable name text (inr (inr h)) = absurd h
 
+in_four : (s t p k station timetable plan certificate name text : List ℕ) → In {X = List ℕ × List ℕ} (name, text) ((s, station) ∷ (t, timetable) ∷ (p, plan) ∷ (k, certificate) ∷ []) → In name (s ∷ t ∷ p ∷ k ∷ [])
+in_four s t p k station timetable plan certificate name text (inl e) = inl (ap (λ (w : List ℕ × List ℕ). w.0) e)
+in_four s t p k station timetable plan certificate name text (inr (inl e)) = inr (inl (ap (λ (w : List ℕ × List ℕ). w.0) e))
+in_four s t p k station timetable plan certificate name text (inr (inr h)) = inr (inr (in_both p k plan certificate name text h))
+
+-- a search writes a plan and its certificate
+search_writes : (pins : List Block) (units places : List Bool) (m : ℕ) (p k : List ℕ) (night : Night) (r : Reply) (name text : List ℕ) → IsSoughtOver pins units places m p k night r → In (name, text) r.writes → In name (p ∷ k ∷ [])
+search_writes pins units places m p k night r name text (inl is) w = two_writes p k _ _ name text (subst (λ (q : Reply). In {X = List ℕ × List ℕ} (name, text) q.writes) is.1.reply w)
+search_writes pins units places m p k night r name text (inr is) w = absurd (subst (λ (q : Reply). In (name, text) q.writes) is.reply.2 w)
+
 -- an answer writes no file but the command's own
 own_writes : (c : Call) (v : Value c) (r : Reply) (name text : List ℕ) → IsAnswer c v r → In (name, text) r.writes → In name (outputs_of c)
 own_writes (Match s t) night r name text (inl p) w = subst (λ (q : Reply). In (name, text) q.writes) p.reply w
@@ -251,9 +283,13 @@ own_writes (Check s t p k) x r name text is w = subst (λ (q : Reply). In (name,
 own_writes (Zones s t p z) x r name text is w = subst (λ (q : Reply). In (name, text) q.writes) is w
 own_writes (Drivers s t p c d) x r name text is w = one_write d _ name text (subst (λ (q : Reply). In {X = List ℕ × List ℕ} (name, text) q.writes) is.reply w)
 own_writes (Roster s t p c d) x r name text is w = subst (λ (q : Reply). In (name, text) q.writes) is w
+own_writes (CheckPinned s t i p k) x r name text (inl u) w = subst (λ (q : Reply). In (name, text) q.writes) u.reply w
+own_writes (CheckPinned s t i p k) x r name text (inr (usable, inl l)) w = subst (λ (q : Reply). In (name, text) q.writes) l.reply w
+own_writes (CheckPinned s t i p k) x r name text (inr (usable, inr v)) w = subst (λ (q : Reply). In (name, text) q.writes) v.reply w
 own_writes (Replay s t p e n) x r name text is w = one_write n _ name text (subst (λ (ws : List (List ℕ × List ℕ)). In {X = List ℕ × List ℕ} (name, text) ws) is.writes w)
-own_writes (MakePlan s t m p k) night r name text (inl is) w = two_writes p k _ _ name text (subst (λ (q : Reply). In {X = List ℕ × List ℕ} (name, text) q.writes) is.1.reply w)
-own_writes (MakePlan s t m p k) night r name text (inr is) w = absurd (subst (λ (q : Reply). In (name, text) q.writes) is.reply.2 w)
+own_writes (MakePlan s t m p k) night r name text is w = search_writes [] [] [] m p k night r name text is w
+own_writes (MakePinned s t i m p k) x r name text (inl f) w = absurd (subst (λ (q : Reply). In (name, text) q.writes) f.reply w)
+own_writes (MakePinned s t i m p k) x r name text (inr is) w = search_writes x.pins (units_taken x.instance x.pins) (positions_taken x.instance x.pins) m p k x.instance r name text is.1 w
 own_writes (Follow s o) x r name text is w = subst (λ (q : Reply). In (name, text) q.writes) is w
 own_writes (Delay s t p) x r name text (inl f) w = subst (λ (q : Reply). In (name, text) q.writes) f.reply w
 own_writes (Delay s t p) x r name text (inr d) w = subst (λ (q : Reply). In (name, text) q.writes) d.reply w
@@ -261,24 +297,32 @@ own_writes (Sheet s t p n) x r name text (inl f) w = absurd (subst (λ (q : Repl
 own_writes (Sheet s t p n) x r name text (inr d) w = one_write n _ name text (subst (λ (ws : List (List ℕ × List ℕ)). In {X = List ℕ × List ℕ} (name, text) ws) d.writes w)
 own_writes (Report s t p) x r name text (inl f) w = subst (λ (q : Reply). In (name, text) q.writes) f.reply w
 own_writes (Report s t p) x r name text (inr d) w = subst (λ (q : Reply). In (name, text) q.writes) d.reply w
+own_writes (Trial n u m s t p k) x r name text is w = in_four s t p k _ _ _ _ name text (subst (λ (q : Reply). In {X = List ℕ × List ℕ} (name, text) q.writes) is.reply w)
 own_writes (Upgrade s t n m) x r name text is w = in_both n m _ _ name text (subst (λ (q : Reply). In {X = List ℕ × List ℕ} (name, text) q.writes) is w)
 
--- before its reply is known a command writes no file but its own
+-- a search writes no file but its certificate before its reply is known
+search_begins : (night : Night) (k : List ℕ) (a b : Files) (name : List ℕ) → (In name (k ∷ []) → ⊥) → MaySearch night k a b → map.get b name ≡ map.get a name
+search_begins night k a b name other (inl e) = ap (λ f. map.get f name) e
+search_begins night k a b name other (inr s) = at (s.2 name)
+  where
+    at : MayHold ((k, certificate_file night s.0) ∷ []) a b name → map.get b name ≡ map.get a name
+    at (inl e) = e
+    at (inr w) = absurd (other (one_write k (certificate_file night s.0) name w.0 w.1))
+
+for_begins : (night : Night) (units places : List Bool) (k : List ℕ) (a b : Files) (name : List ℕ) → (In name (k ∷ []) → ⊥) → MaySearchFor night units places k a b → map.get b name ≡ map.get a name
+for_begins night units places k a b name other (inl e) = ap (λ f. map.get f name) e
+for_begins night units places k a b name other (inr h) = search_begins night k a b name other h.1
+
+-- so a command writes none but its own
+value_begins : (c : Call) (v : Value c) (a b : Files) (name : List ℕ) → (In name (outputs_of c) → ⊥) → Begins c v a b → map.get b name ≡ map.get a name
+value_begins (MakePlan s t m p k) night a b name other h = for_begins night [] [] k a b name (λ w. other (inr w)) h
+value_begins (MakePinned s t i m p k) x a b name other (inl e) = ap (λ f. map.get f name) e
+value_begins (MakePinned s t i m p k) x a b name other (inr h) = for_begins x.instance (units_taken x.instance x.pins) (positions_taken x.instance x.pins) k a b name (λ w. other (inr w)) h.1
+value_begins c v a b name other h = absurd h
+
 own_begins : (c : Call) (a b : Files) (name : List ℕ) → (In name (outputs_of c) → ⊥) → MayBegin c a b → map.get b name ≡ map.get a name
 own_begins c a b name other (inl e) = ap (λ f. map.get f name) e
-own_begins c a b name other (inr h) = at h.searched.begun
-  where
-    its_own : In name (h.certificate ∷ []) → In name (outputs_of c)
-    its_own (inl e) = subst (λ (d : Call). In name (outputs_of d)) (sym h.is) (inr (inl e))
-    its_own (inr w) = absurd w
-
-    one : (c : Certificate) → MayHold ((h.certificate, certificate_file h.searched.night c) ∷ []) a b name → map.get b name ≡ map.get a name
-    one c (inl e) = e
-    one c (inr w) = absurd (other (its_own (one_write h.certificate (certificate_file h.searched.night c) name w.0 w.1)))
-
-    at : MaySearch h.searched.night h.certificate a b → map.get b name ≡ map.get a name
-    at (inl e) = ap (λ f. map.get f name) e
-    at (inr s) = one s.0 (s.2 name)
+own_begins c a b name other (inr h) = value_begins c h.value a b name other h.begun
 
 -- ---- the first input that isn't accepted
 

@@ -1,16 +1,16 @@
 -- Files that are written before the rest of a reply is delivered.
-use Rattle.std.proofs.Common.{◌≡◌, ◌∙◌, ℕ, ◌≤◌, List, ◌++◌, Option, Result, Ok, Err, refl, subst, sym, ap, inl, inr, ⊎_elim}
+use Rattle.std.proofs.Common.{◌≡◌, ◌∙◌, ℕ, ◌≤◌, List, ◌++◌, Option, Result, Ok, Err, refl, subst, sym, ap, inl, inr}
 use Rattle.std.specs.Global.{Global}
 use Rattle.std.specs.Prelude.{Vec}
 use Rattle.shunt_store.specs.defs.Files.{Files, BothTold}
-use Rattle.shunt_store.proofs.Texts.{both_map, both_then, both_same}
+use Rattle.shunt_store.proofs.Texts.{both_then, both_same}
 use Rattle.shunt_inputs.specs.declared.answers.Answer.{Answer}
 use Rattle.shunt_inputs.specs.declared.loading.Halt.{Halt}
 use Rattle.shunt_inputs.specs.declared.loading.Halt.TheVariants as halt
 use Rattle.shunt.specs.declared.running.Status.{Status}
 use Rattle.shunt.specs.declared.running.Status.TheVariants as status
-use Rattle.shunt_planning.specs.defs.Begun.{MayPlan, IsPlannedOver}
-use Rattle.shunt.specs.defs.Words.{Call, MakePlan}
+use Rattle.shunt_planning.specs.defs.Begun.{MayPin, MayPlan, IsPinnedOver, IsPlannedOver}
+use Rattle.shunt.specs.defs.Words.{Call, MakePlan, MakePinned}
 use Rattle.shunt_inputs.specs.defs.Replies.{Reply, refusal, reply_of}
 use Rattle.shunt.specs.defs.Replies.{IsReplyOver}
 use Rattle.shunt.specs.defs.Ends.{Seen, CutInFiles, CutInText, IsWhole, Delivers, Ends, MayBegin}
@@ -77,21 +77,8 @@ plain c old new (Err halt.Memory) same h = none_begun c old new same
 
 -- so does a step of `plan`, which may write its certificate
 pub planned_leads : (s t : List ℕ) (m : ℕ) (p k : List ℕ) (c : Call) (old new : Option Files) (r : Result Answer Halt) → c ≡ MakePlan s t m p k → Leads (IsPlannedOver old s t m p k) (MayPlan s t k) old new r → Leads (IsReplyOver c old) (MayBegin c) old new r
-planned_leads s t m p k c old new r is h = subst (λ (d : Call). Leads (IsReplyOver d old) (MayBegin d) old new r) (sym is) (at r h)
-  where
-    begun : BothTold old new (MayPlan s t k) → BothTold old new (MayBegin (MakePlan s t m p k))
-    begun both = both_map (MayPlan s t k) (MayBegin (MakePlan s t m p k)) old new both (λ a b may. ⊎_elim (λ e. inl e) (λ searched. inr (record {
-      station = s;
-      timetable = t;
-      most = m;
-      plan = p;
-      certificate = k;
-      is = refl;
-      searched = searched;
-    })) may)
+planned_leads s t m p k c old new r is h = subst (λ (d : Call). Leads (IsReplyOver d old) (MayBegin d) old new r) (sym is) h
 
-    at : (r : Result Answer Halt) → Leads (IsPlannedOver old s t m p k) (MayPlan s t k) old new r → Leads (IsReplyOver (MakePlan s t m p k) old) (MayBegin (MakePlan s t m p k)) old new r
-    at (Ok a) h = h
-    at (Err (halt.Input text)) h = h
-    at (Err halt.Fault) h = begun h
-    at (Err halt.Memory) h = begun h
+-- and one of `pinned`
+pub pinned_leads : (s t i : List ℕ) (m : ℕ) (p k : List ℕ) (c : Call) (old new : Option Files) (r : Result Answer Halt) → c ≡ MakePinned s t i m p k → Leads (IsPinnedOver old s t i m p k) (MayPin s t i k) old new r → Leads (IsReplyOver c old) (MayBegin c) old new r
+pinned_leads s t i m p k c old new r is h = subst (λ (d : Call). Leads (IsReplyOver d old) (MayBegin d) old new r) (sym is) h

@@ -11,9 +11,14 @@ mod Shared
 mod Rostered
 mod RosterAccepted
 mod Firsts
+mod Searched
 mod Planned
 mod OwnPlans
 mod Sound
 mod Always
 mod Either
 mod Gone
+mod Trials
+mod Eight
+mod PinChecks
+mod OwnPinned

@@ -5,7 +5,9 @@ ghost use Rattle.shunt_lists.specs.defs.Members.{In};
 ghost use Rattle.shunt_store.specs.defs.Files.{Files, BothTold, content};
 ghost use Rattle.shunt_store.specs.defs.Causes.{Rose};
 ghost use Rattle.shunt_instance.specs.defs.Instance.{Night};
-ghost use Rattle.shunt_matching.specs.defs.Nights.{Matches};
+ghost use Rattle.shunt_matching.specs.defs.Nights.{HasMatching, HasNoMatching, Matches};
+ghost use Rattle.shunt_blocks.specs.defs.Lists.{units_taken, positions_taken};
+ghost use Rattle.shunt_blocks.specs.defs.Pins.{AreUsable};
 ghost use Rattle.shunt_plan.specs.declared.records.Plan.{Plan};
 ghost use Rattle.shunt_checker.specs.declared.verdict.Verdict.TheVariants as verdict;
 ghost use Rattle.shunt_report.specs.defs.VerdictTexts.{verdict_of};
@@ -20,10 +22,13 @@ ghost use Rattle.shunt_planning.specs.defs.Found.{IsBounded, IsCheapest, AreDiff
 ghost use Rattle.shunt_choices.specs.defs.Choices.{partial_plans};
 ghost use Rattle.shunt_proof.specs.declared.records.Certificate.{Certificate};
 ghost use Rattle.shunt_exchange.specs.defs.Upgraded.{Upgradable, upgrade_in};
+ghost use Rattle.shunt_trial.specs.defs.Tried.{made_night, tried};
 ghost use Rattle.shunt_dispatch.specs.defs.Followed.{Followable, following_in, GoesThrough};
-ghost use Rattle.shunt.specs.defs.Words.{Call, Match, Follow, Audit, Delay, Report, Check, Zones, Sheet, Upgrade, Drivers, Roster, Replay, MakePlan, IsUsable, outputs_of};
-ghost use Rattle.shunt_inputs.specs.defs.Inputs.{Agrees, stated_night, plans_in};
+ghost use Rattle.shunt.specs.defs.Words.{Call, Match, Follow, Audit, Delay, Report, Check, Zones, Sheet, Upgrade, Trial, Drivers, Roster, CheckPinned, Replay, MakePlan, MakePinned, IsUsable, outputs_of};
+ghost use Rattle.shunt_inputs.specs.declared.pins.Pinned.{Pinned};
+ghost use Rattle.shunt_inputs.specs.defs.Inputs.{Agrees, stated_night, pinned_in, plans_in};
 ghost use Rattle.shunt_judging.specs.defs.Checked.{Checkable, check_in, IsProved, BoundsAll};
+ghost use Rattle.shunt_judging.specs.defs.Pinned.{PinChecked, pin_check_in, IsPinProved, BoundsKept};
 ghost use Rattle.shunt_throat.specs.defs.Passed.{Passable, passing_in, NoneMeet};
 ghost use Rattle.shunt_throat.specs.defs.Shared.{Sharable, sharing_in};
 ghost use Rattle.shunt_throat.specs.defs.Rostered.{Rosterable, rostering_in, SharesAll};
@@ -38,6 +43,7 @@ ghost use Rattle.shunt.specs.defs.Ends.{Ends, Seen, CutInText, IsWhole, MayBegin
 use shunt_audit::laws;
 use shunt_checker::laws::reasons;
 use shunt_drivers::laws::{roster_fault_in_words, stated_values_are_formed, texts_of_rosters};
+use shunt_make::laws::made_nights;
 use shunt_plan::laws::texts_of_plans;
 use shunt_proof::laws::{few_nodes, known_by_paths, proved_bounds, trees};
 use shunt_proof::text_laws::texts_of_certificates;
@@ -70,8 +76,8 @@ pub fn statuses_are_of_replies()
 
 /// No file but those that the command writes is changed, whatever the status. After `Store` nothing was printed. After
 /// `Memory` nothing was, or the files of a defined reply were written and a front of its text was printed, as after `Sink`.
-/// After `Store` and `Memory` no file was touched, but that the certificate of `plan` may be absent or hold a front of the text of
-/// one; or each file that a defined reply writes holds what it held, nothing, or a front of its text.
+/// After `Store` and `Memory` no file was touched, but that the certificate of `plan` or `pinned` may be absent or hold a front of the text
+/// of one; or each file that a defined reply writes holds what it held, nothing, or a front of its text.
 pub fn what_stands_after()
     ensures others { (c : Call) (old new : Seen) (status : Status) (name : List ℕ) → (In name (outputs_of c) → ⊥) → Ends c old new status → BothTold old.files new.files (λ a b. map.get b name ≡ map.get a name) }
     ensures store { (c : Call) (old new : Seen) → Ends c old new Status.Store → new.output ≡ old.output }
@@ -174,6 +180,31 @@ pub fn upgrade_completes()
     ensures { (s t n m : List ℕ) (old new : Seen) (status : Status) (files : Files) (x : Upgradable) → old.files ≡ Some files → upgrade_in s t files ≡ Ok x → (Rose old.store_faults new.store_faults → ⊥) → (Rose old.sink_faults new.sink_faults → ⊥) → Ends (Upgrade s t n m) old new status → (status ≡ Status.Done) ⊎ (status ≡ Status.Memory) }
 {}
 
+/// `trial` ends with `Done`, unless the store, memory or the sink came first, also where its plan isn't optimal. It never ends with
+/// `Findings`, `Input`, `NoMatching` or `Unfinished`.
+pub fn trial_done_exactly()
+    ensures done { (n u m : ℕ) (s t p k : List ℕ) (old new : Seen) (status : Status) → Ends (Trial n u m s t p k) old new status → (status ≡ Status.Done) ⊎ Yields status }
+    ensures no_findings { (n u m : ℕ) (s t p k : List ℕ) (old new : Seen) → Ends (Trial n u m s t p k) old new Status.Findings → ⊥ }
+    ensures no_input { (n u m : ℕ) (s t p k : List ℕ) (old new : Seen) → Ends (Trial n u m s t p k) old new Status.Input → ⊥ }
+    ensures no_matching { (n u m : ℕ) (s t p k : List ℕ) (old new : Seen) → Ends (Trial n u m s t p k) old new Status.NoMatching → ⊥ }
+    ensures no_unfinished { (n u m : ℕ) (s t p k : List ℕ) (old new : Seen) → Ends (Trial n u m s t p k) old new Status.Unfinished → ⊥ }
+{}
+
+/// Where neither the store nor the sink fails, `trial` ends with `Done` or `Memory`.
+pub fn trial_completes()
+    ensures { (n u m : ℕ) (s t p k : List ℕ) (old new : Seen) (status : Status) → (Rose old.store_faults new.store_faults → ⊥) → (Rose old.sink_faults new.sink_faults → ⊥) → Ends (Trial n u m s t p k) old new status → (status ≡ Status.Done) ⊎ (status ≡ Status.Memory) }
+{}
+
+/// Where `trial` ends with `Done`, its files hold the texts of the night that is made of the number, of a feasible plan of it that states
+/// its cost, and of a certificate; every feasible plan of that night costs at least the certificate's bound; and both were printed. So
+/// where the bound is the cost, no feasible plan is cheaper.
+pub fn trial_bounds_every_plan()
+    ensures { (n u m : ℕ) (s t p k : List ℕ) (old new : Seen) → IsUsable (Trial n u m s t p k) → Ends (Trial n u m s t p k) old new Status.Done → (plan : Plan) × (c : Certificate) × IsBounded (made_night n u) [] plan c.bound × IsWhole (tried n u s t p k plan c) old new }
+{
+    made_nights();
+    proved_bounds();
+}
+
 /// `check` ends with `Done` exactly where the files are accepted and the certificate is accepted with the plan, and with `Findings`
 /// exactly where they are accepted and it isn't so, unless the store, memory or the sink came first. It never ends with `NoMatching`
 /// or `Unfinished`.
@@ -201,6 +232,37 @@ pub fn check_bounds_every_plan()
 pub fn check_completes()
     ensures { (s t p k : List ℕ) (old new : Seen) (status : Status) (files : Files) (x : Checkable) → old.files ≡ Some files → check_in s t p k files ≡ Ok x → (Rose old.store_faults new.store_faults → ⊥) → (Rose old.sink_faults new.sink_faults → ⊥) → Ends (Check s t p k) old new status → (status ≡ Status.Done) ⊎ ((status ≡ Status.Findings) ⊎ (status ≡ Status.Memory)) }
 {}
+
+/// `check-pinned` ends with `Done` exactly where the files are accepted, the pins are usable and the certificate is accepted with the plan,
+/// which keeps them, and with `Findings` exactly where the files are accepted and it isn't so, unless the store, memory or the sink came
+/// first. It never ends with `NoMatching` or `Unfinished`.
+pub fn check_pinned_done_exactly()
+    ensures done { (s t i p k : List ℕ) (old new : Seen) (status : Status) (files : Files) (x : PinChecked) → old.files ≡ Some files → pin_check_in s t i p k files ≡ Ok x → IsPinProved x → Ends (CheckPinned s t i p k) old new status → (status ≡ Status.Done) ⊎ Yields status }
+    ensures done_only { (s t i p k : List ℕ) (old new : Seen) → Ends (CheckPinned s t i p k) old new Status.Done → (files : Files) × Agrees old.files files × ((x : PinChecked) × (pin_check_in s t i p k files ≡ Ok x) × IsPinProved x) }
+    ensures findings { (s t i p k : List ℕ) (old new : Seen) (status : Status) (files : Files) (x : PinChecked) → old.files ≡ Some files → pin_check_in s t i p k files ≡ Ok x → (IsPinProved x → ⊥) → Ends (CheckPinned s t i p k) old new status → (status ≡ Status.Findings) ⊎ Yields status }
+    ensures findings_only { (s t i p k : List ℕ) (old new : Seen) → Ends (CheckPinned s t i p k) old new Status.Findings → (files : Files) × Agrees old.files files × ((x : PinChecked) × (pin_check_in s t i p k files ≡ Ok x) × (IsPinProved x → ⊥)) }
+    ensures no_matching { (s t i p k : List ℕ) (old new : Seen) → Ends (CheckPinned s t i p k) old new Status.NoMatching → ⊥ }
+    ensures no_unfinished { (s t i p k : List ℕ) (old new : Seen) → Ends (CheckPinned s t i p k) old new Status.Unfinished → ⊥ }
+{
+    laws::pins();
+    reasons();
+}
+
+/// Where `check-pinned` ends with `Done`, the pins are usable, the plan is feasible, keeps them and states its cost, every feasible plan of
+/// the night that keeps them costs at least the bound of the certificate, which has the plan's cost, and that bound was printed as accepted.
+pub fn check_pinned_bounds_every_plan()
+    ensures { (s t i p k : List ℕ) (old new : Seen) → Ends (CheckPinned s t i p k) old new Status.Done → (files : Files) × Agrees old.files files × ((x : PinChecked) × (pin_check_in s t i p k files ≡ Ok x) × BoundsKept x × IsWhole (says Outcome.Done (verdict_of x.night x.certificate (verdict.Accepted x.certificate.bound))) old new) }
+{
+    reasons();
+}
+
+/// Where the files are accepted and neither the store nor the sink fails, `check-pinned` ends with `Done`, `Findings` or `Memory`.
+pub fn check_pinned_completes()
+    ensures { (s t i p k : List ℕ) (old new : Seen) (status : Status) (files : Files) (x : PinChecked) → old.files ≡ Some files → pin_check_in s t i p k files ≡ Ok x → (Rose old.store_faults new.store_faults → ⊥) → (Rose old.sink_faults new.sink_faults → ⊥) → Ends (CheckPinned s t i p k) old new status → (status ≡ Status.Done) ⊎ ((status ≡ Status.Findings) ⊎ (status ≡ Status.Memory)) }
+{
+    laws::pins();
+    reasons();
+}
 
 /// `zones` ends with `Done` exactly where the files are accepted and no two moves of the plan meet in a zone, and with `Findings` exactly
 /// where they are accepted and two do, unless the store, memory or the sink came first. It never ends with `NoMatching` or `Unfinished`.
@@ -344,7 +406,7 @@ pub fn plan_no_matching_exactly()
 /// Where `plan` ends with `Done`, the plan file holds the text of a feasible plan that states its cost, no feasible plan of the night
 /// costs less, and that cost was printed as optimal, and as the bound.
 pub fn plan_is_cheapest()
-    ensures { (s t : List ℕ) (m : ℕ) (p k : List ℕ) (old new : Seen) → Ends (MakePlan s t m p k) old new Status.Done → (files : Files) × Agrees old.files files × ((night : Night) × (stated_night (content files s) (content files t) ≡ Ok night) × ((plan : Plan) × (c : Certificate) × IsCheapest night plan × (c.bound ≡ plan.cost) × IsWhole (planned Outcome.Done p k night plan c) old new)) }
+    ensures { (s t : List ℕ) (m : ℕ) (p k : List ℕ) (old new : Seen) → Ends (MakePlan s t m p k) old new Status.Done → (files : Files) × Agrees old.files files × ((night : Night) × (stated_night (content files s) (content files t) ≡ Ok night) × ((plan : Plan) × (c : Certificate) × IsCheapest night [] plan × (c.bound ≡ plan.cost) × IsWhole (planned Outcome.Done p k night plan c) old new)) }
 {
     proved_bounds();
 }
@@ -353,7 +415,7 @@ pub fn plan_is_cheapest()
 /// different partial plans; the plan file holds that of a feasible plan that states its cost; and every feasible plan of the night costs
 /// at least the bound that was printed, which is below the plan's cost.
 pub fn plan_is_unfinished()
-    ensures { (s t : List ℕ) (m : ℕ) (p k : List ℕ) (old new : Seen) → Ends (MakePlan s t m p k) old new Status.Unfinished → (files : Files) × Agrees old.files files × ((night : Night) × (stated_night (content files s) (content files t) ≡ Ok night) × ((plan : Plan) × (c : Certificate) × IsBounded night plan c.bound × (c.bound < plan.cost) × AreDifferent night c.nodes m × IsWhole (planned Outcome.Unfinished p k night plan c) old new)) }
+    ensures { (s t : List ℕ) (m : ℕ) (p k : List ℕ) (old new : Seen) → Ends (MakePlan s t m p k) old new Status.Unfinished → (files : Files) × Agrees old.files files × ((night : Night) × (stated_night (content files s) (content files t) ≡ Ok night) × ((plan : Plan) × (c : Certificate) × IsBounded night [] plan c.bound × (c.bound < plan.cost) × AreDifferent night [] c.nodes m × IsWhole (planned Outcome.Unfinished p k night plan c) old new)) }
 {
     few_nodes();
     known_by_paths();
@@ -369,11 +431,72 @@ pub fn plan_completes()
     ensures ends { (s t : List ℕ) (m : ℕ) (p k : List ℕ) (old new : Seen) (status : Status) (files : Files) (night : Night) → old.files ≡ Some files → stated_night (content files s) (content files t) ≡ Ok night → (Rose old.store_faults new.store_faults → ⊥) → (Rose old.sink_faults new.sink_faults → ⊥) → Ends (MakePlan s t m p k) old new status → (status ≡ Status.Done) ⊎ ((status ≡ Status.NoMatching) ⊎ ((status ≡ Status.Unfinished) ⊎ (status ≡ Status.Memory))) }
 {}
 
+/// `pinned` ends with `Findings` exactly where its input files are accepted and the pins aren't usable, unless the store, memory or the
+/// sink came first.
+pub fn pinned_findings_exactly()
+    ensures there { (s t i : List ℕ) (m : ℕ) (p k : List ℕ) (old new : Seen) (status : Status) (files : Files) (x : Pinned) → old.files ≡ Some files → pinned_in s t i files ≡ Ok x → (AreUsable x.instance x.pins → ⊥) → Ends (MakePinned s t i m p k) old new status → (status ≡ Status.Findings) ⊎ Yields status }
+    ensures only { (s t i : List ℕ) (m : ℕ) (p k : List ℕ) (old new : Seen) → Ends (MakePinned s t i m p k) old new Status.Findings → (files : Files) × Agrees old.files files × ((x : Pinned) × (pinned_in s t i files ≡ Ok x) × (AreUsable x.instance x.pins → ⊥)) }
+{
+    laws::pins();
+}
+
+/// `pinned` ends with `NoMatching` exactly where its input files are accepted, the pins are usable, and no list is a matching of the units
+/// and positions that they leave, unless the store, memory or the sink came first.
+pub fn pinned_no_matching_exactly()
+    ensures there { (s t i : List ℕ) (m : ℕ) (p k : List ℕ) (old new : Seen) (status : Status) (files : Files) (x : Pinned) → old.files ≡ Some files → pinned_in s t i files ≡ Ok x → AreUsable x.instance x.pins → HasNoMatching x.instance (units_taken x.instance x.pins) (positions_taken x.instance x.pins) → Ends (MakePinned s t i m p k) old new status → (status ≡ Status.NoMatching) ⊎ Yields status }
+    ensures only { (s t i : List ℕ) (m : ℕ) (p k : List ℕ) (old new : Seen) → Ends (MakePinned s t i m p k) old new Status.NoMatching → (files : Files) × Agrees old.files files × ((x : Pinned) × (pinned_in s t i files ≡ Ok x) × AreUsable x.instance x.pins × HasNoMatching x.instance (units_taken x.instance x.pins) (positions_taken x.instance x.pins)) }
+{
+    laws::pins();
+}
+
+/// Where `pinned` ends with `Done`, the plan file holds the text of a feasible plan that keeps the pins and states its cost, no feasible
+/// plan of the night that keeps them costs less, and that cost was printed as optimal, and as the bound.
+pub fn pinned_is_cheapest()
+    ensures { (s t i : List ℕ) (m : ℕ) (p k : List ℕ) (old new : Seen) → Ends (MakePinned s t i m p k) old new Status.Done → (files : Files) × Agrees old.files files × ((x : Pinned) × (pinned_in s t i files ≡ Ok x) × ((plan : Plan) × (c : Certificate) × IsCheapest x.instance x.pins plan × (c.bound ≡ plan.cost) × IsWhole (planned Outcome.Done p k x.instance plan c) old new)) }
+{
+    laws::pins();
+    proved_bounds();
+}
+
+/// Where `pinned` ends with `Unfinished`, the certificate file holds the text of exactly as many nodes as were allowed, whose paths are
+/// different partial plans over the pins; the plan file holds that of a feasible plan that keeps the pins and states its cost; and every
+/// feasible plan of the night that keeps them costs at least the bound that was printed, which is below the plan's cost.
+pub fn pinned_is_unfinished()
+    ensures { (s t i : List ℕ) (m : ℕ) (p k : List ℕ) (old new : Seen) → Ends (MakePinned s t i m p k) old new Status.Unfinished → (files : Files) × Agrees old.files files × ((x : Pinned) × (pinned_in s t i files ≡ Ok x) × ((plan : Plan) × (c : Certificate) × IsBounded x.instance x.pins plan c.bound × (c.bound < plan.cost) × AreDifferent x.instance x.pins c.nodes m × IsWhole (planned Outcome.Unfinished p k x.instance plan c) old new)) }
+{
+    laws::pins();
+    few_nodes();
+    known_by_paths();
+    proved_bounds();
+    trees();
+}
+
+/// Where the input files are accepted, the pins are usable, a matching of what they leave exists, and more nodes are allowed than there are
+/// partial plans over them, `pinned` ends with `Done`, unless the store, memory or the sink came first. Where neither the store nor the
+/// sink fails, it ends with `Findings`, `Done`, `NoMatching`, `Unfinished` or `Memory`.
+pub fn pinned_completes()
+    ensures done { (s t i : List ℕ) (m : ℕ) (p k : List ℕ) (old new : Seen) (status : Status) (files : Files) (x : Pinned) → old.files ≡ Some files → pinned_in s t i files ≡ Ok x → AreUsable x.instance x.pins → HasMatching x.instance (units_taken x.instance x.pins) (positions_taken x.instance x.pins) → partial_plans x.instance x.pins < m → Ends (MakePinned s t i m p k) old new status → (status ≡ Status.Done) ⊎ Yields status }
+    ensures ends { (s t i : List ℕ) (m : ℕ) (p k : List ℕ) (old new : Seen) (status : Status) (files : Files) (x : Pinned) → old.files ≡ Some files → pinned_in s t i files ≡ Ok x → (Rose old.store_faults new.store_faults → ⊥) → (Rose old.sink_faults new.sink_faults → ⊥) → Ends (MakePinned s t i m p k) old new status → (status ≡ Status.Findings) ⊎ ((status ≡ Status.Done) ⊎ ((status ≡ Status.NoMatching) ⊎ ((status ≡ Status.Unfinished) ⊎ (status ≡ Status.Memory)))) }
+{
+    laws::pins();
+}
+
 /// `check` of the files that `plan` left, whether with `Done` or with `Unfinished`, accepts them, unless the store, memory or the sink
 /// came first.
 pub fn own_plans_are_accepted()
     ensures { (s t : List ℕ) (m : ℕ) (p k : List ℕ) (old mid before new : Seen) (first status : Status) (files : Files) → IsUsable (MakePlan s t m p k) → Ends (MakePlan s t m p k) old mid first → (first ≡ Status.Done) ⊎ (first ≡ Status.Unfinished) → mid.files ≡ Some files → before.files ≡ Some files → Ends (Check s t p k) before new status → (status ≡ Status.Done) ⊎ Yields status }
 {
+    reasons();
+    texts_of_plans();
+    texts_of_certificates();
+}
+
+/// `check-pinned` of the files that `pinned` left, whether with `Done` or with `Unfinished`, over the same pins, accepts them, unless the
+/// store, memory or the sink came first.
+pub fn own_pinned_plans_are_accepted()
+    ensures { (s t i : List ℕ) (m : ℕ) (p k : List ℕ) (old mid before new : Seen) (first status : Status) (files : Files) → IsUsable (MakePinned s t i m p k) → Ends (MakePinned s t i m p k) old mid first → (first ≡ Status.Done) ⊎ (first ≡ Status.Unfinished) → mid.files ≡ Some files → before.files ≡ Some files → Ends (CheckPinned s t i p k) before new status → (status ≡ Status.Done) ⊎ Yields status }
+{
+    laws::pins();
     reasons();
     texts_of_plans();
     texts_of_certificates();

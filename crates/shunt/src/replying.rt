@@ -11,10 +11,11 @@ use crate::words::Command;
 use shunt_dispatch::{reply_to_delay, reply_to_follow, reply_to_sheet};
 use shunt_exchange::{reply_to_report, reply_to_upgrade};
 use shunt_inputs::{Answer, Halt};
-use shunt_judging::{reply_to_audit, reply_to_check, reply_to_replay};
-use shunt_planning::{reply_to_match, reply_to_plan};
+use shunt_judging::{reply_to_audit, reply_to_check, reply_to_check_pinned, reply_to_replay};
+use shunt_planning::{reply_to_match, reply_to_pinned, reply_to_plan};
 use shunt_store::Store;
 use shunt_throat::{reply_to_drivers, reply_to_roster, reply_to_zones};
+use shunt_trial::reply_to_trial;
 use std::alloc::Global;
 
 /// What is to be delivered of the answer of a command, after its input files were read and judged: all of it, but that a certificate is
@@ -50,17 +51,35 @@ pub fn answer_to<S: Store>(
         Command::Upgrade(first, second, station, timetable) => {
             reply_to_upgrade(alloc, store, first, second, station, timetable)
         }
+        Command::Trial(number, units, nodes, first, second, plan, certificate) => {
+            Ok(reply_to_trial(
+                alloc,
+                number,
+                units,
+                nodes,
+                first,
+                second,
+                plan,
+                certificate,
+            )?)
+        }
         Command::Drivers(first, second, third, crew, roster) => {
             reply_to_drivers(alloc, store, first, second, third, crew, roster)
         }
         Command::Roster(first, second, third, crew, roster) => {
             reply_to_roster(alloc, store, first, second, third, crew, roster)
         }
+        Command::CheckPinned(first, second, pins, plan, certificate) => {
+            reply_to_check_pinned(alloc, store, first, second, pins, plan, certificate)
+        }
         Command::Replay(first, second, third, fourth, fifth) => {
             reply_to_replay(alloc, store, first, second, third, fourth, fifth)
         }
         Command::MakePlan(first, second, nodes, plan, certificate) => {
             reply_to_plan(alloc, store, first, second, nodes, plan, certificate)
+        }
+        Command::MakePinned(first, second, pins, nodes, plan, certificate) => {
+            reply_to_pinned(alloc, store, first, second, pins, nodes, plan, certificate)
         }
     }
 }

@@ -1,5 +1,5 @@
 // The words of the command line.
-ghost use Rattle.std.specs.Prelude.{◌≡◌, ◌↔◌, ◌∷◌, [], ℕ, ◌≤◌, codes, Some, IfSome, IsSome, IsTrue};
+ghost use Rattle.std.specs.Prelude.{◌≡◌, ◌↔◌, ◌∷◌, [], ℕ, ◌<◌, ◌≤◌, length, codes, Some, IfSome, IsSome, IsTrue};
 ghost use Rattle.std.specs.Fmt.{decimal};
 ghost use Rattle.shunt_inputs.specs.defs.Names.{AreNames};
 ghost use Rattle.shunt.specs.defs.Words.{Call, Spells, texts, call_of};
@@ -27,14 +27,20 @@ pub enum Command<'w> {
     Sheet(&'w str, &'w str, &'w str, &'w str),
     /// `upgrade STATION TIMETABLE NEWSTATION NEWTIMETABLE`
     Upgrade(&'w str, &'w str, &'w str, &'w str),
+    /// `trial NUMBER UNITS NODES STATION TIMETABLE PLAN CERT`
+    Trial(u32, u32, u32, &'w str, &'w str, &'w str, &'w str),
     /// `drivers STATION TIMETABLE PLAN CREW ROSTER`
     Drivers(&'w str, &'w str, &'w str, &'w str, &'w str),
     /// `roster STATION TIMETABLE PLAN CREW ROSTER`
     Roster(&'w str, &'w str, &'w str, &'w str, &'w str),
+    /// `check-pinned STATION TIMETABLE PINS PLAN CERT`
+    CheckPinned(&'w str, &'w str, &'w str, &'w str, &'w str),
     /// `replay STATION TIMETABLE PLAN EDITS NEWPLAN`
     Replay(&'w str, &'w str, &'w str, &'w str, &'w str),
     /// `plan STATION TIMETABLE NODES PLAN CERT`
     MakePlan(&'w str, &'w str, u32, &'w str, &'w str),
+    /// `pinned STATION TIMETABLE PINS NODES PLAN CERT`
+    MakePinned(&'w str, &'w str, &'w str, u32, &'w str, &'w str),
 }
 
 /// The command that the words spell. None exactly where they spell none.
@@ -49,6 +55,38 @@ pub fn command_of(words: &[String]) -> Option<Command<'_>>
         [word, first, second, third, fourth, fifth] => {
             of_five_files(word, first, second, third, fourth, fifth)
         }
+        [word, first, second, third, fourth, fifth, sixth] => {
+            of_six_words(word, first, second, third, fourth, fifth, sixth)
+        }
+        _ => long_command_of(words),
+    }
+}
+
+// The command that eight words spell.
+fn long_command_of(words: &[String]) -> Option<Command<'_>>
+    ensures some { IfSome result (λ c. Spells (texts words.now) (call_of c)) }
+    ensures only { (c : Call) → 7 < length words.now → Spells (texts words.now) c → IsSome result }
+{
+    match words {
+        [
+            word,
+            number,
+            units,
+            nodes,
+            station,
+            timetable,
+            plan,
+            certificate,
+        ] => of_trial(
+            word,
+            number,
+            units,
+            nodes,
+            station,
+            timetable,
+            plan,
+            certificate,
+        ),
         _ => None,
     }
 }
@@ -212,6 +250,9 @@ fn of_five_files<'w>(
         "roster" if are_five_names(first, second, third, fourth, fifth) => {
             Some(Command::Roster(first, second, third, fourth, fifth))
         }
+        "check-pinned" if are_five_names(first, second, third, fourth, fifth) => {
+            Some(Command::CheckPinned(first, second, third, fourth, fifth))
+        }
         "plan" => of_search(first, second, third, fourth, fifth),
         _ => None,
     }
@@ -246,6 +287,88 @@ fn of_search<'w>(
     let nodes = node_count(number)?;
     if are_four_names(first, second, third, fourth) {
         Some(Command::MakePlan(first, second, nodes, third, fourth))
+    } else {
+        None
+    }
+}
+
+// The command that a word and six more spell.
+fn of_six_words<'w>(
+    word: &'w String,
+    first: &'w String,
+    second: &'w String,
+    third: &'w String,
+    fourth: &'w String,
+    fifth: &'w String,
+    sixth: &'w String,
+) -> Option<Command<'w>>
+    ensures some { IfSome result (λ c. Spells (texts (word.now ∷ first.now ∷ second.now ∷ third.now ∷ fourth.now ∷ fifth.now ∷ sixth.now ∷ [])) (call_of c)) }
+    ensures only { (c : Call) → Spells (texts (word.now ∷ first.now ∷ second.now ∷ third.now ∷ fourth.now ∷ fifth.now ∷ sixth.now ∷ [])) c → IsSome result }
+{
+    let (first, second, third) = (first.as_str(), second.as_str(), third.as_str());
+    let (fourth, fifth, sixth) = (fourth.as_str(), fifth.as_str(), sixth.as_str());
+    match word.as_str() {
+        "pinned" => of_pinned_search(first, second, third, fourth, fifth, sixth),
+        _ => None,
+    }
+}
+
+// The search over pins that the names of five files and a number of nodes ask for.
+fn of_pinned_search<'w>(
+    first: &'w str,
+    second: &'w str,
+    third: &'w str,
+    number: &'w str,
+    fourth: &'w str,
+    fifth: &'w str,
+) -> Option<Command<'w>>
+    ensures some { IfSome result (λ c. Spells (codes "pinned" ∷ first.now ∷ second.now ∷ third.now ∷ number.now ∷ fourth.now ∷ fifth.now ∷ []) (call_of c)) }
+    ensures only { (c : Call) → Spells (codes "pinned" ∷ first.now ∷ second.now ∷ third.now ∷ number.now ∷ fourth.now ∷ fifth.now ∷ []) c → IsSome result }
+{
+    let nodes = node_count(number)?;
+    if are_five_names(first, second, third, fourth, fifth) {
+        Some(Command::MakePinned(first, second, third, nodes, fourth, fifth))
+    } else {
+        None
+    }
+}
+
+// The number that a word spells, up to the most that it may.
+fn number_up_to(word: &str, most: u32) -> Option<u32>
+    ensures some { IfSome result (λ m. (word.now ≡ decimal m) × (m ≤ most)) }
+    ensures only { (m : ℕ) → m ≤ most → word.now ≡ decimal m → result ≡ Some m }
+{
+    let number = parse_decimal(word.as_bytes())?;
+    if number > u64::from(most) {
+        return None;
+    }
+    Some(number as u32)
+}
+
+// The trial that a word, three numbers and the names of four files ask for.
+fn of_trial<'w>(
+    word: &'w String,
+    number: &'w String,
+    units: &'w String,
+    nodes: &'w String,
+    station: &'w String,
+    timetable: &'w String,
+    plan: &'w String,
+    certificate: &'w String,
+) -> Option<Command<'w>>
+    ensures some { IfSome result (λ c. Spells (texts (word.now ∷ number.now ∷ units.now ∷ nodes.now ∷ station.now ∷ timetable.now ∷ plan.now ∷ certificate.now ∷ [])) (call_of c)) }
+    ensures only { (c : Call) → Spells (texts (word.now ∷ number.now ∷ units.now ∷ nodes.now ∷ station.now ∷ timetable.now ∷ plan.now ∷ certificate.now ∷ [])) c → IsSome result }
+{
+    if word.as_str() != "trial" {
+        return None;
+    }
+    let number = number_up_to(number.as_str(), 2_147_483_647)?;
+    let units = number_up_to(units.as_str(), 160)?;
+    let nodes = node_count(nodes.as_str())?;
+    let (station, timetable) = (station.as_str(), timetable.as_str());
+    let (plan, certificate) = (plan.as_str(), certificate.as_str());
+    if are_four_names(station, timetable, plan, certificate) {
+        Some(Command::Trial(number, units, nodes, station, timetable, plan, certificate))
     } else {
         None
     }

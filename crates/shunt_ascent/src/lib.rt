@@ -15,4 +15,4 @@ mod settling;
 mod slots;
 mod stating;
 
-pub use proposing::propose_cases;
+pub use proposing::Proposal;

@@ -85,19 +85,6 @@ fn two(
     Ok((first, last))
 }
 
-/// By how many unparked blocks a plan may exceed those that one case chooses.
-const FAR: Number = Wrapping(4);
-
-// The number at which to part first: that of a plan, or one near those that one case chooses, where the plan has far more.
-fn first_number(scene: &Scene, one: &Found, unparked: u8, work: &mut Work) -> u8 {
-    work.evaluate(scene, one.span, &one.point);
-    let near = work.slopes.multiplier + one.span.dearest(one.point.multiplier) + FAR;
-    u8::try_from(near.0)
-        .unwrap_or(unparked)
-        .min(unparked)
-        .max(1)
-}
-
 // The number at which to part next, where one of the cases bounds no more than one case does.
 fn next_number(many: u8, first: Number, last: Number, alone: Number) -> u8 {
     if first <= alone + CLOSE {
@@ -122,7 +109,7 @@ pub(crate) fn part_cases(
     let point = one.point.copied(alloc)?;
     let alone = one.sum;
     let mut least = alone + CLOSE;
-    let mut many = first_number(scene, &one, unparked, work);
+    let mut many = unparked.max(1);
     let mut best = Parted {
         first: None,
         last: one,

@@ -15,6 +15,17 @@ pub(crate) struct Found {
     pub sum: Number,
 }
 
+impl Found {
+    /// The same case.
+    pub(crate) fn copied(&self, alloc: Global) -> Result<Found, AllocError> {
+        Ok(Found {
+            span: self.span,
+            point: self.point.copied(alloc)?,
+            sum: self.sum,
+        })
+    }
+}
+
 // The same number, made whole.
 fn rounded(number: Number) -> Number {
     whole(number) * Wrapping(ONE)

@@ -197,6 +197,20 @@ fn state(
     case_of(alloc, instance, scene, &point, to, work)
 }
 
+/// What was found as a case that speaks of all numbers of unparked blocks. Err is want of memory.
+pub(crate) fn case_for(
+    alloc: Global,
+    instance: &Instance,
+    scene: &Scene,
+    found: &Found,
+    work: &mut Work,
+) -> Result<Case, AllocError>
+    ensures case { IfOk result (IsCase instance.now) }
+    ensures apart { IfOk result (λ c. AreApart c.duals.prices) }
+{
+    state(alloc, instance, scene, found, 160, work)
+}
+
 // These as cases.
 fn two_cases(first: Case, last: Case) -> Cases
     requires rise { first.to < last.to }

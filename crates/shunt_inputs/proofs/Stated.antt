@@ -7,20 +7,24 @@ use Rattle.shunt_rows.specs.defs.Records.{records_of}
 use Rattle.shunt_report.specs.declared.words.FileWord.{FileWord}
 use Rattle.shunt_report.specs.declared.words.FileWord.TheVariants as word
 use Rattle.shunt_report.specs.defs.Texts.{input_of}
-use Rattle.shunt_inputs.specs.defs.Inputs.{most_bytes_of, value_or, stated, then_stated, stated_station, stated_timetable, stated_night, stated_plan, stated_plans}
+use Rattle.shunt_inputs.specs.defs.Inputs.{most_bytes_of, value_or, stated, then_stated, stated_station, stated_timetable, stated_night, stated_plan, stated_plans, stated_pins, stated_pinned}
 use Rattle.shunt_inputs.specs.defs.Replies.{Reply, Decided, refusal}
 use Rattle.shunt_rows.specs.declared.fault.RowFault.{RowFault}
 use Rattle.shunt_instance.specs.defs.Instance.{Night, night_of, IsInstance}
 use Rattle.shunt_instance.proofs.Orders.{night_is, closed}
+use Rattle.shunt_blocks.specs.declared.records.Block.{Block}
+use Rattle.shunt_blocks.specs.defs.Lists.{AreInRange}
 use Rattle.shunt_plan.specs.declared.records.Plan.{Plan}
 use Rattle.shunt_plan.specs.defs.PlanFormat.{plan_format}
 use Rattle.shunt_plan.specs.defs.Plans.{IsPlanInRange}
-use Rattle.shunt_plan.proofs.Formed.{plan_formed}
+use Rattle.shunt_plan.specs.defs.PinsFormat.{pins_format}
+use Rattle.shunt_plan.proofs.Formed.{plan_formed, pins_formed}
 use Rattle.shunt_station.specs.defs.Stating.{station_format}
 use Rattle.shunt_station.proofs.Formed.{station_formed}
 use Rattle.shunt_timetable.specs.defs.TimetableFormat.{timetable_format}
 use Rattle.shunt_timetable.proofs.Formed.{timetable_formed}
 use Rattle.shunt_inputs.specs.declared.loading.Halt.{Halt}
+use Rattle.shunt_inputs.specs.declared.pins.Pinned.{Pinned}
 use Rattle.shunt_inputs.specs.defs.Halts.{Replies}
 use Rattle.shunt_store.specs.defs.Causes.{HasCause}
 use Rattle.shunt_inputs.specs.declared.loading.Halt.TheVariants as halt
@@ -61,6 +65,20 @@ plan_stated s t p y e =
 pub plans_are : (s t p : List ℕ) (night : Night) (plan : Plan) → stated_night s t ≡ Ok night → stated_plan night p ≡ Ok plan → stated_plans s t p ≡ Ok (night, plan)
 plans_are s t p night plan a b =
     ap (λ r. then_stated r (λ n. then_stated (stated_plan n p) (λ q. Ok (n, q)))) a ∙ ap (λ r. then_stated r (λ q. Ok (night, q))) b
+
+abbrev pub pinned_of : Night → List Block → Pinned
+pinned_of night pins = record { instance = night; pins = pins }
+
+pub pins_stated : (s t p : List ℕ) (x : Pinned) → stated_pinned s t p ≡ Ok x → IsInstance x.instance × AreInRange x.instance x.pins
+pins_stated s t p x e =
+    let first = parted (stated_night s t) _ x e in
+    let second = parted (stated_pins first.0 p) _ x first.2 in
+    let made : pinned_of first.0 second.0 ≡ x = cc (second.2) in
+    subst (λ (z : Pinned). IsInstance z.instance × AreInRange z.instance z.pins) made (night_stated s t first.0 first.1, pins_formed first.0 (records_of p) second.0 (stated_value word.Pins (pins_format first.0) p second.0 second.1))
+
+pub pins_are : (s t p : List ℕ) (night : Night) (pins : List Block) → stated_night s t ≡ Ok night → stated_pins night p ≡ Ok pins → stated_pinned s t p ≡ Ok (pinned_of night pins)
+pins_are s t p night pins a b =
+    ap (λ r. then_stated r (λ n. then_stated (stated_pins n p) (λ q. Ok (pinned_of n q)))) a ∙ ap (λ r. then_stated r (λ q. Ok (pinned_of night q))) b
 
 -- what ended well failed for no cause
 abbrev pub ended_well : (A : Type 0) → A → Result A Halt

@@ -4,3 +4,4 @@ pub mod Inputs
 pub mod Replies
 pub mod Halts
 pub mod Writes
+pub mod Pins

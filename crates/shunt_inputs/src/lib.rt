@@ -4,6 +4,7 @@
 mod answers;
 mod inputs;
 mod loading;
+mod pins;
 
 pub use answers::{Answer, FileText, Outcome, one_file};
 pub use inputs::{
@@ -14,3 +15,4 @@ pub use loading::{
     Halt, load_certificate, load_crew, load_edits, load_input, load_instance, load_pins, load_plan,
     load_roster, load_sheet, load_station, load_timetable, load_zones,
 };
+pub use pins::{Pinned, load_pinned, pins_answer};

@@ -2,3 +2,4 @@ pub mod Turned
 mod Answered
 pub mod CheckFiles
 mod ReplayFiles
+pub mod PinFiles

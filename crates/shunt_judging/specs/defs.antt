@@ -2,3 +2,4 @@
 pub mod Audited
 pub mod Checked
 pub mod Replayed
+pub mod Pinned

@@ -41,7 +41,7 @@ pub fn reply_to_check<S: Store>(
 }
 
 // How a check ends that has this verdict.
-fn outcome_of_verdict(verdict: &Verdict) -> Outcome
+pub(crate) fn outcome_of_verdict(verdict: &Verdict) -> Outcome
     ensures { result ≡ check_outcome verdict.now }
 {
     match verdict {

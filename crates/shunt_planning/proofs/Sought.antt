@@ -1,10 +1,18 @@
--- From what a search found to the answer of `plan`.
-use Rattle.std.proofs.Common.{◌≡◌, ◌∙◌, ℕ, List, [], ◌∷◌, get_or, Option, Some, None, Result, Ok, Err, refl, subst, sym, ap, inl, inr, arith, rules}
-use Rattle.std.specs.Prelude.{IfSome}
+-- From what a search found to the answers of `plan` and of `pinned`.
+use Rattle.std.proofs.Common.{◌≡◌, ◌∙◌, ℕ, zero, suc, Bool, List, [], ◌∷◌, ◌++◌, length, map, Option, Some, None, Result, Ok, Err, refl, subst, sym, ap, inl, inr, arith, rules, IsPermutation}
+use Rattle.std.proofs.lemmas.List.Sorted.{sum_by-IsPermutation}
+use Rattle.std.specs.List.{range_with_len}
+use Rattle.std.specs.Prelude.{◌==◌, not, IfNone, IfSome}
 use Rattle.shunt_store.specs.defs.Files.{Files, BothTold, content}
 use Rattle.shunt_store.proofs.Texts.{both_then, both_map, both_same}
-use Rattle.shunt_instance.specs.defs.Instance.{Night}
+use Rattle.shunt_instance.specs.defs.Instance.{Night, unit_total, position_total}
+use Rattle.shunt_instance.specs.defs.Matching.{Entry, IsMatchingOfRest, is_in_rest, unit_entries, position_entries}
+use Rattle.shunt_matching.specs.declared.types.Shortage.{Shortage}
+use Rattle.shunt_matching.specs.defs.Counts.{AreAlikeBelow}
+use Rattle.shunt_matching.specs.defs.Nights.{HasItsType, HasMatching, HasNoMatching, IsShortageOf}
+use Rattle.shunt_matching.specs.defs.Shortages.{IsFirstShortage}
 use Rattle.shunt_blocks.specs.declared.records.Block.{Block}
+use Rattle.shunt_blocks.specs.defs.Lists.{times_unit, times_position, units_taken, positions_taken}
 use Rattle.shunt_blocks.specs.defs.Pins.{AreUsable}
 use Rattle.shunt_plan.specs.defs.Plans.{IsPlanInRange}
 use Rattle.shunt_proof.specs.declared.records.Certificate.{Certificate}
@@ -17,14 +25,15 @@ use Rattle.shunt_inputs.specs.declared.answers.Answer.{Answer}
 use Rattle.shunt_inputs.specs.declared.loading.Halt.{Halt}
 use Rattle.shunt_inputs.specs.declared.loading.Halt.TheVariants as halt
 use Rattle.shunt_inputs.specs.defs.Names.{AreNames}
-use Rattle.shunt_inputs.specs.defs.Inputs.{Agrees, Holding, stated_night}
+use Rattle.shunt_inputs.specs.defs.Inputs.{Agrees}
 use Rattle.shunt_inputs.specs.defs.Replies.{Reply, refusal, reply_of}
 use Rattle.shunt_inputs.specs.defs.Writes.{written, with_first, HasFirst, Leads}
 use Rattle.shunt_inputs.specs.defs.Halts.{Loads}
 use Rattle.shunt_inputs.proofs.Leading.{none_first}
-use Rattle.shunt_inputs.proofs.Seeing.{FailsWith, answered, fails, front_names, halted, seen_all}
-use Rattle.shunt_planning.specs.defs.Planned.{IsPlanned, IsSought, certificate_file, plan_file, search_outcome}
-use Rattle.shunt_planning.specs.defs.Begun.{MaySearch, MayPlan, IsPlannedOver, IsFound, Searches, Puts, HoldsText, HoldsSome}
+use Rattle.shunt_inputs.proofs.Seeing.{FailsWith, HoldingAll, answered, fails, front_names, halted, seen_all}
+use Rattle.shunt_planning.specs.defs.Matched.{IsShortBeside}
+use Rattle.shunt_planning.specs.defs.Planned.{IsPlanned, IsSoughtOver, Lacks, certificate_file, plan_file, search_outcome}
+use Rattle.shunt_planning.specs.defs.Begun.{MaySearch, MaySearchFor, MayStart, IsOver, IsFound, Searches, Puts, HoldsText, HoldsSome}
 use Rattle.shunt_planning.proofs.Certified.{file_some, finished_text, put_is, put_searched, searched}
 
 -- ---- what a recorder leaves
@@ -130,46 +139,105 @@ search_halted P night pins most R M o q r e is h = subst (Leads P M o q) (sym (f
     at halt.Fault h = h
     at halt.Memory h = h
 
+-- ---- the rest
+
+module _ (f g : ℕ → ℕ) (same : (i : ℕ) → f i ≡ g i) where
+  mask_alike : (is : List ℕ) (k : ℕ) → is_in_rest (map (λ i. not (f i == 0)) is) k ≡ is_in_rest (map (λ i. not (g i == 0)) is) k
+  mask_alike [] k = refl
+  mask_alike (i ∷ is) zero = ap (λ (n : ℕ). not (not (n == 0))) (same i)
+  mask_alike (i ∷ is) (suc k) = mask_alike is k
+
+-- the same pins in another order leave the same
+pub units_alike : (night : Night) (pins blocks : List Block) (n : ℕ) → IsPermutation pins blocks → AreAlikeBelow n (units_taken night blocks) (units_taken night pins)
+units_alike night pins blocks n same = λ k lt. mask_alike (times_unit night blocks) (times_unit night pins) (λ u. sum_by-IsPermutation _ pins blocks same) (range_with_len 0 (unit_total night)) k
+
+pub positions_alike : (night : Night) (pins blocks : List Block) (n : ℕ) → IsPermutation pins blocks → AreAlikeBelow n (positions_taken night blocks) (positions_taken night pins)
+positions_alike night pins blocks n same = λ k lt. mask_alike (times_position night blocks) (times_position night pins) (λ v. sum_by-IsPermutation _ pins blocks same) (range_with_len 0 (position_total night)) k
+
+-- what a shortage or none says
+pub lacks_where : (night : Night) (us vs um vm : List Bool) (o : Option Shortage) → um ≡ us → vm ≡ vs → IfNone o (HasMatching night um vm) → IfSome o (λ s. HasNoMatching night um vm) → IfSome o (IsShortageOf night um vm) → IfSome o (HasItsType night) → Lacks night us vs o
+lacks_where night us vs um vm o units places some none exact known = subst (λ x. Lacks night x vs o) units (subst (λ y. Lacks night um y o) places (at o some none exact known))
+  where
+    at : (o : Option Shortage) → IfNone o (HasMatching night um vm) → IfSome o (λ s. HasNoMatching night um vm) → IfSome o (IsShortageOf night um vm) → IfSome o (HasItsType night) → Lacks night um vm o
+    at None some none exact known = some
+    at (Some s) some none exact known = (none, exact, known)
+
+-- that masks that leave out the same have the same matchings and shortages
+pub record MaskLaws : Type 0 where
+  pub matchings : (us vs : List Entry) (um vm un vn : List Bool) (place : List ℕ) → AreAlikeBelow (length us) um un → AreAlikeBelow (length vs) vm vn → IsMatchingOfRest us vs um vm place → IsMatchingOfRest us vs un vn place
+  pub shortages : (us vs : List Entry) (um vm un vn : List Bool) (s : Shortage) → AreAlikeBelow (length us) um un → AreAlikeBelow (length vs) vm vn → IsFirstShortage us vs um vm s → IsFirstShortage us vs un vn s
+
+abbrev pub AreAlike : Night → List Bool → List Bool → List Bool → List Bool → Type 0
+AreAlike night um vm un vn = AreAlikeBelow (length (unit_entries night)) um un × AreAlikeBelow (length (position_entries night)) vm vn
+
+module _ (laws : MaskLaws) (night : Night) (um vm un vn : List Bool) (to : AreAlike night um vm un vn) (back : AreAlike night un vn um vm) where
+  matching_alike : HasMatching night um vm → HasMatching night un vn
+  matching_alike (place, is) = (place, laws.matchings (unit_entries night) (position_entries night) um vm un vn place to.0 to.1 is)
+
+  none_alike : HasNoMatching night um vm → HasNoMatching night un vn
+  none_alike none place is = none place (laws.matchings (unit_entries night) (position_entries night) un vn um vm place back.0 back.1 is)
+
+  shortage_alike : (s : Shortage) → IsShortageOf night um vm s → IsShortageOf night un vn s
+  shortage_alike s is = laws.shortages (unit_entries night) (position_entries night) um vm un vn s to.0 to.1 is
+
+  pub lacks_alike : (o : Option Shortage) → Lacks night um vm o → Lacks night un vn o
+  lacks_alike None some = matching_alike some
+  lacks_alike (Some s) (none, is, known) = (none_alike none, shortage_alike s is, known)
+
+  pub may_alike : (name : List ℕ) (a b : Files) → MaySearchFor night um vm name a b → MaySearchFor night un vn name a b
+  may_alike name a b (inl e) = inl e
+  may_alike name a b (inr (some, may)) = inr (matching_alike some, may)
+
+  short_alike : (r : Reply) → IsShortBeside um vm night r → IsShortBeside un vn night r
+  short_alike r is = record { none = none_alike is.none; reply = (is.reply.0, shortage_alike is.reply.0 is.reply.1, is.reply.2) }
+
+  pub sought_alike : (pins : List Block) (most : ℕ) (p k : List ℕ) (r : Reply) → IsSoughtOver pins um vm most p k night r → IsSoughtOver pins un vn most p k night r
+  sought_alike pins most p k r (inl (some, is)) = inl (matching_alike some, is)
+  sought_alike pins most p k r (inr is) = inr (short_alike r is)
+
 -- ---- the answer over what the files hold
 
-module _ (told : Option Files) (s t : List ℕ) (most : ℕ) (p k : List ℕ) (names : AreNames (s ∷ t ∷ p ∷ k ∷ [])) where
-  -- what holds of the contents of both input files
-  over : (P : List ℕ → List ℕ → Type 0) → Holding told s (λ x. Holding told t (λ y. P x y)) → (files : Files) × Agrees told files × P (content files s) (content files t)
-  over P h = seen_all told (s ∷ t ∷ []) (λ bs. P (get_or bs 0 []) (get_or bs 1 [])) (front_names (s ∷ t ∷ []) (p ∷ k ∷ []) names) h
+module _ {X : Type 0} (told : Option Files) (ns ms : List (List ℕ)) (stated : List (List ℕ) → Result X (List ℕ)) (P : X → Reply → Type 0) (M : X → Files → Files → Type 0) (names : AreNames (ns ++ ms)) where
+  abbrev in_files : Files → Result X (List ℕ)
+  in_files files = stated (map (content files) ns)
 
-  none_begun : (new : Option Files) → new ≡ told → BothTold told new (MayPlan s t k)
-  none_begun new same = both_same (MayPlan s t k) told new same (λ a. inl refl)
+  -- what holds of the contents of all input files
+  over : (Q : List (List ℕ) → Type 0) → HoldingAll told ns Q → (files : Files) × Agrees told files × Q (map (content files) ns)
+  over Q h = seen_all told ns Q (front_names ns ms names) h
 
-  pub night_refused : (new : Option Files) (r : Result Answer Halt) (e : Halt) → FailsWith r e → new ≡ told → Holding told s (λ x. Holding told t (λ y. Loads {X = Night} (Err e) (stated_night x y))) → Leads (IsPlannedOver told s t most p k) (MayPlan s t k) told new r
-  night_refused new r e is same h = subst (Leads (IsPlannedOver told s t most p k) (MayPlan s t k) told new) (sym (fails r e is)) (at e (over (λ x y. Loads {X = Night} (Err e) (stated_night x y)) h))
+  none_begun : (new : Option Files) → new ≡ told → BothTold told new (MayStart in_files M)
+  none_begun new same = both_same (MayStart in_files M) told new same (λ a. inl refl)
+
+  pub refused_over : (new : Option Files) (r : Result Answer Halt) (e : Halt) → FailsWith r e → new ≡ told → HoldingAll told ns (λ bs. Loads {X = X} (Err e) (stated bs)) → Leads (IsOver told in_files P) (MayStart in_files M) told new r
+  refused_over new r e is same h = subst (Leads (IsOver told in_files P) (MayStart in_files M) told new) (sym (fails r e is)) (at e (over (λ bs. Loads {X = X} (Err e) (stated bs)) h))
     where
-      at : (e : Halt) → (files : Files) × Agrees told files × Loads {X = Night} (Err e) (stated_night (content files s) (content files t)) → Leads (IsPlannedOver told s t most p k) (MayPlan s t k) told new (Err e)
-      at (halt.Input text) g = none_first (IsPlannedOver told s t most p k) told new (refusal text.items) same (g.0, g.1, halted {A = Answer} reply_of (halt.Input text) (stated_night (content g.0 s) (content g.0 t)) (IsSought most p k) g.2)
+      at : (e : Halt) → (files : Files) × Agrees told files × Loads {X = X} (Err e) (in_files files) → Leads (IsOver told in_files P) (MayStart in_files M) told new (Err e)
+      at (halt.Input text) g = none_first (IsOver told in_files P) told new (refusal text.items) same (g.0, g.1, halted {A = Answer} reply_of (halt.Input text) (in_files g.0) P g.2)
       at halt.Fault g = none_begun new same
       at halt.Memory g = none_begun new same
 
-  module _ (night : Night) (mid new : Option Files) (same : mid ≡ told) (states : Holding told s (λ x. Holding told t (λ y. stated_night x y ≡ Ok night))) where
-    begun : BothTold mid new (MaySearch night k) → BothTold told new (MayPlan s t k)
-    begun both = both_with (MaySearch night k) (MayPlan s t k) told new (subst (λ x. BothTold x new (MaySearch night k)) same both) (λ a b e f may. inr (record {
-      night = night;
-      stated = (let g = over (λ x y. stated_night x y ≡ Ok night) states in let known : g.0 ≡ a = sym (subst (λ x. IfSome x (λ n. n ≡ g.0)) e g.1) in subst (λ (m : Files). stated_night (content m s) (content m t) ≡ Ok night) known g.2);
+  module _ (x : X) (mid new : Option Files) (same : mid ≡ told) (states : HoldingAll told ns (λ bs. stated bs ≡ Ok x)) where
+    begun : BothTold mid new (M x) → BothTold told new (MayStart in_files M)
+    begun both = both_with (M x) (MayStart in_files M) told new (subst (λ o. BothTold o new (M x)) same both) (λ a b e f may. inr (record {
+      value = x;
+      stated = (let g = over (λ bs. stated bs ≡ Ok x) states in let known : g.0 ≡ a = sym (subst (λ o. IfSome o (λ n. n ≡ g.0)) e g.1) in subst (λ (m : Files). in_files m ≡ Ok x) known g.2);
       begun = may;
     }))
 
-    handed : (r : Reply) → HasFirst (IsSought most p k night) mid new r → HasFirst (IsPlannedOver told s t most p k) told new r
+    handed : (r : Reply) → HasFirst (P x) mid new r → HasFirst (IsOver told in_files P) told new r
     handed r h =
-        let g = over (λ x y. stated_night x y ≡ Ok night) states in
+        let g = over (λ bs. stated bs ≡ Ok x) states in
         record {
           first = h.first;
-          reply = (g.0, g.1, answered (with_first h.first r) (stated_night (content g.0 s) (content g.0 t)) night (IsSought most p k) g.2 h.reply);
-          wrote = subst (λ x. BothTold x new (λ a b. b ≡ written h.first a)) same h.wrote;
+          reply = (g.0, g.1, answered (with_first h.first r) (in_files g.0) x P g.2 h.reply);
+          wrote = subst (λ o. BothTold o new (λ a b. b ≡ written h.first a)) same h.wrote;
         }
 
-    pub night_found : (r : Result Answer Halt) → Leads (IsSought most p k night) (MaySearch night k) mid new r → Leads (IsPlannedOver told s t most p k) (MayPlan s t k) told new r
-    night_found (Ok a) h = handed (reply_of a) h
-    night_found (Err (halt.Input text)) h = handed (refusal text.items) h
-    night_found (Err halt.Fault) h = begun h
-    night_found (Err halt.Memory) h = begun h
+    pub found_over : (r : Result Answer Halt) → Leads (P x) (M x) mid new r → Leads (IsOver told in_files P) (MayStart in_files M) told new r
+    found_over (Ok a) h = handed (reply_of a) h
+    found_over (Err (halt.Input text)) h = handed (refusal text.items) h
+    found_over (Err halt.Fault) h = begun h
+    found_over (Err halt.Memory) h = begun h
 
 -- ---- without pins
 

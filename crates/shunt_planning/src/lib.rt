@@ -1,4 +1,4 @@
-//! The commands that plan a night: `match` and `plan`.
+//! The commands that plan a night: `match`, `plan` and `pinned`.
 #![tactic(auto)]
 
 mod pairing;
@@ -6,4 +6,4 @@ mod planning;
 mod searching;
 
 pub use pairing::reply_to_match;
-pub use planning::reply_to_plan;
+pub use planning::{reply_to_pinned, reply_to_plan};

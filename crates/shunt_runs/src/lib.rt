@@ -16,6 +16,10 @@ mod inputs;
 #[cfg(test)]
 mod matches;
 #[cfg(test)]
+mod pin_checks;
+#[cfg(test)]
+mod pins;
+#[cfg(test)]
 mod plans;
 #[cfg(test)]
 mod replays;
@@ -23,3 +27,5 @@ mod replays;
 mod sheets;
 #[cfg(test)]
 mod throats;
+#[cfg(test)]
+mod trials;

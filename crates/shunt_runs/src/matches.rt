@@ -191,6 +191,8 @@ fn words_spell_a_command(rt: HostRuntime) -> Result<(), Fail> {
     assert!(rt; are_no_words(alloc, &["zones", "S", "T", "P", "P"])?);
     assert!(rt; are_no_words(alloc, &["drivers", "S", "T", "P", "C"])?);
     assert!(rt; are_no_words(alloc, &["roster", "S", "T", "P", "C", "S"])?);
+    assert!(rt; are_no_words(alloc, &["check-pinned", "S", "T", "P", "C"])?);
+    assert!(rt; are_no_words(alloc, &["check-pinned", "S", "T", "I", "P", "I"])?);
     Ok(())
 }
 

@@ -23,6 +23,9 @@ const CROSSING: &str =
 const ONE_AFTER_THE_OTHER: &str =
     "timetable,1\narrive,a1,22:00,P,X\narrive,a2,30:00,P,Y\ndepart,d1,30:00,P,X\ndepart,d2,31:00,P,Y\n";
 
+const LAST_IN_FIRST_OUT: &str =
+    "timetable,1\narrive,a1,22:00,P,X\narrive,a2,23:00,P,Y\ndepart,d1,29:00,P,Y\ndepart,d2,30:00,P,X\n";
+
 const SPLIT_REVERSED: &str =
     "timetable,1\narrive,a1,22:00,P,X,Y\ndepart,d1,29:00,P,Y\ndepart,d2,30:00,P,X\n";
 
@@ -32,6 +35,14 @@ const SPLIT_CROSSING: &str =
 // A track of one unit's length.
 const TIGHT: &str =
     "station,1,Demo\ntype,K,500,10\ntype,X,500,10\ntype,Y,500,10\nplatform,P\ntrack,T,500,A\nroute,P,T,A,3\ncost,5,4,100\n";
+
+// A track of one and a half units' length.
+const THREE_QUARTERS: &str =
+    "station,1,Demo\ntype,K,500,10\ntype,X,500,10\ntype,Y,500,10\nplatform,P\ntrack,T,750,A\nroute,P,T,A,3\ncost,5,4,100\n";
+
+// Two units are 1 dm longer together than the track.
+const TOO_LONG: &str =
+    "station,1,Demo\ntype,K,500,10\ntype,X,600,10\ntype,Y,401,10\nplatform,P\ntrack,T,1000,A\nroute,P,T,A,3\ncost,5,4,100\n";
 
 // The track is open at both ends.
 const OPEN: &str =
@@ -93,10 +104,31 @@ fn one_node_is_enough(rt: HostRuntime) -> Result<(), Fail> {
 }
 
 #[test]
+fn cases_and_parts_close_a_root(rt: HostRuntime) -> Result<(), Fail> {
+    let alloc = rt.alloc();
+    assert_eq!(rt;
+        found_at(alloc, THREE_QUARTERS, CROSSING, 1)?,
+        (106, 106, 1)
+    );
+    assert_eq!(rt;
+        found_at(alloc, TOO_LONG, LAST_IN_FIRST_OUT, 1)?,
+        (106, 106, 1)
+    );
+    Ok(())
+}
+
+#[test]
 fn a_search_goes_on_until_its_nodes_are_spent(rt: HostRuntime) -> Result<(), Fail> {
     let alloc = rt.alloc();
     assert_eq!(rt; found_at(alloc, STATION, CROSSING, 1)?, (106, 12, 1));
     assert_eq!(rt; found_at(alloc, STATION, SPLIT_CROSSING, 1)?, (111, 17, 1));
+    Ok(())
+}
+
+#[test]
+fn units_of_one_train_stay_together_without_a_tree(rt: HostRuntime) -> Result<(), Fail> {
+    let (cost, _, nodes) = found_at(rt.alloc(), STATION, TWO_UNITS, 1)?;
+    assert_eq!(rt; (cost, nodes), (6, 1));
     Ok(())
 }
 

@@ -47,8 +47,8 @@ not_whole : Branch ≢ Whole
 not_whole e = cc
 
 module _ (laws : BeginLaws) (night : Night) (i : IsInstance night) (pins : List Block) (cases : List Case) (told now : Option (List Node)) (count : ℕ) (y : Yard) (k : Known) (f : IsFresh night pins cases y k) (first : count ≡ 1) where
-  opened : k.cost ≡ opening_cost night y.path.blocks
-  opened = f.opening ∙ sym (laws.opening night pins y.path.blocks f.begins.same)
+  opened : k.cost ≤ opening_cost night y.path.blocks
+  opened = let least = f.opening in let same = laws.opening night pins y.path.blocks f.begins.same in omega (arith, least, same)
 
   pub whole_begins : TellsRoot whole_root told now → (better : Known) → IsVisited night cases k.cost y.path.blocks true [] [] → KeepsCheaper night y.path.blocks k better → IsSearch night pins cases now count y [] better
   whole_begins tells better visited cheaper =

@@ -1,15 +1,16 @@
 -- Duals as the cases of a root, and their bound.
-use Rattle.std.specs.Prelude.{◌≤ℤ◌}
-use Rattle.std.proofs.Common.{◌≡◌, ℕ, ◌<◌, List, [], length, ℤ, pos, negsuc, refl, subst, arith}
+use Rattle.std.specs.Prelude.{◌≤ℤ◌, All, map}
+use Rattle.std.proofs.Common.{◌≡◌, ℕ, ◌<◌, List, [], length, ℤ, pos, negsuc, refl, sym, subst, arith}
 use Rattle.std.proofs.lemmas.Int.{ints}
 use Rattle.std.proofs.lemmas.List.Elements.{All-cons, All-nil}
 use Rattle.shunt_base.specs.declared.duals.Duals.{Duals}
 use Rattle.shunt_base.specs.declared.duals.Case.{Case}
+use Rattle.shunt_base.specs.declared.duals.Price.{Price}
 use Rattle.shunt_instance.specs.defs.Instance.{Night}
 use Rattle.shunt_blocks.specs.declared.records.Block.{Block}
-use Rattle.shunt_prices.specs.defs.Limits.{AreDuals, AreApart, AreCases, plain}
-use Rattle.shunt_prices.specs.defs.Cases.{DualsHold}
-use Rattle.shunt_prices.specs.defs.Bounds.{IsBoundOf, case_sum, duals_sum}
+use Rattle.shunt_prices.specs.defs.Limits.{AreDuals, AreApart, AreCases, place_of_price, plain}
+use Rattle.shunt_prices.specs.defs.Cases.{CasesHold, DualsHold}
+use Rattle.shunt_prices.specs.defs.Bounds.{IsBoundOf, IsCasesBound, case_sum, duals_sum}
 use Rattle.shunt_dual.specs.defs.Assignments.{IsAssignmentBound}
 use Rattle.shunt_proof.specs.defs.Nodes.{AreStatable}
 use Rattle.shunt_search.specs.defs.Roots.{IsAbove, AreRooted}
@@ -28,6 +29,16 @@ whole total (negsuc b) is = let enough = is.enough in absurd (omega (arith, ints
 pub in_all : (total : ℕ) (a x y z : ℤ) → a ≡ pos total → x ≡ a → x ≤ℤ y → y ≤ℤ z → pos total ≤ℤ z
 in_all total a x y z is start first second = omega (arith, ints, is, start, first, second)
 
+pub from_start : (total : ℕ) (a x y : ℤ) → a ≡ pos total → x ≡ a → x ≤ℤ y → pos total ≤ℤ y
+from_start total a x y is start le = omega (arith, ints, is, start, le)
+
+-- no prices are apart
+apart_nil : AreApart []
+apart_nil i j d before lt = let e : length (map place_of_price []) ≡ 0 = refl in absurd (omega (arith, lt, e))
+
+pub none_apart : (prices : List Price) → prices ≡ [] → AreApart prices
+none_apart prices e = subst (λ (l : List Price). AreApart l) (sym e) apart_nil
+
 module _ (laws : RootLaws) (night : Night) (path : List Block) (d : Duals) where
   only : (k : ℕ) → k < length (plain d) → k ≡ 0
   only k lt = let e : length (plain d) ≡ 1 = refl in omega (arith, lt, e)
@@ -45,3 +56,16 @@ module _ (laws : RootLaws) (night : Night) (path : List Block) (d : Duals) where
       let is = subst (λ (z : ℤ). IsBoundOf (pos total) z) number.1 some.1 in
       let statable : AreStatable night (plain d) = record { within = laws.one_case night d are; apart = All-cons (λ (c : Case). AreApart c.duals.prices) (record { to = 160; multiplier = pos 0; duals = d }) [] apart (All-nil (λ (c : Case). AreApart c.duals.prices)) } in
       record { statable = statable; hold = hold; floor = number.0; assignment = assignment number.0 is; above = above (pos total) number.0 le is }
+
+-- cases that hold and bound no less than cases for a root are cases for a root
+pub rooted_too : ((night : Night) (path : List Block) (cases : List Case) (bound other : ℤ) → IsCasesBound night path cases bound → IsCasesBound night path cases other → bound ≡ other)
+    → (night : Night) (path : List Block) (known new : List Case) → AreRooted night path known → AreCases night new → All (λ c. AreApart c.duals.prices) new → CasesHold night path new
+    → (old more : ℤ) → IsCasesBound night path known old → IsCasesBound night path new more → old ≤ℤ more → AreRooted night path new
+rooted_too one night path known new r within apart hold old more is_old is_more le =
+    record {
+      statable = record { within = within; apart = apart };
+      hold = hold;
+      floor = r.floor;
+      assignment = r.assignment;
+      above = λ bound is. let e = one night path new more bound is_more is in let low = r.above old is_old in omega (arith, ints, e, low, le);
+    }

@@ -3,6 +3,7 @@
 #![tactic(auto)]
 
 mod beginning;
+mod cheapening;
 mod children;
 mod ending;
 mod floors;

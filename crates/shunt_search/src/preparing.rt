@@ -1,4 +1,4 @@
-// A search that is to begin: the pins in order, the plan that parks nothing else, and the cases of the root.
+// A search that is to begin: the pins in order, the cases of the root, and a plan that is cheap by them.
 ghost use Rattle.std.specs.Prelude.{◌≡◌, ◌⊎◌, [], ℕ, List, All, IfOk, IsErrOf};
 ghost use Rattle.shunt_instance.specs.defs.Instance.{Night, IsInstance, unit_total, position_total};
 ghost use Rattle.shunt_blocks.specs.declared.records.Block.{Block as OneBlock};
@@ -11,11 +11,13 @@ ghost use Rattle.shunt_matching.specs.defs.Nights.{Matches, MatchesRest, IsShort
 ghost use Rattle.shunt_proof.specs.defs.Trees.{IsStart};
 ghost use Rattle.shunt_search.specs.defs.Searching.{IsFresh};
 
+use crate::cheapening::{first_plan, last_plan};
 use crate::opening::{as_many_positions, opening_plan};
 use crate::rooting::root_cases;
 use crate::searching::Search;
 use crate::solved::SolveError;
 use crate::yard::start;
+use shunt_ascent::Proposal;
 use shunt_base::Cases;
 use shunt_blocks::Block;
 use shunt_blocks::laws::matchings;
@@ -96,14 +98,17 @@ pub(crate) fn prepare(
     instance.units();
     let yard = start(alloc, instance, pins)?;
     let matching = matched_rest(alloc, instance, pins, &yard.path)?;
-    let known = opening_plan(
+    let opening = opening_plan(
         alloc,
         instance,
         pins,
         yard.path.covered(),
         matching.place_of.as_slice(),
     )?;
-    let cases = root_cases(alloc, instance, &yard.path)?;
+    let proposal = Proposal::new(alloc, instance, &yard.path)?;
+    let first = first_plan(alloc, instance, pins, &proposal, &opening)?;
+    let cases = root_cases(alloc, instance, &yard.path, &proposal, &first)?;
+    let known = last_plan(alloc, instance, pins, &cases, &first)?;
     let search = Search {
         yard,
         waiting: Vec::new(alloc),

@@ -1,5 +1,5 @@
-// The cases at the root of a tree: the duals of the assignment, with higher prices.
-ghost use Rattle.std.specs.Prelude.{◌≡◌, ◌++◌, [], ℕ, ◌<◌, ◌≤◌, ℤ, pos, ◌≤ℤ◌, List, length, All, IfOk};
+// The cases at the root of a tree: those that are proposed, or the duals of the assignment with higher prices.
+ghost use Rattle.std.specs.Prelude.{◌≡◌, ◌++◌, [], ℕ, ◌<◌, ◌≤◌, ℤ, pos, ◌≤ℤ◌, List, length, All, IfOk, IfSome};
 ghost use Rattle.shunt_base.specs.declared.duals.Duals.{Duals as SomeDuals};
 ghost use Rattle.shunt_base.specs.declared.duals.Case.{Case as OneCase};
 ghost use Rattle.shunt_instance.specs.defs.Instance.{Night, IsInstance};
@@ -8,16 +8,19 @@ ghost use Rattle.shunt_blocks.specs.defs.Blocks.{IsBlockButId};
 ghost use Rattle.shunt_blocks.specs.defs.Lists.{ShareNothing, RunsThrough, placed};
 ghost use Rattle.shunt_choices.specs.defs.Paths.{IsTrailOf};
 ghost use Rattle.shunt_matching.specs.defs.Nights.{Matches};
-ghost use Rattle.shunt_prices.specs.defs.Limits.{AreDuals, AreApart, plain};
+ghost use Rattle.shunt_prices.specs.defs.Limits.{AreDuals, AreApart, AreCases, plain};
 ghost use Rattle.shunt_prices.specs.defs.Cases.{CasesHold, DualsHold};
 ghost use Rattle.shunt_prices.specs.defs.Bounds.{IsBoundOf, IsCasesBound, case_sum, duals_sum};
 ghost use Rattle.shunt_dual.specs.defs.Assignments.{IsAssignmentBound};
 ghost use Rattle.shunt_search.specs.defs.Roots.{AreRooted};
 
+use crate::known::Known;
+use shunt_ascent::Proposal;
 use shunt_base::{Case, Cases};
+use shunt_blocks::Block;
 use shunt_blocks::laws::{ids_do_not_matter, places};
 use shunt_choices::Path;
-use shunt_dual::{assign, raise_prices, shares};
+use shunt_dual::{assign, cases_bound, cases_hold, raise_prices, shares};
 use shunt_instance::Instance;
 use shunt_prices::laws::{bounds, bounds_rise, longer_paths, weak_duality};
 use std::alloc::{AllocError, Global};
@@ -46,12 +49,29 @@ fn rooted_duals()
     weak_duality();
 }
 
-/// Cases for the root of a tree. It needs that there is a matching. Err is want of memory.
-pub(crate) fn root_cases(
-    alloc: Global,
-    instance: &Instance,
-    path: &Path,
-) -> Result<Cases, AllocError>
+/// The duals of the assignment, as cases for a root. It needs that there is a matching. Err is want of memory.
+fn assigned_cases(alloc: Global, instance: &Instance, path: &Path) -> Result<Cases, AllocError>
+    requires path { IsTrailOf instance.now path.now }
+    requires each { All (IsBlockButId instance.now) path.now.blocks }
+    requires through { RunsThrough instance.now (placed path.now.blocks) }
+    requires matching { (place : List ℕ) × Matches instance.now place }
+    ensures { IfOk result (AreRooted instance.now path.now.blocks) }
+{
+    // The calls tell that the duals hold at the path too, and that they are cases for a root.
+    carried_cases();
+    rooted_duals();
+    instance.units();
+    let table = shares(alloc, instance)?;
+    let assigned = assign(alloc, instance, &table)?;
+    Ok(Cases::one(Case {
+        to: 160,
+        multiplier: 0,
+        duals: assigned.duals,
+    }))
+}
+
+/// The same with higher prices.
+fn raised_cases(alloc: Global, instance: &Instance, path: &Path) -> Result<Cases, AllocError>
     requires path { IsTrailOf instance.now path.now }
     requires each { All (IsBlockButId instance.now) path.now.blocks }
     requires through { RunsThrough instance.now (placed path.now.blocks) }
@@ -70,4 +90,60 @@ pub(crate) fn root_cases(
         multiplier: 0,
         duals,
     }))
+}
+
+/// What is proposed, as cases for a root, where it holds at a path and bounds it more than cases for a root there.
+fn if_better(instance: &Instance, path: &Path, known: &Cases, proposed: Cases) -> Option<Cases>
+    requires path { IsTrailOf instance.now path.now }
+    requires known { AreRooted instance.now path.now.blocks known.now }
+    requires cases { AreCases instance.now proposed }
+    requires apart { All (λ c. AreApart c.duals.prices) proposed }
+    ensures { IfSome result (AreRooted instance.now path.now.blocks) }
+{
+    // The call tells that a path has one bound by cases.
+    bounds();
+    if !cases_hold(instance, path, &proposed) {
+        return None;
+    }
+    let more = cases_bound(instance, path, &proposed);
+    let least = cases_bound(instance, path, known);
+    if more <= least {
+        return None;
+    }
+    Some(proposed)
+}
+
+/// How many of a plan's blocks are unparked, and 160 where there are more.
+fn unparked_in(blocks: &[Block]) -> u8 {
+    let mut unparked = 0;
+    for block in blocks {
+        if block.park.is_none() && unparked < 160 {
+            unparked += 1;
+        }
+    }
+    unparked
+}
+
+/// Cases for the root of a tree: those that are proposed, parted near the number of unparked blocks of a good plan, or others where these
+/// don't bound more than the assignment. It needs that there is a matching. Err is want of memory.
+pub(crate) fn root_cases(
+    alloc: Global,
+    instance: &Instance,
+    path: &Path,
+    proposal: &Proposal,
+    plan: &Known,
+) -> Result<Cases, AllocError>
+    requires path { IsTrailOf instance.now path.now }
+    requires each { All (IsBlockButId instance.now) path.now.blocks }
+    requires through { RunsThrough instance.now (placed path.now.blocks) }
+    requires matching { (place : List ℕ) × Matches instance.now place }
+    ensures { IfOk result (AreRooted instance.now path.now.blocks) }
+{
+    let unparked = unparked_in(&plan.blocks);
+    let proposed = proposal.parted(alloc, instance, unparked, plan.cost)?;
+    let assigned = assigned_cases(alloc, instance, path)?;
+    match if_better(instance, path, &assigned, proposed) {
+        Some(cases) => Ok(cases),
+        None => raised_cases(alloc, instance, path),
+    }
 }

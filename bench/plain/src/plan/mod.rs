@@ -41,6 +41,20 @@ fn better(model: &Model, case: &Fixed, plan: Vec<Choice>, steps: i64) -> Vec<Cho
     if cost_of(model.tables, &other) < cost_of(model.tables, &plan) { other } else { plan }
 }
 
+// How often blocks are ruined before the cases of the root are parted.
+fn first_rounds(units: i64) -> i64 {
+    if units > 12 { 60_000 } else { 5_000 * units }
+}
+
+// How often they are ruined once those are known.
+fn last_rounds(units: i64) -> i64 {
+    match units {
+        101.. => 75_000,
+        31.. => 300_000,
+        _ => 10_000 * units,
+    }
+}
+
 /// Writes a plan and a certificate of at most so many nodes, and prints what they come to.
 pub fn plan(files: [&str; 2], nodes: &str, plan_file: &str, certificate_file: &str) {
     let tables = Tables::new(read(files[0], files[1]));
@@ -52,10 +66,11 @@ pub fn plan(files: [&str; 2], nodes: &str, plan_file: &str, certificate_file: &s
     let (fixed, _) = alphas(&scene, one.span, &one.point, &mut work);
     let mut opening = opening(&tables);
     polish(&tables, &mut opening);
-    let plan = better(&model, &fixed, opening, 60_000 + 1_000 * tables.units.len() as i64);
+    let units = tables.units.len() as i64;
+    let plan = better(&model, &fixed, opening, first_rounds(units));
     let found = cases_at_root(&scene, one, unparked_in(&plan), cost_of(&tables, &plan), &mut work);
     let (cases, sums): (Vec<_>, Vec<_>) = found.iter().map(|found| alphas(&scene, found.span, &found.point, &mut work)).unzip();
-    let plan = better(&model, &cases[cases.len() - 1], plan, 300_000);
+    let plan = better(&model, &cases[cases.len() - 1], plan, last_rounds(units));
     let cost = cost_of(&tables, &plan);
     let mut tree = Tree::new(&model, cases, sums, plan, cost);
     let bound = tree.grow(nodes.parse().expect("a number"));

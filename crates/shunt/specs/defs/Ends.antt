@@ -1,5 +1,5 @@
 -- How a run ends.
-use Rattle.std.specs.Prelude.{◌≡◌, ◌⊎◌, ℕ, List, ◌++◌, Option}
+use Rattle.std.specs.Prelude.{◌≡◌, ◌⊎◌, ℕ, List, [], ◌++◌, Option}
 use Rattle.shunt_store.specs.defs.Files.{Files, BothTold, AddsFront}
 use Rattle.shunt_store.specs.defs.Causes.{Rose}
 use Rattle.shunt_inputs.specs.declared.answers.Outcome.{Outcome}
@@ -7,8 +7,9 @@ use Rattle.shunt_inputs.specs.declared.answers.Outcome.TheVariants as outcome
 use Rattle.shunt.specs.declared.running.Status.{Status}
 use Rattle.shunt.specs.declared.running.Status.TheVariants as status
 use Rattle.shunt_inputs.specs.defs.Writes.{written, MayWrite}
-use Rattle.shunt_planning.specs.defs.Begun.{HasSearched}
-use Rattle.shunt.specs.defs.Words.{Call, MakePlan}
+use Rattle.shunt_planning.specs.defs.Begun.{MaySearchBeside, MaySearchFor, MayStart}
+use Rattle.shunt.specs.defs.Words.{Call, MakePlan, MakePinned}
+use Rattle.shunt.specs.defs.Inputs.{Value, stated_in}
 use Rattle.shunt_inputs.specs.defs.Replies.{Reply}
 use Rattle.shunt.specs.defs.Replies.{IsReplyOver}
 
@@ -52,19 +53,15 @@ Delivers r old new status.Memory = CutInFiles r old new ⊎ CutInText r old new
 Delivers r old new status.Sink = Rose old.sink_faults new.sink_faults × CutInText r old new
 Delivers r old new s = (s ≡ the_status r.outcome) × IsWhole r old new
 
--- the command searches, its input files are accepted, and no file was changed but that of its certificate
-pub record HasBegun (c : Call) (old new : Files) : Type 0 where
-  pub station : List ℕ
-  pub timetable : List ℕ
-  pub most : ℕ
-  pub plan : List ℕ
-  pub certificate : List ℕ
-  pub is : c ≡ MakePlan station timetable most plan certificate
-  pub searched : HasSearched station timetable certificate old new
+-- what a command may do to the files before its reply is known, over what its input files state: a search writes its certificate
+abbrev pub Begins : (c : Call) → Value c → Files → Files → Type 0
+Begins (MakePlan s t m p k) night old new = MaySearchFor night [] [] k old new
+Begins (MakePinned s t i m p k) x old new = MaySearchBeside x k old new
+Begins c v old new = ⊥
 
--- what a command may have done to the files before its reply is known: nothing, but that a search writes its certificate
+-- what a command may have done to the files before its reply is known: nothing, or that over accepted files
 abbrev pub MayBegin : Call → Files → Files → Type 0
-MayBegin c old new = (new ≡ old) ⊎ HasBegun c old new
+MayBegin c old new = MayStart (stated_in c) (Begins c) old new
 
 -- the run stopped before there was a reply, and nothing was printed
 abbrev pub StopsEarly : Call → Seen → Seen → Status → Type 0

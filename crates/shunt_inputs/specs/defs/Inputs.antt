@@ -27,6 +27,7 @@ use Rattle.shunt_zones.specs.defs.ZonesFormat.{zones_format}
 use Rattle.shunt_drivers.specs.declared.records.Crew.{Crew}
 use Rattle.shunt_drivers.specs.defs.CrewFormat.{crew_format}
 use Rattle.shunt_drivers.specs.defs.RosterFormat.{roster_format}
+use Rattle.shunt_inputs.specs.declared.pins.Pinned.{Pinned}
 use Rattle.shunt_sheet.specs.declared.records.Order.{Order}
 use Rattle.shunt_sheet.specs.defs.SheetFormat.{sheet_format}
 
@@ -82,11 +83,11 @@ stated_pins night bytes = stated word.Pins (pins_format night) bytes
 
 -- the night that a station file and a timetable file state, and the pins that a pins file states in it, or the line for the first
 -- of them that isn't accepted
-abbrev pub stated_pinned : List ℕ → List ℕ → List ℕ → Result (Night × List Block) (List ℕ)
-stated_pinned s t p = then_stated (stated_night s t) (λ night. then_stated (stated_pins night p) (λ pins. Ok (night, pins)))
+abbrev pub stated_pinned : List ℕ → List ℕ → List ℕ → Result Pinned (List ℕ)
+stated_pinned s t p = then_stated (stated_night s t) (λ night. then_stated (stated_pins night p) (λ pins. Ok (record { instance = night; pins = pins })))
 
 -- the same of what the files of these names hold
-abbrev pub pinned_in : List ℕ → List ℕ → List ℕ → Files → Result (Night × List Block) (List ℕ)
+abbrev pub pinned_in : List ℕ → List ℕ → List ℕ → Files → Result Pinned (List ℕ)
 pinned_in s t p files = stated_pinned (content files s) (content files t) (content files p)
 
 -- a certificate file over a night

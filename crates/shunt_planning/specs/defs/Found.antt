@@ -1,28 +1,29 @@
--- What a plan and a certificate say that `plan` leaves, in words that speak neither of duals nor of trees.
-use Rattle.std.specs.Prelude.{◌≡◌, ℕ, ◌<◌, ◌≤◌, List, [], length, map}
+-- What a plan and a certificate say that `plan` and `pinned` leave, in words that speak neither of duals nor of trees.
+use Rattle.std.specs.Prelude.{◌≡◌, ℕ, ◌<◌, ◌≤◌, List, length, map}
 use Rattle.shunt_instance.specs.defs.Instance.{Night}
 use Rattle.shunt_blocks.specs.declared.records.Block.{Block}
 use Rattle.shunt_blocks.specs.defs.Lists.{IsFeasible, total_cost}
-use Rattle.shunt_blocks.specs.defs.Pins.{without_id}
+use Rattle.shunt_blocks.specs.defs.Pins.{Keeps, without_id}
 use Rattle.shunt_choices.specs.defs.Paths.{IsPartialPlan}
 use Rattle.shunt_plan.specs.declared.records.Plan.{Plan}
 use Rattle.shunt_proof.specs.declared.records.Node.{Node}
 use Rattle.shunt_proof.specs.defs.Trees.{IsStart, path_at}
 
--- the plan is feasible and states its cost, and every feasible plan of the night costs at least the bound
-pub record IsBounded (night : Night) (plan : Plan) (bound : ℕ) : Type 0 where
+-- the plan is feasible, keeps the pins and states its cost, and every feasible plan of the night that keeps them costs at least the bound
+pub record IsBounded (night : Night) (pins : List Block) (plan : Plan) (bound : ℕ) : Type 0 where
   pub feasible : IsFeasible night plan.blocks
+  pub keeps : Keeps plan.blocks pins
   pub states : plan.cost ≡ total_cost night plan.blocks
-  pub least : (other : List Block) → IsFeasible night other → bound ≤ total_cost night other
+  pub least : (other : List Block) → IsFeasible night other → Keeps other pins → bound ≤ total_cost night other
 
--- no feasible plan costs less
-abbrev pub IsCheapest : Night → Plan → Type 0
-IsCheapest night plan = IsBounded night plan plan.cost
+-- no feasible plan that keeps the pins costs less
+abbrev pub IsCheapest : Night → List Block → Plan → Type 0
+IsCheapest night pins plan = IsBounded night pins plan plan.cost
 
--- so many nodes, whose paths are partial plans that differ by more than their ids
-pub record AreDifferent (night : Night) (nodes : List Node) (many : ℕ) : Type 0 where
+-- so many nodes, whose paths are partial plans over the pins that differ by more than their ids
+pub record AreDifferent (night : Night) (pins : List Block) (nodes : List Node) (many : ℕ) : Type 0 where
   pub many_nodes : length nodes ≡ many
   pub start : List Block
-  pub begins : IsStart night [] start
-  pub partial : (k : ℕ) → k < length nodes → IsPartialPlan night [] (path_at night start nodes k)
+  pub begins : IsStart night pins start
+  pub partial : (k : ℕ) → k < length nodes → IsPartialPlan night pins (path_at night start nodes k)
   pub differ : (j k : ℕ) → j < length nodes → k < length nodes → map without_id (path_at night start nodes j) ≡ map without_id (path_at night start nodes k) → j ≡ k

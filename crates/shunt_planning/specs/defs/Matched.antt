@@ -1,11 +1,11 @@
 -- The answer of `match`.
-use Rattle.std.specs.Prelude.{◌≡◌, ◌⊎◌, ℕ, List, []}
+use Rattle.std.specs.Prelude.{◌≡◌, ◌⊎◌, ℕ, Bool, List, []}
 use Rattle.shunt_inputs.specs.declared.answers.Outcome.TheVariants as outcome
 use Rattle.shunt_instance.specs.defs.Instance.{Night}
 use Rattle.shunt_instance.specs.defs.Matching.{unit_entries, position_entries}
 use Rattle.shunt_matching.specs.declared.types.Shortage.{Shortage}
 use Rattle.shunt_matching.specs.defs.Counts.{first_fit_of}
-use Rattle.shunt_matching.specs.defs.Nights.{Matches, IsShortageOf}
+use Rattle.shunt_matching.specs.defs.Nights.{Matches, HasNoMatching, IsShortageOf}
 use Rattle.shunt_report.specs.defs.Texts.{pairs_of, shortage_of}
 use Rattle.shunt_inputs.specs.defs.Replies.{Reply, says}
 
@@ -18,10 +18,14 @@ pub record IsPaired (night : Night) (r : Reply) : Type 0 where
   pub matches : Matches night (paired night)
   pub reply : r ≡ says outcome.Done (pairs_of night (paired night))
 
--- no list is a matching: the first shortage is printed
-pub record IsShort (night : Night) (r : Reply) : Type 0 where
-  pub none : (place : List ℕ) → Matches night place → ⊥
-  pub reply : (s : Shortage) × IsShortageOf night [] [] s × (r ≡ says outcome.NoMatching (shortage_of night s))
+-- no list is a matching of the units and positions that these masks don't leave out: the first shortage of those is printed
+pub record IsShortBeside (units places : List Bool) (night : Night) (r : Reply) : Type 0 where
+  pub none : HasNoMatching night units places
+  pub reply : (s : Shortage) × IsShortageOf night units places s × (r ≡ says outcome.NoMatching (shortage_of night s))
+
+-- the same of all units and positions
+abbrev pub IsShort : Night → Reply → Type 0
+IsShort night r = IsShortBeside [] [] night r
 
 -- the answer of `match` on a night
 abbrev pub IsMatched : Night → Reply → Type 0

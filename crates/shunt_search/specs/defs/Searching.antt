@@ -49,7 +49,7 @@ pub record ArrivesAt (night : Night) (y : Yard) (t : Child) (z : Yard) : Type 0 
   pub pins : z.path.pins ≡ y.path.pins
   pub yard : IsYard night z
 
--- a search that is to begin: the path is the pins in order, and the plan that is known is the one that parks nothing else
+-- a search that is to begin: the path is the pins in order, and the plan that is known costs at most the one that parks nothing else
 pub record IsFresh (night : Night) (pins : List Block) (cases : List Case) (y : Yard) (k : Known) : Type 0 where
   pub usable : AreUsable night pins
   pub even : position_total night ≡ unit_total night
@@ -58,7 +58,7 @@ pub record IsFresh (night : Night) (pins : List Block) (cases : List Case) (y : 
   pub yard : IsYard night y
   pub long : y.path.pins ≡ length y.path.blocks
   pub best : IsBest night pins k.blocks.items k.cost
-  pub opening : k.cost ≡ opening_cost night pins
+  pub opening : k.cost ≤ opening_cost night pins
   pub small : k.cost ≤ 1000000000000
 
 -- the root's node: whole, or a branch with its cases

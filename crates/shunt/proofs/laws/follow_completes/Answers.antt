@@ -5,4 +5,4 @@ use Rattle.shunt.proofs.Gone.{follow_parts}
 use Rattle.shunt.proofs.laws.follow_completes.Goals as goal
 
 pub returns : goal.returns
-returns c = λ s n. ends_well (Follow s n) GoesThrough follow_parts
+returns c = λ s n. ends_well (Follow s n) GoesThrough (λ files v r ok. follow_parts v r)

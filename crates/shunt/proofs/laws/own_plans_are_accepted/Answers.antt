@@ -1,4 +1,5 @@
-use Rattle.shunt.proofs.OwnPlans.{TextLaws, accepted}
+use Rattle.shunt_trial.proofs.Left.{TextLaws}
+use Rattle.shunt.proofs.OwnPlans.{accepted}
 use Rattle.shunt.proofs.laws.own_plans_are_accepted.Goals as goal
 
 pub returns : goal.returns

@@ -1,7 +1,9 @@
-use Rattle.shunt.proofs.Planned.{TreeLaws, unfinished_bounded}
+use Rattle.shunt.specs.defs.Words.{MakePlan}
+use Rattle.shunt.proofs.Searched.{TreeLaws, unfinished_bounded}
+use Rattle.shunt.proofs.Planned.{plan_search, plan_answers}
 use Rattle.shunt.proofs.laws.plan_is_unfinished.Goals as goal
 
 pub returns : goal.returns
 returns c =
     let laws : TreeLaws = record { exactly = c.trees.ensures.exactly; partial = c.few_nodes.ensures.partial; one = c.known_by_paths.ensures.one } in
-    unfinished_bounded c.proved_bounds.ensures.accepted laws
+    λ s t m p k. unfinished_bounded (MakePlan s t m p k) (plan_search s t m p k) (plan_answers s t m p k) c.proved_bounds.ensures.accepted laws

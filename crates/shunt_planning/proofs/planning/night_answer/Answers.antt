@@ -1,27 +1,35 @@
-use Rattle.std.proofs.Common.{◌≡◌, [], length, refl, inl, inr, Some, None}
+use Rattle.std.proofs.Common.{[], length}
 use Rattle.shunt_instance.specs.defs.Matching.{unit_entries, position_entries}
 use Rattle.shunt_blocks.specs.defs.Lists.{units_taken, positions_taken}
-use Rattle.shunt_inputs.proofs.Leading.{leads_map, none_first}
-use Rattle.shunt_search.proofs.Free.{free_units, free_positions}
-use Rattle.shunt_planning.specs.defs.Begun.{MaySearch}
-use Rattle.shunt_planning.specs.defs.Planned.{IsPlanned, IsSought}
-use Rattle.shunt_planning.proofs.Sought.{usable_none}
+use Rattle.shunt_search.proofs.Free.{free_units, free_positions, free_units_back, free_positions_back}
+use Rattle.shunt_inputs.proofs.Leading.{leads_with}
+use Rattle.shunt_planning.specs.defs.Begun.{MaySearchFor}
+use Rattle.shunt_planning.specs.defs.Planned.{IsSought, IsSoughtBeside}
+use Rattle.shunt_planning.proofs.Sought.{MaskLaws, lacks_alike, may_alike, sought_alike, usable_none}
 use Rattle.shunt_planning.proofs.planning.night_answer.Goals as goal
 
-pub search_answer-requires-clause-usable : goal.search_answer-requires-clause-usable
-search_answer-requires-clause-usable g c = usable_none c.args.instance.now
+pub sought_answer-requires-clause-usable : goal.sought_answer-requires-clause-usable
+sought_answer-requires-clause-usable g c = usable_none c.args.instance.now
 
-pub search_answer-requires-clause-matching : goal.search_answer-requires-clause-matching
-search_answer-requires-clause-matching g c = λ s h.
+pub sought_answer-requires-clause-lacks : goal.sought_answer-requires-clause-lacks
+sought_answer-requires-clause-lacks g c =
     let night = c.args.instance.now in
-    let no : None ≡ Some s = c.in-None.ensures.only s (c.masks_alike.ensures.shortages (unit_entries night) (position_entries night) (units_taken night []) (positions_taken night []) [] [] s (free_units night (length (unit_entries night))) (free_positions night (length (position_entries night))) h) in
-    cc
+    let n = length (unit_entries night) in
+    let m = length (position_entries night) in
+    let laws : MaskLaws = record { matchings = c.masks_alike.ensures.matchings; shortages = c.masks_alike.ensures.shortages } in
+    lacks_alike laws night [] [] (units_taken night []) (positions_taken night []) (free_units_back night n, free_positions_back night m) (free_units night n, free_positions night m) c.lacking-short.result c.lacking-short.ensures
 
-pub returns-in-Ok-clause-leads : goal.returns-in-Ok-clause-leads
-returns-in-Ok-clause-leads g c = none_first (IsSought c.args.nodes c.args.plan.now c.args.certificate.now c.args.instance.now) _ _ _ refl (inr c.in-Ok.ensures)
-
-pub returns-in-None-clause-leads : goal.returns-in-None-clause-leads
-returns-in-None-clause-leads g c =
+pub returns-clause-leads : goal.returns-clause-leads
+returns-clause-leads g c =
     let S = g.S.Store in
-    leads_map (IsPlanned [] c.args.nodes c.args.plan.now c.args.certificate.now c.args.instance.now) (IsSought c.args.nodes c.args.plan.now c.args.certificate.now c.args.instance.now) (MaySearch c.args.instance.now c.args.certificate.now) (S.told c.args.store.now) (S.told c.search_answer.new.store) c.search_answer.result
-    (λ r is. inl (c.in-None.ensures.none, is)) c.search_answer.ensures.leads
+    let night = c.args.instance.now in
+    let n = length (unit_entries night) in
+    let m = length (position_entries night) in
+    let plan = c.args.plan.now in
+    let certificate = c.args.certificate.now in
+    let laws : MaskLaws = record { matchings = c.masks_alike.ensures.matchings; shortages = c.masks_alike.ensures.shortages } in
+    leads_with (IsSoughtBeside [] c.args.nodes plan certificate night) (IsSought c.args.nodes plan certificate night) (MaySearchFor night (units_taken night []) (positions_taken night []) certificate) (MaySearchFor night [] [] certificate)
+    (S.told c.args.store.now) (S.told c.sought_answer.new.store) c.sought_answer.result
+    (λ r is. sought_alike laws night (units_taken night []) (positions_taken night []) [] [] (free_units night n, free_positions night m) (free_units_back night n, free_positions_back night m) [] c.args.nodes plan certificate r is)
+    (may_alike laws night (units_taken night []) (positions_taken night []) [] [] (free_units night n, free_positions night m) (free_units_back night n, free_positions_back night m) certificate)
+    c.sought_answer.ensures.leads

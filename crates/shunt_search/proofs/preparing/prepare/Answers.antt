@@ -10,7 +10,10 @@ returns-clause-fresh c =
     let path = c.in_ok-yard.yard.path in
     let start = c.in_ok-yard.ensures.start in
     let all = c.ready_starts.ensures.matching c.args.instance.now c.args.pins.now path c.in_ok-matching.matching.place_of c.units.ensures.formed c.requires c.in_ok-yard.ensures.yard.path start c.in_ok-matching.ensures.matching in
-    let small = c.in_ok-known.ensures.small in
+    let small = c.in_ok-opening.ensures.small in
+    let opening = c.in_ok-opening.ensures.opening in
+    let less = c.in_ok-first.ensures.cheaper in
+    let least = c.in_ok-known.ensures.cheaper in
     record {
       usable = c.requires;
       even = all.1;
@@ -19,6 +22,6 @@ returns-clause-fresh c =
       yard = c.in_ok-yard.ensures.yard;
       long = let many = c.in_ok-yard.ensures.pins in let same = length_permutation c.args.pins.now path.blocks start.same in omega (arith, many, same);
       best = c.in_ok-known.ensures.best;
-      opening = c.in_ok-known.ensures.opening;
-      small = omega (arith, small);
+      opening = omega (arith, least, less, opening);
+      small = omega (arith, least, less, small);
     }

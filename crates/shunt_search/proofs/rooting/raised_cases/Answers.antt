@@ -5,7 +5,7 @@ use Rattle.shunt_prices.specs.defs.Bounds.{IsBoundOf, duals_sum}
 use Rattle.shunt_dual.specs.defs.Assignments.{share_total}
 use Rattle.shunt_search.specs.defs.Roots.{AreRooted}
 use Rattle.shunt_search.proofs.Rooted.{in_all}
-use Rattle.shunt_search.proofs.rooting.root_cases.Goals as goal
+use Rattle.shunt_search.proofs.rooting.raised_cases.Goals as goal
 
 pub raise_prices-requires-clause-hold : goal.raise_prices-requires-clause-hold
 raise_prices-requires-clause-hold c =

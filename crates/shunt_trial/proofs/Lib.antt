@@ -1,0 +1,3 @@
+pub mod Left
+mod Sure
+mod Rehearsals

@@ -1,0 +1,206 @@
+-- Replies over files that are accepted, in a store that never fails.
+use Rattle.std.proofs.Common.{◌≡◌, ◌∙◌, ℕ, ◌<◌, List, [], ◌∷◌, ◌++◌, length, map, Option, Some, None, Result, Ok, Err, refl, subst, sym, ap, inl, inr, arith, Bool, true, false}
+use Rattle.std.specs.FinMap as finmap
+use Rattle.std.specs.Result.{IsErrOf}
+use Rattle.std.specs.Prelude.{◌⊎◌, ◌↔◌, ◌==◌, if◌then◌else◌}
+use Rattle.shunt_store.specs.defs.Files.{Files, content}
+use Rattle.shunt_store.specs.defs.Causes.{Rose, HasCause}
+use Rattle.shunt_instance.specs.defs.Instance.{Night, IsInstance}
+use Rattle.shunt_blocks.specs.declared.records.Block.{Block}
+use Rattle.shunt_blocks.specs.defs.Lists.{AreInRange, IsFeasible, total_cost}
+use Rattle.shunt_blocks.specs.defs.Pins.{Keeps}
+use Rattle.shunt_plan.specs.declared.records.Plan.{Plan}
+use Rattle.shunt_plan.specs.defs.Plans.{IsPlanInRange}
+use Rattle.shunt_proof.specs.declared.records.Certificate.{Certificate}
+use Rattle.shunt_proof.specs.defs.Certificates.{IsCertificate}
+use Rattle.shunt_proof.specs.defs.Accepted.{IsAccepted}
+use Rattle.shunt_audit.specs.declared.types.Finding.{Finding}
+use Rattle.shunt_audit.specs.defs.Plans.{ArePlanFindings, plan_findings}
+use Rattle.shunt_audit.proofs.Stated.{only_plan}
+use Rattle.shunt_checker.specs.declared.verdict.Verdict.{Verdict}
+use Rattle.shunt_checker.specs.declared.verdict.Verdict.TheVariants as verdict
+use Rattle.shunt_checker.specs.defs.Verdicts.{IsVerdict, Accepts}
+use Rattle.shunt_report.specs.defs.FindingTexts.{findings_of}
+use Rattle.shunt_report.specs.defs.PlanTexts.{plan_of}
+use Rattle.shunt_report.specs.defs.VerdictTexts.{verdict_of}
+use Rattle.shunt_inputs.specs.declared.answers.Answer.{Answer}
+use Rattle.shunt_inputs.specs.declared.answers.FileText.{FileText}
+use Rattle.shunt_inputs.specs.declared.answers.Outcome.{Outcome}
+use Rattle.shunt_inputs.specs.declared.answers.Outcome.TheVariants as outcome
+use Rattle.shunt_inputs.specs.declared.loading.Halt.{Halt}
+use Rattle.shunt_inputs.specs.declared.loading.Halt.TheVariants as halt
+use Rattle.shunt_inputs.specs.defs.Halts.{Replies}
+use Rattle.shunt_inputs.specs.defs.Inputs.{Holding, stated_night, stated_plans, stated_certificate, plans_in}
+use Rattle.shunt_inputs.specs.defs.Replies.{Reply, Decided, pair_of, refusal, reply_of}
+use Rattle.shunt_inputs.specs.defs.Writes.{written, with_first, HasFirst, Leads}
+use Rattle.shunt_inputs.proofs.Stated.{parted}
+use Rattle.shunt_judging.specs.defs.Audited.{IsAudited, audit_outcome}
+use Rattle.shunt_judging.specs.defs.Checked.{Checkable, stated_check, IsChecked, check_outcome}
+use Rattle.shunt_planning.specs.defs.Planned.{IsPlanned, IsSought, search_outcome}
+use Rattle.shunt_planning.specs.defs.Begun.{IsPlannedOver, MayPlan}
+use Rattle.shunt_trial.specs.defs.Rehearsed.{IsNightIn, with_both, AreFit, IsProvedIn, IsSure}
+
+-- ---- no faults
+
+none_rose : Rose 0 0 → ⊥
+none_rose (inl h) = omega (arith, h)
+none_rose (inr h) = omega (arith, h)
+
+pub no_fault : {A : Type 0} (r : Result A Halt) → HasCause halt.Fault 0 0 r → IsErrOf r halt.Fault → ⊥
+no_fault r cause is = none_rose (cause.failed is)
+
+-- ---- outcomes
+
+not_input : (cost bound : ℕ) → outcome.Input ≡ search_outcome cost bound → ⊥
+not_input cost bound e = at (bound == cost) e
+  where
+    at : (same : Bool) → outcome.Input ≡ (if same then outcome.Done else outcome.Unfinished) → ⊥
+    at true e = let h : outcome.Input ≡ outcome.Done = e in cc
+    at false e = let h : outcome.Input ≡ outcome.Unfinished = e in cc
+
+-- ---- the plan of a night that has a matching
+
+written-append : (ws vs : List (List ℕ × List ℕ)) (a : Files) → written (ws ++ vs) a ≡ written vs (written ws a)
+written-append [] vs a = refl
+written-append (w ∷ ws) vs a = written-append ws vs (finmap.insert a w.0 w.1)
+
+module _ (files : Files) (s t : List ℕ) (most : ℕ) (p k : List ℕ) (night : Night) (is : IsNightIn s t files night) where
+  sought : (r : Reply) → IsSought most p k night r → IsPlanned [] most p k night r
+  sought r (inl found) = found.1
+  sought r (inr short) = absurd (short.none is.matching.0 is.matching.1)
+
+  planned_over : (r : Reply) → IsPlannedOver (Some files) s t most p k r → IsPlanned [] most p k night r
+  planned_over r h =
+      let same : files ≡ h.0 = h.1 in
+      let ok : stated_night (content h.0 s) (content h.0 t) ≡ Ok night = subst (λ (f : Files). stated_night (content f s) (content f t) ≡ Ok night) same is.stated in
+      sought r (subst (λ x. Decided x (IsSought most p k) r) ok h.2)
+
+  pub plan_sure : (new : Option Files) (r : Result Answer Halt) → (IsErrOf r halt.Fault → ⊥) → Leads (IsPlannedOver (Some files) s t most p k) (MayPlan s t k) (Some files) new r → IsSure r
+  plan_sure new (Ok a) fault leads = tt
+  plan_sure new (Err (halt.Input text)) fault leads =
+      let plan = planned_over (with_first leads.first (refusal text.items)) leads.reply in
+      absurd (not_input plan.certificate.cost plan.certificate.bound (ap (λ (r : Reply). r.outcome) plan.reply))
+  plan_sure new (Err halt.Fault) fault leads = absurd (fault refl)
+  plan_sure new (Err halt.Memory) fault leads = tt
+
+  -- it was written behind its certificate, and told
+  pub plan_found : (mid after : Files) (r : Result Answer Halt) (a : Answer) → r ≡ Ok a → Leads (IsPlannedOver (Some files) s t most p k) (MayPlan s t k) (Some files) (Some mid) r → after ≡ written (map pair_of a.writes.items) mid
+      → (plan : Plan) × (c : Certificate) × AreFit night most plan c × (after ≡ with_both p k night plan c files) × (a.text.items ≡ plan_of plan c.bound (length c.nodes))
+  plan_found mid after r a ok leads put =
+      let led : HasFirst (IsPlannedOver (Some files) s t most p k) (Some files) (Some mid) (reply_of a) = subst (λ (x : Result Answer Halt). Leads (IsPlannedOver (Some files) s t most p k) (MayPlan s t k) (Some files) (Some mid) x) ok leads in
+      let found = planned_over (with_first led.first (reply_of a)) led.reply in
+      let wrote : mid ≡ written led.first files = led.wrote in (
+        found.plan,
+        found.certificate,
+        record { in_range = found.in_range; statable = found.statable; meet = found.meet },
+        put ∙ ap (written (map pair_of a.writes.items)) wrote ∙ sym (written-append led.first (map pair_of a.writes.items) files) ∙ ap (λ (q : Reply). written q.writes files) found.reply,
+        ap (λ (q : Reply). q.text) found.reply,
+      )
+
+-- ---- the audit of a plan that a certificate is accepted with
+
+-- that a plan has no finding exactly where it is feasible and states its cost
+abbrev pub FoundNone : Type 0
+FoundNone = (night : Night) (plan : Plan) → IsInstance night → AreInRange night plan.blocks → (plan_findings night plan ≡ []) ↔ IsFeasible night plan.blocks × (plan.cost ≡ total_cost night plan.blocks)
+
+no_input_found : (fs : List Finding) → outcome.Input ≡ audit_outcome fs → ⊥
+no_input_found [] e = let h : outcome.Input ≡ outcome.Done = e in cc
+no_input_found (f ∷ fs) e = let h : outcome.Input ≡ outcome.Findings = e in cc
+
+-- what holds of the bytes of a file that is told holds of what it holds
+at_content : (files : Files) (name : List ℕ) (P : List ℕ → Type 0) → Holding (Some files) name P → P (content files name)
+at_content files name P h = subst P h.1 h.2
+
+module _ (files : Files) (s t p k : List ℕ) (x : Checkable) (is : IsProvedIn s t p k files x) where
+  its_plan : plans_in s t p files ≡ Ok (x.night, x.plan)
+  unfolding stated_check
+  its_plan =
+      let first = parted (stated_plans (content files s) (content files t) (content files p)) _ x is.stated in
+      let second = parted (stated_certificate first.0.0 (content files k)) _ x first.2 in
+      let made : record { night = first.0.0; plan = first.0.1; certificate = second.0 } ≡ x = cc (second.2) in
+      first.1 ∙ ap (λ (y : Checkable). Ok (y.night, y.plan)) made
+
+  audited : (r : Result Answer Halt) → Holding (Some files) s (λ u. Holding (Some files) t (λ v. Holding (Some files) p (λ w. Replies reply_of r (Decided (stated_plans u v w) IsAudited)))) → Replies reply_of r (IsAudited (x.night, x.plan))
+  audited r told =
+      let first = at_content files s (λ u. Holding (Some files) t (λ v. Holding (Some files) p (λ w. Replies reply_of r (Decided (stated_plans u v w) IsAudited)))) told in
+      let second = at_content files t (λ v. Holding (Some files) p (λ w. Replies reply_of r (Decided (stated_plans (content files s) v w) IsAudited))) first in
+      let third = at_content files p (λ w. Replies reply_of r (Decided (stated_plans (content files s) (content files t) w) IsAudited)) second in
+      subst (λ (y : Result (Night × Plan) (List ℕ)). Replies reply_of r (Decided y IsAudited)) its_plan third
+
+  pub audit_sure : (r : Result Answer Halt) → (IsErrOf r halt.Fault → ⊥) → Holding (Some files) s (λ u. Holding (Some files) t (λ v. Holding (Some files) p (λ w. Replies reply_of r (Decided (stated_plans u v w) IsAudited)))) → IsSure r
+  audit_sure r fault told = at r fault (audited r told)
+    where
+      at : (r : Result Answer Halt) → (IsErrOf r halt.Fault → ⊥) → Replies reply_of r (IsAudited (x.night, x.plan)) → IsSure r
+      at (Ok a) fault h = tt
+      at (Err (halt.Input text)) fault h = absurd (no_input_found h.findings (ap (λ (r : Reply). r.outcome) h.reply))
+      at (Err halt.Fault) fault h = absurd (fault refl)
+      at (Err halt.Memory) fault h = tt
+
+  pub audit_told : FoundNone → (r : Result Answer Halt) (a : Answer) → r ≡ Ok a → Holding (Some files) s (λ u. Holding (Some files) t (λ v. Holding (Some files) p (λ w. Replies reply_of r (Decided (stated_plans u v w) IsAudited)))) → a.text.items ≡ findings_of x.night [] (total_cost x.night x.plan.blocks)
+  audit_told law r a ok told =
+      let its : IsAudited (x.night, x.plan) (reply_of a) = subst (λ (y : Result Answer Halt). Replies reply_of y (IsAudited (x.night, x.plan))) ok (audited r told) in
+      let same = only_plan x.night x.plan its.findings is.in_range.blocks its.told.in_order its.told.exactly in
+      let none = (law x.night x.plan is.formed is.in_range.blocks).1 (is.proved.feasible, is.proved.states) in
+      ap (λ (q : Reply). q.text) its.reply ∙ ap (λ (fs : List Finding). findings_of x.night fs (total_cost x.night x.plan.blocks)) (same ∙ none)
+
+-- ---- the check of them
+
+-- that a verdict accepts exactly the certificates that are accepted
+abbrev pub Judges : Type 0
+Judges = (night : Night) (pins : List Block) (plan : Plan) (c : Certificate) (v : Verdict) → IsInstance night → IsPlanInRange night plan → Keeps plan.blocks pins → IsCertificate night c → IsVerdict night pins plan c v → Accepts v ↔ IsAccepted night pins plan.blocks plan.cost c
+
+no_input_told : (v : Verdict) → outcome.Input ≡ check_outcome v → ⊥
+no_input_told (verdict.Accepted bound) e = let h : outcome.Input ≡ outcome.Done = e in cc
+no_input_told (verdict.Rejected row reason) e = let h : outcome.Input ≡ outcome.Findings = e in cc
+
+keeps_none : (blocks : List Block) → Keeps blocks []
+keeps_none blocks = λ i d lt. absurd (omega (arith, lt))
+
+-- it accepts with the certificate's bound
+bound_told : (x : Checkable) (v : Verdict) → IsVerdict x.night [] x.plan x.certificate v → Accepts v → v ≡ verdict.Accepted x.certificate.bound
+bound_told x (verdict.Accepted bound) h accepts = ap verdict.Accepted h.answers.0
+bound_told x (verdict.Rejected row r) h accepts = absurd accepts
+
+module _ (files : Files) (s t p k : List ℕ) (x : Checkable) (is : IsProvedIn s t p k files x) where
+  abbrev IsTold : Result Answer Halt → Type 0
+  IsTold r = Holding (Some files) s (λ u. Holding (Some files) t (λ v. Holding (Some files) p (λ w. Holding (Some files) k (λ z. Replies reply_of r (Decided (stated_check u v w z) IsChecked)))))
+
+  checked : (r : Result Answer Halt) → IsTold r → Replies reply_of r (IsChecked x)
+  checked r told =
+      let first = at_content files s (λ u. Holding (Some files) t (λ v. Holding (Some files) p (λ w. Holding (Some files) k (λ z. Replies reply_of r (Decided (stated_check u v w z) IsChecked))))) told in
+      let second = at_content files t (λ v. Holding (Some files) p (λ w. Holding (Some files) k (λ z. Replies reply_of r (Decided (stated_check (content files s) v w z) IsChecked)))) first in
+      let third = at_content files p (λ w. Holding (Some files) k (λ z. Replies reply_of r (Decided (stated_check (content files s) (content files t) w z) IsChecked))) second in
+      let fourth = at_content files k (λ z. Replies reply_of r (Decided (stated_check (content files s) (content files t) (content files p) z) IsChecked)) third in
+      subst (λ (y : Result Checkable (List ℕ)). Replies reply_of r (Decided y IsChecked)) is.stated fourth
+
+  pub check_sure : (r : Result Answer Halt) → (IsErrOf r halt.Fault → ⊥) → IsTold r → IsSure r
+  check_sure r fault told = at r fault (checked r told)
+    where
+      at : (r : Result Answer Halt) → (IsErrOf r halt.Fault → ⊥) → Replies reply_of r (IsChecked x) → IsSure r
+      at (Ok a) fault h = tt
+      at (Err (halt.Input text)) fault h = absurd (no_input_told h.verdict (ap (λ (r : Reply). r.outcome) h.reply))
+      at (Err halt.Fault) fault h = absurd (fault refl)
+      at (Err halt.Memory) fault h = tt
+
+  pub check_told : Judges → (r : Result Answer Halt) (a : Answer) → r ≡ Ok a → IsTold r → a.text.items ≡ verdict_of x.night x.certificate (verdict.Accepted x.certificate.bound)
+  check_told law r a ok told =
+      let its : IsChecked x (reply_of a) = subst (λ (y : Result Answer Halt). Replies reply_of y (IsChecked x)) ok (checked r told) in
+      let accepts = (law x.night [] x.plan x.certificate its.verdict is.formed is.in_range (keeps_none x.plan.blocks) is.statable its.told).1 is.proved in
+      ap (λ (q : Reply). q.text) its.reply ∙ ap (verdict_of x.night x.certificate) (bound_told x its.verdict its.told accepts)
+
+-- ---- one step after another
+
+-- what is stated in a store whose files are as they were
+pub still_proved : (s t p k : List ℕ) (files now : Files) (x : Checkable) → now ≡ files → IsProvedIn s t p k files x → IsProvedIn s t p k now x
+still_proved s t p k files now x same is = subst (λ (f : Files). IsProvedIn s t p k f x) (sym same) is
+
+-- one text behind another
+pub both_told : (a b piece text x y : List ℕ) → a ≡ x → b ≡ y → piece ≡ b → text ≡ a ++ piece → text ≡ x ++ y
+both_told a b piece text x y e f same is = is ∙ ap (λ l. l ++ piece) e ∙ ap (λ l. x ++ l) (same ∙ f)
+
+pub joined : (line told piece text : List ℕ) → piece ≡ told → text ≡ line ++ piece → text ≡ line ++ told
+joined line told piece text same is = is ∙ ap (λ l. line ++ l) same
+
+-- the writes of an answer, as a slice has them
+pub put_them : (ws slice : List FileText) (mid after : Files) → slice ≡ ws → after ≡ written (map pair_of slice) mid → after ≡ written (map pair_of ws) mid
+put_them ws slice mid after same is = is ∙ ap (λ (l : List FileText). written (map pair_of l) mid) same

@@ -1,4 +1,4 @@
-//! Nights of small texts, and what the crates below make of them, as tests.
+//! Small files, stays and nights, and what the crates below make of them, as tests.
 #![tactic(auto)]
 
 #[cfg(test)]
@@ -12,9 +12,13 @@ mod certificates;
 #[cfg(test)]
 mod choices;
 #[cfg(test)]
+mod crossings;
+#[cfg(test)]
 mod duals;
 #[cfg(test)]
 mod edits;
+#[cfg(test)]
+mod files;
 #[cfg(test)]
 mod instances;
 #[cfg(test)]
@@ -25,3 +29,17 @@ mod moves;
 mod plans;
 #[cfg(test)]
 mod raises;
+#[cfg(test)]
+mod records;
+#[cfg(test)]
+mod spellings;
+#[cfg(test)]
+mod stations;
+#[cfg(test)]
+mod stays;
+#[cfg(test)]
+mod timelines;
+#[cfg(test)]
+mod timetables;
+#[cfg(test)]
+mod tracks;

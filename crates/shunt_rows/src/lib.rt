@@ -9,8 +9,6 @@ mod names;
 mod numbered;
 mod reading;
 mod row;
-#[cfg(test)]
-mod tests;
 mod writer;
 
 pub use check::{found, must};

@@ -4,8 +4,6 @@
 mod draft;
 pub mod laws;
 mod reading;
-#[cfg(test)]
-mod tests;
 mod writing;
 
 pub use reading::read_station;

@@ -23,6 +23,3 @@ pub use reading::read_all;
 pub use sure::{SureSink, SureStore};
 pub use traits::{Sink, Store};
 pub use writing::{print, write_all_to};
-
-#[cfg(test)]
-mod tests;

@@ -2,8 +2,6 @@
 #![tactic(auto)]
 
 mod events;
-#[cfg(test)]
-mod tests;
 mod timelines;
 mod track;
 

@@ -1,7 +1,11 @@
+// Files that are read and written, and calls of a store that fail.
 ghost use Rattle.std.specs.Prelude.{◌≡◌, IfOk};
 ghost use Rattle.shunt_store.specs.defs.Files.{Closed};
 
-use super::*;
+use shunt_store::{
+    ConsoleSink, DiskStore, MemSink, MemStore, ReadAllError, SinkError, StoreError, SureSink,
+    SureStore, print, read_all, write_all_to,
+};
 use std::alloc::Global;
 use std::test::Fail;
 

@@ -3,33 +3,20 @@ ghost use Rattle.std.specs.Prelude.{◌≡◌, ◌+◌, ◌≤◌, ◌<◌, leng
 ghost use Rattle.std.specs.List.{All};
 ghost use Rattle.shunt_base.specs.defs.Keys.{IsWellFormed};
 
-use crate::Timelines;
-use shunt_base::{EventKey, Side, Stay, TrackId};
+use crate::stays::stay;
+use shunt_base::{Side, Stay};
 use shunt_cross::Clash;
+use shunt_timeline::Timelines;
 use std::test::Fail;
 
-fn stay(id: u32, track: u8, length: u32, side: Side, enter: u16, leave: u16) -> Stay
+// A stay that enters and leaves by one side.
+fn one_sided(id: u32, track: u8, length: u32, side: Side, enter: u16, leave: u16) -> Stay
     requires { enter < leave }
     ensures formed { IsWellFormed result }
     ensures id { result.id ≡ id }
     ensures track { result.track.0 ≡ track }
 {
-    let key = |minute: u16, enters: bool| EventKey {
-        minute,
-        enters,
-        train: 0,
-        place: 1,
-        id,
-    };
-    Stay {
-        id,
-        track: TrackId(track),
-        side_in: side,
-        side_out: side,
-        enter: key(enter, true),
-        leave: key(leave, false),
-        length,
-    }
+    stay(id, track, length, (side, side), (enter, leave), 1)
 }
 
 fn are(clash: Clash, pairs: u32, over: u32) -> bool {
@@ -55,11 +42,11 @@ fn come(timelines: &mut Timelines, stay: Stay)
 fn two_sided(rt: HostRuntime) -> Result<(), Fail> {
     let mut timelines = Timelines::new(rt.alloc(), &[1000])?;
     timelines.reserve(2)?;
-    come(&mut timelines, stay(1, 0, 500, Side::A, 1320, 1740));
-    come(&mut timelines, stay(2, 0, 500, Side::B, 1380, 1800));
+    come(&mut timelines, one_sided(1, 0, 500, Side::A, 1320, 1740));
+    come(&mut timelines, one_sided(2, 0, 500, Side::B, 1380, 1800));
     assert!(rt; are(timelines.clash(), 0, 0));
     assert!(rt; timelines.remove(2).is_some());
-    let again = stay(2, 0, 500, Side::A, 1380, 1800);
+    let again = one_sided(2, 0, 500, Side::A, 1380, 1800);
     assert!(rt; are(timelines.clash_with(&again), 1, 0));
     timelines.insert(again);
     assert!(rt; are(timelines.clash(), 1, 0));
@@ -72,11 +59,11 @@ fn two_sided(rt: HostRuntime) -> Result<(), Fail> {
 fn two_sided_the_other_first(rt: HostRuntime) -> Result<(), Fail> {
     let mut timelines = Timelines::new(rt.alloc(), &[1000])?;
     timelines.reserve(2)?;
-    come(&mut timelines, stay(1, 0, 500, Side::B, 1380, 1800));
-    come(&mut timelines, stay(2, 0, 500, Side::A, 1320, 1740));
+    come(&mut timelines, one_sided(1, 0, 500, Side::B, 1380, 1800));
+    come(&mut timelines, one_sided(2, 0, 500, Side::A, 1320, 1740));
     assert!(rt; are(timelines.clash(), 0, 0));
     assert!(rt; timelines.remove(1).is_some());
-    timelines.insert(stay(1, 0, 500, Side::A, 1380, 1800));
+    timelines.insert(one_sided(1, 0, 500, Side::A, 1380, 1800));
     assert!(rt; are(timelines.clash(), 1, 0));
     assert!(rt; timelines.remove(2).is_some());
     assert!(rt; are(timelines.clash(), 0, 0));
@@ -88,7 +75,7 @@ fn an_absent_id(rt: HostRuntime) -> Result<(), Fail> {
     let mut timelines = Timelines::new(rt.alloc(), &[1000])?;
     timelines.reserve(1)?;
     assert!(rt; timelines.remove(1).is_none());
-    timelines.insert(stay(1, 0, 1001, Side::A, 1320, 1740));
+    timelines.insert(one_sided(1, 0, 1001, Side::A, 1320, 1740));
     assert!(rt; timelines.remove(2).is_none());
     assert!(rt; are(timelines.clash(), 0, 1));
     Ok(())
@@ -101,11 +88,11 @@ fn sixty_tracks(rt: HostRuntime) -> Result<(), Fail> {
     for number in 0..30000u16 {
         let minute = number / 60 * 2 + 1;
         let track = (number % 60) as u8;
-        let next = stay(u32::from(number), track, 1, Side::A, minute, minute + 1);
+        let next = one_sided(u32::from(number), track, 1, Side::A, minute, minute + 1);
         come(&mut timelines, next);
         assert!(rt; are(timelines.clash(), 0, 0));
     }
-    come(&mut timelines, stay(30000, 0, 1, Side::A, 0, 2000));
+    come(&mut timelines, one_sided(30000, 0, 1, Side::A, 0, 2000));
     assert!(rt; are(timelines.clash(), 0, 500));
     assert!(rt; timelines.remove(30000).is_some());
     assert!(rt; are(timelines.clash(), 0, 0));

@@ -1,5 +1,9 @@
-use super::*;
+// Records as a reader of a format sees them.
 use shunt_base::Side;
+use shunt_rows::{
+    Names, Row, RowFault, RowKind, RowWriter, fields_in, found, is_within, minute_in, must,
+    number_in, record_number, records, side_in,
+};
 use std::alloc::{AllocError, Global};
 use std::test::Fail;
 

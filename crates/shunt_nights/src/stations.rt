@@ -2,9 +2,9 @@
 ghost use Rattle.std.specs.Prelude.{IfOk};
 ghost use Rattle.shunt_instance.specs.defs.Wellformed.{IsStation};
 
-use super::*;
 use shunt_instance::Station;
 use shunt_rows::{ReadError, records};
+use shunt_station::{read_station, write_station};
 use std::alloc::{AllocError, Global};
 use std::test::Fail;
 

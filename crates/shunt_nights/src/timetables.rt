@@ -5,11 +5,11 @@ ghost use Rattle.shunt_instance.specs.declared.records.UnitType.{UnitType};
 ghost use Rattle.shunt_instance.specs.declared.records.Track.{Track};
 ghost use Rattle.shunt_instance.specs.defs.Wellformed.{IsStation};
 
-use super::*;
 use shunt_base::{Name, is_name};
 use shunt_instance::{Station, Timetable, Track, UnitType};
 use shunt_lists::Items;
 use shunt_rows::{ReadError, records};
+use shunt_timetable::{read_timetable, write_timetable};
 use std::alloc::Global;
 use std::test::Fail;
 

@@ -3,7 +3,7 @@ use Rattle.std.specs.List.{All}
 use Rattle.std.proofs.lemmas.List.Elements.{All-cons}
 use Rattle.std.proofs.lemmas.List.Sorted.{All-permutation}
 use Rattle.shunt_base.specs.declared.keys.Stay.{Stay}
-use Rattle.shunt_timeline.proofs.tests.come.Goals as goal
+use Rattle.shunt_nights.proofs.timelines.come.Goals as goal
 
 pub returns-clause-above : goal.returns-clause-above
 returns-clause-above c =

@@ -53,74 +53,56 @@ fn measure_records(
     println!(rt; "records {count} microseconds {micros}")
 }
 
-fn main(rt: HostRuntime) -> io::Result<()> {
-    let mut words = env::args(&rt)?;
-    let _program = words.next();
-    let Some(bench) = words.next() else {
-        return Ok(());
-    };
-    let names = (words.next(), words.next(), words.next(), words.next());
-    match (bench.as_str(), &names) {
-        ("records", (Some(name), ..)) => measure_records(&rt, name.as_str()),
-        ("tracks", _) => {
-            measure_tracks(&rt, 100, 320)?;
-            measure_tracks(&rt, 400, 80)?;
-            measure_tracks(&rt, 1600, 20)
+// The word at a place, empty where there is none.
+fn word(words: &[String], place: usize) -> &str {
+    match words.get(place) {
+        Some(word) => word.as_str(),
+        None => "",
+    }
+}
+
+// Measures that make what they need.
+fn measure_made(rt: &(impl AllocGlobal + CpuClock + Print), words: &[String]) -> io::Result<()> {
+    match word(words, 0) {
+        "tracks" => {
+            measure_tracks(rt, 100, 320)?;
+            measure_tracks(rt, 400, 80)?;
+            measure_tracks(rt, 1600, 20)
         }
-        ("timelines", _) => {
+        "timelines" => {
             for tracks in [1, 60] {
-                measure_timelines(&rt, 10, tracks, 1000)?;
-                measure_timelines(&rt, 100, tracks, 200)?;
-                measure_timelines(&rt, 1000, tracks, 20)?;
-                measure_timelines(&rt, 10000, tracks, 4)?;
+                measure_timelines(rt, 10, tracks, 1000)?;
+                measure_timelines(rt, 100, tracks, 200)?;
+                measure_timelines(rt, 1000, tracks, 20)?;
+                measure_timelines(rt, 10000, tracks, 4)?;
             }
             Ok(())
         }
-        ("choices", (Some(station), Some(timetable), Some(walks), _)) => {
-            measure_choices(&rt, station.as_str(), timetable.as_str(), walks.as_str())
-        }
-        ("audit", (Some(station), Some(timetable), Some(plan), Some(runs))) => {
-            measure_audit(
-                &rt,
-                station.as_str(),
-                timetable.as_str(),
-                plan.as_str(),
-                runs.as_str(),
-            )
-        }
-        ("delay", (Some(station), Some(timetable), Some(plan), Some(runs))) => {
-            measure_delay(
-                &rt,
-                station.as_str(),
-                timetable.as_str(),
-                plan.as_str(),
-                runs.as_str(),
-            )
-        }
-        ("assign", (Some(station), Some(timetable), Some(runs), _)) => {
-            measure_assign(&rt, station.as_str(), timetable.as_str(), runs.as_str())
-        }
-        ("moves", (Some(station), Some(timetable), Some(plan), Some(edits))) => {
-            measure_moves(
-                &rt,
-                station.as_str(),
-                timetable.as_str(),
-                plan.as_str(),
-                edits.as_str(),
-            )
-        }
-        ("duals", (Some(station), Some(timetable), Some(runs), _)) => {
-            measure_duals(&rt, station.as_str(), timetable.as_str(), runs.as_str())
-        }
-        ("certificate", (Some(doing), Some(station), Some(timetable), Some(name))) => {
-            measure_certificate(
-                &rt,
-                doing.as_str(),
-                station.as_str(),
-                timetable.as_str(),
-                name.as_str(),
-            )
-        }
         _ => Ok(()),
     }
+}
+
+// Measures over the files that the words name.
+fn measure(rt: &(impl Files + AllocGlobal + CpuClock + Print), words: &[String]) -> io::Result<()> {
+    let (first, second, third) = (word(words, 1), word(words, 2), word(words, 3));
+    let fourth = word(words, 4);
+    match word(words, 0) {
+        "records" => measure_records(rt, first),
+        "choices" => measure_choices(rt, first, second, third),
+        "audit" => measure_audit(rt, first, second, third, fourth),
+        "delay" => measure_delay(rt, first, second, third, fourth),
+        "assign" => measure_assign(rt, first, second, third),
+        "duals" => measure_duals(rt, first, second, third),
+        "moves" => measure_moves(rt, first, second, third, fourth),
+        "certificate" => measure_certificate(rt, first, second, third, fourth),
+        _ => measure_made(rt, words),
+    }
+}
+
+fn main(rt: HostRuntime) -> io::Result<()> {
+    let mut words = Vec::new(rt.alloc());
+    for word in env::args(&rt)?.skip(1) {
+        words.push(word)?;
+    }
+    measure(&rt, &words)
 }

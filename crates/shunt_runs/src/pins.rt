@@ -183,3 +183,39 @@ fn pins_are_an_input(rt: HostRuntime) -> Result<(), Fail> {
     assert!(rt; stood.is_some());
     Ok(())
 }
+
+// Twenty trains of eight units stay one night, and each unit is pinned by itself: the timetable and the pins.
+fn crowd(alloc: Global) -> Result<(String, String), Fail> {
+    let mut timetable = String::from_str(alloc, "timetable,1\n")?;
+    let mut pins = String::from_str(alloc, "pins,1\n")?;
+    for train in 1..=20u32 {
+        let arrival = format!(in alloc; "arrive,a{train},22:00,P,K,K,K,K,K,K,K,K\n")?;
+        timetable.push_str(&arrival)?;
+        for place in 1..=8u32 {
+            let id = 8 * (train - 1) + place;
+            let pin = format!(in alloc;
+                "block,{id},a{train},{place},1,d{train},{place},unparked\n"
+            )?;
+            pins.push_str(&pin)?;
+        }
+    }
+    for train in 1..=20u32 {
+        let departure = format!(in alloc; "depart,d{train},30:00,P,K,K,K,K,K,K,K,K\n")?;
+        timetable.push_str(&departure)?;
+    }
+    Ok((timetable, pins))
+}
+
+#[test]
+fn pins_may_be_160(rt: HostRuntime) -> Result<(), Fail> {
+    let alloc = rt.alloc();
+    let (timetable, pins) = crowd(alloc)?;
+    let printed = (
+        "optimal cost 17260 bound 17260 nodes 1\n",
+        "blocks 160 parked 0 unparked 160 splits 140 couples 140\n",
+    );
+    let night = (STATION, timetable.as_str());
+    let stood = plans_over(alloc, night, pins.as_str(), "9", Status::Done, printed)?;
+    assert!(rt; stood.is_some());
+    Ok(())
+}

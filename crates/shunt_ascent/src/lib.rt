@@ -12,7 +12,9 @@ mod points;
 mod proposing;
 mod scenes;
 mod settling;
+mod sites;
 mod slots;
 mod stating;
 
 pub use proposing::Proposal;
+pub use sites::{Choice, Fixed, Raise, Raised, Site};

@@ -9,6 +9,7 @@ use crate::parting::{goal_for, part_cases, values_alone};
 use crate::points::EVERY;
 use crate::scenes::Scene;
 use crate::settling::{Found, settle};
+use crate::slots::Slot;
 use crate::stating::{case_for, cases_of};
 use shunt_base::{Case, Cases};
 use shunt_choices::Path;
@@ -34,6 +35,11 @@ impl Proposal {
         let point = draft.point(alloc)?;
         let one = settle(alloc, &scene, EVERY, ascent, point, &mut work)?;
         Ok(Proposal { scene, one })
+    }
+
+    // The prices of its cases, without their values.
+    pub(crate) fn slots(&self, alloc: Global) -> Result<Vec<Slot>, AllocError> {
+        Vec::from_slice(alloc, &self.scene.slots)
     }
 
     /// The case, which speaks of all numbers of unparked blocks. Err is want of memory.

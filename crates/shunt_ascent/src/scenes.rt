@@ -57,6 +57,7 @@ impl Group {
 /// A free shape: its first position, its number of units, its group, and what its ends weigh.
 #[derive(Clone, Copy)]
 pub(crate) struct Row {
+    pub shape: Shape,
     pub v: usize,
     pub n: usize,
     pub group: usize,
@@ -70,6 +71,15 @@ pub(crate) struct Stand {
     /// Whether the unit before it is of its train.
     pub follows: bool,
     pub rows: Vec<Row>,
+}
+
+/// A block that may come next: its first unit, its shape, its track if it has one, and what it weighs by its cost alone.
+#[derive(Clone, Copy)]
+pub(crate) struct Entry {
+    pub u: usize,
+    pub row: Row,
+    pub track: Option<usize>,
+    pub cost: Number,
 }
 
 /// What a path leaves free, and what its own blocks come to.
@@ -88,10 +98,12 @@ pub(crate) struct Scene {
     pub left: Number,
     /// For each price what the path's blocks count there less its most.
     pub counts: Vec<Number>,
+    /// Where there are any, a case comes to the least that it comes to at the path with one of these.
+    pub entries: Vec<Entry>,
 }
 
 // A shape with an option as a block.
-fn block_with(shape: Shape, park: Option<Park>) -> Block
+pub(crate) fn block_with(shape: Shape, park: Option<Park>) -> Block
     ensures { result ≡ record { id = 1; arr = shape.arr; p = shape.p; n = shape.n; dep = shape.dep; q = shape.q; park = park } }
 {
     Block {
@@ -114,7 +126,7 @@ fn ends(instance: &Instance, p: u8, q: u8) -> Number {
 }
 
 // What a block weighs by its cost alone, and nothing where it isn't in range.
-fn weight(instance: &Instance, block: &Block) -> Number {
+pub(crate) fn weight(instance: &Instance, block: &Block) -> Number {
     if !in_range(instance, block) {
         return NOTHING;
     }
@@ -254,6 +266,7 @@ fn add_row(
     }
     let group = group_for(alloc, instance, slots, shape, groups)?;
     rows.push(Row {
+        shape,
         v: position_from(instance, shape),
         n: shape.n as usize,
         group,
@@ -309,21 +322,14 @@ fn count_block(instance: &Instance, slots: &[Slot], block: &Block, counts: &mut 
     }
 }
 
-// For each price what these blocks count there less its most.
-fn counted(
-    alloc: Global,
-    instance: &Instance,
-    slots: &[Slot],
-    blocks: &[Block],
-) -> Result<Vec<Number>, AllocError> {
-    let mut counts = Vec::with_capacity(alloc, slots.len())?;
-    for slot in slots {
-        counts.push(-slot.most())?;
+// Finds for each price what these blocks count there less its most.
+fn count_blocks(instance: &Instance, slots: &[Slot], blocks: &[Block], counts: &mut [Number]) {
+    for (count, slot) in counts.iter_mut().zip(slots) {
+        *count = -slot.most();
     }
     for block in blocks {
-        count_block(instance, slots, block, &mut counts);
+        count_block(instance, slots, block, counts);
     }
-    Ok(counts)
 }
 
 // For each position whether no block of the path has it.
@@ -368,18 +374,27 @@ impl Scene {
         for u in 0..instance.units() {
             stands.push(stand_of(alloc, instance, path, &slots, u, &mut groups)?)?;
         }
-        let counts = counted(alloc, instance, &slots, path.blocks())?;
-        Ok(Scene {
+        let mut scene = Scene {
+            counts: vec![in alloc; NOTHING; slots.len()]?,
             slots,
             groups,
             stands,
             free: free_positions(alloc, path)?,
             tracks: instance.station().tracks.len(),
             unparked: in_thousandths(instance.station().unparked),
-            paid: paid_for(instance, path.blocks()),
-            left: unparked_in(path.blocks()),
-            counts,
-        })
+            paid: NOTHING,
+            left: NOTHING,
+            entries: Vec::new(alloc),
+        };
+        scene.count(instance, path.blocks());
+        Ok(scene)
+    }
+
+    /// Finds what a path's blocks come to.
+    pub(crate) fn count(&mut self, instance: &Instance, blocks: &[Block]) {
+        self.paid = paid_for(instance, blocks);
+        self.left = unparked_in(blocks);
+        count_blocks(instance, &self.slots, blocks, &mut self.counts);
     }
 
     /// Whether a unit continues its train, and isn't covered.

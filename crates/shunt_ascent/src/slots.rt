@@ -2,7 +2,7 @@
 ghost use Rattle.std.specs.Prelude.{◌<◌, length};
 
 use crate::numbers::Number;
-use shunt_base::{ArrId, PriceKind, TrackId};
+use shunt_base::{ArrId, Price, PriceKind, TrackId};
 use shunt_instance::Instance;
 use std::num::Wrapping;
 
@@ -35,6 +35,17 @@ pub(crate) fn length_slot(instance: &Instance, track: TrackId, train: ArrId) -> 
         minute: instance.arrive(train).minute.number(),
         room: room_of(instance, track),
     }
+}
+
+/// The price without its value. None where no train has its number.
+pub(crate) fn slot_of(instance: &Instance, price: &Price) -> Option<Slot> {
+    if price.train.0 as usize >= instance.arrivals() {
+        return None;
+    }
+    Some(Slot {
+        kind: price.kind,
+        ..length_slot(instance, price.track, price.train)
+    })
 }
 
 /// What a kind of price counts of a block of a length on a track with a room.

@@ -137,33 +137,33 @@ fn betas_of(alloc: Global, instance: &Instance, beta: &[Number]) -> Result<Vec<i
     Ok(values)
 }
 
-// What covering each unit's train from there on comes to more than from the unit behind it on.
-fn alphas_of(alloc: Global, instance: &Instance, work: &Work) -> Result<Vec<i64>, AllocError>
+// The values of units.
+fn alphas_of(alloc: Global, instance: &Instance, alpha: &[Number]) -> Result<Vec<i64>, AllocError>
     ensures size { IfOk result (λ v. length v.items ≡ unit_total instance.now) }
     ensures each { IfOk result (λ v. All IsValue v.items) }
 {
     let mut values = Vec::new(alloc);
     for u in 0..instance.units() {
-        values.push(value_of(work.growth(u)))?;
+        values.push(value_of(at(alpha, u)))?;
     }
     Ok(values)
 }
 
-// The case of a point whose numbers are whole, for which work was done.
-fn case_of(
+/// The case of a point whose numbers are whole, with values of units. Err is want of memory.
+pub(crate) fn case_of(
     alloc: Global,
     instance: &Instance,
     scene: &Scene,
     point: &Point,
+    alpha: &[Number],
     to: u8,
-    work: &Work,
 ) -> Result<Case, AllocError>
     requires { to ≤ 160 }
     ensures case { IfOk result (IsCase instance.now) }
     ensures apart { IfOk result (λ c. AreApart c.duals.prices) }
     ensures to { IfOk result (λ c. c.to ≡ to) }
 {
-    let alpha = alphas_of(alloc, instance, work)?;
+    let alpha = alphas_of(alloc, instance, alpha)?;
     let beta = betas_of(alloc, instance, &point.beta)?;
     let prices = prices_of(alloc, instance, &scene.slots, &point.prices)?;
     Ok(Case {
@@ -194,7 +194,8 @@ fn state(
     let mut point = found.point.copied(alloc)?;
     round(&mut point);
     work.evaluate(scene, found.span, &point);
-    case_of(alloc, instance, scene, &point, to, work)
+    let alpha = work.growths(alloc, scene)?;
+    case_of(alloc, instance, scene, &point, &alpha, to)
 }
 
 /// What was found as a case that speaks of all numbers of unparked blocks. Err is want of memory.
@@ -211,8 +212,8 @@ pub(crate) fn case_for(
     state(alloc, instance, scene, found, 160, work)
 }
 
-// These as cases.
-fn two_cases(first: Case, last: Case) -> Cases
+/// These as cases.
+pub(crate) fn two_cases(first: Case, last: Case) -> Cases
     requires rise { first.to < last.to }
     ensures { result ≡ first ∷ last ∷ [] }
 {

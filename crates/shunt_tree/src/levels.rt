@@ -1,0 +1,53 @@
+// The work at one bound of a tree.
+
+/// All work at a bound, which the nodes that wait there share.
+const WHOLE_WORK: u64 = 1 << 40;
+
+/// How many nodes a bound takes at least before it is given up.
+const PATIENCE: u64 = 300;
+
+/// The work at one bound: how many nodes it took, what share of it is done, and whether its nodes aren't lifted any more.
+#[derive(Clone, Copy, Drop)]
+pub(crate) struct Level {
+    pub bound: i64,
+    nodes: u64,
+    done: u64,
+    pub given_up: bool,
+}
+
+/// What each of so many nodes gets of all work at a bound.
+pub(crate) fn share_of(nodes: u64) -> u64 {
+    WHOLE_WORK / nodes.max(1)
+}
+
+impl Level {
+    /// The work at a bound, of which nothing is done.
+    pub(crate) fn at(bound: i64) -> Level {
+        Level {
+            bound,
+            nodes: 0,
+            done: 0,
+            given_up: false,
+        }
+    }
+
+    /// One node more was taken.
+    pub(crate) fn take_node(&mut self) {
+        self.nodes = self.nodes.saturating_add(1);
+    }
+
+    /// A share is done.
+    pub(crate) fn finish(&mut self, share: u64) {
+        self.done = self.done.saturating_add(share);
+    }
+
+    /// Gives the bound up where by the share that is done it takes more than three times the nodes that are left.
+    pub(crate) fn judge(&mut self, left: usize) {
+        let work = self.nodes.saturating_mul(WHOLE_WORK);
+        let nodes = self.nodes.saturating_add(left as u64);
+        let most = self.done.saturating_mul(3).saturating_mul(nodes);
+        if self.nodes >= PATIENCE && work > most {
+            self.given_up = true;
+        }
+    }
+}

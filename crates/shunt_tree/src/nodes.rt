@@ -1,0 +1,198 @@
+// The nodes of a tree while it grows.
+use shunt_ascent::Fixed;
+use shunt_blocks::Block;
+use std::alloc::{AllocError, Global};
+
+/// What the cases come to at a path, in thousandths of a cost unit. Where there is one case the first sum is the greatest number.
+#[derive(Clone, Copy, Drop)]
+pub(crate) struct Sums {
+    pub first: i64,
+    pub last: i64,
+}
+
+/// A block that may come next and isn't listed, with the bound and the sums of the longer path.
+#[derive(Clone, Copy)]
+pub(crate) struct Open {
+    pub block: Block,
+    pub bound: i64,
+    pub sums: Sums,
+    /// Its number among those that go through.
+    pub place: usize,
+}
+
+/// Cases at a node: one, or two of which the first speaks of fewer unparked blocks.
+#[derive(Clone, Copy)]
+pub(crate) struct Pair<'a> {
+    pub first: Option<&'a Fixed>,
+    pub last: &'a Fixed,
+}
+
+/// A partial plan, or a whole one.
+#[derive(Drop)]
+pub(crate) struct Node {
+    pub above: usize,
+    pub depth: usize,
+    /// How many units are uncovered, and what its blocks cost.
+    pub units_left: usize,
+    pub paid: i64,
+    pub block: Option<Block>,
+    pub bound: i64,
+    /// Cases of its own, which were lifted but for the root's first ones; it has those of the nearest nodes above beside.
+    pub first: Option<Fixed>,
+    pub last: Option<Fixed>,
+    pub is_lifted: bool,
+    pub sums: Sums,
+    /// The least bound of the blocks that may come next and aren't listed.
+    pub key: i64,
+    /// The least bound of its choices by the inherited cases.
+    pub inherited: i64,
+    /// Whether its choices are found; those that aren't listed, the least bound last.
+    pub is_open: bool,
+    pub choices: Vec<Open>,
+    pub children: Vec<usize>,
+    /// The bound up to which its cases were tried to lift.
+    pub tried: i64,
+    /// Its part of the work that is left at the level.
+    pub share: u64,
+}
+
+/// A bound in whole cost units.
+pub(crate) fn up(sum: i64) -> i64 {
+    let whole = sum / 1000;
+    if sum % 1000 > 0 {
+        whole.saturating_add(1)
+    } else {
+        whole
+    }
+}
+
+impl Sums {
+    /// The least bound by these sums, where the first case is open or isn't.
+    pub(crate) fn bound(&self, first_is_open: bool) -> i64 {
+        let last = up(self.last);
+        if first_is_open {
+            last.min(up(self.first))
+        } else {
+            last
+        }
+    }
+}
+
+impl Node {
+    /// A root, where cases come to some sums.
+    pub(crate) fn root(alloc: Global, units_left: usize, paid: i64, sums: Sums) -> Node {
+        Node {
+            above: 0,
+            depth: 0,
+            units_left,
+            paid,
+            block: None,
+            bound: i64::MIN,
+            first: None,
+            last: None,
+            is_lifted: false,
+            sums,
+            key: sums.bound(true),
+            inherited: i64::MIN,
+            is_open: false,
+            choices: Vec::new(alloc),
+            children: Vec::new(alloc),
+            tried: i64::MIN,
+            share: 0,
+        }
+    }
+
+    /// The node of a choice at this one, which is at a place, with a share of the work. The block costs so much.
+    pub(crate) fn below(
+        &self,
+        alloc: Global,
+        place: usize,
+        open: &Open,
+        cost: i64,
+        share: u64,
+    ) -> Node {
+        Node {
+            above: place,
+            depth: self.depth.saturating_add(1),
+            units_left: self.units_left.saturating_sub(open.block.n as usize),
+            paid: self.paid.saturating_add(cost),
+            block: Some(open.block),
+            bound: open.bound,
+            first: None,
+            last: None,
+            is_lifted: false,
+            sums: open.sums,
+            key: open.bound,
+            inherited: open.bound,
+            is_open: false,
+            choices: Vec::new(alloc),
+            children: Vec::new(alloc),
+            tried: i64::MIN,
+            share,
+        }
+    }
+}
+
+/// The first case at a node, its own or that of the nearest node above; None where there is one case.
+pub(crate) fn first_at(nodes: &[Node], place: usize) -> Option<&Fixed> {
+    let mut at = place;
+    'up: for _ in 0..nodes.len() {
+        let node = nodes.get(at)?;
+        if let Some(case) = &node.first {
+            return Some(case);
+        }
+        if node.block.is_none() {
+            return None;
+        }
+        at = node.above;
+    }
+    None
+}
+
+/// The last case at a node, its own or that of the nearest node above.
+pub(crate) fn last_at(nodes: &[Node], place: usize) -> Option<&Fixed> {
+    let mut at = place;
+    'up: for _ in 0..nodes.len() {
+        let node = nodes.get(at)?;
+        if let Some(case) = &node.last {
+            return Some(case);
+        }
+        if node.block.is_none() {
+            return None;
+        }
+        at = node.above;
+    }
+    None
+}
+
+/// The blocks of a node's path, behind those of the root's.
+pub(crate) fn path_to(
+    alloc: Global,
+    start: &[Block],
+    nodes: &[Node],
+    place: usize,
+) -> Result<Vec<Block>, AllocError> {
+    let back = way_up(alloc, nodes, place)?;
+    let mut blocks = Vec::from_slice(alloc, start)?;
+    for block in back.iter().rev() {
+        blocks.push(*block)?;
+    }
+    Ok(blocks)
+}
+
+// The blocks of a node and of those above, from it on.
+fn way_up(alloc: Global, nodes: &[Node], place: usize) -> Result<Vec<Block>, AllocError> {
+    let mut blocks = Vec::new(alloc);
+    let mut at = place;
+    'up: for _ in 0..nodes.len() {
+        let Some(node) = nodes.get(at) else {
+            return Ok(blocks);
+        };
+        let Some(block) = node.block else {
+            return Ok(blocks);
+        };
+        blocks.push(block)?;
+        at = node.above;
+    }
+    Ok(blocks)
+}

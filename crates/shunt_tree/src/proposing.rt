@@ -48,7 +48,6 @@ fn root_cases(
 }
 
 // Adds cases to a stock.
-#[tactic(auto, using(crate::proofs::Stocked::cases_more))]
 fn add_cases(instance: &Instance, cases: Cases, stock: &mut Vec<Cases>) -> Result<(), AllocError>
     requires cases { AreCases instance.now cases }
     requires apart { All (λ c. AreApart c.duals.prices) cases }

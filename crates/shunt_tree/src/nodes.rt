@@ -136,7 +136,7 @@ impl Node {
 /// The first case at a node, its own or that of the nearest node above; None where there is one case.
 pub(crate) fn first_at(nodes: &[Node], place: usize) -> Option<&Fixed> {
     let mut at = place;
-    'up: for _ in 0..nodes.len() {
+    for _ in 0..nodes.len() {
         let node = nodes.get(at)?;
         if let Some(case) = &node.first {
             return Some(case);
@@ -152,7 +152,7 @@ pub(crate) fn first_at(nodes: &[Node], place: usize) -> Option<&Fixed> {
 /// The last case at a node, its own or that of the nearest node above.
 pub(crate) fn last_at(nodes: &[Node], place: usize) -> Option<&Fixed> {
     let mut at = place;
-    'up: for _ in 0..nodes.len() {
+    for _ in 0..nodes.len() {
         let node = nodes.get(at)?;
         if let Some(case) = &node.last {
             return Some(case);
@@ -184,7 +184,7 @@ pub(crate) fn path_to(
 fn way_up(alloc: Global, nodes: &[Node], place: usize) -> Result<Vec<Block>, AllocError> {
     let mut blocks = Vec::new(alloc);
     let mut at = place;
-    'up: for _ in 0..nodes.len() {
+    for _ in 0..nodes.len() {
         let Some(node) = nodes.get(at) else {
             return Ok(blocks);
         };

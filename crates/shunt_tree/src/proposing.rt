@@ -119,7 +119,7 @@ fn ways_to_best(alloc: Global, tree: &Tree) -> Result<Vec<bool>, AllocError> {
         return Ok(marks);
     };
     let mut at = best;
-    'up: for _ in 0..tree.nodes.len() {
+    for _ in 0..tree.nodes.len() {
         if let Some(mark) = marks.get_mut(at) {
             *mark = true;
         }

@@ -1,5 +1,5 @@
 -- A walk whose next child has become a node.
-use Rattle.std.specs.Prelude.{AllPairs, IsSome, Some, None, min, pos, ◌<ℤ◌}
+use Rattle.std.specs.Prelude.{AllPairs, IsSome, Some, None, min, map, ℤ, pos, ◌<ℤ◌, ◌≤ℤ◌}
 use Rattle.std.proofs.Common.{◌≡◌, ◌≢◌, inl, inr, ⊎_elim, ℕ, suc, ◌+◌, ◌-◌, ◌<◌, ◌≤◌, List, [], ◌∷◌, ◌++◌, length, take, get_or, refl, sym, subst, ap, ◌∙◌, arith}
 use Rattle.std.proofs.lemmas.Int.{ints}
 use Rattle.std.proofs.lemmas.Bool.{cases_lt}
@@ -8,7 +8,7 @@ use Rattle.std.proofs.lemmas.List.{append-nil, length-append, length-map, length
 use Rattle.std.proofs.Math.Nat.{min-le_right, le-min}
 use Rattle.std.proofs.Math.Seq.{get_or-append_seam, take-append_seam, take-length}
 use Rattle.shunt_lists.specs.defs.Members.{In}
-use Rattle.shunt_lists.proofs.Members.{in_left, in_right, in_cases, in_place, of_one}
+use Rattle.shunt_lists.proofs.Members.{in_left, in_right, in_cases, in_map, in_place, of_one}
 use Rattle.shunt_base.specs.declared.duals.Case.{Case}
 use Rattle.shunt_instance.specs.defs.Instance.{Night, IsInstance}
 use Rattle.shunt_blocks.specs.declared.records.Block.{Block}
@@ -33,49 +33,87 @@ use Rattle.shunt_proof.proofs.Ancestors.{path_size, front_path}
 use Rattle.shunt_proof.proofs.Few.{CountLaws}
 use Rattle.shunt_proof.proofs.Noted.{last_path, last_duals, last_best, last_lean, last_placed, known_listed}
 use Rattle.shunt_search.specs.declared.children.Child.{Child}
-use Rattle.shunt_search.specs.defs.Yards.{choice_of, more_by, IsNextBlock, AreChildren}
-use Rattle.shunt_search.specs.defs.Walking.{kept, goal_of, IsPending, IsApart, IsKnown, IsWalked, IsWalk}
+use Rattle.shunt_search.specs.declared.walking.Pending.{Pending}
+use Rattle.shunt_search.specs.defs.Yards.{choice_of, more_by, choices_in, IsNextBlock, AreChildren}
+use Rattle.shunt_search.specs.defs.Walking.{kept, goal_of, cases_in, IsPending, IsApart, IsKnown, IsWalked, OpensAbove, AddsChildren, IsWalk}
 use Rattle.shunt_search.proofs.Stays.{place_of}
 use Rattle.shunt_search.proofs.Offered.{longer_is, of_choices}
 use Rattle.shunt_search.proofs.Yarding.{take_less}
-use Rattle.shunt_search.proofs.Walked.{its_cases, shows_turn, front_pairs, pairs_append}
+use Rattle.shunt_search.proofs.Walked.{lower, shows_turn, front_pairs, pairs_append}
 
-module _ (night : Night) (formed_night : IsInstance night) (laws : CountLaws) (start : List Block) (cases : List Case) (nodes : List Node) (path : List Block) (left : List Child) (t : Child) (best : ℕ) (W : IsWalk night start cases nodes path (left ++ t ∷ []) best) (n : Node) (c : Choice) (depth : length start + n.depth ≡ kept t + 1) (choice : n.choice ≡ Some c) (is : choice_from night (take (kept t) path) c ≡ choice_of t.block) (fits : FitsNode night n) (below : t.bound <ℤ pos best) where
+-- ---- the children that were added
+
+-- each is one of the children, and each of the children is there
+added_child : (added : List Pending) (children : List Child) → map (λ p. p.child) added ≡ children → (p : Pending) → In p added → In p.child children
+added_child added children e p i = subst (λ (l : List Child). In p.child l) e (in_map (λ (q : Pending). q.child) added p i)
+
+of_children : (added : List Pending) (c : Child) → In c (map (λ p. p.child) added) → (p : Pending) × In p added × (p.child ≡ c)
+of_children [] c i = absurd i
+of_children (p ∷ added) c (inl e) = (p, inl refl, sym e)
+of_children (p ∷ added) c (inr i) = let r = of_children added c i in (r.0, inr r.1, r.2)
+
+-- the choices of the children differ, and so do those that were added
+module _ (night : Night) (path : List Block) (cases : List Case) (best : ℕ) (children : List Child) (C : AreChildren night path cases best children) (added : List Pending) (each : map (λ p. p.child) added ≡ children) where
+  keeps_all : (p : Pending) → In p added → kept p.child ≡ length path
+  keeps_all p i = let id = (C.each p.child (added_child added children each p i)).next.id in omega (arith, id)
+
+  its_choice : (k : ℕ) (d : Pending) → k < length added → get_or (choices_in children) k (choice_of d.child.block) ≡ choice_of (get_or added k d).child.block
+  its_choice k d lt =
+      let long = length-map added (λ (p : Pending). p.child) in
+      let same : length (map (λ (p : Pending). p.child) added) ≡ length children = ap (λ (l : List Child). length l) each in
+      get_or-map (λ (x : Child). choice_of x.block) children k d.child (choice_of d.child.block) (omega (arith, lt, long, same))
+      ∙ ap (λ (l : List Child). choice_of (get_or l k d.child).block) (sym each)
+      ∙ ap (λ (x : Child). choice_of x.block) (get_or-map (λ (p : Pending). p.child) added k d d.child lt)
+
+  added_apart : AllPairs IsApart added
+  added_apart i j d before within =
+      let i_in : i < length added = omega (arith, before, within) in
+      let one = keeps_all (get_or added i d) (in_place added i d i_in) in
+      let two = keeps_all (get_or added j d) (in_place added j d within) in
+      let long = length-map children (λ (x : Child). choice_of x.block) in
+      let also = length-map added (λ (p : Pending). p.child) in
+      let same : length (map (λ (p : Pending). p.child) added) ≡ length children = ap (λ (l : List Child). length l) each in (
+        omega (arith, one, two),
+        λ e same_choice. C.once i j (choice_of d.child.block) before (omega (arith, within, long, also, same))
+            (its_choice i d i_in ∙ same_choice ∙ sym (its_choice j d within)),
+      )
+
+module _ (night : Night) (formed_night : IsInstance night) (laws : CountLaws) (start : List Block) (stock : List (List Case)) (floor : ℕ) (nodes : List Node) (path : List Block) (left : List Pending) (t : Pending) (best : ℕ) (low : ℤ) (W : IsWalk night start stock floor nodes path (left ++ t ∷ []) best low) (n : Node) (c : Choice) (depth : length start + n.depth ≡ kept t.child + 1) (choice : n.choice ≡ Some c) (is : choice_from night (take (kept t.child) path) c ≡ choice_of t.child.block) (fits : FitsNode night n) (below : t.child.bound <ℤ pos best) where
   abbrev Q : List Block
-  Q = take (kept t) path
+  Q = take (kept t.child) path
 
   abbrev goal : List Block
-  goal = goal_of path t
+  goal = goal_of path t.child
 
   abbrev more : List Node
   more = nodes ++ n ∷ []
 
-  p : IsPending night start cases nodes path t
+  p : IsPending night start stock floor nodes path t
   p = W.pending t (in_right left (t ∷ []) t (inl refl))
 
   -- ---- where the child is
 
-  under : n.depth ≡ depth_at nodes p.parent + 1
+  under : n.depth ≡ depth_at nodes t.parent + 1
   under = let long = p.long in omega (arith, depth, long)
 
-  kept_is : length Q ≡ kept t
+  kept_is : length Q ≡ kept t.child
   kept_is = let id = p.next.id in omega (arith, id)
 
-  kept_in : kept t ≤ length path
-  kept_in = let long = length-take (kept t) path in let le = min-le_right (kept t) (length path) in omega (arith, kept_is, long, le)
+  kept_in : kept t.child ≤ length path
+  kept_in = let long = length-take (kept t.child) path in let le = min-le_right (kept t.child) (length path) in omega (arith, kept_is, long, le)
 
   last_size : length path ≡ length start + depth_at nodes (length nodes - 1)
   last_size = ap (λ (l : List Block). length l) W.here ∙ path_size night nodes W.formed start (length nodes - 1) (let some = W.some in omega (arith, some))
 
-  no_deeper : depth_at nodes p.parent ≤ depth_at nodes (length nodes - 1)
+  no_deeper : depth_at nodes t.parent ≤ depth_at nodes (length nodes - 1)
   no_deeper = let long = p.long in omega (arith, long, kept_in, last_size)
 
   -- where it is as deep as the last node would be above it, that is its parent
-  last_is : depth_at nodes (length nodes - 1) ≡ depth_at nodes p.parent → length nodes - 1 ≡ p.parent
+  last_is : depth_at nodes (length nodes - 1) ≡ depth_at nodes t.parent → length nodes - 1 ≡ t.parent
   last_is e =
-      let here = nearest_here nodes (depth_at nodes p.parent) (length nodes - 1) e in
+      let here = nearest_here nodes (depth_at nodes t.parent) (length nodes - 1) e in
       let all : suc (length nodes - 1) ≡ length nodes = (let some = W.some in omega (arith, some)) in
-      sym here ∙ ap (λ k. nearest nodes (depth_at nodes p.parent) k) all ∙ p.last
+      sym here ∙ ap (λ k. nearest nodes (depth_at nodes t.parent) k) all ∙ p.last
 
   follows : Follows (node_at nodes (length nodes - 1)) n
   follows = record {
@@ -94,11 +132,11 @@ module _ (night : Night) (formed_night : IsInstance night) (laws : CountLaws) (s
   size = length-append nodes (n ∷ [])
 
   up : Q ≡ take (length start + (n.depth - 1)) (path_at night start nodes (length nodes - 1))
-  up = let e : kept t ≡ length start + (n.depth - 1) = omega (arith, depth, under) in
+  up = let e : kept t.child ≡ length start + (n.depth - 1) = omega (arith, depth, under) in
       ap (λ k. take k path) e ∙ ap (λ (l : List Block). take (length start + (n.depth - 1)) l) W.here
 
   to_goal : longer_by Q (choice_from night Q c) ≡ goal
-  to_goal = ap (λ (k : PathChoice). longer_by Q k) is ∙ longer_is Q t.block p.next.id
+  to_goal = ap (λ (k : PathChoice). longer_by Q k) is ∙ longer_is Q t.child.block p.next.id
 
   new_path : path_at night start more (length nodes) ≡ goal
   new_path = last_path night nodes n formed W.some start
@@ -107,7 +145,7 @@ module _ (night : Night) (formed_night : IsInstance night) (laws : CountLaws) (s
       ∙ to_goal
 
   new_size : length goal ≡ length start + n.depth
-  new_size = let long = length-append Q (t.block ∷ []) in omega (arith, long, kept_is, depth)
+  new_size = let long = length-append Q (t.child.block ∷ []) in omega (arith, long, kept_is, depth)
 
   -- ---- it is placed and lean
 
@@ -123,15 +161,15 @@ module _ (night : Night) (formed_night : IsInstance night) (laws : CountLaws) (s
       (λ past. subst (λ j. IsPlaced night start more j) (let e : length nodes ≡ k = omega (arith, past, lt, size) in e) new_placed)
       (cases_lt k (length nodes))
 
-  above_is : nearest nodes (n.depth - 1) (length nodes) ≡ p.parent
-  above_is = let e : n.depth - 1 ≡ depth_at nodes p.parent = omega (arith, under) in ap (λ d. nearest nodes d (length nodes)) e ∙ p.last
+  above_is : nearest nodes (n.depth - 1) (length nodes) ≡ t.parent
+  above_is = let e : n.depth - 1 ≡ depth_at nodes t.parent = omega (arith, under) in ap (λ d. nearest nodes d (length nodes)) e ∙ p.last
 
-  above_cases : duals_at nodes (nearest nodes (n.depth - 1) (length nodes)) ≡ cases
-  above_cases = ap (λ k. duals_at nodes k) above_is ∙ its_cases cases nodes p.parent (W.kinds p.parent p.there) p.branch
+  above_cases : duals_at nodes (nearest nodes (n.depth - 1) (length nodes)) ≡ duals_at nodes t.parent
+  above_cases = ap (λ k. duals_at nodes k) above_is
 
   new_lean : IsLeanAt night start more (length nodes)
-  new_lean = last_lean night start nodes n t.bound formed W.some
-      (subst (λ (d : List Case). IsCasesBound night (path_at night start more (length nodes)) d t.bound) (sym above_cases) (subst (λ (l : List Block). IsCasesBound night l cases t.bound) (sym new_path) p.bound))
+  new_lean = last_lean night start nodes n t.child.bound formed W.some
+      (subst (λ (d : List Case). IsCasesBound night (path_at night start more (length nodes)) d t.child.bound) (sym above_cases) (subst (λ (l : List Block). IsCasesBound night l (duals_at nodes t.parent) t.child.bound) (sym new_path) p.bound))
       (let cheap = W.cheap in omega (arith, ints, cheap, below))
 
   all_lean : AreLean night start more
@@ -142,35 +180,35 @@ module _ (night : Night) (formed_night : IsInstance night) (laws : CountLaws) (s
 
   -- ---- the other children of the stack
 
-  apart_from : (s : Child) → In s left → IsApart s t
+  apart_from : (s : Pending) → In s left → IsApart s t
   apart_from s i =
       let at = place_of left s s i in
       let lt = at.1 in
       let long = length-append left (t ∷ []) in
       let pair = W.apart at.0 (length left) s lt (omega (arith, long)) in
-      subst (λ (x : Child). IsApart x t) (get_or_append_left left (t ∷ []) s at.0 lt ∙ at.2)
-      (subst (λ (x : Child). IsApart (get_or (left ++ t ∷ []) at.0 s) x) (get_or-append_seam left t [] s) pair)
+      subst (λ (x : Pending). IsApart x t) (get_or_append_left left (t ∷ []) s at.0 lt ∙ at.2)
+      (subst (λ (x : Pending). IsApart (get_or (left ++ t ∷ []) at.0 s) x) (get_or-append_seam left t [] s) pair)
 
   -- what they keep of the path is kept of the new path
-  same_front : (s : Child) → kept s ≤ kept t → take (kept s) goal ≡ take (kept s) path
-  same_front s le = take-append-le (kept s) Q (t.block ∷ []) (omega (arith, le, kept_is)) ∙ take_less (kept s) (kept t) path le
+  same_front : (s : Pending) → kept s.child ≤ kept t.child → take (kept s.child) goal ≡ take (kept s.child) path
+  same_front s le = take-append-le (kept s.child) Q (t.child.block ∷ []) (omega (arith, le, kept_is)) ∙ take_less (kept s.child) (kept t.child) path le
 
-  same_goal : (s : Child) → kept s ≤ kept t → goal_of goal s ≡ goal_of path s
-  same_goal s le = ap (λ (l : List Block). more_by l s.block) (same_front s le)
+  same_goal : (s : Pending) → kept s.child ≤ kept t.child → goal_of goal s.child ≡ goal_of path s.child
+  same_goal s le = ap (λ (l : List Block). more_by l s.child.block) (same_front s le)
 
-  other_goal : (s : Child) → IsApart s t → goal ≢ goal_of path s
+  other_goal : (s : Pending) → IsApart s t → goal ≢ goal_of path s.child
   other_goal s a e =
-      let one = length-append Q (t.block ∷ []) in
+      let one = length-append Q (t.child.block ∷ []) in
       let le = a.0 in
-      let its : length (take (kept s) path) ≡ kept s = length-take-le (kept s) path (omega (arith, le, kept_in)) in
-      let two = length-append (take (kept s) path) (s.block ∷ []) in
-      let long : length goal ≡ length (goal_of path s) = ap (λ (l : List Block). length l) e in
-      let same : kept s ≡ kept t = omega (arith, one, two, its, long, kept_is) in
-      let last : get_or goal (kept t) t.block ≡ t.block = ap (λ k. get_or goal k t.block) (sym kept_is) ∙ get_or-append_seam Q t.block [] t.block in
-      let other : get_or (goal_of path s) (kept t) t.block ≡ s.block = ap (λ k. get_or (goal_of path s) k t.block) (sym same ∙ sym its) ∙ get_or-append_seam (take (kept s) path) s.block [] t.block in
-      a.1 same (ap choice_of (sym other ∙ ap (λ (l : List Block). get_or l (kept t) t.block) (sym e) ∙ last))
+      let its : length (take (kept s.child) path) ≡ kept s.child = length-take-le (kept s.child) path (omega (arith, le, kept_in)) in
+      let two = length-append (take (kept s.child) path) (s.child.block ∷ []) in
+      let long : length goal ≡ length (goal_of path s.child) = ap (λ (l : List Block). length l) e in
+      let same : kept s.child ≡ kept t.child = omega (arith, one, two, its, long, kept_is) in
+      let last : get_or goal (kept t.child) t.child.block ≡ t.child.block = ap (λ k. get_or goal k t.child.block) (sym kept_is) ∙ get_or-append_seam Q t.child.block [] t.child.block in
+      let other : get_or (goal_of path s.child) (kept t.child) t.child.block ≡ s.child.block = ap (λ k. get_or (goal_of path s.child) k t.child.block) (sym same ∙ sym its) ∙ get_or-append_seam (take (kept s.child) path) s.child.block [] t.child.block in
+      a.1 same (ap choice_of (sym other ∙ ap (λ (l : List Block). get_or l (kept t.child) t.child.block) (sym e) ∙ last))
 
-  still_pending : (s : Child) → In s left → IsPending night start cases more goal s
+  still_pending : (s : Pending) → In s left → IsPending night start stock floor more goal s
   still_pending s i =
       let q = W.pending s (in_left left (t ∷ []) s i) in
       let a = apart_from s i in
@@ -178,18 +216,21 @@ module _ (night : Night) (formed_night : IsInstance night) (laws : CountLaws) (s
       let lt = q.there in
       let its = q.long in
       record {
-        parent = q.parent;
         there = omega (arith, lt, size);
-        branch = ap (λ (x : Node). x.kind) (node_front nodes (n ∷ []) q.parent q.there) ∙ q.branch;
-        here = path_front nodes (n ∷ []) night start q.parent q.there ∙ q.here ∙ sym (same_front s le);
-        long = its ∙ ap (λ d. length start + d) (sym (depth_front nodes (n ∷ []) q.parent q.there));
+        branch = ap (λ (x : Node). x.kind) (node_front nodes (n ∷ []) s.parent q.there) ∙ q.branch;
+        here = path_front nodes (n ∷ []) night start s.parent q.there ∙ q.here ∙ sym (same_front s le);
+        long = its ∙ ap (λ d. length start + d) (sym (depth_front nodes (n ∷ []) s.parent q.there));
         last =
-            let other : depth_at more (length nodes) ≡ depth_at more q.parent → ⊥ = (λ e. let here = ap (λ (x : Node). x.depth) (node_last nodes n) in let there = depth_front nodes (n ∷ []) q.parent q.there in absurd (omega (arith, e, here, there, depth, its, le))) in
-            ap (λ k. nearest more (depth_at more q.parent) k) size_suc ∙ nearest_before more (depth_at more q.parent) (length nodes) other ∙ nearest_front nodes (n ∷ []) (depth_at more q.parent) (length nodes) (omega arith)
-            ∙ ap (λ d. nearest nodes d (length nodes)) (depth_front nodes (n ∷ []) q.parent q.there) ∙ q.last;
-        next = subst (λ (l : List Block). IsNextBlock night l s.block) (sym (same_front s le)) q.next;
+            let other : depth_at more (length nodes) ≡ depth_at more s.parent → ⊥ = (λ e. let here = ap (λ (x : Node). x.depth) (node_last nodes n) in let there = depth_front nodes (n ∷ []) s.parent q.there in absurd (omega (arith, e, here, there, depth, its, le))) in
+            ap (λ k. nearest more (depth_at more s.parent) k) size_suc ∙ nearest_before more (depth_at more s.parent) (length nodes) other ∙ nearest_front nodes (n ∷ []) (depth_at more s.parent) (length nodes) (omega arith)
+            ∙ ap (λ d. nearest nodes d (length nodes)) (depth_front nodes (n ∷ []) s.parent q.there) ∙ q.last;
+        next = subst (λ (l : List Block). IsNextBlock night l s.child.block) (sym (same_front s le)) q.next;
         through = subst (λ (l : List Block). RunsThrough night (placed l)) (sym (same_goal s le)) q.through;
-        bound = subst (λ (l : List Block). IsCasesBound night l cases s.bound) (sym (same_goal s le)) q.bound;
+        place = q.place;
+        cases = q.cases ∙ sym (duals_front nodes (n ∷ []) s.parent q.there);
+        bound = subst (λ (d : List Case). IsCasesBound night (goal_of goal s.child) d s.child.bound) (sym (duals_front nodes (n ∷ []) s.parent q.there))
+            (subst (λ (l : List Block). IsCasesBound night l (duals_at nodes s.parent) s.child.bound) (sym (same_goal s le)) q.bound);
+        above = q.above;
         new = λ j there e. ⊎_elim
             (λ before. q.new j before (sym (path_front nodes (n ∷ []) night start j before) ∙ e ∙ same_goal s le))
             (λ past. other_goal s a (sym (ap (λ k. path_at night start more k) (let is_last : j ≡ length nodes = omega (arith, past, there, size) in is_last) ∙ new_path) ∙ e ∙ same_goal s le))
@@ -205,21 +246,21 @@ module _ (night : Night) (formed_night : IsInstance night) (laws : CountLaws) (s
   now_listed k d lt e = known_listed laws night formed_night start more formed all_placed k (length nodes) d (omega (arith, lt, size)) (omega (arith, size))
       (new_path ∙ e ∙ ap (λ (l : List Block). longer_by l d) (sym (path_front nodes (n ∷ []) night start k lt)))
 
-  still_known : (children : List Child) (k : ℕ) (d : PathChoice) → k < length nodes → IsKnown night start nodes path (left ++ t ∷ []) k d → IsKnown night start more goal (left ++ children) k d
-  still_known children k d lt (inl listed) = inl (listed_more nodes (n ∷ []) night start k d lt listed)
-  still_known children k d lt (inr known) = ⊎_elim
-      (λ i. inr (known.0, in_left left children known.0 i, same_goal known.0 (apart_from known.0 i).0 ∙ known.2 ∙ ap (λ (l : List Block). longer_by l d) (sym (path_front nodes (n ∷ []) night start k lt))))
-      (λ i. inl (now_listed k d lt (ap (λ (x : Child). goal_of path x) (sym (of_one t known.0 i)) ∙ known.2)))
+  still_known : (added : List Pending) (k : ℕ) (d : PathChoice) → k < length nodes → IsKnown night start nodes path (left ++ t ∷ []) k d → IsKnown night start more goal (left ++ added) k d
+  still_known added k d lt (inl listed) = inl (listed_more nodes (n ∷ []) night start k d lt listed)
+  still_known added k d lt (inr known) = ⊎_elim
+      (λ i. inr (known.0, in_left left added known.0 i, known.2, same_goal known.0 (apart_from known.0 i).0 ∙ known.3 ∙ ap (λ (l : List Block). longer_by l d) (sym (path_front nodes (n ∷ []) night start k lt))))
+      (λ i. inl (now_listed k d lt (ap (λ (x : Pending). goal_of path x.child) (sym (of_one t known.0 i)) ∙ known.3)))
       (in_cases left (t ∷ []) known.0 known.1)
 
   -- the older nodes show what they did, or less
-  still_shows : (children : List Child) (now : ℕ) → now ≤ best → (k : ℕ) → k < length nodes → Shows night (path_at night start more k) (duals_at more k) (node_at more k).kind (IsKnown night start more goal (left ++ children) k) (pos now)
-  still_shows children now le k lt =
-      subst (λ (x : Node). Shows night (path_at night start more k) (duals_at more k) x.kind (IsKnown night start more goal (left ++ children) k) (pos now)) (sym (node_front nodes (n ∷ []) k lt))
-      (subst (λ (d : List Case). Shows night (path_at night start more k) d (node_at nodes k).kind (IsKnown night start more goal (left ++ children) k) (pos now)) (sym (duals_front nodes (n ∷ []) k lt))
-      (subst (λ (l : List Block). Shows night l (duals_at nodes k) (node_at nodes k).kind (IsKnown night start more goal (left ++ children) k) (pos now)) (sym (path_front nodes (n ∷ []) night start k lt))
-      (shows_turn night (path_at night start nodes k) (duals_at nodes k) (node_at nodes k).kind (IsKnown night start nodes path (left ++ t ∷ []) k) (IsKnown night start more goal (left ++ children) k) (pos best) (pos now) (omega (arith, ints, le))
-      (λ branch d known. inr (still_known children k d lt known)) (W.shows k lt))))
+  still_shows : (added : List Pending) (now : ℤ) → now ≤ℤ low → (k : ℕ) → k < length nodes → Shows night (path_at night start more k) (duals_at more k) (node_at more k).kind (IsKnown night start more goal (left ++ added) k) now
+  still_shows added now le k lt =
+      subst (λ (x : Node). Shows night (path_at night start more k) (duals_at more k) x.kind (IsKnown night start more goal (left ++ added) k) now) (sym (node_front nodes (n ∷ []) k lt))
+      (subst (λ (d : List Case). Shows night (path_at night start more k) d (node_at nodes k).kind (IsKnown night start more goal (left ++ added) k) now) (sym (duals_front nodes (n ∷ []) k lt))
+      (subst (λ (l : List Block). Shows night l (duals_at nodes k) (node_at nodes k).kind (IsKnown night start more goal (left ++ added) k) now) (sym (path_front nodes (n ∷ []) night start k lt))
+      (shows_turn night (path_at night start nodes k) (duals_at nodes k) (node_at nodes k).kind (IsKnown night start nodes path (left ++ t ∷ []) k) (IsKnown night start more goal (left ++ added) k) low now le
+      (λ branch d known. inr (still_known added k d lt known)) (W.shows k lt))))
 
   new_depth : depth_at more (length nodes) ≡ n.depth
   new_depth = ap (λ (x : Node). x.depth) (node_last nodes n)
@@ -237,9 +278,9 @@ module _ (night : Night) (formed_night : IsInstance night) (laws : CountLaws) (s
   each_node : (P : ℕ → Type 0) → ((k : ℕ) → k < length nodes → P k) → P (length nodes) → (k : ℕ) → k < length more → P k
   each_node P older new k lt = ⊎_elim (λ before. older k before) (λ past. subst P (let e : length nodes ≡ k = omega (arith, past, lt, size) in e) new) (cases_lt k (length nodes))
 
-  still_walked : (k : ℕ) → k < length nodes → IsWalked cases more k
+  still_walked : (k : ℕ) → k < length nodes → IsWalked more k
   still_walked k lt = ⊎_elim
-      (λ w. inl (ap (λ (x : Node). x.kind) (node_front nodes (n ∷ []) k lt) ∙ w.0, duals_front nodes (n ∷ []) k lt ∙ w.1))
+      (λ w. inl (ap (λ (x : Node). x.kind) (node_front nodes (n ∷ []) k lt) ∙ w))
       (λ w. inr (ap (λ (x : Node). x.kind) (node_front nodes (n ∷ []) k lt) ∙ w))
       (W.kinds k lt)
 
@@ -253,18 +294,30 @@ module _ (night : Night) (formed_night : IsInstance night) (laws : CountLaws) (s
 
   -- ---- the new node is a branch
 
-  module _ (kind : n.kind ≡ Branch) (same : cases_or n.duals cases ≡ cases) (children : List Child) (C : AreChildren night goal cases best children) (holds : CasesHold night goal cases) (unfinished : IsSome (next_of (masks_of night goal))) where
+  module _ (kind : n.kind ≡ Branch) (place : ℕ) (in_stock : place < length stock) (own : cases_or n.duals (cases_in stock t.cases) ≡ cases_in stock place) (waiting : List Pending) (adds : AddsChildren night stock best goal (length nodes) place left waiting) (rise : OpensAbove night goal (cases_in stock place) best (pos floor)) (holds : CasesHold night goal (cases_in stock place)) (unfinished : IsSome (next_of (masks_of night goal))) where
+    abbrev cases : List Case
+    cases = cases_in stock place
+
+    abbrev children : List Child
+    children = adds.children
+
+    abbrev added : List Pending
+    added = adds.adds.added
+
+    C : AreChildren night goal cases best children
+    C = adds.are
+
     new_duals : duals_at more (length nodes) ≡ cases
-    new_duals = last_duals night nodes n formed W.some ∙ ap (λ (d : List Case). cases_or n.duals d) above_cases ∙ same
+    new_duals = last_duals night nodes n formed W.some ∙ ap (λ (d : List Case). cases_or n.duals d) (above_cases ∙ sym p.cases) ∙ own
 
-    keeps_all : (s : Child) → In s children → kept s ≡ length goal
-    keeps_all s i = let id = (C.each s i).next.id in omega (arith, id)
+    keeps_goal : (s : Pending) → In s added → kept s.child ≡ length goal
+    keeps_goal s i = keeps_all night goal cases best children C added adds.adds.each s i
 
-    front_is : (s : Child) → In s children → take (kept s) goal ≡ goal
-    front_is s i = ap (λ k. take k goal) (keeps_all s i) ∙ take-length goal
+    front_is : (s : Pending) → In s added → take (kept s.child) goal ≡ goal
+    front_is s i = ap (λ k. take k goal) (keeps_goal s i) ∙ take-length goal
 
-    goal_is : (s : Child) → In s children → goal_of goal s ≡ more_by goal s.block
-    goal_is s i = ap (λ (l : List Block). more_by l s.block) (front_is s i)
+    goal_is : (s : Pending) → In s added → goal_of goal s.child ≡ more_by goal s.child.block
+    goal_is s i = ap (λ (l : List Block). more_by l s.child.block) (front_is s i)
 
     -- a node with a child's path would stand below an earlier node with the new node's path
     not_there : (b : Block) (j : ℕ) → j < length nodes → path_at night start nodes j ≢ more_by goal b
@@ -280,105 +333,110 @@ module _ (night : Night) (formed_night : IsInstance night) (laws : CountLaws) (s
         let front : take (length start + n.depth) (more_by goal b) ≡ goal = ap (λ k. take k (more_by goal b)) (sym new_size) ∙ take-append_seam goal (b ∷ []) in
         p.new (nearest nodes n.depth (suc j)) there (up_there ∙ ap (λ (l : List Block). take (length start + n.depth) l) e ∙ front)
 
-    now_pending : (s : Child) → In s children → IsPending night start cases more goal s
+    now_pending : (s : Pending) → In s added → IsPending night start stock floor more goal s
     now_pending s i =
-        let o = C.each s i in
+        let o = C.each s.child (added_child added children adds.adds.each s i) in
+        let of = adds.adds.parents s i in
+        let up = of.0 in
         record {
-          parent = length nodes;
-          there = omega (arith, size);
-          branch = new_kind Branch kind;
-          here = new_path ∙ sym (front_is s i);
-          long = keeps_all s i ∙ new_size ∙ ap (λ d. length start + d) (sym new_depth);
-          last = ap (λ k. nearest more (depth_at more (length nodes)) k) all_more ∙ nearest_here more (depth_at more (length nodes)) (length nodes) refl;
-          next = subst (λ (l : List Block). IsNextBlock night l s.block) (sym (front_is s i)) o.next;
+          there = omega (arith, size, up);
+          branch = ap (λ k. (node_at more k).kind) up ∙ new_kind Branch kind;
+          here = ap (λ k. path_at night start more k) up ∙ new_path ∙ sym (front_is s i);
+          long = keeps_goal s i ∙ new_size ∙ ap (λ d. length start + d) (sym (ap (λ k. depth_at more k) up ∙ new_depth));
+          last = ap (λ j. nearest more (depth_at more j) (length more)) up ∙ ap (λ k. nearest more (depth_at more (length nodes)) k) all_more ∙ nearest_here more (depth_at more (length nodes)) (length nodes) refl ∙ sym up;
+          next = subst (λ (l : List Block). IsNextBlock night l s.child.block) (sym (front_is s i)) o.next;
           through = subst (λ (l : List Block). RunsThrough night (placed l)) (sym (goal_is s i)) o.through;
-          bound = subst (λ (l : List Block). IsCasesBound night l cases s.bound) (sym (goal_is s i)) o.is;
+          place = subst (λ (k : ℕ). k < length stock) (sym of.1) in_stock;
+          cases = ap (λ k. cases_in stock k) of.1 ∙ sym (ap (λ k. duals_at more k) up ∙ new_duals);
+          bound = subst (λ (d : List Case). IsCasesBound night (goal_of goal s.child) d s.child.bound) (sym (ap (λ k. duals_at more k) up ∙ new_duals))
+              (subst (λ (l : List Block). IsCasesBound night l cases s.child.bound) (sym (goal_is s i)) o.is);
+          above = rise s.child o;
           new = λ j there e. ⊎_elim
-              (λ before. not_there s.block j before (sym (path_front nodes (n ∷ []) night start j before) ∙ e ∙ goal_is s i))
+              (λ before. not_there s.child.block j before (sym (path_front nodes (n ∷ []) night start j before) ∙ e ∙ goal_is s i))
               (λ past.
               let is_last : length nodes ≡ j = omega (arith, past, there, size) in
-              let same_path : goal ≡ more_by goal s.block = sym new_path ∙ ap (λ k. path_at night start more k) is_last ∙ e ∙ goal_is s i in
-              let long : length goal ≡ length goal + 1 = ap (λ (l : List Block). length l) same_path ∙ length-append goal (s.block ∷ []) in
+              let same_path : goal ≡ more_by goal s.child.block = sym new_path ∙ ap (λ k. path_at night start more k) is_last ∙ e ∙ goal_is s i in
+              let long : length goal ≡ length goal + 1 = ap (λ (l : List Block). length l) same_path ∙ length-append goal (s.child.block ∷ []) in
               absurd (omega (arith, long)))
               (cases_lt j (length nodes));
         }
 
-    children_apart : AllPairs IsApart children
-    children_apart i j d before within =
-        let i_in : i < length children = omega (arith, before, within) in
-        let one = keeps_all (get_or children i d) (in_place children i d i_in) in
-        let two = keeps_all (get_or children j d) (in_place children j d within) in
-        let long = length-map children (λ (x : Child). choice_of x.block) in (
-          omega (arith, one, two),
-          λ e same_choice. C.once i j (choice_of d.block) before (omega (arith, within, long))
-              (get_or-map (λ (x : Child). choice_of x.block) children i d (choice_of d.block) i_in ∙ same_choice ∙ sym (get_or-map (λ (x : Child). choice_of x.block) children j d (choice_of d.block) within)),
-        )
-
-    all_apart : AllPairs IsApart (left ++ children)
-    all_apart = pairs_append IsApart left children (front_pairs IsApart left (t ∷ []) W.apart) children_apart
+    all_apart : AllPairs IsApart (left ++ added)
+    all_apart = pairs_append IsApart left added (front_pairs IsApart left (t ∷ []) W.apart) (added_apart night goal cases best children C added adds.adds.each)
         (λ s x i j.
         let a = apart_from s i in
         let le = a.0 in
-        let its = keeps_all x j in
-        let deeper : kept s < kept x = omega (arith, le, its, new_size, depth) in
+        let its = keeps_goal x j in
+        let deeper : kept s.child < kept x.child = omega (arith, le, its, new_size, depth) in
         (omega (arith, deeper), λ e. absurd (omega (arith, e, deeper))))
 
-    new_shows : Shows night (path_at night start more (length nodes)) (duals_at more (length nodes)) (node_at more (length nodes)).kind (IsKnown night start more goal (left ++ children) (length nodes)) (pos best)
+    -- a choice that was added is still to be walked to
+    now_known : (d : PathChoice) (c : Child) → In c children → d ≡ choice_of c.block → IsKnown night start more goal (left ++ added) (length nodes) d
+    now_known d c i e =
+        let r = of_children added c (subst (λ (l : List Child). In c l) (sym adds.adds.each) i) in
+        let its : choice_of r.0.child.block ≡ d = ap (λ (x : Child). choice_of x.block) r.2 ∙ sym e in
+        let o = C.each r.0.child (added_child added children adds.adds.each r.0 r.1) in
+        inr (
+          r.0,
+          in_right left added r.0 r.1,
+          (adds.adds.parents r.0 r.1).0,
+          goal_is r.0 r.1 ∙ sym (longer_is goal r.0.child.block o.next.id) ∙ ap (λ (k : PathChoice). longer_by goal k) its ∙ ap (λ (l : List Block). longer_by l d) (sym new_path),
+        )
+
+    new_shows : Shows night (path_at night start more (length nodes)) (duals_at more (length nodes)) (node_at more (length nodes)).kind (IsKnown night start more goal (left ++ added) (length nodes)) low
     new_shows =
-        subst (λ kd. Shows night (path_at night start more (length nodes)) (duals_at more (length nodes)) kd (IsKnown night start more goal (left ++ children) (length nodes)) (pos best)) (sym (new_kind Branch kind))
-        (subst (λ (d : List Case). Shows night (path_at night start more (length nodes)) d Branch (IsKnown night start more goal (left ++ children) (length nodes)) (pos best)) (sym new_duals)
-        (subst (λ (l : List Block). Shows night l cases Branch (IsKnown night start more goal (left ++ children) (length nodes)) (pos best)) (sym new_path) (record {
+        subst (λ kd. Shows night (path_at night start more (length nodes)) (duals_at more (length nodes)) kd (IsKnown night start more goal (left ++ added) (length nodes)) low) (sym (new_kind Branch kind))
+        (subst (λ (d : List Case). Shows night (path_at night start more (length nodes)) d Branch (IsKnown night start more goal (left ++ added) (length nodes)) low) (sym new_duals)
+        (subst (λ (l : List Block). Shows night l cases Branch (IsKnown night start more goal (left ++ added) (length nodes)) low) (sym new_path) (record {
           unfinished = unfinished;
           holds = holds;
           each = λ d at through. ⊎_elim
-              (λ closed. inl (closed through))
-              (λ i. let r = of_choices night goal cases best children d i in inr (inr (
-                r.0,
-                in_right left children r.0 r.1,
-                goal_is r.0 r.1 ∙ sym (longer_is goal r.0.block (C.each r.0 r.1).next.id) ∙ ap (λ (k : PathChoice). longer_by goal k) (sym r.2) ∙ ap (λ (l : List Block). longer_by l d) (sym new_path),
-              )))
+              (λ closed. inl (lower night (longer_by goal d) cases (pos best) low W.within (closed through)))
+              (λ i. let r = of_choices night goal cases best children d i in inr (now_known d r.0 r.1 r.2))
               (C.others d at);
         })))
 
-    pub walk_branch : IsWalk night start cases more goal (left ++ children) best
-    walk_branch = record {
+    pub walk_branch : IsWalk night start stock floor more goal waiting best low
+    walk_branch = subst (λ (l : List Pending). IsWalk night start stock floor more goal l best low) (sym adds.adds.is) (record {
       formed = formed;
       some = omega (arith, size);
       here = new_here;
-      kinds = each_node (IsWalked cases more) still_walked (inl (new_kind Branch kind, new_duals));
+      kinds = each_node (IsWalked more) still_walked (inl (new_kind Branch kind));
       placed = all_placed;
       lean = all_lean;
-      pending = λ s i. ⊎_elim (λ l. still_pending s l) (λ r. now_pending s r) (in_cases left children s i);
+      pending = λ s i. ⊎_elim (λ l. still_pending s l) (λ r. now_pending s r) (in_cases left added s i);
       apart = all_apart;
-      shows = each_node (λ k. Shows night (path_at night start more k) (duals_at more k) (node_at more k).kind (IsKnown night start more goal (left ++ children) k) (pos best)) (still_shows children best (omega arith)) new_shows;
+      shows = each_node (λ k. Shows night (path_at night start more k) (duals_at more k) (node_at more k).kind (IsKnown night start more goal (left ++ added) k) low) (still_shows added low (omega (arith, ints))) new_shows;
+      within = W.within;
       cheap = let cheap = W.cheap in let e = new_best Branch kind in omega (arith, cheap, e);
-    }
+    })
 
   -- ---- the new node is whole
 
-  module _ (kind : n.kind ≡ Whole) (now : ℕ) (less : now ≤ best) (cost : now ≤ total_cost night goal) (covers : next_of (masks_of night goal) ≡ None) where
-    whole_shows : Shows night (path_at night start more (length nodes)) (duals_at more (length nodes)) (node_at more (length nodes)).kind (IsKnown night start more goal left (length nodes)) (pos now)
+  module _ (kind : n.kind ≡ Whole) (now : ℕ) (lesser : ℤ) (less : now ≤ best) (cost : now ≤ total_cost night goal) (falls : lesser ≤ℤ low) (within : lesser ≤ℤ pos now) (covers : next_of (masks_of night goal) ≡ None) where
+    whole_shows : Shows night (path_at night start more (length nodes)) (duals_at more (length nodes)) (node_at more (length nodes)).kind (IsKnown night start more goal left (length nodes)) lesser
     whole_shows =
-        subst (λ kd. Shows night (path_at night start more (length nodes)) (duals_at more (length nodes)) kd (IsKnown night start more goal left (length nodes)) (pos now)) (sym (new_kind Whole kind))
-        (subst (λ (l : List Block). Shows night l (duals_at more (length nodes)) Whole (IsKnown night start more goal left (length nodes)) (pos now)) (sym new_path) (record {
+        subst (λ kd. Shows night (path_at night start more (length nodes)) (duals_at more (length nodes)) kd (IsKnown night start more goal left (length nodes)) lesser) (sym (new_kind Whole kind))
+        (subst (λ (l : List Block). Shows night l (duals_at more (length nodes)) Whole (IsKnown night start more goal left (length nodes)) lesser) (sym new_path) (record {
           covers = covers;
-          cost = omega (arith, ints, cost);
+          cost = omega (arith, ints, cost, within);
         }))
 
-    older_shows : (k : ℕ) → k < length nodes → Shows night (path_at night start more k) (duals_at more k) (node_at more k).kind (IsKnown night start more goal left k) (pos now)
-    older_shows k lt = subst (λ (l : List Child). Shows night (path_at night start more k) (duals_at more k) (node_at more k).kind (IsKnown night start more goal l k) (pos now)) (append-nil left) (still_shows [] now less k lt)
+    older_shows : (k : ℕ) → k < length nodes → Shows night (path_at night start more k) (duals_at more k) (node_at more k).kind (IsKnown night start more goal left k) lesser
+    older_shows k lt = subst (λ (l : List Pending). Shows night (path_at night start more k) (duals_at more k) (node_at more k).kind (IsKnown night start more goal l k) lesser) (append-nil left) (still_shows [] lesser falls k lt)
 
-    pub walk_whole : IsWalk night start cases more goal left now
+    pub walk_whole : IsWalk night start stock floor more goal left now lesser
     walk_whole = record {
       formed = formed;
       some = omega (arith, size);
       here = new_here;
-      kinds = each_node (IsWalked cases more) still_walked (inr (new_kind Whole kind));
+      kinds = each_node (IsWalked more) still_walked (inr (new_kind Whole kind));
       placed = all_placed;
       lean = all_lean;
       pending = still_pending;
       apart = front_pairs IsApart left (t ∷ []) W.apart;
-      shows = each_node (λ k. Shows night (path_at night start more k) (duals_at more k) (node_at more k).kind (IsKnown night start more goal left k) (pos now)) older_shows whole_shows;
+      shows = each_node (λ k. Shows night (path_at night start more k) (duals_at more k) (node_at more k).kind (IsKnown night start more goal left k) lesser) older_shows whole_shows;
+      within = within;
       cheap =
           let cheap = W.cheap in
           let e = new_best Whole kind in
@@ -391,7 +449,7 @@ module _ (night : Night) (formed_night : IsInstance night) (laws : CountLaws) (s
 none_formed : (night : Night) → AreNodes night []
 none_formed night = record { each = λ k d lt. absurd (omega (arith, lt)); root = λ lt. absurd (omega (arith, lt)); follow = λ k lt. absurd (omega (arith, lt)) }
 
-module _ (night : Night) (start : List Block) (cases : List Case) (n : Node) (fits : FitsNode night n) (depth : n.depth ≡ 0) where
+module _ (night : Night) (start : List Block) (stock : List (List Case)) (floor : ℕ) (n : Node) (fits : FitsNode night n) (depth : n.depth ≡ 0) where
   abbrev alone : List Node
   alone = n ∷ []
 
@@ -407,97 +465,113 @@ module _ (night : Night) (start : List Block) (cases : List Case) (n : Node) (fi
   first_best : (k : NodeKind) → n.kind ≡ k → best_before night start alone 1 ≡ best_with k (total_cost night start) (opening_cost night start)
   first_best k e = ap (λ kd. best_with kd (total_cost night (path_at night start alone 0)) (opening_cost night start)) e ∙ ap (λ (l : List Block). best_with k (total_cost night l) (opening_cost night start)) root_at
 
-  module _ (best : ℕ) (opening : best ≤ opening_cost night start) (kind : n.kind ≡ Branch) (own : cases_or n.duals [] ≡ cases) (children : List Child) (C : AreChildren night start cases best children) (holds : CasesHold night start cases) (unfinished : IsSome (next_of (masks_of night start))) where
-    alone_duals : duals_at alone 0 ≡ cases
+  module _ (best : ℕ) (low : ℤ) (opening : best ≤ opening_cost night start) (within : low ≤ℤ pos best) (kind : n.kind ≡ Branch) (place : ℕ) (in_stock : place < length stock) (own : cases_or n.duals [] ≡ cases_in stock place) (waiting : List Pending) (adds : AddsChildren night stock best start 0 place [] waiting) (above : OpensAbove night start (cases_in stock place) best (pos floor)) (holds : CasesHold night start (cases_in stock place)) (unfinished : IsSome (next_of (masks_of night start))) where
+    abbrev first_cases : List Case
+    first_cases = cases_in stock place
+
+    abbrev first_children : List Child
+    first_children = adds.children
+
+    abbrev first_added : List Pending
+    first_added = adds.adds.added
+
+    D : AreChildren night start first_cases best first_children
+    D = adds.are
+
+    alone_duals : duals_at alone 0 ≡ first_cases
     alone_duals = root_duals night alone alone_formed (omega arith) ∙ own
 
-    keeps_start : (s : Child) → In s children → kept s ≡ length start
-    keeps_start s i = let id = (C.each s i).next.id in omega (arith, id)
+    keeps_start : (s : Pending) → In s first_added → kept s.child ≡ length start
+    keeps_start s i = keeps_all night start first_cases best first_children D first_added adds.adds.each s i
 
-    start_is : (s : Child) → In s children → take (kept s) start ≡ start
+    start_is : (s : Pending) → In s first_added → take (kept s.child) start ≡ start
     start_is s i = ap (λ k. take k start) (keeps_start s i) ∙ take-length start
 
-    below_is : (s : Child) → In s children → goal_of start s ≡ more_by start s.block
-    below_is s i = ap (λ (l : List Block). more_by l s.block) (start_is s i)
+    below_is : (s : Pending) → In s first_added → goal_of start s.child ≡ more_by start s.child.block
+    below_is s i = ap (λ (l : List Block). more_by l s.child.block) (start_is s i)
 
-    first_pending : (s : Child) → In s children → IsPending night start cases alone start s
+    first_pending : (s : Pending) → In s first_added → IsPending night start stock floor alone start s
     first_pending s i =
-        let o = C.each s i in
+        let o = D.each s.child (added_child first_added first_children adds.adds.each s i) in
+        let of = adds.adds.parents s i in
+        let up = of.0 in
         record {
-          parent = 0;
-          there = omega arith;
-          branch = kind;
-          here = root_at ∙ sym (start_is s i);
-          long = let its = keeps_start s i in omega (arith, its, depth);
-          last = nearest_here alone (depth_at alone 0) 0 refl;
-          next = subst (λ (l : List Block). IsNextBlock night l s.block) (sym (start_is s i)) o.next;
+          there = omega (arith, up);
+          branch = ap (λ k. (node_at alone k).kind) up ∙ kind;
+          here = ap (λ k. path_at night start alone k) up ∙ root_at ∙ sym (start_is s i);
+          long = let its = keeps_start s i in let e : depth_at alone s.parent ≡ n.depth = ap (λ k. depth_at alone k) up in omega (arith, its, depth, e);
+          last = ap (λ j. nearest alone (depth_at alone j) 1) up ∙ nearest_here alone (depth_at alone 0) 0 refl ∙ sym up;
+          next = subst (λ (l : List Block). IsNextBlock night l s.child.block) (sym (start_is s i)) o.next;
           through = subst (λ (l : List Block). RunsThrough night (placed l)) (sym (below_is s i)) o.through;
-          bound = subst (λ (l : List Block). IsCasesBound night l cases s.bound) (sym (below_is s i)) o.is;
-          new = only_root (λ j. path_at night start alone j ≢ goal_of start s) (λ e.
-              let same : start ≡ more_by start s.block = sym root_at ∙ e ∙ below_is s i in
-              let long : length start ≡ length start + 1 = ap (λ (l : List Block). length l) same ∙ length-append start (s.block ∷ []) in
+          place = subst (λ (k : ℕ). k < length stock) (sym of.1) in_stock;
+          cases = ap (λ k. cases_in stock k) of.1 ∙ sym (ap (λ k. duals_at alone k) up ∙ alone_duals);
+          bound = subst (λ (d : List Case). IsCasesBound night (goal_of start s.child) d s.child.bound) (sym (ap (λ k. duals_at alone k) up ∙ alone_duals))
+              (subst (λ (l : List Block). IsCasesBound night l first_cases s.child.bound) (sym (below_is s i)) o.is);
+          above = above s.child o;
+          new = only_root (λ j. path_at night start alone j ≢ goal_of start s.child) (λ e.
+              let same : start ≡ more_by start s.child.block = sym root_at ∙ e ∙ below_is s i in
+              let long : length start ≡ length start + 1 = ap (λ (l : List Block). length l) same ∙ length-append start (s.child.block ∷ []) in
               absurd (omega (arith, long)));
         }
 
-    first_apart : AllPairs IsApart children
-    first_apart i j d before within =
-        let i_in : i < length children = omega (arith, before, within) in
-        let one = keeps_start (get_or children i d) (in_place children i d i_in) in
-        let two = keeps_start (get_or children j d) (in_place children j d within) in
-        let long = length-map children (λ (x : Child). choice_of x.block) in (
-          omega (arith, one, two),
-          λ e same_choice. C.once i j (choice_of d.block) before (omega (arith, within, long))
-              (get_or-map (λ (x : Child). choice_of x.block) children i d (choice_of d.block) i_in ∙ same_choice ∙ sym (get_or-map (λ (x : Child). choice_of x.block) children j d (choice_of d.block) within)),
+    first_known : (d : PathChoice) (c : Child) → In c first_children → d ≡ choice_of c.block → IsKnown night start alone start first_added 0 d
+    first_known d c i e =
+        let r = of_children first_added c (subst (λ (l : List Child). In c l) (sym adds.adds.each) i) in
+        let its : choice_of r.0.child.block ≡ d = ap (λ (x : Child). choice_of x.block) r.2 ∙ sym e in
+        let o = D.each r.0.child (added_child first_added first_children adds.adds.each r.0 r.1) in
+        inr (
+          r.0,
+          r.1,
+          (adds.adds.parents r.0 r.1).0,
+          below_is r.0 r.1 ∙ sym (longer_is start r.0.child.block o.next.id) ∙ ap (λ (k : PathChoice). longer_by start k) its ∙ ap (λ (l : List Block). longer_by l d) (sym root_at),
         )
 
-    first_shows : Shows night (path_at night start alone 0) (duals_at alone 0) n.kind (IsKnown night start alone start children 0) (pos best)
+    first_shows : Shows night (path_at night start alone 0) (duals_at alone 0) n.kind (IsKnown night start alone start first_added 0) low
     first_shows =
-        subst (λ kd. Shows night (path_at night start alone 0) (duals_at alone 0) kd (IsKnown night start alone start children 0) (pos best)) (sym kind)
-        (subst (λ (d : List Case). Shows night (path_at night start alone 0) d Branch (IsKnown night start alone start children 0) (pos best)) (sym alone_duals)
-        (subst (λ (l : List Block). Shows night l cases Branch (IsKnown night start alone start children 0) (pos best)) (sym root_at) (record {
+        subst (λ kd. Shows night (path_at night start alone 0) (duals_at alone 0) kd (IsKnown night start alone start first_added 0) low) (sym kind)
+        (subst (λ (d : List Case). Shows night (path_at night start alone 0) d Branch (IsKnown night start alone start first_added 0) low) (sym alone_duals)
+        (subst (λ (l : List Block). Shows night l first_cases Branch (IsKnown night start alone start first_added 0) low) (sym root_at) (record {
           unfinished = unfinished;
           holds = holds;
           each = λ d at through. ⊎_elim
-              (λ closed. inl (closed through))
-              (λ i. let r = of_choices night start cases best children d i in inr (inr (
-                r.0,
-                r.1,
-                below_is r.0 r.1 ∙ sym (longer_is start r.0.block (C.each r.0 r.1).next.id) ∙ ap (λ (k : PathChoice). longer_by start k) (sym r.2) ∙ ap (λ (l : List Block). longer_by l d) (sym root_at),
-              )))
-              (C.others d at);
+              (λ closed. inl (lower night (longer_by start d) first_cases (pos best) low within (closed through)))
+              (λ i. let r = of_choices night start first_cases best first_children d i in inr (first_known d r.0 r.1 r.2))
+              (D.others d at);
         })))
 
-    pub walk_root : IsWalk night start cases alone start children best
-    walk_root = record {
+    pub walk_root : IsWalk night start stock floor alone start waiting best low
+    walk_root = subst (λ (l : List Pending). IsWalk night start stock floor alone start l best low) (sym adds.adds.is) (record {
       formed = alone_formed;
       some = omega arith;
       here = sym root_at;
-      kinds = only_root (IsWalked cases alone) (inl (kind, alone_duals));
+      kinds = only_root (IsWalked alone) (inl kind);
       placed = λ k some lt. absurd (omega (arith, some, lt));
       lean = λ k some lt. absurd (omega (arith, some, lt));
       pending = first_pending;
-      apart = first_apart;
-      shows = only_root (λ k. Shows night (path_at night start alone k) (duals_at alone k) (node_at alone k).kind (IsKnown night start alone start children k) (pos best)) first_shows;
+      apart = added_apart night start first_cases best first_children D first_added adds.adds.each;
+      shows = only_root (λ k. Shows night (path_at night start alone k) (duals_at alone k) (node_at alone k).kind (IsKnown night start alone start first_added k) low) first_shows;
+      within = within;
       cheap = let e = first_best Branch kind in omega (arith, opening, e);
-    }
+    })
 
-  module _ (now : ℕ) (opening : now ≤ opening_cost night start) (cost : now ≤ total_cost night start) (kind : n.kind ≡ Whole) (covers : next_of (masks_of night start) ≡ None) where
-    alone_shows : Shows night (path_at night start alone 0) (duals_at alone 0) n.kind (IsKnown night start alone start [] 0) (pos now)
+  module _ (now : ℕ) (lesser : ℤ) (opening : now ≤ opening_cost night start) (cost : now ≤ total_cost night start) (within : lesser ≤ℤ pos now) (kind : n.kind ≡ Whole) (covers : next_of (masks_of night start) ≡ None) where
+    alone_shows : Shows night (path_at night start alone 0) (duals_at alone 0) n.kind (IsKnown night start alone start [] 0) lesser
     alone_shows =
-        subst (λ kd. Shows night (path_at night start alone 0) (duals_at alone 0) kd (IsKnown night start alone start [] 0) (pos now)) (sym kind)
-        (subst (λ (l : List Block). Shows night l (duals_at alone 0) Whole (IsKnown night start alone start [] 0) (pos now)) (sym root_at) (record { covers = covers; cost = omega (arith, ints, cost) }))
+        subst (λ kd. Shows night (path_at night start alone 0) (duals_at alone 0) kd (IsKnown night start alone start [] 0) lesser) (sym kind)
+        (subst (λ (l : List Block). Shows night l (duals_at alone 0) Whole (IsKnown night start alone start [] 0) lesser) (sym root_at) (record { covers = covers; cost = omega (arith, ints, cost, within) }))
 
-    pub walk_alone : IsWalk night start cases alone start [] now
+    pub walk_alone : IsWalk night start stock floor alone start [] now lesser
     walk_alone = record {
       formed = alone_formed;
       some = omega arith;
       here = sym root_at;
-      kinds = only_root (IsWalked cases alone) (inr kind);
+      kinds = only_root (IsWalked alone) (inr kind);
       placed = λ k some lt. absurd (omega (arith, some, lt));
       lean = λ k some lt. absurd (omega (arith, some, lt));
       pending = λ s i. absurd i;
       apart = λ i j d before within. absurd (omega (arith, within));
-      shows = only_root (λ k. Shows night (path_at night start alone k) (duals_at alone k) (node_at alone k).kind (IsKnown night start alone start [] k) (pos now)) alone_shows;
+      shows = only_root (λ k. Shows night (path_at night start alone k) (duals_at alone k) (node_at alone k).kind (IsKnown night start alone start [] k) lesser) alone_shows;
+      within = within;
       cheap =
           let e = first_best Whole kind in
           let le : now ≤ min (opening_cost night start) (total_cost night start) = le-min opening cost in

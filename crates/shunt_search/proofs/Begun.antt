@@ -1,6 +1,7 @@
 -- What a search is behind its root.
-use Rattle.std.specs.Prelude.{Option, Some, None, IfSome, IsSome}
-use Rattle.std.proofs.Common.{◌≡◌, ◌≢◌, true, false, ℕ, ◌+◌, ◌≤◌, List, [], ◌∷◌, ◌++◌, length, refl, sym, subst, ap, ◌∙◌, arith, IsPermutation}
+use Rattle.std.specs.Prelude.{◌≤ℤ◌, Option, Some, None, IfSome, IsSome}
+use Rattle.std.proofs.Common.{◌≡◌, ◌≢◌, ⊎_elim, ℕ, ◌+◌, ◌<◌, ◌≤◌, List, [], ◌∷◌, ◌++◌, length, ℤ, pos, refl, sym, subst, ap, ◌∙◌, arith, IsPermutation}
+use Rattle.std.proofs.lemmas.Int.{ints}
 use Rattle.std.proofs.lemmas.List.Sums.{sum_by-cons}
 use Rattle.shunt_base.specs.declared.duals.Case.{Case}
 use Rattle.shunt_instance.specs.defs.Instance.{Night, IsInstance, unit_total, position_total}
@@ -9,28 +10,36 @@ use Rattle.shunt_blocks.specs.defs.Lists.{total_cost}
 use Rattle.shunt_blocks.specs.defs.Pins.{AreUsable, opening_cost}
 use Rattle.shunt_choices.specs.defs.Paths.{Masks, Trail, IsTrailOf, IsPartialPlan, masks_of, next_of}
 use Rattle.shunt_prices.specs.defs.Cases.{CasesHold}
+use Rattle.shunt_prices.specs.defs.Bounds.{IsCasesBound}
 use Rattle.shunt_proof.specs.declared.records.NodeKind.TheVariants.{Branch, Whole}
 use Rattle.shunt_proof.specs.declared.records.Node.{Node}
-use Rattle.shunt_proof.specs.defs.Nodes.{FitsNode, CanFollow}
+use Rattle.shunt_proof.specs.defs.Nodes.{AreStatable, FitsNode, CanFollow}
 use Rattle.shunt_proof.specs.defs.Certificates.{own_cases, case_total}
 use Rattle.shunt_proof.specs.defs.Trees.{IsStart, cases_or}
 use Rattle.shunt_search.specs.declared.yard.Yard.{Yard}
-use Rattle.shunt_search.specs.declared.children.Child.{Child}
 use Rattle.shunt_search.specs.declared.known.Known.{Known}
-use Rattle.shunt_search.specs.defs.Yards.{AreChildren}
-use Rattle.shunt_search.specs.defs.Walking.{IsWalk, IsVisited, KeepsCheaper, IsBest}
-use Rattle.shunt_search.specs.defs.Searching.{IsSearch, IsFresh, whole_root, branch_root, TellsRoot}
+use Rattle.shunt_search.specs.declared.walking.Pending.{Pending}
+use Rattle.shunt_search.specs.declared.searching.Search.{Search}
+use Rattle.shunt_search.specs.defs.Yards.{IsYard}
+use Rattle.shunt_search.specs.defs.Walking.{cases_in, IsLifted, IsWalk, AddsChildren, OpensAbove, KeepsCheaper, IsBest}
+use Rattle.shunt_search.specs.defs.Searching.{IsSearch, IsFresh, Begins, Takes, whole_root, branch_root, TellsRoot}
+use Rattle.shunt_search.proofs.Lowest.{CostLaw}
+use Rattle.shunt_search.proofs.Walked.{lower}
+use Rattle.shunt_search.proofs.Searched.{RiseLaw, opens_above, same_walk, same_best}
 
 -- what the laws of the walk and of the crates below say
 pub record BeginLaws : Type 0 where
-  pub branch : (night : Night) (start : List Block) (cases : List Case) (n : Node) (best : ℕ) (children : List Child) → FitsNode night n → n.depth ≡ 0 → n.kind ≡ Branch → cases_or n.duals [] ≡ cases → best ≤ opening_cost night start
-      → AreChildren night start cases best children → CasesHold night start cases → IsSome (next_of (masks_of night start)) → IsWalk night start cases (n ∷ []) start children best
-  pub whole : (night : Night) (start : List Block) (cases : List Case) (n : Node) (best : ℕ) → FitsNode night n → n.depth ≡ 0 → n.kind ≡ Whole → best ≤ opening_cost night start → best ≤ total_cost night start
-      → next_of (masks_of night start) ≡ None → IsWalk night start cases (n ∷ []) start [] best
+  pub branch : (night : Night) (start : List Block) (stock : List (List Case)) (floor : ℕ) (n : Node) (best : ℕ) (low : ℤ) (place : ℕ) (waiting : List Pending) → FitsNode night n → n.depth ≡ 0 → n.kind ≡ Branch → cases_or n.duals [] ≡ cases_in stock place → place < length stock
+      → best ≤ opening_cost night start → low ≤ℤ pos best → AddsChildren night stock best start 0 place [] waiting → OpensAbove night start (cases_in stock place) best (pos floor) → CasesHold night start (cases_in stock place) → IsSome (next_of (masks_of night start))
+      → IsWalk night start stock floor (n ∷ []) start waiting best low
+  pub whole : (night : Night) (start : List Block) (stock : List (List Case)) (floor : ℕ) (n : Node) (best : ℕ) (low : ℤ) → FitsNode night n → n.depth ≡ 0 → n.kind ≡ Whole → best ≤ opening_cost night start → best ≤ total_cost night start → low ≤ℤ pos best
+      → next_of (masks_of night start) ≡ None → IsWalk night start stock floor (n ∷ []) start [] best low
   pub kept_plan : (night : Night) (pins : List Block) (t : Trail) (old new : Known) → IsInstance night → IsTrailOf night t → IsPartialPlan night pins t.blocks
       → next_of t.covered ≡ None → position_total night ≡ unit_total night → IsBest night pins old.blocks.items old.cost → KeepsCheaper night t.blocks old new → IsBest night pins new.blocks.items new.cost
   pub opening : (night : Night) (pins others : List Block) → IsPermutation pins others → opening_cost night others ≡ opening_cost night pins
   pub partial : (night : Night) (pins start : List Block) → IsInstance night → AreUsable night pins → IsStart night pins start → IsPartialPlan night pins start
+  pub cost : CostLaw
+  pub rise : RiseLaw
 
 one_told : (told now : Option (List Node)) (n : Node) → TellsRoot n told now → IfSome now (λ l. l ≡ n ∷ [])
 one_told None None n tells = tt
@@ -46,55 +55,98 @@ root_follows (Some a) n e is = subst (λ (l : List Node). CanFollow l n) (sym is
 not_whole : Branch ≢ Whole
 not_whole e = cc
 
-module _ (laws : BeginLaws) (night : Night) (i : IsInstance night) (pins : List Block) (cases : List Case) (told now : Option (List Node)) (count : ℕ) (y : Yard) (k : Known) (f : IsFresh night pins cases y k) (first : count ≡ 1) where
-  opened : k.cost ≤ opening_cost night y.path.blocks
-  opened = let least = f.opening in let same = laws.opening night pins y.path.blocks f.begins.same in omega (arith, least, same)
+-- the first cases of a stock are as good as those of a root's own
+pub first_lifts : (night : Night) (pins : List Block) (stock : List (List Case)) (s : Search) → IsFresh night pins stock s → IsLifted night stock s.yard.path.blocks s.floor 0
+first_lifts night pins stock s f = record { there = f.stocked.some; hold = f.rooted.hold; reach = (s.floor, f.lowest, omega (arith, ints)) }
 
-  pub whole_begins : TellsRoot whole_root told now → (better : Known) → IsVisited night cases k.cost y.path.blocks true [] [] → KeepsCheaper night y.path.blocks k better → IsSearch night pins cases now count y [] better
-  whole_begins tells better visited cheaper =
+module _ (laws : BeginLaws) (night : Night) (i : IsInstance night) (pins : List Block) (stock : List (List Case)) (told now : Option (List Node)) (count cases : ℕ) (s : Search) (f : IsFresh night pins stock s) (first : count ≡ 1) where
+  abbrev start : List Block
+  start = s.yard.path.blocks
+
+  abbrev floor : ℕ
+  floor = f.rooted.floor
+
+  opened : s.known.cost ≤ opening_cost night start
+  opened = let least = f.opening in let same = laws.opening night pins start f.begins.same in omega (arith, least, same)
+
+  lowest_at : (z : Search) → z.floor ≡ s.floor → IsCasesBound night start (cases_in stock 0) z.floor
+  lowest_at z e = subst (λ (x : ℤ). IsCasesBound night start (cases_in stock 0) x) (sym e) f.lowest
+
+  pub whole_begins : (z w : Search) → TellsRoot whole_root told now → cases ≡ 0 → Begins s z cases → z.waiting.items ≡ [] → next_of (masks_of night start) ≡ None → Takes night z w → IsSearch night pins stock now count cases w.waiting.items w
+  whole_begins z w tells none b empty covers takes =
+      let yard_is : w.yard ≡ s.yard = takes.yard ∙ b.yard in
+      let path_is : w.yard.path.blocks ≡ start = ap (λ (y : Yard). y.path.blocks) yard_is in
+      let cheaper : KeepsCheaper night start s.known w.known = subst (λ (l : List Block). KeepsCheaper night l s.known w.known) (ap (λ (y : Yard). y.path.blocks) b.yard) (subst (λ (k : Known). KeepsCheaper night z.yard.path.blocks k w.known) b.known takes.cheaper) in
       let less = cheaper.known in
       let known = opened in
-      let low : better.cost ≤ opening_cost night y.path.blocks = omega (arith, less, known) in
+      let low : w.known.cost ≤ opening_cost night start = omega (arith, less, known) in
       let fits : FitsNode night whole_root = record { depth = omega arith; choice = refl; duals = refl } in
-      let covers : next_of y.path.covered ≡ None = ap (λ (m : Masks). next_of m) f.yard.path.covered ∙ visited.0 in
-      let small = f.small in
+      let covered : next_of s.yard.path.covered ≡ None = ap (λ (m : Masks). next_of m) f.yard.path.covered ∙ covers in
+      let best = laws.kept_plan night pins s.yard.path s.known w.known i f.yard.path (laws.partial night pins start i f.usable f.begins) covered f.even f.best cheaper in
+      let cost = laws.cost night pins start (cases_in stock 0) floor w.known.blocks.items i f.usable f.begins f.rooted.statable.within f.rooted.hold f.rooted.above best.feasible best.keeps in
+      let cost_is = best.cost in
+      let second = takes.low.second in
+      let low_is : z.low ≡ pos s.known.cost = b.low ∙ f.low in
+      let walk = laws.whole night start stock floor whole_root w.known.cost w.low fits refl refl low cheaper.path_too second covers in
+      let same : w.low ≡ pos w.known.cost = ⊎_elim (λ e. omega (arith, ints, e, low_is, less, second)) (λ e. e) takes.low.either in
       record {
-        start = y.path.blocks;
+        start = start;
         nodes = whole_root ∷ [];
         usable = f.usable;
         even = f.even;
         begins = f.begins;
+        stocked = f.stocked;
         rooted = f.rooted;
-        walk = laws.whole night y.path.blocks cases whole_root better.cost fits refl refl low cheaper.path_too visited.0;
+        lowest = lowest_at w (takes.floor ∙ b.floor);
+        walk = same_walk night start stock floor (whole_root ∷ []) start w.yard.path.blocks [] w.waiting.items w.known.cost w.known.cost w.low w.low path_is (takes.waiting ∙ empty) refl refl walk;
+        high = omega (arith, ints, same, cost, cost_is);
         tells = one_told told now whole_root tells;
         many = first;
-        owned = let e : case_total (whole_root ∷ []) ≡ 0 = refl in omega (arith, e);
-        yard = f.yard;
-        long = f.long;
-        best = laws.kept_plan night pins y.path k better i f.yard.path (laws.partial night pins y.path.blocks i f.usable f.begins) covers f.even f.best cheaper;
-        small = omega (arith, less, small);
+        counted = takes.counted ∙ b.counted ∙ sym first;
+        cases = let e : case_total (whole_root ∷ []) ≡ 0 = refl in omega (arith, e, none);
+        cases_counted = takes.cases_counted ∙ b.cases_counted;
+        room = omega (arith, none);
+        yard = subst (λ (y : Yard). IsYard night y) (sym yard_is) f.yard;
+        long = ap (λ (y : Yard). y.path.pins) yard_is ∙ f.long;
+        best = best;
+        small = let small = f.small in omega (arith, less, small);
+        plain = λ e. same;
       }
 
-  pub branch_begins : TellsRoot (branch_root cases) told now → (waiting : List Child) → IsVisited night cases k.cost y.path.blocks false [] waiting → IsSearch night pins cases now count y waiting k
-  branch_begins tells waiting visited =
-      let known = opened in
-      let low : k.cost ≤ opening_cost night y.path.blocks = omega (arith, known) in
-      let fits : FitsNode night (branch_root cases) = record { depth = omega arith; choice = refl; duals = (not_whole, f.rooted.statable) } in
-      let adds = visited.1 in
-      let children : AreChildren night y.path.blocks cases k.cost waiting = subst (λ (l : List Child). AreChildren night y.path.blocks cases k.cost l) (sym adds.is) adds.are in
+  pub branch_begins : (z : Search) (place : ℕ) → IsLifted night stock start s.floor place → TellsRoot (branch_root (cases_in stock place)) told now → cases ≡ length (cases_in stock place) → Begins s z cases → IsSome (next_of (masks_of night start)) → AddsChildren night stock s.known.cost start 0 place [] z.waiting.items
+      → IsSearch night pins stock now count cases z.waiting.items z
+  branch_begins z place lifts tells owns b unfinished adds =
+      let own = cases_in stock place in
+      let root = branch_root (cases_in stock place) in
+      let statable : AreStatable night (cases_in stock place) = f.stocked.each place [] lifts.there in
+      let fits : FitsNode night (branch_root (cases_in stock place)) = record { depth = omega arith; choice = refl; duals = (not_whole, statable) } in
+      let above = opens_above laws.rise night i s.yard.path f.yard.path own s.known.cost (pos floor) lifts.hold (lower night start own s.floor (pos floor) (f.rooted.above s.floor f.lowest) lifts.reach) in
+      let low_is = f.low in
+      let walk = laws.branch night start stock floor root s.known.cost s.low place z.waiting.items fits refl refl refl lifts.there opened (omega (arith, ints, low_is)) adds above lifts.hold unfinished in
+      let cost_is : z.known.cost ≡ s.known.cost = ap (λ (k : Known). k.cost) b.known in
+      let cost = laws.cost night pins start (cases_in stock 0) floor s.known.blocks.items i f.usable f.begins f.rooted.statable.within f.rooted.hold f.rooted.above f.best.feasible f.best.keeps in
+      let best_is = f.best.cost in
+      let low_too = b.low in
       record {
-        start = y.path.blocks;
-        nodes = branch_root cases ∷ [];
+        start = start;
+        nodes = root ∷ [];
         usable = f.usable;
         even = f.even;
         begins = f.begins;
+        stocked = f.stocked;
         rooted = f.rooted;
-        walk = laws.branch night y.path.blocks cases (branch_root cases) k.cost waiting fits refl refl refl low children f.rooted.hold visited.0;
-        tells = one_told told now (branch_root cases) tells;
+        lowest = lowest_at z b.floor;
+        walk = same_walk night start stock floor (root ∷ []) start z.yard.path.blocks z.waiting.items z.waiting.items s.known.cost z.known.cost s.low z.low (ap (λ (y : Yard). y.path.blocks) b.yard) refl cost_is b.low walk;
+        high = omega (arith, ints, low_too, low_is, cost, best_is);
+        tells = one_told told now root tells;
         many = first;
-        owned = let e : case_total (branch_root cases ∷ []) ≡ length cases + 0 = sum_by-cons (λ (x : Node). own_cases x.duals) (branch_root cases) [] in let two = f.rooted.statable.within.few in omega (arith, e, two);
-        yard = f.yard;
-        long = f.long;
-        best = f.best;
-        small = f.small;
+        counted = b.counted ∙ sym first;
+        cases = let e : case_total (root ∷ []) ≡ length own + 0 = sum_by-cons (λ (x : Node). own_cases x.duals) root [] in omega (arith, e, owns);
+        cases_counted = b.cases_counted;
+        room = let two = statable.within.few in omega (arith, owns, two);
+        yard = subst (λ (y : Yard). IsYard night y) (sym b.yard) f.yard;
+        long = ap (λ (y : Yard). y.path.pins) b.yard ∙ f.long;
+        best = same_best night pins s.known z.known b.known f.best;
+        small = let small = f.small in omega (arith, small, cost_is);
+        plain = λ e. b.low ∙ f.low ∙ ap pos (sym cost_is);
       }

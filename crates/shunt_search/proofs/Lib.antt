@@ -12,6 +12,7 @@ mod Walked
 mod Arrived
 mod NodesBelow
 mod Visits
+mod Waiting
 mod Covering
 mod Singles
 mod Carried
@@ -19,6 +20,9 @@ mod Rooted
 mod Lowest
 mod Searched
 mod Begun
+mod Restarted
+mod Stocked
+mod Copied
 mod Ended
 mod Prepared
 mod Tidied

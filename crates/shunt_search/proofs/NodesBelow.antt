@@ -1,6 +1,7 @@
 -- The node of a next block.
-use Rattle.std.specs.Prelude.{All, Some, unwrap_or, if◌then◌else◌}
-use Rattle.std.proofs.Common.{◌≡◌, ◌≢◌, ℕ, ◌+◌, ◌-◌, ◌<◌, ◌≤◌, Bool, true, false, List, length, take, refl, sym, ap, ◌∙◌, arith}
+use Rattle.std.specs.Prelude.{All, Some, unwrap_or}
+use Rattle.std.proofs.Common.{◌≡◌, ◌≢◌, ℕ, ◌+◌, ◌-◌, ◌<◌, ◌≤◌, List, [], length, take, refl, sym, ap, ◌∙◌, arith}
+use Rattle.shunt_base.specs.declared.duals.Case.{Case}
 use Rattle.shunt_instance.specs.declared.records.Unit.{Unit as TrainUnit}
 use Rattle.shunt_instance.specs.declared.records.Station.{Station}
 use Rattle.shunt_instance.specs.declared.records.Train.{Train}
@@ -12,13 +13,17 @@ use Rattle.shunt_blocks.specs.declared.records.Block.{Block}
 use Rattle.shunt_blocks.specs.defs.Shapes.{shape_of, unit_from, AreRunsWithin}
 use Rattle.shunt_choices.specs.defs.Paths.{masks_of, next_of}
 use Rattle.shunt_choices.specs.defs.Choices.{IsChoice}
+use Rattle.shunt_proof.specs.declared.records.NodeKind.{NodeKind}
 use Rattle.shunt_proof.specs.declared.records.NodeKind.TheVariants.{Branch, Whole}
-use Rattle.shunt_proof.specs.declared.records.NodeDuals.TheVariants.{Same, Bare}
-use Rattle.shunt_proof.specs.defs.Nodes.{FitsChoice, FitDuals}
+use Rattle.shunt_proof.specs.declared.records.NodeDuals.{NodeDuals}
+use Rattle.shunt_proof.specs.declared.records.NodeDuals.TheVariants.{Same, New, Bare}
+use Rattle.shunt_proof.specs.defs.Nodes.{AreStatable, FitsChoice, FitDuals}
 use Rattle.shunt_proof.specs.defs.Trees.{next_unit, choice_at, choice_from}
 use Rattle.shunt_search.specs.declared.children.Child.{Child}
 use Rattle.shunt_search.specs.defs.Yards.{choice_of, IsNextBlock}
-use Rattle.shunt_search.specs.defs.Walking.{kept, IsNodeOf, stated, node_below}
+use Rattle.shunt_search.specs.declared.noting.Noted.{Noted}
+use Rattle.shunt_search.specs.declared.noting.Noted.TheVariants as noted
+use Rattle.shunt_search.specs.defs.Walking.{kept, cases_in, IsNodeOf, stated, IsInStock, node_below}
 use Rattle.shunt_search.proofs.Changed.{on_track}
 use Rattle.shunt_search.proofs.Nexts.{at_unit}
 
@@ -64,22 +69,31 @@ module _ (night : Night) (path : List Block) (b : Block) (next : IsNextBlock nig
         track = on_track night (shape_of b) b.park there.2.option;
       }
 
-pub is_node_of : UnitLaw → (night : Night) → IsOrderedNight night → (start path : List Block) (t : Child) (whole : Bool) → IsNextBlock night (take (kept t) path) t.block → length start < t.block.id → t.block.id ≤ length start + 160 → IsNodeOf night start path t (node_below (length start) t.block whole)
-is_node_of law night h start path t whole next deep few = record {
-  depth = let id = next.id in omega (arith, deep, id);
-  choice = stated t.block;
-  states = refl;
-  is = its_choice night (take (kept t) path) t.block next law;
-  fits = record {
-    depth = omega (arith, few);
-    choice = (omega (arith, deep), its_fits night (take (kept t) path) t.block next h);
-    duals = fit_duals whole;
-  };
-}
+-- cases in a stock that a file can state
+in_stock : (night : Night) (stock : List (List Case)) (place : ℕ) → All (AreStatable night) stock → place < length stock → AreStatable night (cases_in stock place)
+in_stock night stock place all lt = all place [] lt
+
+pub is_node_of : UnitLaw → (night : Night) → IsOrderedNight night → (stock : List (List Case)) (start path : List Block) (t : Child) (how : Noted) → All (AreStatable night) stock → IsInStock stock how → IsNextBlock night (take (kept t) path) t.block → length start < t.block.id → t.block.id ≤ length start + 160
+    → IsNodeOf night start path t (node_below (length start) t.block stock how)
+is_node_of law night h stock start path t how statable there next deep few = of how there
   where
     apart : Branch ≢ Whole
     apart e = cc
 
-    fit_duals : (w : Bool) → FitDuals night (t.block.id - length start) (if w then Whole else Branch) (if w then Bare else Same)
-    fit_duals true = refl
-    fit_duals false = (apart, omega (arith, deep))
+    with_duals : (k : NodeKind) (d : NodeDuals) → FitDuals night (t.block.id - length start) k d → IsNodeOf night start path t (record { depth = t.block.id - length start; choice = Some (stated t.block); kind = k; duals = d })
+    with_duals k d fit = record {
+      depth = let id = next.id in omega (arith, deep, id);
+      choice = stated t.block;
+      states = refl;
+      is = its_choice night (take (kept t) path) t.block next law;
+      fits = record {
+        depth = omega (arith, few);
+        choice = (omega (arith, deep), its_fits night (take (kept t) path) t.block next h);
+        duals = fit;
+      };
+    }
+
+    of : (how : Noted) → IsInStock stock how → IsNodeOf night start path t (node_below (length start) t.block stock how)
+    of noted.Whole there = with_duals Whole Bare refl
+    of noted.Same there = with_duals Branch Same (apart, omega (arith, deep))
+    of (noted.Own place) there = with_duals Branch (New (cases_in stock place)) (apart, in_stock night stock place statable there)

@@ -1,51 +1,80 @@
 -- What a search is when a child becomes a node.
-use Rattle.std.specs.Prelude.{sum_by, take, ◌<ℤ◌, Option, Some, None, IfSome, IsSome}
-use Rattle.std.proofs.Common.{◌≡◌, inl, ℕ, ◌+◌, ◌<◌, ◌≤◌, Bool, true, false, List, [], ◌∷◌, ◌++◌, length, pos, refl, sym, subst, ap, ◌∙◌, arith}
+use Rattle.std.specs.Prelude.{All, sum_by, take, ◌<ℤ◌, ◌≤ℤ◌, Option, Some, None, IfSome, IsSome}
+use Rattle.std.proofs.Common.{◌≡◌, ◌≢◌, inl, ⊎_elim, ℕ, ◌+◌, ◌<◌, ◌≤◌, List, [], ◌∷◌, ◌++◌, length, ℤ, pos, refl, sym, subst, ap, ◌∙◌, arith}
+use Rattle.std.proofs.lemmas.Int.{ints}
 use Rattle.std.proofs.lemmas.List.{length-append, length-take-le}
-use Rattle.std.proofs.lemmas.List.Sums.{sum_by-append}
+use Rattle.std.proofs.lemmas.List.Sums.{sum_by-append, sum_by-cons}
 use Rattle.shunt_store.specs.defs.Files.{BothTold}
+use Rattle.shunt_lists.specs.defs.Members.{In}
 use Rattle.shunt_lists.proofs.Members.{in_right}
 use Rattle.shunt_base.specs.declared.duals.Case.{Case}
 use Rattle.shunt_instance.specs.defs.Instance.{Night, IsInstance, unit_total, position_total}
 use Rattle.shunt_blocks.specs.declared.records.Block.{Block}
-use Rattle.shunt_blocks.specs.defs.Lists.{total_cost}
+use Rattle.shunt_blocks.specs.defs.Shapes.{shape_of, IsWithinTrains}
+use Rattle.shunt_blocks.specs.defs.Lists.{ShareNothing, RunsThrough, placed, total_cost}
 use Rattle.shunt_choices.specs.defs.Paths.{Masks, Trail, IsTrailOf, IsPartialPlan, masks_of, next_of}
+use Rattle.shunt_choices.specs.defs.Choices.{IsChoice}
 use Rattle.shunt_choices.proofs.Given.{all_within}
-use Rattle.shunt_prices.specs.defs.Cases.{CasesHold}
+use Rattle.shunt_prices.specs.defs.Cases.{IsFreeBlock, CasesHold}
+use Rattle.shunt_prices.specs.defs.Bounds.{IsCasesBound}
 use Rattle.shunt_proof.specs.declared.records.NodeKind.TheVariants.{Branch, Whole}
-use Rattle.shunt_proof.specs.declared.records.NodeDuals.TheVariants.{Same}
 use Rattle.shunt_proof.specs.declared.records.Node.{Node}
 use Rattle.shunt_proof.specs.defs.Nodes.{CanFollow}
 use Rattle.shunt_proof.specs.defs.Certificates.{own_cases, case_total}
+use Rattle.shunt_proof.specs.defs.Trees.{cases_or}
+use Rattle.shunt_proof.specs.defs.Proves.{Reaches}
 use Rattle.shunt_search.specs.declared.yard.Yard.{Yard}
-use Rattle.shunt_search.specs.declared.children.Child.{Child}
 use Rattle.shunt_search.specs.declared.known.Known.{Known}
-use Rattle.shunt_search.specs.defs.Yards.{IsYard, IsNextBlock, AreChildren}
-use Rattle.shunt_search.specs.defs.Walking.{kept, goal_of, IsWalk, IsNodeOf, node_below, IsVisited, KeepsCheaper, IsBest, Passes}
-use Rattle.shunt_search.specs.defs.Searching.{IsSearch, IsReady, ArrivesAt}
+use Rattle.shunt_search.specs.declared.walking.Pending.{Pending}
+use Rattle.shunt_search.specs.declared.noting.Noted.{Noted}
+use Rattle.shunt_search.specs.declared.noting.Noted.TheVariants as noted
+use Rattle.shunt_search.specs.declared.searching.Search.{Search}
+use Rattle.shunt_search.specs.defs.Yards.{choice_of, IsYard, IsNextBlock}
+use Rattle.shunt_search.specs.defs.Walking.{kept, goal_of, cases_in, IsWalk, IsNodeOf, node_below, IsInStock, cases_of, AddsChildren, OpensAbove, KeepsCheaper, IsBest, Passes}
+use Rattle.shunt_search.specs.defs.Searching.{IsSearch, IsReady, Arrives, Takes, Falls}
 use Rattle.shunt_search.proofs.Yarding.{MostLaw}
+use Rattle.shunt_search.proofs.Nexts.{at_unit}
+use Rattle.shunt_search.proofs.Walked.{lower}
 use Rattle.shunt_search.proofs.Visits.{NextLaw}
-use Rattle.shunt_search.proofs.Lowest.{PartialLaw, GrowsLaw, pending_plan}
+use Rattle.shunt_search.proofs.Lowest.{PartialLaw, GrowsLaw, CostLaw, pending_plan}
+
+-- no bound falls where a path gets a block more
+abbrev pub RiseLaw : Type 0
+RiseLaw = (night : Night) (path : List Block) (b : Block) (cases : List Case) (before after : ℤ) → IsInstance night → All (IsWithinTrains night) path → ShareNothing night path → IsFreeBlock night (masks_of night path) (shape_of b) b.park
+    → RunsThrough night (placed (path ++ b ∷ [])) → CasesHold night path cases → IsCasesBound night path cases before → IsCasesBound night (path ++ b ∷ []) cases after → before ≤ℤ after
+
+-- so no open child of a yard's path has a bound below what the path reaches
+pub opens_above : RiseLaw → (night : Night) → IsInstance night → (t : Trail) → IsTrailOf night t → (cases : List Case) (best : ℕ) (least : ℤ) → CasesHold night t.blocks cases → Reaches night t.blocks cases least → OpensAbove night t.blocks cases best least
+opens_above law night i t trail cases best least hold reach = λ c o.
+    let at = at_unit (next_of (masks_of night t.blocks)) (λ u. IsChoice night (masks_of night t.blocks) u (choice_of c.block)) o.next.choice in
+    let shape = at.2.shape in
+    let rises = law night t.blocks c.block cases reach.0 c.bound i (λ k d lt. (trail.each k d lt).within) trail.apart
+    (record { shape = record { shape = shape.shape; first = refl; units = shape.units; positions = shape.positions }; option = at.2.option }) o.through hold reach.1 o.is in
+    let le = reach.2 in
+    omega (arith, ints, le, rises)
 
 -- what the laws of the walk and of the crates below say
 pub record SearchLaws : Type 0 where
-  pub branch : (night : Night) (start : List Block) (cases : List Case) (nodes : List Node) (path : List Block) (left : List Child) (t : Child) (best : ℕ) (n : Node) (children : List Child)
-      → IsInstance night → IsWalk night start cases nodes path (left ++ t ∷ []) best → IsNodeOf night start path t n → t.bound <ℤ pos best → n.kind ≡ Branch → n.duals ≡ Same
-      → AreChildren night (goal_of path t) cases best children → CasesHold night (goal_of path t) cases → IsSome (next_of (masks_of night (goal_of path t)))
-      → IsWalk night start cases (nodes ++ n ∷ []) (goal_of path t) (left ++ children) best
-  pub whole : (night : Night) (start : List Block) (cases : List Case) (nodes : List Node) (path : List Block) (left : List Child) (t : Child) (best now : ℕ) (n : Node)
-      → IsInstance night → IsWalk night start cases nodes path (left ++ t ∷ []) best → IsNodeOf night start path t n → t.bound <ℤ pos best → n.kind ≡ Whole
-      → now ≤ best → now ≤ total_cost night (goal_of path t) → next_of (masks_of night (goal_of path t)) ≡ None
-      → IsWalk night start cases (nodes ++ n ∷ []) (goal_of path t) left now
-  pub follows : (night : Night) (start : List Block) (cases : List Case) (nodes : List Node) (path : List Block) (left : List Child) (t : Child) (best : ℕ) (n : Node)
-      → IsInstance night → IsWalk night start cases nodes path (left ++ t ∷ []) best → IsNodeOf night start path t n → t.bound <ℤ pos best → CanFollow nodes n
-  pub next : (night : Night) (start : List Block) (cases : List Case) (nodes : List Node) (path : List Block) (left : List Child) (t : Child) (best : ℕ)
-      → IsWalk night start cases nodes path (left ++ t ∷ []) best → (length start ≤ kept t) × (kept t ≤ length path) × IsNextBlock night (take (kept t) path) t.block
-  pub hold : (night : Night) (start : List Block) (cases : List Case) (nodes : List Node) (path : List Block) (left : List Child) (t : Child) (best : ℕ)
-      → IsWalk night start cases nodes path (left ++ t ∷ []) best → CasesHold night (goal_of path t) cases
+  pub branch : (night : Night) (start : List Block) (stock : List (List Case)) (floor : ℕ) (nodes : List Node) (path : List Block) (left waiting : List Pending) (t : Pending) (best : ℕ) (low : ℤ) (n : Node) (place : ℕ)
+      → IsInstance night → IsWalk night start stock floor nodes path (left ++ t ∷ []) best low → IsNodeOf night start path t.child n → t.child.bound <ℤ pos best → n.kind ≡ Branch
+      → cases_or n.duals (cases_in stock t.cases) ≡ cases_in stock place → place < length stock → AddsChildren night stock best (goal_of path t.child) (length nodes) place left waiting
+      → OpensAbove night (goal_of path t.child) (cases_in stock place) best (pos floor) → CasesHold night (goal_of path t.child) (cases_in stock place) → IsSome (next_of (masks_of night (goal_of path t.child)))
+      → IsWalk night start stock floor (nodes ++ n ∷ []) (goal_of path t.child) waiting best low
+  pub whole : (night : Night) (start : List Block) (stock : List (List Case)) (floor : ℕ) (nodes : List Node) (path : List Block) (left : List Pending) (t : Pending) (best now : ℕ) (low lower : ℤ) (n : Node)
+      → IsInstance night → IsWalk night start stock floor nodes path (left ++ t ∷ []) best low → IsNodeOf night start path t.child n → t.child.bound <ℤ pos best → n.kind ≡ Whole
+      → now ≤ best → now ≤ total_cost night (goal_of path t.child) → lower ≤ℤ low → lower ≤ℤ pos now → next_of (masks_of night (goal_of path t.child)) ≡ None
+      → IsWalk night start stock floor (nodes ++ n ∷ []) (goal_of path t.child) left now lower
+  pub follows : (night : Night) (start : List Block) (stock : List (List Case)) (floor : ℕ) (nodes : List Node) (path : List Block) (left : List Pending) (t : Pending) (best : ℕ) (low : ℤ) (n : Node)
+      → IsInstance night → IsWalk night start stock floor nodes path (left ++ t ∷ []) best low → IsNodeOf night start path t.child n → t.child.bound <ℤ pos best → CanFollow nodes n
+  pub next : (night : Night) (start : List Block) (stock : List (List Case)) (floor : ℕ) (nodes : List Node) (path : List Block) (left : List Pending) (t : Pending) (best : ℕ) (low : ℤ)
+      → IsWalk night start stock floor nodes path (left ++ t ∷ []) best low → (length start ≤ kept t.child) × (kept t.child ≤ length path) × IsNextBlock night (take (kept t.child) path) t.child.block
+  pub hold : (night : Night) (start : List Block) (stock : List (List Case)) (floor : ℕ) (nodes : List Node) (path : List Block) (left : List Pending) (t : Pending) (best : ℕ) (low : ℤ)
+      → IsWalk night start stock floor nodes path (left ++ t ∷ []) best low → (t.cases < length stock) × CasesHold night (goal_of path t.child) (cases_in stock t.cases) × Reaches night (goal_of path t.child) (cases_in stock t.cases) t.child.bound
   pub node : NextLaw
   pub kept_plan : (night : Night) (pins : List Block) (t : Trail) (old new : Known) → IsInstance night → IsTrailOf night t → IsPartialPlan night pins t.blocks
       → next_of t.covered ≡ None → position_total night ≡ unit_total night → IsBest night pins old.blocks.items old.cost → KeepsCheaper night t.blocks old new → IsBest night pins new.blocks.items new.cost
+  pub cost : CostLaw
+  pub rise : RiseLaw
   pub partial : PartialLaw
   pub grows : GrowsLaw
   pub most : MostLaw
@@ -60,142 +89,224 @@ told_more None (Some b) nodes n m e is both = absurd both
 told_more (Some a) None nodes n m e is both = absurd both
 told_more (Some a) (Some b) nodes n m e is both = both ∙ ap (λ (l : List Node). l ++ n ∷ []) is ∙ ap (λ (x : Node). nodes ++ x ∷ []) e
 
+-- a walk whose parts are called otherwise
+pub same_walk : (night : Night) (start : List Block) (stock : List (List Case)) (floor : ℕ) (nodes : List Node) (path path_too : List Block) (waiting waiting_too : List Pending) (best best_too : ℕ) (low low_too : ℤ) → path_too ≡ path → waiting_too ≡ waiting → best_too ≡ best → low_too ≡ low
+    → IsWalk night start stock floor nodes path waiting best low → IsWalk night start stock floor nodes path_too waiting_too best_too low_too
+same_walk night start stock floor nodes path path_too waiting waiting_too best best_too low low_too p w b l W =
+    subst (λ (x : List Block). IsWalk night start stock floor nodes x waiting_too best_too low_too) (sym p)
+    (subst (λ (x : List Pending). IsWalk night start stock floor nodes path x best_too low_too) (sym w)
+    (subst (λ (x : ℕ). IsWalk night start stock floor nodes path waiting x low_too) (sym b)
+    (subst (λ (x : ℤ). IsWalk night start stock floor nodes path waiting best x) (sym l) W)))
+
+pub same_best : (night : Night) (pins : List Block) (k now : Known) → now ≡ k → IsBest night pins k.blocks.items k.cost → IsBest night pins now.blocks.items now.cost
+same_best night pins k now e h = subst (λ (x : Known). IsBest night pins x.blocks.items x.cost) (sym e) h
+
+-- how many cases of its own a node has
+its_cases : (pins : ℕ) (b : Block) (stock : List (List Case)) (how : Noted) → own_cases (node_below pins b stock how).duals ≡ cases_of stock how
+its_cases pins b stock noted.Whole = refl
+its_cases pins b stock noted.Same = refl
+its_cases pins b stock (noted.Own place) = refl
+
 -- a child's path as that of nodes and one more
-module _ (laws : SearchLaws) (night : Night) (i : IsInstance night) (units : unit_total night ≤ 160) (pins : List Block) (cases : List Case) (told : Option (List Node)) (number : ℕ) (y : Yard) (left : List Child) (t : Child) (k : Known) (s : IsSearch night pins cases told number y (left ++ t ∷ []) k) where
+module _ (laws : SearchLaws) (night : Night) (i : IsInstance night) (units : unit_total night ≤ 160) (pins : List Block) (stock : List (List Case)) (told : Option (List Node)) (number owned : ℕ) (left : List Pending) (t : Pending) (s : Search) (S : IsSearch night pins stock told number owned (left ++ t ∷ []) s) where
   abbrev path : List Block
-  path = y.path.blocks
+  path = s.yard.path.blocks
 
   abbrev goal : List Block
-  goal = goal_of path t
+  goal = goal_of path t.child
 
-  ready : (length s.start ≤ kept t) × (kept t ≤ length path) × IsNextBlock night (take (kept t) path) t.block
-  ready = laws.next night s.start cases s.nodes path left t k.cost s.walk
+  abbrev floor : ℕ
+  floor = S.rooted.floor
 
-  pins_kept : y.path.pins ≤ kept t
-  pins_kept = let le = ready.0 in let long = s.long in omega (arith, le, long)
+  ready : (length S.start ≤ kept t.child) × (kept t.child ≤ length path) × IsNextBlock night (take (kept t.child) path) t.child.block
+  ready = laws.next night S.start stock floor S.nodes path left t s.known.cost s.low S.walk
 
-  there : kept t ≤ length path
-  there = ready.1
+  inherited : (t.cases < length stock) × CasesHold night goal (cases_in stock t.cases) × Reaches night goal (cases_in stock t.cases) t.child.bound
+  inherited = laws.hold night S.start stock floor S.nodes path left t s.known.cost s.low S.walk
 
-  next : IsNextBlock night (take (kept t) path) t.block
-  next = ready.2
+  above_floor : pos floor ≤ℤ t.child.bound
+  above_floor = (S.walk.pending t (in_right left (t ∷ []) t (inl refl))).above
+
+  lowest_at : (z : Search) → z.floor ≡ s.floor → IsCasesBound night S.start (cases_in stock 0) z.floor
+  lowest_at z e = subst (λ (x : ℤ). IsCasesBound night S.start (cases_in stock 0) x) (sym e) S.lowest
+
+  pins_kept : s.yard.path.pins ≤ kept t.child
+  pins_kept = let le = ready.0 in let long = S.long in omega (arith, le, long)
 
   plan : IsPartialPlan night pins goal
-  plan = pending_plan laws.partial laws.grows night i pins s.start s.usable s.begins cases s.nodes path (left ++ t ∷ []) k.cost t s.walk (in_right left (t ∷ []) t (inl refl))
+  plan = pending_plan laws.partial laws.grows night i pins S.start S.usable S.begins stock floor S.nodes path (left ++ t ∷ []) s.known.cost s.low t S.walk (in_right left (t ∷ []) t (inl refl))
 
-  deep : length s.start < t.block.id
-  deep = let id = next.id in let le = ready.0 in let size = length-take-le (kept t) path there in omega (arith, id, le, size)
+  deep : length S.start < t.child.block.id
+  deep = let id = ready.2.id in let le = ready.0 in let size = length-take-le (kept t.child) path ready.1 in omega (arith, id, le, size)
 
-  few : t.block.id ≤ length s.start + 160
+  few : t.child.block.id ≤ length S.start + 160
   few =
-      let id = next.id in
-      let long : length goal ≡ length (take (kept t) path) + 1 = length-append (take (kept t) path) (t.block ∷ []) in
+      let id = ready.2.id in
+      let long : length goal ≡ length (take (kept t.child) path) + 1 = length-append (take (kept t.child) path) (t.child.block ∷ []) in
       let most = laws.most night goal (all_within night goal plan.each) plan.apart in
       omega (arith, id, long, most, units)
 
-  node : (whole : Bool) → IsNodeOf night s.start path t (node_below (length s.start) t.block whole)
-  node whole = laws.node night s.start path t whole i next deep few
+  abbrev node : Noted → Node
+  node how = node_below (length S.start) t.child.block stock how
 
-  same_node : (whole : Bool) → node_below y.path.pins t.block whole ≡ node_below (length s.start) t.block whole
-  same_node whole = ap (λ (n : ℕ). node_below n t.block whole) s.long
+  is_node : (how : Noted) → IsInStock stock how → IsNodeOf night S.start path t.child (node how)
+  is_node how there = laws.node night stock S.start path t.child how i S.stocked.each there ready.2 deep few
 
-  module _ (below : t.bound <ℤ pos k.cost) where
-    place : (whole : Bool) → IfSome told (λ nodes. CanFollow nodes (node_below y.path.pins t.block whole))
-    place whole =
-        let can = laws.follows night s.start cases s.nodes path left t k.cost (node_below (length s.start) t.block whole) i s.walk (node whole) below in
-        of_told told (λ l. l ≡ s.nodes) (λ l. CanFollow l (node_below y.path.pins t.block whole))
-        (λ l e. subst (λ (x : List Node). CanFollow x (node_below y.path.pins t.block whole)) (sym e) (subst (λ (n : Node). CanFollow s.nodes n) (sym (same_node whole)) can)) s.tells
+  same_node : (how : Noted) → node_below s.yard.path.pins t.child.block stock how ≡ node how
+  same_node how = ap (λ (n : ℕ). node_below n t.child.block stock how) S.long
 
-    pub is_ready : IsReady night told y t
-    is_ready = record { pins = pins_kept; there = there; next = next; place = place }
+  module _ (below : t.child.bound <ℤ pos s.known.cost) where
+    place : (how : Noted) → IsInStock stock how → IfSome told (λ nodes. CanFollow nodes (node_below s.yard.path.pins t.child.block stock how))
+    place how there =
+        let can = laws.follows night S.start stock floor S.nodes path left t s.known.cost s.low (node how) i S.walk (is_node how there) below in
+        of_told told (λ l. l ≡ S.nodes) (λ l. CanFollow l (node_below s.yard.path.pins t.child.block stock how))
+        (λ l e. subst (λ (x : List Node). CanFollow x (node_below s.yard.path.pins t.child.block stock how)) (sym e) (subst (λ (n : Node). CanFollow S.nodes n) (sym (same_node how)) can)) S.tells
 
-    module _ (z : Yard) (now : Option (List Node)) (count : ℕ) (arrives : ArrivesAt night y t z) (more : count ≡ number + 1) where
-      at : z.path.blocks ≡ goal
-      at = arrives.path
+    pub is_ready : IsReady night stock told s.yard t
+    is_ready = record { pins = pins_kept; there = ready.1; next = ready.2; inherits = inherited.0; place = place }
 
-      yard : IsYard night z
-      yard = arrives.yard
+    module _ (z : Search) (how : Noted) (a : Arrives night stock s z t how left) (now : Option (List Node)) (count cases : ℕ) (more : count ≡ number + 1) (owns : cases ≡ owned + cases_of stock how) (both : BothTold told now (λ x y. y ≡ x ++ node_below s.yard.path.pins t.child.block stock how ∷ [])) where
+      abbrev nodes : List Node
+      nodes = S.nodes ++ node how ∷ []
 
-      counted : (whole : Bool) → count ≡ length (s.nodes ++ node_below (length s.start) t.block whole ∷ [])
-      counted whole = let many = s.many in let long : length (s.nodes ++ node_below (length s.start) t.block whole ∷ []) ≡ length s.nodes + 1 = length-append s.nodes (node_below (length s.start) t.block whole ∷ []) in omega (arith, more, many, long)
+      parent : s.count ≡ length S.nodes
+      parent = S.counted ∙ S.many
 
-      bare : (whole : Bool) → sum_by (λ (x : Node). own_cases x.duals) (node_below (length s.start) t.block whole ∷ []) ≡ 0
-      bare true = refl
-      bare false = refl
+      counted : count ≡ length nodes
+      counted = let many = S.many in let long : length nodes ≡ length S.nodes + 1 = length-append S.nodes (node how ∷ []) in omega (arith, more, many, long)
 
-      owned : (whole : Bool) → case_total (s.nodes ++ node_below (length s.start) t.block whole ∷ []) ≤ 2
-      owned whole =
-          let sum = sum_by-append (λ (x : Node). own_cases x.duals) s.nodes (node_below (length s.start) t.block whole ∷ []) in
-          let none = bare whole in
-          let few = s.owned in
-          omega (arith, sum, none, few)
+      owned_now : cases ≡ case_total nodes
+      owned_now =
+          let sum = sum_by-append (λ (x : Node). own_cases x.duals) S.nodes (node how ∷ []) in
+          let one = sum_by-cons (λ (x : Node). own_cases x.duals) (node how) [] in
+          let none : sum_by (λ (x : Node). own_cases x.duals) [] ≡ 0 = refl in
+          let its = its_cases (length S.start) t.child.block stock how in
+          let few = S.cases in
+          omega (arith, owns, sum, one, none, its, few)
 
-      pub whole_search : (waiting : List Child) (kept_now : Known) → IsVisited night cases k.cost goal true left waiting → BothTold told now (λ a b. b ≡ a ++ node_below y.path.pins t.block true ∷ []) → KeepsCheaper night z.path.blocks k kept_now
-          → IsSearch night pins cases now count z waiting kept_now
-      whole_search waiting kept_now visited both cheaper =
-          let here = subst (λ (l : List Block). KeepsCheaper night l k kept_now) at cheaper in
-          let walk = laws.whole night s.start cases s.nodes path left t k.cost kept_now.cost (node_below (length s.start) t.block true) i s.walk (node true) below refl here.known here.path_too visited.0 in
-          let walk_at = subst (λ (l : List Block). IsWalk night s.start cases (s.nodes ++ node_below (length s.start) t.block true ∷ []) l left kept_now.cost) (sym at) walk in
-          let covers : next_of z.path.covered ≡ None = ap (λ (m : Masks). next_of m) yard.path.covered ∙ ap (λ (l : List Block). next_of (masks_of night l)) at ∙ visited.0 in
-          let best = laws.kept_plan night pins z.path k kept_now i yard.path (subst (λ (l : List Block). IsPartialPlan night pins l) (sym at) plan) covers s.even s.best cheaper in
-          let less = here.known in
-          let small = s.small in
+      same_cost : z.known.cost ≡ s.known.cost
+      same_cost = ap (λ (k : Known). k.cost) a.known
+
+      -- where it is a branch with these cases
+      with_cases : (at : ℕ) → at < length stock → IsInStock stock how → (node how).kind ≡ Branch → cases_or (node how).duals (cases_in stock t.cases) ≡ cases_in stock at → CasesHold night goal (cases_in stock at) → Reaches night goal (cases_in stock at) (pos floor)
+          → IsSome (next_of (masks_of night goal)) → AddsChildren night stock s.known.cost goal s.count at left z.waiting.items → IsSearch night pins stock now count cases z.waiting.items z
+      with_cases at in_stock there kind own hold reach unfinished adds =
+          let here = subst (λ (l : List Block). CasesHold night l (cases_in stock at)) (sym a.path) hold in
+          let reach_here = subst (λ (l : List Block). Reaches night l (cases_in stock at) (pos floor)) (sym a.path) reach in
+          let rise = subst (λ (l : List Block). OpensAbove night l (cases_in stock at) s.known.cost (pos floor)) a.path (opens_above laws.rise night i z.yard.path a.yard.path (cases_in stock at) s.known.cost (pos floor) here reach_here) in
+          let children = subst (λ (k : ℕ). AddsChildren night stock s.known.cost goal k at left z.waiting.items) parent adds in
+          let walk = laws.branch night S.start stock floor S.nodes path left z.waiting.items t s.known.cost s.low (node how) at i S.walk (is_node how there) below kind own in_stock children rise hold unfinished in
           record {
-            start = s.start;
-            nodes = s.nodes ++ node_below (length s.start) t.block true ∷ [];
-            usable = s.usable;
-            even = s.even;
-            begins = s.begins;
-            rooted = s.rooted;
-            walk = subst (λ (l : List Child). IsWalk night s.start cases (s.nodes ++ node_below (length s.start) t.block true ∷ []) z.path.blocks l kept_now.cost) (sym visited.1) walk_at;
-            tells = told_more told now s.nodes _ _ (same_node true) s.tells both;
-            many = counted true;
-            owned = owned true;
-            yard = yard;
-            long = arrives.pins ∙ s.long;
-            best = best;
-            small = omega (arith, less, small);
+            start = S.start;
+            nodes = nodes;
+            usable = S.usable;
+            even = S.even;
+            begins = S.begins;
+            stocked = S.stocked;
+            rooted = S.rooted;
+            lowest = lowest_at z a.floor;
+            walk = same_walk night S.start stock floor nodes goal z.yard.path.blocks z.waiting.items z.waiting.items s.known.cost z.known.cost s.low z.low a.path refl same_cost a.low walk;
+            high = subst (λ (x : ℤ). pos floor ≤ℤ x) (sym a.low) S.high;
+            tells = told_more told now S.nodes _ _ (same_node how) S.tells both;
+            many = counted;
+            counted = let one = a.counted in let was = S.counted in omega (arith, one, was, more);
+            cases = owned_now;
+            cases_counted = let one = a.cases_counted in let was = S.cases_counted in omega (arith, one, was, owns);
+            room = let le = a.room in let one = a.cases_counted in let was = S.cases_counted in omega (arith, le, one, was, owns);
+            yard = a.yard;
+            long = a.pins ∙ S.long;
+            best = same_best night pins s.known z.known a.known S.best;
+            small = let small = S.small in omega (arith, small, same_cost);
+            plain = λ e. a.low ∙ S.plain (sym a.plain ∙ e) ∙ ap pos (sym same_cost);
           }
 
-      pub branch_search : (waiting : List Child) → IsVisited night cases k.cost goal false left waiting → BothTold told now (λ a b. b ≡ a ++ node_below y.path.pins t.block false ∷ []) → IsSearch night pins cases now count z waiting k
-      branch_search waiting visited both =
-          let adds = visited.1 in
-          let hold = laws.hold night s.start cases s.nodes path left t k.cost s.walk in
-          let walk = laws.branch night s.start cases s.nodes path left t k.cost (node_below (length s.start) t.block false) adds.children i s.walk (node false) below refl refl adds.are hold visited.0 in
-          let walk_at = subst (λ (l : List Block). IsWalk night s.start cases (s.nodes ++ node_below (length s.start) t.block false ∷ []) l (left ++ adds.children) k.cost) (sym at) walk in
-          record {
-            start = s.start;
-            nodes = s.nodes ++ node_below (length s.start) t.block false ∷ [];
-            usable = s.usable;
-            even = s.even;
-            begins = s.begins;
-            rooted = s.rooted;
-            walk = subst (λ (l : List Child). IsWalk night s.start cases (s.nodes ++ node_below (length s.start) t.block false ∷ []) z.path.blocks l k.cost) (sym adds.is) walk_at;
-            tells = told_more told now s.nodes _ _ (same_node false) s.tells both;
-            many = counted false;
-            owned = owned false;
-            yard = yard;
-            long = arrives.pins ∙ s.long;
-            best = s.best;
-            small = s.small;
-          }
+  pub branch_search : (below : t.child.bound <ℤ pos s.known.cost) (z : Search) (how : Noted) (a : Arrives night stock s z t how left) (now : Option (List Node)) (count cases : ℕ) (more : count ≡ number + 1) (owns : cases ≡ owned + cases_of stock how)
+      → BothTold told now (λ x y. y ≡ x ++ node_below s.yard.path.pins t.child.block stock how ∷ []) → how ≢ noted.Whole → IsSearch night pins stock now count cases z.waiting.items z
+  branch_search below z noted.Whole a now count cases more owns both not_whole = absurd (not_whole refl)
+  branch_search below z noted.Same a now count cases more owns both not_whole =
+      with_cases below z noted.Same a now count cases more owns both t.cases inherited.0 tt refl refl inherited.1 (lower night goal (cases_in stock t.cases) t.child.bound (pos floor) above_floor inherited.2) a.is_noted a.opens
+  branch_search below z (noted.Own place) a now count cases more owns both not_whole =
+      let lifts = a.is_noted.1 in
+      with_cases below z (noted.Own place) a now count cases more owns both place lifts.there lifts.there refl refl lifts.hold (lower night goal (cases_in stock place) s.floor (pos floor) (S.rooted.above s.floor S.lowest) lifts.reach) a.is_noted.0 a.opens
 
--- closed children are no part of it
-pub closed_search : ((night : Night) (start : List Block) (cases : List Case) (nodes : List Node) (path : List Block) (waiting left : List Child) (best : ℕ) → IsWalk night start cases nodes path waiting best → Passes best waiting left → IsWalk night start cases nodes path left best)
-    → (night : Night) (pins : List Block) (cases : List Case) (told : Option (List Node)) (number : ℕ) (y : Yard) (waiting left : List Child) (k : Known) → IsSearch night pins cases told number y waiting k → Passes k.cost waiting left → IsSearch night pins cases told number y left k
-closed_search closed night pins cases told number y waiting left k s passes = record {
-  start = s.start;
-  nodes = s.nodes;
-  usable = s.usable;
-  even = s.even;
-  begins = s.begins;
-  rooted = s.rooted;
-  walk = closed night s.start cases s.nodes y.path.blocks waiting left k.cost s.walk passes;
-  tells = s.tells;
-  many = s.many;
-  owned = s.owned;
-  yard = s.yard;
-  long = s.long;
-  best = s.best;
-  small = s.small;
-}
+  pub whole_search : (below : t.child.bound <ℤ pos s.known.cost) (z w : Search) (a : Arrives night stock s z t noted.Whole left) (now : Option (List Node)) (count cases : ℕ) (more : count ≡ number + 1) (owns : cases ≡ owned + cases_of stock noted.Whole)
+      → BothTold told now (λ x y. y ≡ x ++ node_below s.yard.path.pins t.child.block stock noted.Whole ∷ []) → Takes night z w → IsSearch night pins stock now count cases w.waiting.items w
+  whole_search below z w a now count cases more owns both takes =
+      let nodes = S.nodes ++ node noted.Whole ∷ [] in
+      let path_is : w.yard.path.blocks ≡ goal = ap (λ (y : Yard). y.path.blocks) takes.yard ∙ a.path in
+      let same = same_cost below z noted.Whole a now count cases more owns both in
+      let cheaper = takes.cheaper in
+      let known = cheaper.known in
+      let path_too : w.known.cost ≤ total_cost night goal = subst (λ (l : List Block). w.known.cost ≤ total_cost night l) a.path cheaper.path_too in
+      let first = takes.low.first in
+      let second = takes.low.second in
+      let low_is = a.low in
+      let falls : w.low ≤ℤ s.low = subst (λ (x : ℤ). w.low ≤ℤ x) low_is first in
+      let less : w.known.cost ≤ s.known.cost = omega (arith, known, same) in
+      let walk = laws.whole night S.start stock floor S.nodes path left t s.known.cost w.known.cost s.low w.low (node noted.Whole) i S.walk (is_node noted.Whole tt) below refl less path_too falls second a.is_noted in
+      let covers : next_of z.yard.path.covered ≡ None = ap (λ (m : Masks). next_of m) a.yard.path.covered ∙ ap (λ (l : List Block). next_of (masks_of night l)) a.path ∙ a.is_noted in
+      let best = laws.kept_plan night pins z.yard.path z.known w.known i a.yard.path (subst (λ (l : List Block). IsPartialPlan night pins l) (sym a.path) plan) covers S.even (same_best night pins s.known z.known a.known S.best) cheaper in
+      let cost = laws.cost night pins S.start (cases_in stock 0) floor w.known.blocks.items i S.usable S.begins S.rooted.statable.within S.rooted.hold S.rooted.above best.feasible best.keeps in
+      let cost_is = best.cost in
+      record {
+        start = S.start;
+        nodes = nodes;
+        usable = S.usable;
+        even = S.even;
+        begins = S.begins;
+        stocked = S.stocked;
+        rooted = S.rooted;
+        lowest = lowest_at w (takes.floor ∙ a.floor);
+        walk = same_walk night S.start stock floor nodes goal w.yard.path.blocks left w.waiting.items w.known.cost w.known.cost w.low w.low path_is (takes.waiting ∙ a.opens) refl refl walk;
+        high = ⊎_elim
+            (λ e. let was = S.high in omega (arith, ints, e, low_is, was))
+            (λ e. omega (arith, ints, e, cost, cost_is))
+            takes.low.either;
+        tells = told_more told now S.nodes _ _ (same_node noted.Whole) S.tells both;
+        many = counted below z noted.Whole a now count cases more owns both;
+        counted = let also = takes.counted in let one = a.counted in let was = S.counted in omega (arith, also, one, was, more);
+        cases = owned_now below z noted.Whole a now count cases more owns both;
+        cases_counted = let also = takes.cases_counted in let one = a.cases_counted in let was = S.cases_counted in omega (arith, also, one, was, owns);
+        room = let le = a.room in let one = a.cases_counted in let was = S.cases_counted in omega (arith, le, one, was, owns);
+        yard = subst (λ (y : Yard). IsYard night y) (sym takes.yard) a.yard;
+        long = ap (λ (y : Yard). y.path.pins) takes.yard ∙ a.pins ∙ S.long;
+        best = best;
+        small = let small = S.small in omega (arith, small, less);
+        plain = λ e.
+            let was = S.plain (sym a.plain ∙ sym takes.plain ∙ e) in
+            ⊎_elim (λ l. omega (arith, ints, l, low_is, was, less, second)) (λ l. l) takes.low.either;
+      }
+
+-- children that are closed or passed over are no part of it
+pub closed_search : ((night : Night) (start : List Block) (stock : List (List Case)) (floor : ℕ) (nodes : List Node) (path : List Block) (waiting left : List Pending) (best : ℕ) (low now : ℤ) → IsWalk night start stock floor nodes path waiting best low → Passes waiting left low now → IsWalk night start stock floor nodes path left best now)
+    → (night : Night) (pins : List Block) (stock : List (List Case)) (told : Option (List Node)) (number owned : ℕ) (waiting left : List Pending) (s z : Search) → IsSearch night pins stock told number owned waiting s → Falls s z waiting left → IsSearch night pins stock told number owned left z
+closed_search closed night pins stock told number owned waiting left s z S f =
+    let p = f.passes in
+    let same_cost : z.known.cost ≡ s.known.cost = ap (λ (k : Known). k.cost) f.known in
+    record {
+      start = S.start;
+      nodes = S.nodes;
+      usable = S.usable;
+      even = S.even;
+      begins = S.begins;
+      stocked = S.stocked;
+      rooted = S.rooted;
+      lowest = subst (λ (x : ℤ). IsCasesBound night S.start (cases_in stock 0) x) (sym f.floor) S.lowest;
+      walk = same_walk night S.start stock S.rooted.floor S.nodes s.yard.path.blocks z.yard.path.blocks left left s.known.cost z.known.cost z.low z.low (ap (λ (y : Yard). y.path.blocks) f.yard) refl same_cost refl
+          (closed night S.start stock S.rooted.floor S.nodes s.yard.path.blocks waiting left s.known.cost s.low z.low S.walk p);
+      high = ⊎_elim
+          (λ e. subst (λ (x : ℤ). pos S.rooted.floor ≤ℤ x) (sym e) S.high)
+          (λ found. subst (λ (x : ℤ). pos S.rooted.floor ≤ℤ x) (sym found.2) (S.walk.pending found.0 (subst (λ (l : List Pending). In found.0 l) (sym p.parts) (in_right left p.passed found.0 found.1))).above)
+          p.least;
+      tells = S.tells;
+      many = S.many;
+      counted = f.counted ∙ S.counted;
+      cases = S.cases;
+      cases_counted = f.cases_counted ∙ S.cases_counted;
+      room = S.room;
+      yard = subst (λ (y : Yard). IsYard night y) (sym f.yard) S.yard;
+      long = ap (λ (y : Yard). y.path.pins) f.yard ∙ S.long;
+      best = same_best night pins s.known z.known f.known S.best;
+      small = let small = S.small in omega (arith, small, same_cost);
+      plain = λ e. let plain = sym f.plain ∙ e in f.low plain ∙ S.plain plain ∙ ap pos (sym same_cost);
+    }

@@ -1,6 +1,6 @@
--- A walk whose last children are closed, and one that ends.
+-- A walk whose last children are closed or passed over, and one that ends.
 use Rattle.std.specs.Prelude.{AllPairs}
-use Rattle.std.proofs.Common.{◌≡◌, ◌⊎◌, inl, inr, ⊎_elim, ℕ, ◌+◌, ◌-◌, ◌<◌, ◌≤◌, List, [], ◌∷◌, ◌++◌, length, take, ℤ, get_or, refl, sym, subst, ap, ◌∙◌, arith}
+use Rattle.std.proofs.Common.{◌≡◌, ◌⊎◌, inl, inr, ⊎_elim, Bool, true, false, ℕ, ◌+◌, ◌-◌, ◌<◌, ◌≤◌, List, [], ◌∷◌, ◌++◌, length, take, ℤ, get_or, refl, sym, subst, ap, ◌∙◌, arith}
 use Rattle.std.specs.Prelude.{pos, ◌≤ℤ◌}
 use Rattle.std.proofs.lemmas.Int.{ints}
 use Rattle.std.proofs.lemmas.List.{append-nil, append_assoc, get_or_append_left, get_or_default, length-append, length-take}
@@ -21,14 +21,14 @@ use Rattle.shunt_proof.specs.declared.records.Node.{Node}
 use Rattle.shunt_proof.specs.defs.Nodes.{node_at}
 use Rattle.shunt_proof.specs.defs.Trees.{path_at, duals_at}
 use Rattle.shunt_proof.specs.defs.Proves.{Reaches, Shows, IsListed, AreRight}
-use Rattle.shunt_search.specs.declared.children.Child.{Child}
+use Rattle.shunt_search.specs.declared.walking.Pending.{Pending}
 use Rattle.shunt_search.specs.defs.Yards.{IsNextBlock}
 use Rattle.shunt_search.proofs.Stays.{place_of}
-use Rattle.shunt_search.specs.defs.Walking.{kept, goal_of, IsPending, IsApart, IsKnown, IsWalked, IsWalk, Passes}
+use Rattle.shunt_search.specs.defs.Walking.{kept, goal_of, cases_in, IsPending, IsApart, IsKnown, IsWalk, IsLesser, Passes}
 
 -- ---- a node shows less, where what is known no more is reached
 
-lower : (night : Night) (path : List Block) (cases : List Case) (L M : ℤ) → M ≤ℤ L → Reaches night path cases L → Reaches night path cases M
+pub lower : (night : Night) (path : List Block) (cases : List Case) (L M : ℤ) → M ≤ℤ L → Reaches night path cases L → Reaches night path cases M
 lower night path cases L M le r = (r.0, r.1, omega (arith, ints, le, r.2))
 
 pub shows_turn : (night : Night) (path : List Block) (cases : List Case) (kind : NodeKind) (Before After : PathChoice → Type 0) (L M : ℤ) → M ≤ℤ L → (kind ≡ Branch → (c : PathChoice) → Before c → Reaches night (longer_by path c) cases M ⊎ After c)
@@ -41,55 +41,47 @@ shows_turn night path cases Branch Before After L M le turn s = record {
   each = λ c there through. ⊎_elim (λ r. inl (lower night (longer_by path c) cases L M le r)) (λ k. turn refl c k) (s.each c there through);
 }
 
-pub front_pairs : (R : Child → Child → Type 0) (xs ys : List Child) → AllPairs R (xs ++ ys) → AllPairs R xs
-front_pairs R xs ys h i j d before within =
+pub front_pairs : {X : Type 0} (R : X → X → Type 0) (xs ys : List X) → AllPairs R (xs ++ ys) → AllPairs R xs
+front_pairs {X} R xs ys h i j d before within =
     let long = length-append xs ys in
-    subst (λ (x : Child). R x (get_or xs j d)) (get_or_append_left xs ys d i (omega (arith, before, within)))
-    (subst (λ (x : Child). R (get_or (xs ++ ys) i d) x) (get_or_append_left xs ys d j within) (h i j d before (omega (arith, within, long))))
+    subst (λ (x : X). R x (get_or xs j d)) (get_or_append_left xs ys d i (omega (arith, before, within)))
+    (subst (λ (x : X). R (get_or (xs ++ ys) i d) x) (get_or_append_left xs ys d j within) (h i j d before (omega (arith, within, long))))
 
-pub pairs_append : (R : Child → Child → Type 0) (xs ys : List Child) → AllPairs R xs → AllPairs R ys → ((x y : Child) → In x xs → In y ys → R x y) → AllPairs R (xs ++ ys)
-pairs_append R xs ys h k across i j d before within = ⊎_elim
-    (λ j_in. subst (λ (x : Child). R x (get_or (xs ++ ys) j d)) (sym (get_or_append_left xs ys d i (omega (arith, before, j_in))))
-    (subst (λ (x : Child). R (get_or xs i d) x) (sym (get_or_append_left xs ys d j j_in)) (h i j d before j_in)))
+pub pairs_append : {X : Type 0} (R : X → X → Type 0) (xs ys : List X) → AllPairs R xs → AllPairs R ys → ((x y : X) → In x xs → In y ys → R x y) → AllPairs R (xs ++ ys)
+pairs_append {X} R xs ys h k across i j d before within = ⊎_elim
+    (λ j_in. subst (λ (x : X). R x (get_or (xs ++ ys) j d)) (sym (get_or_append_left xs ys d i (omega (arith, before, j_in))))
+    (subst (λ (x : X). R (get_or xs i d) x) (sym (get_or_append_left xs ys d j j_in)) (h i j d before j_in)))
     (λ j_past.
     let long = length-append xs ys in
     let there : j - length xs < length ys = omega (arith, within, long, j_past) in
-    subst (λ (x : Child). R (get_or (xs ++ ys) i d) x) (sym (get_or-append_right xs ys j d j_past)) (⊎_elim
-    (λ i_in. subst (λ (x : Child). R x (get_or ys (j - length xs) d)) (sym (get_or_append_left xs ys d i i_in)) (across (get_or xs i d) (get_or ys (j - length xs) d) (in_place xs i d i_in) (in_place ys (j - length xs) d there)))
-    (λ i_past. subst (λ (x : Child). R x (get_or ys (j - length xs) d)) (sym (get_or-append_right xs ys i d i_past)) (k (i - length xs) (j - length xs) d (omega (arith, before, i_past)) there))
+    subst (λ (x : X). R (get_or (xs ++ ys) i d) x) (sym (get_or-append_right xs ys j d j_past)) (⊎_elim
+    (λ i_in. subst (λ (x : X). R x (get_or ys (j - length xs) d)) (sym (get_or_append_left xs ys d i i_in)) (across (get_or xs i d) (get_or ys (j - length xs) d) (in_place xs i d i_in) (in_place ys (j - length xs) d there)))
+    (λ i_past. subst (λ (x : X). R x (get_or ys (j - length xs) d)) (sym (get_or-append_right xs ys i d i_past)) (k (i - length xs) (j - length xs) d (omega (arith, before, i_past)) there))
     (cases_lt i (length xs))))
     (cases_lt j (length xs))
 
--- where a branch is walked its cases are those of the walk
-pub its_cases : (cases : List Case) (nodes : List Node) (k : ℕ) → IsWalked cases nodes k → (node_at nodes k).kind ≡ Branch → duals_at nodes k ≡ cases
-its_cases cases nodes k (inl w) e = w.1
-its_cases cases nodes k (inr w) e = absurd (other (sym e ∙ w))
-  where
-    other : Branch ≡ Whole → ⊥
-    other e = cc
-
-module _ (night : Night) (start : List Block) (cases : List Case) (nodes : List Node) (path : List Block) (left passed : List Child) (best : ℕ) (W : IsWalk night start cases nodes path (left ++ passed) best) where
+module _ (night : Night) (start : List Block) (stock : List (List Case)) (floor : ℕ) (nodes : List Node) (path : List Block) (left passed : List Pending) (best : ℕ) (low : ℤ) (W : IsWalk night start stock floor nodes path (left ++ passed) best low) where
   -- what was known through a child whose bound is at least M is reached
-  known_less : (M : ℤ) → ((t : Child) → In t passed → M ≤ℤ t.bound) → (k : ℕ) → k < length nodes → (node_at nodes k).kind ≡ Branch → (c : PathChoice) → IsKnown night start nodes path (left ++ passed) k c
+  known_less : (M : ℤ) → ((t : Pending) → In t passed → M ≤ℤ t.child.bound) → (k : ℕ) → (c : PathChoice) → IsKnown night start nodes path (left ++ passed) k c
       → Reaches night (longer_by (path_at night start nodes k) c) (duals_at nodes k) M ⊎ IsKnown night start nodes path left k c
-  known_less M closed k lt branch c (inl listed) = inr (inl listed)
-  known_less M closed k lt branch c (inr known) =
+  known_less M closed k c (inl listed) = inr (inl listed)
+  known_less M closed k c (inr known) =
       ⊎_elim
-      (λ i. inr (inr (known.0, i, known.2)))
+      (λ i. inr (inr (known.0, i, known.2, known.3)))
       (λ i. inl (
-        known.0.bound,
-        subst (λ (l : List Block). IsCasesBound night l (duals_at nodes k) known.0.bound) known.2
-            (subst (λ (d : List Case). IsCasesBound night (goal_of path known.0) d known.0.bound) (sym (its_cases cases nodes k (W.kinds k lt) branch)) (W.pending known.0 known.1).bound),
+        known.0.child.bound,
+        subst (λ (l : List Block). IsCasesBound night l (duals_at nodes k) known.0.child.bound) known.3
+            (subst (λ (j : ℕ). IsCasesBound night (goal_of path known.0.child) (duals_at nodes j) known.0.child.bound) known.2 (W.pending known.0 known.1).bound),
         closed known.0 i,
       ))
       (in_cases left passed known.0 known.1)
 
-  pub shows_less : (M : ℤ) → M ≤ℤ pos best → ((t : Child) → In t passed → M ≤ℤ t.bound) → (k : ℕ) → k < length nodes → Shows night (path_at night start nodes k) (duals_at nodes k) (node_at nodes k).kind (IsKnown night start nodes path left k) M
-  shows_less M le closed k lt = shows_turn night (path_at night start nodes k) (duals_at nodes k) (node_at nodes k).kind (IsKnown night start nodes path (left ++ passed) k) (IsKnown night start nodes path left k) (pos best) M le
-      (λ branch c known. known_less M closed k lt branch c known) (W.shows k lt)
+  pub shows_less : (M : ℤ) → M ≤ℤ low → ((t : Pending) → In t passed → M ≤ℤ t.child.bound) → (k : ℕ) → k < length nodes → Shows night (path_at night start nodes k) (duals_at nodes k) (node_at nodes k).kind (IsKnown night start nodes path left k) M
+  shows_less M le closed k lt = shows_turn night (path_at night start nodes k) (duals_at nodes k) (node_at nodes k).kind (IsKnown night start nodes path (left ++ passed) k) (IsKnown night start nodes path left k) low M le
+      (λ branch c known. known_less M closed k c known) (W.shows k lt)
 
-  pub walk_left : ((t : Child) → In t passed → pos best ≤ℤ t.bound) → IsWalk night start cases nodes path left best
-  walk_left closed = record {
+  pub walk_left : (now : ℤ) → now ≤ℤ low → ((t : Pending) → In t passed → now ≤ℤ t.child.bound) → IsWalk night start stock floor nodes path left best now
+  walk_left now le closed = record {
     formed = W.formed;
     some = W.some;
     here = W.here;
@@ -98,71 +90,94 @@ module _ (night : Night) (start : List Block) (cases : List Case) (nodes : List 
     lean = W.lean;
     pending = λ t i. W.pending t (in_left left passed t i);
     apart = front_pairs IsApart left passed W.apart;
-    shows = λ k lt. shows_less (pos best) (omega (arith, ints)) closed k lt;
+    shows = λ k lt. shows_less now le closed k lt;
+    within = let most = W.within in omega (arith, ints, le, most);
     cheap = W.cheap;
   }
 
-pub passes_on : (night : Night) (start : List Block) (cases : List Case) (nodes : List Node) (path : List Block) (waiting left : List Child) (best : ℕ) → IsWalk night start cases nodes path waiting best → Passes best waiting left → IsWalk night start cases nodes path left best
-passes_on night start cases nodes path waiting left best W p = walk_left night start cases nodes path left p.passed best (subst (λ (l : List Child). IsWalk night start cases nodes path l best) p.parts W) p.closed
+pub passes_on : (night : Night) (start : List Block) (stock : List (List Case)) (floor : ℕ) (nodes : List Node) (path : List Block) (waiting left : List Pending) (best : ℕ) (low now : ℤ) → IsWalk night start stock floor nodes path waiting best low → Passes waiting left low now → IsWalk night start stock floor nodes path left best now
+passes_on night start stock floor nodes path waiting left best low now W p = walk_left night start stock floor nodes path left p.passed best low (subst (λ (l : List Pending). IsWalk night start stock floor nodes path l best low) p.parts W) now p.falls p.closed
 
-pub ends_right : (night : Night) (start : List Block) (cases : List Case) (nodes : List Node) (path : List Block) (waiting : List Child) (best : ℕ) (M : ℤ) → IsWalk night start cases nodes path waiting best → M ≤ℤ pos best → ((t : Child) → In t waiting → M ≤ℤ t.bound) → AreRight night start nodes M
-ends_right night start cases nodes path waiting best M W le closed k lt = record {
+pub ends_right : (night : Night) (start : List Block) (stock : List (List Case)) (floor : ℕ) (nodes : List Node) (path : List Block) (waiting : List Pending) (best : ℕ) (low M : ℤ) → IsWalk night start stock floor nodes path waiting best low → M ≤ℤ low → ((t : Pending) → In t waiting → M ≤ℤ t.child.bound) → AreRight night start nodes M
+ends_right night start stock floor nodes path waiting best low M W le closed k lt = record {
   placed = λ some. W.placed k some lt;
   shows = shows_turn night (path_at night start nodes k) (duals_at nodes k) (node_at nodes k).kind (IsKnown night start nodes path [] k) (IsListed night start nodes k) M M (omega (arith, ints))
-      (λ branch c known. inr (only_listed c known)) (shows_less night start cases nodes path [] waiting best W M le closed k lt);
+      (λ branch c known. inr (only_listed c known)) (shows_less night start stock floor nodes path [] waiting best low W M le closed k lt);
 }
   where
     only_listed : (c : PathChoice) → IsKnown night start nodes path [] k c → IsListed night start nodes k c
     only_listed c (inl listed) = listed
     only_listed c (inr known) = absurd known.1
 
--- ---- children that are closed, from the end
+-- ---- children that are closed or passed over, from the end
 
-pub passes_first : (best : ℕ) (old : List Child) → Passes best old old
-passes_first best old = record { passed = []; parts = sym (append-nil old); closed = λ t i. absurd i }
+pub passes_first : (low : ℤ) (old : List Pending) → Passes old old low low
+passes_first low old = record { passed = []; parts = sym (append-nil old); closed = λ t i. absurd i; falls = omega (arith, ints); least = inl refl }
 
-pub passes_more : (best : ℕ) (old now rest : List Child) (t : Child) → Passes best old now → now ≡ rest ++ t ∷ [] → pos best ≤ℤ t.bound → Passes best old rest
-passes_more best old now rest t p e le = record {
+pub passes_more : (old now rest : List Pending) (t : Pending) (low high new : ℤ) → Passes old now low high → now ≡ rest ++ t ∷ [] → new ≤ℤ high → new ≤ℤ t.child.bound → (new ≡ high) ⊎ (new ≡ t.child.bound) → Passes old rest low new
+passes_more old now rest t low high new p e falls le which = record {
   passed = t ∷ p.passed;
-  parts = p.parts ∙ ap (λ (l : List Child). l ++ p.passed) e ∙ append_assoc rest (t ∷ []) p.passed;
-  closed = λ s i. ⊎_elim (λ same. subst (λ (x : Child). pos best ≤ℤ x.bound) (sym same) le) (λ later. p.closed s later) i;
-}
-
-pub passes_to : (best : ℕ) (old now left : List Child) → Passes best old now → now ≡ left → Passes best old left
-passes_to best old now left p e = subst (λ (l : List Child). Passes best old l) e p
-
--- ---- the least of what is left
-
--- the least of a cost and of the bounds of the first n children
-pub record IsLeastOf (best : ℕ) (waiting : List Child) (n : ℕ) (low : ℤ) : Type 0 where
-  pub within : low ≤ℤ pos best
-  pub left : (k : ℕ) (d : Child) → k < n → k < length waiting → low ≤ℤ (get_or waiting k d).bound
-  pub one : (low ≡ pos best) ⊎ ((t : Child) × In t waiting × (low ≡ t.bound))
-
-pub least_first : (best : ℕ) (waiting : List Child) → IsLeastOf best waiting 0 (pos best)
-least_first best waiting = record { within = omega (arith, ints); left = λ k d lt within. absurd (omega (arith, lt)); one = inl refl }
-
-pub least_next : (best : ℕ) (waiting : List Child) (n : ℕ) (d : Child) (low now : ℤ) → n < length waiting → now ≤ℤ low → now ≤ℤ (get_or waiting n d).bound → (now ≡ low) ⊎ (now ≡ (get_or waiting n d).bound) → IsLeastOf best waiting n low → IsLeastOf best waiting (n + 1) now
-least_next best waiting n d low now lt first second which h = record {
-  within = let w = h.within in omega (arith, ints, w, first);
-  left = λ k e below within. ⊎_elim
-      (λ before. let w = h.left k e before within in omega (arith, ints, w, first))
-      (λ past.
-      let is : n ≡ k = omega (arith, past, below) in
-      let at : get_or waiting n e ≡ get_or waiting n d = get_or_default waiting n e d lt in
-      subst (λ m. now ≤ℤ (get_or waiting m e).bound) is (subst (λ (x : Child). now ≤ℤ x.bound) (sym at) second))
-      (cases_lt k n);
-  one = ⊎_elim
-      (λ same. ⊎_elim (λ best_is. inl (same ∙ best_is)) (λ found. inr (found.0, found.1, same ∙ found.2)) h.one)
-      (λ same. inr (get_or waiting n d, in_place waiting n d lt, same))
+  parts = p.parts ∙ ap (λ (l : List Pending). l ++ p.passed) e ∙ append_assoc rest (t ∷ []) p.passed;
+  closed = λ s i. ⊎_elim (λ same. subst (λ (x : Pending). new ≤ℤ x.child.bound) (sym same) le) (λ later. let first = p.closed s later in omega (arith, ints, first, falls)) i;
+  falls = let first = p.falls in omega (arith, ints, first, falls);
+  least = ⊎_elim
+      (λ same. ⊎_elim (λ low_is. inl (same ∙ low_is)) (λ found. inr (found.0, inr found.1, same ∙ found.2)) p.least)
+      (λ same. inr (t, inl refl, same))
       which;
 }
 
-pub least_all : (best : ℕ) (waiting : List Child) (n : ℕ) (low : ℤ) → length waiting ≤ n → IsLeastOf best waiting n low → (t : Child) → In t waiting → low ≤ℤ t.bound
-least_all best waiting n low all h t i =
+-- a child whose bound isn't below the best cost changes no bound
+pub passes_closed : (old now rest : List Pending) (t : Pending) (best : ℕ) (low high : ℤ) → Passes old now low high → now ≡ rest ++ t ∷ [] → low ≤ℤ pos best → pos best ≤ℤ t.child.bound → Passes old rest low high
+passes_closed old now rest t best low high p e within le = passes_more old now rest t low high high p e (omega (arith, ints)) (let falls = p.falls in omega (arith, ints, falls, within, le)) (inl refl)
+
+differ : false ≡ true → ⊥
+differ e = cc
+
+pub never_both : (b : Bool) → b ≡ false → b ≡ true → ⊥
+never_both b off on = differ (sym off ∙ on)
+
+-- another one makes it fall
+pub passes_lesser : (old now rest : List Pending) (t : Pending) (low high new : ℤ) → Passes old now low high → now ≡ rest ++ t ∷ [] → IsLesser high t.child.bound new → Passes old rest low new
+passes_lesser old now rest t low high new p e l = passes_more old now rest t low high new p e l.first l.second l.either
+
+pub passes_to : (low high : ℤ) (old now left : List Pending) → Passes old now low high → now ≡ left → Passes old left low high
+passes_to low high old now left p e = subst (λ (l : List Pending). Passes old l low high) e p
+
+-- ---- the least of what is left
+
+-- the least of a bound and of the bounds of the first n children
+pub record IsLeastOf (start : ℤ) (waiting : List Pending) (n : ℕ) (low : ℤ) : Type 0 where
+  pub within : low ≤ℤ start
+  pub left : (k : ℕ) (d : Pending) → k < n → k < length waiting → low ≤ℤ (get_or waiting k d).child.bound
+  pub one : (low ≡ start) ⊎ ((t : Pending) × In t waiting × (low ≡ t.child.bound))
+
+pub least_first : (start : ℤ) (waiting : List Pending) → IsLeastOf start waiting 0 start
+least_first start waiting = record { within = omega (arith, ints); left = λ k d lt within. absurd (omega (arith, lt)); one = inl refl }
+
+pub least_next : (start : ℤ) (waiting : List Pending) (n : ℕ) (d : Pending) (low now : ℤ) → n < length waiting → IsLesser low (get_or waiting n d).child.bound now → IsLeastOf start waiting n low → IsLeastOf start waiting (n + 1) now
+least_next start waiting n d low now lt l h =
+    let first = l.first in
+    let second = l.second in
+    record {
+      within = let w = h.within in omega (arith, ints, w, first);
+      left = λ k e below within. ⊎_elim
+          (λ before. let w = h.left k e before within in omega (arith, ints, w, first))
+          (λ past.
+          let is : n ≡ k = omega (arith, past, below) in
+          let at : get_or waiting n e ≡ get_or waiting n d = get_or_default waiting n e d lt in
+          subst (λ m. now ≤ℤ (get_or waiting m e).child.bound) is (subst (λ (x : Pending). now ≤ℤ x.child.bound) (sym at) second))
+          (cases_lt k n);
+      one = ⊎_elim
+          (λ same. ⊎_elim (λ start_is. inl (same ∙ start_is)) (λ found. inr (found.0, found.1, same ∙ found.2)) h.one)
+          (λ same. inr (get_or waiting n d, in_place waiting n d lt, same))
+          l.either;
+    }
+
+pub least_all : (start : ℤ) (waiting : List Pending) (n : ℕ) (low : ℤ) → length waiting ≤ n → IsLeastOf start waiting n low → (t : Pending) → In t waiting → low ≤ℤ t.child.bound
+least_all start waiting n low all h t i =
     let at = place_of waiting t t i in
     let lt = at.1 in
-    subst (λ (x : Child). low ≤ℤ x.bound) at.2 (h.left at.0 t (omega (arith, lt, all)) lt)
+    subst (λ (x : Pending). low ≤ℤ x.child.bound) at.2 (h.left at.0 t (omega (arith, lt, all)) lt)
 
 -- ---- the next child of a walk
 
@@ -175,25 +190,31 @@ branch_holds night path cases kind IsKnownThere L e h = holds (subst (λ kd. Sho
     holds : Shows night path cases Branch IsKnownThere L → CasesHold night path cases
     holds s = s.holds
 
-module _ (night : Night) (start : List Block) (cases : List Case) (nodes : List Node) (path : List Block) (left : List Child) (t : Child) (best : ℕ) (W : IsWalk night start cases nodes path (left ++ t ∷ []) best) where
-  its : IsPending night start cases nodes path t
+module _ (night : Night) (start : List Block) (stock : List (List Case)) (floor : ℕ) (nodes : List Node) (path : List Block) (left : List Pending) (t : Pending) (best : ℕ) (low : ℤ) (W : IsWalk night start stock floor nodes path (left ++ t ∷ []) best low) where
+  its : IsPending night start stock floor nodes path t
   its = W.pending t (in_right left (t ∷ []) t (inl refl))
 
-  pub keeps_start : length start ≤ kept t
+  pub keeps_start : length start ≤ kept t.child
   keeps_start = let long = its.long in omega (arith, long)
 
-  pub keeps_within : kept t ≤ length path
+  pub keeps_within : kept t.child ≤ length path
   keeps_within =
       let id = its.next.id in
-      let long = length-take (kept t) path in
-      let le = min-le_right (kept t) (length path) in
+      let long = length-take (kept t.child) path in
+      let le = min-le_right (kept t.child) (length path) in
       omega (arith, id, long, le)
 
-  pub is_next : IsNextBlock night (take (kept t) path) t.block
+  pub is_next : IsNextBlock night (take (kept t.child) path) t.child.block
   is_next = its.next
 
-  pub cases_hold : LongerLaw → CasesHold night (goal_of path t) cases
+  pub in_stock : t.cases < length stock
+  in_stock = its.place
+
+  pub cases_hold : LongerLaw → CasesHold night (goal_of path t.child) (cases_in stock t.cases)
   cases_hold law =
-      let at = branch_holds night (path_at night start nodes its.parent) (duals_at nodes its.parent) (node_at nodes its.parent).kind (IsKnown night start nodes path (left ++ t ∷ []) its.parent) (pos best) its.branch (W.shows its.parent its.there) in
-      let own = subst (λ (d : List Case). CasesHold night (path_at night start nodes its.parent) d) (its_cases cases nodes its.parent (W.kinds its.parent its.there) its.branch) at in
-      law night (take (kept t) path) t.block cases (subst (λ (l : List Block). CasesHold night l cases) its.here own)
+      let at = branch_holds night (path_at night start nodes t.parent) (duals_at nodes t.parent) (node_at nodes t.parent).kind (IsKnown night start nodes path (left ++ t ∷ []) t.parent) low its.branch (W.shows t.parent its.there) in
+      let own = subst (λ (d : List Case). CasesHold night (path_at night start nodes t.parent) d) (sym its.cases) at in
+      law night (take (kept t.child) path) t.child.block (cases_in stock t.cases) (subst (λ (l : List Block). CasesHold night l (cases_in stock t.cases)) its.here own)
+
+  pub cases_reach : Reaches night (goal_of path t.child) (cases_in stock t.cases) t.child.bound
+  cases_reach = (t.child.bound, subst (λ (d : List Case). IsCasesBound night (goal_of path t.child) d t.child.bound) (sym its.cases) its.bound, omega (arith, ints))

@@ -1,43 +1,49 @@
 // The root of a tree.
-ghost use Rattle.std.specs.Prelude.{◌≡◌, ◌≢◌, ◌↔◌, [], ◌∷◌, ◌++◌, ℕ, ◌+◌, ◌≤◌, true, false, List, Option, IfOk, OnOk, IfSome, IsErrOf};
+ghost use Rattle.std.specs.Prelude.{◌≡◌, ◌≢◌, ◌↔◌, [], ◌∷◌, ◌++◌, ℕ, ◌+◌, ◌<◌, List, Option, None, IsSome, All, length, OnOk, IfSome, IsErrOf};
 ghost use Rattle.shunt_store.specs.defs.Causes.{HasCause};
 ghost use Rattle.shunt_store.specs.defs.Files.{BothTold};
 ghost use Rattle.shunt_base.specs.declared.duals.Case.{Case as OneCase};
 ghost use Rattle.shunt_instance.specs.defs.Instance.{Night, IsInstance};
 ghost use Rattle.shunt_blocks.specs.declared.records.Block.{Block as OneBlock};
+ghost use Rattle.shunt_choices.specs.defs.Paths.{masks_of, next_of};
 ghost use Rattle.shunt_matching.specs.declared.types.Shortage.{Shortage as OneShortage};
 ghost use Rattle.shunt_proof.specs.declared.records.Node.{Node as OneNode};
 ghost use Rattle.shunt_proof.specs.defs.Nodes.{AreStatable};
-ghost use Rattle.shunt_proof.specs.defs.Recording.{Open, Stalled, Failed};
-ghost use Rattle.shunt_search.specs.declared.yard.Yard.{Yard as OneYard};
-ghost use Rattle.shunt_search.specs.declared.children.Child.{Child as OneChild};
-ghost use Rattle.shunt_search.specs.declared.known.Known.{Known as OneKnown};
-ghost use Rattle.shunt_search.specs.defs.Walking.{IsVisited, KeepsCheaper};
-ghost use Rattle.shunt_search.specs.defs.Searching.{IsSearch, IsFresh, whole_root, branch_root, TellsRoot, TellsOn};
+ghost use Rattle.shunt_proof.specs.defs.Recording.{Open, Failed};
+ghost use Rattle.shunt_search.specs.declared.searching.Search.{Search as OneSearch};
+ghost use Rattle.shunt_search.specs.defs.Walking.{cases_in, IsLifted, AddsChildren};
+ghost use Rattle.shunt_search.specs.defs.Searching.{IsSearch, IsFresh, Begins, Takes, whole_root, branch_root, TellsRoot, TellsOn};
 
-use crate::known::{keep_cheaper, kept_plans};
-use crate::searching::Search;
+use crate::copies::copy_cases;
+use crate::floors::floors;
+use crate::known::kept_plans;
+use crate::listing::add_children;
+use crate::noting::cases_in;
+use crate::searching::{Search, take_whole};
 use crate::solved::SolveError;
-use crate::visiting::{add_children, is_whole};
+use crate::visiting::{is_whole, root_place};
 use crate::walking::walks_begin;
-use shunt_base::Cases;
 use shunt_blocks::Block;
 use shunt_instance::Instance;
+use shunt_prices::laws::bounds_rise;
 use shunt_proof::laws::starts;
 use shunt_proof::{Node, NodeDuals, NodeKind, Recorder};
+use shunt_tree::ProposedTree;
 use std::alloc::Global;
 
 /// How a search begins: with a root that is whole, or with a branch whose children are all still to be walked to.
 fn searches_begin()
-    ensures whole { (night : Night) (pins : List OneBlock) (cases : List OneCase) (told now : Option (List OneNode)) (count : ℕ) (y : OneYard) (k better : OneKnown) →
-        IsInstance night → IsFresh night pins cases y k → TellsRoot whole_root told now → count ≡ 1 →
-        IsVisited night cases k.cost y.path.blocks true [] [] → KeepsCheaper night y.path.blocks k better → IsSearch night pins cases now count y [] better }
-    ensures branch { (night : Night) (pins : List OneBlock) (cases : List OneCase) (told now : Option (List OneNode)) (count : ℕ) (y : OneYard) (waiting : List OneChild) (k : OneKnown) →
-        IsInstance night → IsFresh night pins cases y k → TellsRoot (branch_root cases) told now → count ≡ 1 →
-        IsVisited night cases k.cost y.path.blocks false [] waiting → IsSearch night pins cases now count y waiting k }
+    ensures whole { (night : Night) (pins : List OneBlock) (stock : List (List OneCase)) (told now : Option (List OneNode)) (count cases : ℕ) (s z w : OneSearch) →
+        IsInstance night → IsFresh night pins stock s → TellsRoot whole_root told now → count ≡ 1 → cases ≡ 0 → Begins s z cases → z.waiting.items ≡ [] →
+        next_of (masks_of night s.yard.path.blocks) ≡ None → Takes night z w → IsSearch night pins stock now count cases w.waiting.items w }
+    ensures branch { (night : Night) (pins : List OneBlock) (stock : List (List OneCase)) (told now : Option (List OneNode)) (count cases : ℕ) (s z : OneSearch) (place : ℕ) →
+        IsInstance night → IsFresh night pins stock s → IsLifted night stock s.yard.path.blocks s.floor place → TellsRoot (branch_root (cases_in stock place)) told now → count ≡ 1 → cases ≡ length (cases_in stock place) →
+        Begins s z cases → IsSome (next_of (masks_of night s.yard.path.blocks)) → AddsChildren night stock s.known.cost s.yard.path.blocks 0 place [] z.waiting.items → IsSearch night pins stock now count cases z.waiting.items z }
 {
     walks_begin();
     kept_plans();
+    floors();
+    bounds_rise();
     starts();
 }
 
@@ -50,9 +56,9 @@ fn note_whole<R: Recorder>(instance: &Instance, recorder: &mut R) -> Result<(), 
     requires told { IfSome (R.told recorder.old) (λ nodes. nodes ≡ []) }
     ensures told { OnOk result (BothTold (R.told recorder.old) (R.told recorder.new) (λ old new. new ≡ old ++ whole_root ∷ [])) }
     ensures number { OnOk result (R.number recorder.new ≡ 1) }
-    ensures cases { OnOk result (R.cases recorder.new ≤ 2) }
+    ensures cases { OnOk result (R.cases recorder.new ≡ 0) }
     ensures open { OnOk result (R.stage recorder.new ≡ Open) }
-    ensures stalled { IsErrOf result SolveError.Memory → R.stage recorder.new ≡ Stalled }
+    ensures sound { IsErrOf result SolveError.Memory → R.stage recorder.new ≢ Failed }
     ensures failed { IsErrOf result SolveError.Recorder → R.stage recorder.new ≡ Failed }
     ensures no_matching { (s : OneShortage) → IsErrOf result (SolveError.NoMatching s) → ⊥ }
     ensures own { (night : Night) → R.owns recorder.new night ↔ R.owns recorder.old night }
@@ -69,30 +75,33 @@ fn note_whole<R: Recorder>(instance: &Instance, recorder: &mut R) -> Result<(), 
     Ok(())
 }
 
-/// Notes a root that is a branch with these cases, and gives them back.
+/// Notes a root that is a branch with the cases at a place of a stock.
 fn note_branch<R: Recorder>(
+    alloc: Global,
     instance: &Instance,
-    cases: Cases,
+    tree: &ProposedTree,
+    place: usize,
     recorder: &mut R,
-) -> Result<Cases, SolveError>
-    requires cases { AreStatable instance.now cases }
+) -> Result<(), SolveError>
+    requires stock { All (AreStatable instance.now) tree.now.stock.items }
+    requires there { place < length tree.now.stock.items }
     requires stage { R.stage recorder.old ≡ Open }
     requires own { R.owns recorder.old instance.now }
     requires none { R.number recorder.old ≡ 0 }
     requires no_cases { R.cases recorder.old ≡ 0 }
     requires told { IfSome (R.told recorder.old) (λ nodes. nodes ≡ []) }
-    ensures same { IfOk result (λ c. c ≡ cases) }
-    ensures told { OnOk result (BothTold (R.told recorder.old) (R.told recorder.new) (λ old new. new ≡ old ++ branch_root cases ∷ [])) }
+    ensures told { OnOk result (BothTold (R.told recorder.old) (R.told recorder.new) (λ old new. new ≡ old ++ branch_root (cases_in tree.now.stock.items place) ∷ [])) }
     ensures number { OnOk result (R.number recorder.new ≡ 1) }
-    ensures cases { OnOk result (R.cases recorder.new ≤ 2) }
+    ensures cases { OnOk result (R.cases recorder.new ≡ length (cases_in tree.now.stock.items place)) }
     ensures open { OnOk result (R.stage recorder.new ≡ Open) }
-    ensures stalled { IsErrOf result SolveError.Memory → R.stage recorder.new ≡ Stalled }
+    ensures sound { IsErrOf result SolveError.Memory → R.stage recorder.new ≢ Failed }
     ensures failed { IsErrOf result SolveError.Recorder → R.stage recorder.new ≡ Failed }
     ensures no_matching { (s : OneShortage) → IsErrOf result (SolveError.NoMatching s) → ⊥ }
     ensures own { (night : Night) → R.owns recorder.new night ↔ R.owns recorder.old night }
     ensures cause { HasCause SolveError.Recorder (R.faults recorder.old) (R.faults recorder.new) result }
     ensures keeps { R.keeps recorder.old recorder.new }
 {
+    let cases = copy_cases(alloc, cases_in(tree, place))?;
     let root = Node {
         depth: 0,
         choice: None,
@@ -100,32 +109,28 @@ fn note_branch<R: Recorder>(
         duals: NodeDuals::New(cases),
     };
     recorder.note(instance, &root)?;
-    match root.duals {
-        NodeDuals::New(cases) => Ok(cases),
-        _ => unreachable!(),
-    }
+    Ok(())
 }
 
-/// Notes the root, and finds its children where it isn't whole. It gives the cases back.
+/// Notes the root, and finds its children where it isn't whole.
 pub(crate) fn begin<R: Recorder>(
     alloc: Global,
     instance: &Instance,
     pins: &[Block],
-    cases: Cases,
+    tree: &ProposedTree,
     search: &mut Search,
     recorder: &mut R,
-) -> Result<Cases, SolveError>
-    requires fresh { IsFresh instance.now pins.now cases search.old.yard search.old.known }
-    requires empty { search.old.waiting.items ≡ [] }
+) -> Result<(), SolveError>
+    requires fresh { IsFresh instance.now pins.now tree.now.stock.items search.old }
     requires stage { R.stage recorder.old ≡ Open }
     requires own { R.owns recorder.old instance.now }
     requires none { R.number recorder.old ≡ 0 }
     requires no_cases { R.cases recorder.old ≡ 0 }
     requires told { IfSome (R.told recorder.old) (λ nodes. nodes ≡ []) }
-    ensures search { IfOk result (λ c. IsSearch instance.now pins.now c (R.told recorder.new) (R.number recorder.new) search.new.yard search.new.waiting.items search.new.known) }
+    ensures search { OnOk result (IsSearch instance.now pins.now tree.now.stock.items (R.told recorder.new) (R.number recorder.new) (R.cases recorder.new) search.new.waiting.items search.new) }
     ensures number { OnOk result (R.number recorder.new ≡ 1) }
-    ensures cases { OnOk result (R.cases recorder.new ≤ 2) }
     ensures tells { OnOk result (TellsOn (R.told recorder.old) (R.told recorder.new)) }
+    ensures plain { OnOk result (search.new.plain ≡ search.old.plain) }
     ensures open { OnOk result (R.stage recorder.new ≡ Open) }
     ensures sound { IsErrOf result SolveError.Memory → R.stage recorder.new ≢ Failed }
     ensures failed { IsErrOf result SolveError.Recorder → R.stage recorder.new ≡ Failed }
@@ -137,20 +142,27 @@ pub(crate) fn begin<R: Recorder>(
     // The calls tell what the search is behind its root.
     searches_begin();
     instance.units();
+    search.count = 1;
     let whole = is_whole(&search.yard.path);
     if whole {
+        search.owned = 0;
         note_whole(instance, recorder)?;
-        keep_cheaper(alloc, instance, &search.yard.path, &mut search.known)?;
-        return Ok(cases);
+        take_whole(alloc, instance, search)?;
+        return Ok(());
     }
-    let cases = note_branch(instance, cases, recorder)?;
+    let place = root_place(instance, tree, search);
+    search.owned = cases_in(tree, place).len() as u32;
+    note_branch(alloc, instance, tree, place, recorder)?;
     add_children(
         alloc,
         instance,
-        &cases,
+        tree,
+        place,
+        0,
+        Some(0),
         search.known.cost,
         &mut search.yard,
         &mut search.waiting,
     )?;
-    Ok(cases)
+    Ok(())
 }

@@ -1,20 +1,16 @@
 // What a search has found when it ends.
-ghost use Rattle.std.specs.Prelude.{◌≡◌, ◌⊎◌, [], ℕ, ◌≤◌, ℤ, pos, ◌≤ℤ◌, List, Option, IfSome};
-ghost use Rattle.shunt_lists.specs.defs.Members.{In};
+ghost use Rattle.std.specs.Prelude.{◌≡◌, ℕ, ◌≤◌, ℤ, pos, List, Option};
 ghost use Rattle.shunt_base.specs.declared.duals.Case.{Case as OneCase};
 ghost use Rattle.shunt_instance.specs.defs.Instance.{Night, IsInstance};
 ghost use Rattle.shunt_blocks.specs.declared.records.Block.{Block as OneBlock};
 ghost use Rattle.shunt_blocks.specs.defs.Lists.{total_cost};
 ghost use Rattle.shunt_plan.specs.declared.records.Plan.{Plan as OnePlan};
 ghost use Rattle.shunt_proof.specs.declared.records.Node.{Node as OneNode};
-ghost use Rattle.shunt_search.specs.declared.yard.Yard.{Yard as OneYard};
-ghost use Rattle.shunt_search.specs.declared.children.Child.{Child as OneChild};
-ghost use Rattle.shunt_search.specs.declared.known.Known.{Known as OneKnown};
+ghost use Rattle.shunt_search.specs.declared.searching.Search.{Search as OneSearch};
 ghost use Rattle.shunt_search.specs.defs.Conditions.{IsPlanFor, IsTidy};
 ghost use Rattle.shunt_search.specs.defs.Searching.{IsSearch};
-ghost use Rattle.shunt_search.specs.defs.Endings.{IsLeft, IsEnd, certificate_of};
+ghost use Rattle.shunt_search.specs.defs.Endings.{IsLeft, IsDone, IsEnd};
 
-use crate::floors::floors;
 use crate::laws::all_plans;
 use crate::walking::walks_go_on;
 use shunt_proof::laws::{best_costs, proved_bounds, starts, trees};
@@ -22,13 +18,12 @@ use shunt_proof::laws::{best_costs, proved_bounds, starts, trees};
 /// The bound of what is left isn't negative, and with it the nodes and a tidy plan that costs no more than the best that is known meet the
 /// conditions.
 pub(crate) fn searches_end()
-    ensures natural { (night : Night) (pins : List OneBlock) (cases : List OneCase) (told : Option (List OneNode)) (number : ℕ) (y : OneYard) (waiting : List OneChild) (k : OneKnown) (bound : ℤ) →
-        IsInstance night → IsSearch night pins cases told number y waiting k → IsLeft waiting k.cost bound → (b : ℕ) × (bound ≡ pos b) }
-    ensures end { (night : Night) (pins : List OneBlock) (cases : List OneCase) (told : Option (List OneNode)) (number most b : ℕ) (y : OneYard) (waiting : List OneChild) (k : OneKnown) (plan : OnePlan) →
-        IsInstance night → IsSearch night pins cases told number y waiting k → IsLeft waiting k.cost (pos b) → IsPlanFor night pins plan → IsTidy night pins plan → total_cost night plan.blocks ≤ k.cost →
-        number ≤ most → most ≤ 5000 → (number ≡ most) ⊎ (waiting ≡ []) → IsEnd night pins most number plan b told }
+    ensures natural { (night : Night) (pins : List OneBlock) (stock : List (List OneCase)) (told : Option (List OneNode)) (number owned : ℕ) (s : OneSearch) (bound : ℤ) →
+        IsInstance night → IsSearch night pins stock told number owned s.waiting.items s → IsLeft s.waiting.items s.low bound → (b : ℕ) × (bound ≡ pos b) }
+    ensures end { (night : Night) (pins : List OneBlock) (stock : List (List OneCase)) (told : Option (List OneNode)) (number owned most b : ℕ) (s : OneSearch) (plan : OnePlan) →
+        IsInstance night → IsSearch night pins stock told number owned s.waiting.items s → IsLeft s.waiting.items s.low (pos b) → IsPlanFor night pins plan → IsTidy night pins plan → total_cost night plan.blocks ≤ s.known.cost →
+        number ≤ most → most ≤ 5000 → IsDone number most s.waiting.items s.known.cost s.low → IsEnd night pins most number plan b told }
 {
-    floors();
     walks_go_on();
     trees();
     starts();

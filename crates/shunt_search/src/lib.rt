@@ -2,17 +2,22 @@
 //! node of its tree.
 #![tactic(auto)]
 
+mod attempting;
 mod beginning;
 mod cheapening;
 mod children;
+mod copies;
 mod ending;
 mod floors;
+mod following;
 mod known;
 pub mod laws;
+mod listing;
 mod noting;
 mod opening;
 mod polishing;
 mod preparing;
+mod proposing;
 mod rooting;
 mod searching;
 mod solved;

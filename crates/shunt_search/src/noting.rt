@@ -1,32 +1,57 @@
 // One step of a walk: the yard goes to a child, and its node is noted.
-ghost use Rattle.std.specs.Prelude.{◌≡◌, ◌≢◌, ◌↔◌, ◌∷◌, ◌++◌, [], ◌+◌, ◌<◌, ◌≤◌, ℕ, Bool, List, take, length, OnOk, IfSome, IsErrOf};
+ghost use Rattle.std.specs.Prelude.{◌≡◌, ◌≢◌, ◌↔◌, ◌∷◌, ◌++◌, [], ◌+◌, ◌<◌, ◌≤◌, All, List, take, length, IfOk, OnOk, IfSome, IsErrOf};
 ghost use Rattle.shunt_store.specs.defs.Causes.{HasCause};
 ghost use Rattle.shunt_store.specs.defs.Files.{BothTold};
+ghost use Rattle.shunt_base.specs.declared.duals.Case.{Case as OneCase};
 ghost use Rattle.shunt_instance.specs.defs.Instance.{Night, IsInstance};
 ghost use Rattle.shunt_blocks.specs.declared.records.Block.{Block as OneBlock};
 ghost use Rattle.shunt_matching.specs.declared.types.Shortage.{Shortage as OneShortage};
-ghost use Rattle.shunt_proof.specs.defs.Nodes.{FitsNode, CanFollow};
-ghost use Rattle.shunt_proof.specs.defs.Recording.{Open, Stalled, Failed};
+ghost use Rattle.shunt_proof.specs.defs.Nodes.{AreStatable, FitsNode, CanFollow};
+ghost use Rattle.shunt_proof.specs.defs.Recording.{Open, Failed};
 ghost use Rattle.shunt_search.specs.declared.children.Child.{Child as OneChild};
+ghost use Rattle.shunt_search.specs.declared.noting.Noted.{Noted as OneNoted};
 ghost use Rattle.shunt_search.specs.defs.Yards.{IsYard, IsNextBlock};
-ghost use Rattle.shunt_search.specs.defs.Walking.{kept, goal_of, IsNodeOf, stated, node_below};
+ghost use Rattle.shunt_search.specs.defs.Walking.{kept, goal_of, cases_in, IsNodeOf, stated, node_below, IsInStock, cases_of};
 
 use crate::children::Child;
+use crate::copies::copy_cases;
 use crate::solved::SolveError;
 use crate::yard::Yard;
+use shunt_base::Cases;
 use shunt_blocks::Block;
 use shunt_blocks::laws::places;
 use shunt_instance::Instance;
 use shunt_instance::laws::instances;
 use shunt_proof::{Choice, Node, NodeDuals, NodeKind, Recorder};
+use shunt_tree::ProposedTree;
+use std::alloc::{AllocError, Global};
+
+/// As what a path is noted.
+#[derive(Clone, Copy)]
+pub enum Noted {
+    /// A whole path.
+    Whole,
+    /// A branch with its parent's cases.
+    Same,
+    /// A branch with cases of its own, which are at this place of the stock.
+    Own(usize),
+}
 
 /// The node of a child is one that a file can state.
 pub(crate) fn next_nodes()
-    ensures { (night : Night) (start path : List OneBlock) (t : OneChild) (whole : Bool) → IsInstance night → IsNextBlock night (take (kept t) path) t.block →
-        length start < t.block.id → t.block.id ≤ length start + 160 → IsNodeOf night start path t (node_below (length start) t.block whole) }
+    ensures { (night : Night) (stock : List (List OneCase)) (start path : List OneBlock) (t : OneChild) (how : OneNoted) → IsInstance night → All (AreStatable night) stock → IsInStock stock how → IsNextBlock night (take (kept t) path) t.block →
+        length start < t.block.id → t.block.id ≤ length start + 160 → IsNodeOf night start path t (node_below (length start) t.block stock how) }
 {
     instances();
     places();
+}
+
+/// The cases at a place of a tree's stock.
+pub(crate) fn cases_in(tree: &ProposedTree, place: usize) -> &Cases
+    requires { place < length tree.now.stock.items }
+    ensures { result.now ≡ cases_in tree.now.stock.items place }
+{
+    &tree.stock[place]
 }
 
 /// What a node states of a block.
@@ -41,27 +66,43 @@ fn stated(block: &Block) -> Choice
     }
 }
 
-/// The node of a next block, so many pins before the first node's: a whole path, or a branch with its parent's cases.
-fn node_below(pins: usize, block: &Block, whole: bool) -> Node
+/// The node of a next block, so many pins before the first node's, as it is noted. Err is want of memory.
+fn node_below(
+    alloc: Global,
+    pins: usize,
+    block: &Block,
+    tree: &ProposedTree,
+    how: Noted,
+) -> Result<Node, AllocError>
     requires deep { pins < block.now.id }
     requires few { block.now.id ≤ pins + 160 }
-    ensures { result ≡ node_below pins block.now whole }
+    requires there { IsInStock tree.now.stock.items how }
+    ensures { IfOk result (λ n. n ≡ node_below pins block.now tree.now.stock.items how) }
 {
     let depth = (block.id as usize - pins) as u8;
     let choice = Some(stated(block));
-    if whole {
-        return Node {
+    match how {
+        Noted::Whole => Ok(Node {
             depth,
             choice,
             kind: NodeKind::Whole,
             duals: NodeDuals::Bare,
-        };
-    }
-    Node {
-        depth,
-        choice,
-        kind: NodeKind::Branch,
-        duals: NodeDuals::Same,
+        }),
+        Noted::Same => Ok(Node {
+            depth,
+            choice,
+            kind: NodeKind::Branch,
+            duals: NodeDuals::Same,
+        }),
+        Noted::Own(place) => {
+            let cases = copy_cases(alloc, cases_in(tree, place))?;
+            Ok(Node {
+                depth,
+                choice,
+                kind: NodeKind::Branch,
+                duals: NodeDuals::New(cases),
+            })
+        }
     }
 }
 
@@ -81,31 +122,35 @@ pub(crate) fn go_to(instance: &Instance, yard: &mut Yard, next: &Child)
 
 /// Notes the node of a next block, so many pins before the first node's.
 pub(crate) fn note_below<R: Recorder>(
+    alloc: Global,
     instance: &Instance,
     pins: usize,
     block: &Block,
-    whole: bool,
+    tree: &ProposedTree,
+    how: Noted,
     recorder: &mut R,
 ) -> Result<(), SolveError>
     requires deep { pins < block.now.id }
     requires few { block.now.id ≤ pins + 160 }
+    requires there { IsInStock tree.now.stock.items how }
     requires stage { R.stage recorder.old ≡ Open }
     requires own { R.owns recorder.old instance.now }
     requires room { R.number recorder.old < 5000 }
-    requires case_room { R.cases recorder.old ≤ 8000 }
-    requires fits { FitsNode instance.now (node_below pins block.now whole) }
-    requires place { IfSome (R.told recorder.old) (λ nodes. CanFollow nodes (node_below pins block.now whole)) }
-    ensures told { OnOk result (BothTold (R.told recorder.old) (R.told recorder.new) (λ old new. new ≡ old ++ node_below pins block.now whole ∷ [])) }
+    requires case_room { R.cases recorder.old + cases_of tree.now.stock.items how ≤ 8000 }
+    requires fits { FitsNode instance.now (node_below pins block.now tree.now.stock.items how) }
+    requires place { IfSome (R.told recorder.old) (λ nodes. CanFollow nodes (node_below pins block.now tree.now.stock.items how)) }
+    ensures told { OnOk result (BothTold (R.told recorder.old) (R.told recorder.new) (λ old new. new ≡ old ++ node_below pins block.now tree.now.stock.items how ∷ [])) }
     ensures number { OnOk result (R.number recorder.new ≡ R.number recorder.old + 1) }
-    ensures cases { OnOk result (R.cases recorder.new ≡ R.cases recorder.old) }
+    ensures cases { OnOk result (R.cases recorder.new ≡ R.cases recorder.old + cases_of tree.now.stock.items how) }
     ensures open { OnOk result (R.stage recorder.new ≡ Open) }
-    ensures stalled { IsErrOf result SolveError.Memory → R.stage recorder.new ≡ Stalled }
+    ensures sound { IsErrOf result SolveError.Memory → R.stage recorder.new ≢ Failed }
     ensures failed { IsErrOf result SolveError.Recorder → R.stage recorder.new ≡ Failed }
     ensures no_matching { (s : OneShortage) → IsErrOf result (SolveError.NoMatching s) → ⊥ }
     ensures own { (night : Night) → R.owns recorder.new night ↔ R.owns recorder.old night }
     ensures cause { HasCause SolveError.Recorder (R.faults recorder.old) (R.faults recorder.new) result }
     ensures keeps { R.keeps recorder.old recorder.new }
 {
-    recorder.note(instance, &node_below(pins, block, whole))?;
+    let node = node_below(alloc, pins, block, tree, how)?;
+    recorder.note(instance, &node)?;
     Ok(())
 }

@@ -1,30 +1,37 @@
-// A search that is to begin: the pins in order, the cases of the root, and a plan that is cheap by them.
-ghost use Rattle.std.specs.Prelude.{◌≡◌, ◌⊎◌, [], ℕ, List, All, IfOk, IsErrOf};
+// A search that is to begin: the pins in order, the cases of the root, a plan that is cheap by them, and a tree to follow.
+ghost use Rattle.std.specs.Prelude.{◌≡◌, ◌⊎◌, ℕ, ◌≤◌, List, All, length, IfOk, IsErrOf};
 ghost use Rattle.shunt_instance.specs.defs.Instance.{Night, IsInstance, unit_total, position_total};
 ghost use Rattle.shunt_blocks.specs.declared.records.Block.{Block as OneBlock};
 ghost use Rattle.shunt_blocks.specs.defs.Blocks.{IsBlockButId};
 ghost use Rattle.shunt_blocks.specs.defs.Lists.{RunsThrough, placed, units_taken, positions_taken};
-ghost use Rattle.shunt_blocks.specs.defs.Pins.{AreUsable};
+ghost use Rattle.shunt_blocks.specs.defs.Pins.{AreUsable, opening_cost};
 ghost use Rattle.shunt_choices.specs.defs.Paths.{Trail, IsTrailOf, masks_of};
 ghost use Rattle.shunt_matching.specs.declared.types.Shortage.{Shortage as OneShortage};
 ghost use Rattle.shunt_matching.specs.defs.Nights.{Matches, MatchesRest, IsShortageOf};
 ghost use Rattle.shunt_proof.specs.defs.Trees.{IsStart};
+ghost use Rattle.shunt_search.specs.defs.Yards.{IsYard};
+ghost use Rattle.shunt_search.specs.defs.Walking.{IsBest};
 ghost use Rattle.shunt_search.specs.defs.Searching.{IsFresh};
 
 use crate::cheapening::{first_plan, last_plan};
+use crate::following::take_proposed;
+use crate::known::Known;
+use crate::noting::cases_in;
 use crate::opening::{as_many_positions, opening_plan};
+use crate::proposing::proposed_tree;
 use crate::rooting::root_cases;
 use crate::searching::Search;
 use crate::solved::SolveError;
-use crate::yard::start;
+use crate::yard::{Yard, start};
 use shunt_ascent::Proposal;
-use shunt_base::Cases;
 use shunt_blocks::Block;
 use shunt_blocks::laws::matchings;
 use shunt_choices::Path;
+use shunt_dual::cases_bound;
 use shunt_instance::Instance;
 use shunt_matching::{MatchError, Matching, first_fit_rest};
 use shunt_proof::laws::starts;
+use shunt_tree::ProposedTree;
 use std::alloc::{AllocError, Global};
 
 /// The path of usable pins in order covers what they do; its blocks go through together; and where what it leaves has a matching, there is
@@ -79,16 +86,69 @@ fn matched_rest(
     matched(alloc, instance, path)
 }
 
-/// A search that is to begin, and the cases of its root. NoMatching comes exactly where what the pins leave has no matching, unless memory
-/// runs out before.
+/// A search that is to begin at the path of the pins, with a plan that costs no more than the opening plan, and the tree that it is to
+/// follow. Err is want of memory.
+fn prepared(
+    alloc: Global,
+    instance: &Instance,
+    pins: &[Block],
+    nodes: u32,
+    yard: Yard,
+    opening: &Known,
+) -> Result<(Search, ProposedTree), AllocError>
+    requires usable { AreUsable instance.now pins.now }
+    requires even { position_total instance.now ≡ unit_total instance.now }
+    requires start { IsStart instance.now pins.now yard.path.blocks }
+    requires pins { yard.path.pins ≡ length pins.now }
+    requires yard { IsYard instance.now yard }
+    requires each { All (IsBlockButId instance.now) yard.path.blocks }
+    requires through { RunsThrough instance.now (placed yard.path.blocks) }
+    requires matching { (place : List ℕ) × Matches instance.now place }
+    requires best { IsBest instance.now pins.now opening.now.blocks.items opening.now.cost }
+    requires opening { opening.now.cost ≡ opening_cost instance.now pins.now }
+    requires small { opening.now.cost ≤ 640000000 }
+    ensures { IfOk result (λ s. IsFresh instance.now pins.now s.1.stock.items s.0) }
+{
+    let proposal = Proposal::new(alloc, instance, &yard.path)?;
+    let first = first_plan(alloc, instance, pins, &proposal, opening)?;
+    let cases = root_cases(alloc, instance, &yard.path, &proposal, &first)?;
+    let mut known = last_plan(alloc, instance, pins, &cases, &first)?;
+    let floor = cases_bound(instance, &yard.path, &cases);
+    let tree = proposed_tree(
+        alloc, instance, &yard.path, &proposal, cases, known.cost, nodes,
+    )?;
+    take_proposed(
+        alloc,
+        instance,
+        pins,
+        cases_in(&tree, 0),
+        &tree.plan,
+        &mut known,
+    )?;
+    let low = known.cost as i64;
+    let search = Search {
+        yard,
+        waiting: Vec::new(alloc),
+        known,
+        low,
+        floor,
+        plain: false,
+        count: 0,
+        owned: 0,
+    };
+    Ok((search, tree))
+}
+
+/// A search that is to begin, and the tree that it is to follow, which has at most so many nodes. NoMatching comes exactly where what the
+/// pins leave has no matching, unless memory runs out before.
 pub(crate) fn prepare(
     alloc: Global,
     instance: &Instance,
     pins: &[Block],
-) -> Result<(Search, Cases), SolveError>
+    nodes: u32,
+) -> Result<(Search, ProposedTree), SolveError>
     requires { AreUsable instance.now pins.now }
-    ensures fresh { IfOk result (λ s. IsFresh instance.now pins.now s.1 s.0.yard s.0.known) }
-    ensures empty { IfOk result (λ s. s.0.waiting.items ≡ []) }
+    ensures fresh { IfOk result (λ s. IsFresh instance.now pins.now s.1.stock.items s.0) }
     ensures exact { (s : OneShortage) → IsErrOf result (SolveError.NoMatching s) → IsShortageOf instance.now (units_taken instance.now pins.now) (positions_taken instance.now pins.now) s }
     ensures only { (s : OneShortage) → IsShortageOf instance.now (units_taken instance.now pins.now) (positions_taken instance.now pins.now) s → IsErrOf result (SolveError.NoMatching s) ⊎ IsErrOf result SolveError.Memory }
     ensures no_fault { IsErrOf result SolveError.Recorder → ⊥ }
@@ -105,14 +165,6 @@ pub(crate) fn prepare(
         yard.path.covered(),
         matching.place_of.as_slice(),
     )?;
-    let proposal = Proposal::new(alloc, instance, &yard.path)?;
-    let first = first_plan(alloc, instance, pins, &proposal, &opening)?;
-    let cases = root_cases(alloc, instance, &yard.path, &proposal, &first)?;
-    let known = last_plan(alloc, instance, pins, &cases, &first)?;
-    let search = Search {
-        yard,
-        waiting: Vec::new(alloc),
-        known,
-    };
-    Ok((search, cases))
+    let found = prepared(alloc, instance, pins, nodes, yard, &opening)?;
+    Ok(found)
 }

@@ -1,5 +1,5 @@
 // The walk through a tree, node by node.
-ghost use Rattle.std.specs.Prelude.{◌≡◌, ◌≢◌, ◌↔◌, ◌⊎◌, ◌∷◌, ◌++◌, [], ℕ, ◌+◌, ◌<◌, ◌≤◌, pos, ◌<ℤ◌, true, false, List, Option, IfOk, OnOk, IsErrOf};
+ghost use Rattle.std.specs.Prelude.{◌≡◌, ◌≢◌, ◌↔◌, ◌⊎◌, ◌∷◌, ◌++◌, [], ℕ, ◌+◌, ◌<◌, ◌≤◌, pos, ◌≤ℤ◌, ◌<ℤ◌, true, false, List, Option, IfSome, IfNone, IfOk, OnOk, IsErrOf};
 ghost use Rattle.shunt_store.specs.defs.Causes.{HasCause};
 ghost use Rattle.shunt_store.specs.defs.Files.{BothTold};
 ghost use Rattle.shunt_base.specs.declared.duals.Case.{Case as OneCase};
@@ -8,61 +8,110 @@ ghost use Rattle.shunt_blocks.specs.declared.records.Block.{Block as OneBlock};
 ghost use Rattle.shunt_matching.specs.declared.types.Shortage.{Shortage as OneShortage};
 ghost use Rattle.shunt_proof.specs.declared.records.Node.{Node as OneNode};
 ghost use Rattle.shunt_proof.specs.defs.Recording.{Open, Failed};
-ghost use Rattle.shunt_search.specs.declared.yard.Yard.{Yard as OneYard};
-ghost use Rattle.shunt_search.specs.declared.children.Child.{Child as OneChild};
-ghost use Rattle.shunt_search.specs.declared.known.Known.{Known as OneKnown};
-ghost use Rattle.shunt_search.specs.defs.Walking.{goal_of, node_below, Passes, IsVisited, KeepsCheaper};
-ghost use Rattle.shunt_search.specs.defs.Searching.{IsSearch, IsReady, ArrivesAt, TellsOn};
+ghost use Rattle.shunt_search.specs.declared.walking.Pending.{Pending as OnePending};
+ghost use Rattle.shunt_search.specs.declared.noting.Noted.{Noted as OneNoted};
+ghost use Rattle.shunt_search.specs.declared.noting.Noted.TheVariants as noted;
+ghost use Rattle.shunt_search.specs.declared.searching.Search.{Search as OneSearch};
+ghost use Rattle.shunt_search.specs.defs.Yards.{IsYard};
+ghost use Rattle.shunt_search.specs.defs.Walking.{node_below, cases_of, IsLesser};
+ghost use Rattle.shunt_search.specs.defs.Searching.{IsSearch, IsReady, Arrives, Takes, Falls, TellsOn};
 
-use crate::children::Child;
+use crate::floors::floors;
 use crate::known::{Known, keep_cheaper, kept_plans};
-use crate::noting::next_nodes;
+use crate::noting::{Noted, next_nodes};
 use crate::solved::SolveError;
 use crate::visiting::visit;
-use crate::walking::{next_open, walks_go_on};
+use crate::walking::{Pending, next_open, walks_go_on};
 use crate::yard::Yard;
-use shunt_base::Cases;
 use shunt_blocks::Block;
 use shunt_blocks::laws::few_blocks;
 use shunt_choices::laws::plans_grow;
 use shunt_instance::Instance;
 use shunt_instance::laws::unit_numbers;
+use shunt_prices::laws::bounds_rise;
 use shunt_proof::Recorder;
 use shunt_proof::laws::few_nodes;
-use std::alloc::Global;
+use shunt_tree::ProposedTree;
+use std::alloc::{AllocError, Global};
 
 /// Where a search stands: at the path of the last node, with the children that are still to be walked to, and the best plan that is
 /// known.
 #[derive(Drop)]
 pub struct Search {
     pub yard: Yard,
-    pub waiting: Vec<Child>,
+    pub waiting: Vec<Pending>,
     pub known: Known,
+    /// The least of what the plan costs and the bounds of the children that were passed over.
+    pub low: i64,
+    /// The bound of the pins by the first cases of the stock: no node's own cases bound it less.
+    pub floor: i64,
+    /// Whether no child is passed over.
+    pub plain: bool,
+    /// How many nodes were noted, and how many cases of their own they have.
+    pub count: u32,
+    pub owned: u32,
 }
 
-/// How a search goes on: its next child can become a node, a branch whose children come in its place, or a whole path; and closed children
-/// are no part of it.
+/// How a search goes on: its next child can become a node, a branch whose children come in its place, or a whole path; and children that
+/// are closed or passed over are no part of it.
 fn searches_go_on()
-    ensures ready { (night : Night) (pins : List OneBlock) (cases : List OneCase) (told : Option (List OneNode)) (number : ℕ) (y : OneYard) (left : List OneChild) (t : OneChild) (k : OneKnown) →
-        IsInstance night → IsSearch night pins cases told number y (left ++ t ∷ []) k → t.bound <ℤ pos k.cost → IsReady night told y t }
-    ensures whole { (night : Night) (pins : List OneBlock) (cases : List OneCase) (told now : Option (List OneNode)) (number count : ℕ) (y z : OneYard) (left waiting : List OneChild) (t : OneChild) (k better : OneKnown) →
-        IsInstance night → IsSearch night pins cases told number y (left ++ t ∷ []) k → t.bound <ℤ pos k.cost → ArrivesAt night y t z → count ≡ number + 1 →
-        IsVisited night cases k.cost (goal_of y.path.blocks t) true left waiting → BothTold told now (λ old new. new ≡ old ++ node_below y.path.pins t.block true ∷ []) → KeepsCheaper night z.path.blocks k better →
-        IsSearch night pins cases now count z waiting better }
-    ensures branch { (night : Night) (pins : List OneBlock) (cases : List OneCase) (told now : Option (List OneNode)) (number count : ℕ) (y z : OneYard) (left waiting : List OneChild) (t : OneChild) (k : OneKnown) →
-        IsInstance night → IsSearch night pins cases told number y (left ++ t ∷ []) k → t.bound <ℤ pos k.cost → ArrivesAt night y t z → count ≡ number + 1 →
-        IsVisited night cases k.cost (goal_of y.path.blocks t) false left waiting → BothTold told now (λ old new. new ≡ old ++ node_below y.path.pins t.block false ∷ []) →
-        IsSearch night pins cases now count z waiting k }
-    ensures closed { (night : Night) (pins : List OneBlock) (cases : List OneCase) (told : Option (List OneNode)) (number : ℕ) (y : OneYard) (waiting left : List OneChild) (k : OneKnown) →
-        IsSearch night pins cases told number y waiting k → Passes k.cost waiting left → IsSearch night pins cases told number y left k }
+    ensures ready { (night : Night) (pins : List OneBlock) (stock : List (List OneCase)) (told : Option (List OneNode)) (number owned : ℕ) (left : List OnePending) (t : OnePending) (s : OneSearch) →
+        IsInstance night → IsSearch night pins stock told number owned (left ++ t ∷ []) s → t.child.bound <ℤ pos s.known.cost → IsReady night stock told s.yard t }
+    ensures branch { (night : Night) (pins : List OneBlock) (stock : List (List OneCase)) (told now : Option (List OneNode)) (number count owned cases : ℕ) (left : List OnePending) (t : OnePending) (s z : OneSearch) (how : OneNoted) →
+        IsInstance night → IsSearch night pins stock told number owned (left ++ t ∷ []) s → t.child.bound <ℤ pos s.known.cost → Arrives night stock s z t how left → how ≢ noted.Whole →
+        count ≡ number + 1 → cases ≡ owned + cases_of stock how → BothTold told now (λ old new. new ≡ old ++ node_below s.yard.path.pins t.child.block stock how ∷ []) →
+        IsSearch night pins stock now count cases z.waiting.items z }
+    ensures whole { (night : Night) (pins : List OneBlock) (stock : List (List OneCase)) (told now : Option (List OneNode)) (number count owned cases : ℕ) (left : List OnePending) (t : OnePending) (s z w : OneSearch) →
+        IsInstance night → IsSearch night pins stock told number owned (left ++ t ∷ []) s → t.child.bound <ℤ pos s.known.cost → Arrives night stock s z t noted.Whole left →
+        count ≡ number + 1 → cases ≡ owned + cases_of stock noted.Whole → BothTold told now (λ old new. new ≡ old ++ node_below s.yard.path.pins t.child.block stock noted.Whole ∷ []) → Takes night z w →
+        IsSearch night pins stock now count cases w.waiting.items w }
+    ensures closed { (night : Night) (pins : List OneBlock) (stock : List (List OneCase)) (told : Option (List OneNode)) (number owned : ℕ) (waiting left : List OnePending) (s z : OneSearch) →
+        IsSearch night pins stock told number owned waiting s → Falls s z waiting left → IsSearch night pins stock told number owned left z }
 {
     walks_go_on();
     next_nodes();
     kept_plans();
+    floors();
+    bounds_rise();
     few_nodes();
     plans_grow();
     few_blocks();
     unit_numbers();
+}
+
+/// The lesser of a bound and a cost.
+fn lesser_cost(bound: i64, cost: u64) -> i64
+    requires { cost ≤ 1000000000000 }
+    ensures { IsLesser bound (pos cost) result }
+{
+    let other = cost as i64;
+    if other < bound { other } else { bound }
+}
+
+/// The yard's path takes the place of the plan that is known, where it costs less. Err is want of memory.
+pub(crate) fn take_whole(
+    alloc: Global,
+    instance: &Instance,
+    search: &mut Search,
+) -> Result<(), AllocError>
+    requires yard { IsYard instance.now search.old.yard }
+    requires best { search.old.known.cost ≤ 1000000000000 }
+    ensures { OnOk result (Takes instance.now search.old search.new) }
+{
+    keep_cheaper(alloc, instance, &search.yard.path, &mut search.known)?;
+    search.low = lesser_cost(search.low, search.known.cost);
+    Ok(())
+}
+
+/// Whether it is noted as a whole path.
+fn is_noted_whole(how: Noted) -> bool
+    ensures yes { result ≡ true → how ≡ noted.Whole }
+    ensures no { result ≡ false → how ≢ noted.Whole }
+{
+    match how {
+        Noted::Whole => true,
+        _ => false,
+    }
 }
 
 /// A child becomes a node; where its path is whole and costs less than the plan that is known, it takes that plan's place.
@@ -70,20 +119,19 @@ fn arrive<R: Recorder>(
     alloc: Global,
     instance: &Instance,
     pins: &[Block],
-    cases: &Cases,
-    next: Child,
+    tree: &ProposedTree,
+    next: Pending,
     search: &mut Search,
     recorder: &mut R,
 ) -> Result<(), SolveError>
-    requires search { IsSearch instance.now pins.now cases.now (R.told recorder.old) (R.number recorder.old) search.old.yard (search.old.waiting.items ++ next ∷ []) search.old.known }
-    requires below { next.bound <ℤ pos search.old.known.cost }
+    requires search { IsSearch instance.now pins.now tree.now.stock.items (R.told recorder.old) (R.number recorder.old) (R.cases recorder.old) (search.old.waiting.items ++ next ∷ []) search.old }
+    requires below { next.child.bound <ℤ pos search.old.known.cost }
     requires stage { R.stage recorder.old ≡ Open }
     requires own { R.owns recorder.old instance.now }
     requires room { R.number recorder.old < 5000 }
-    requires case_room { R.cases recorder.old ≤ 8000 }
-    ensures search { OnOk result (IsSearch instance.now pins.now cases.now (R.told recorder.new) (R.number recorder.new) search.new.yard search.new.waiting.items search.new.known) }
+    ensures search { OnOk result (IsSearch instance.now pins.now tree.now.stock.items (R.told recorder.new) (R.number recorder.new) (R.cases recorder.new) search.new.waiting.items search.new) }
     ensures number { OnOk result (R.number recorder.new ≡ R.number recorder.old + 1) }
-    ensures cases { OnOk result (R.cases recorder.new ≡ R.cases recorder.old) }
+    ensures plain { OnOk result (search.new.plain ≡ search.old.plain) }
     ensures tells { OnOk result (TellsOn (R.told recorder.old) (R.told recorder.new)) }
     ensures open { OnOk result (R.stage recorder.new ≡ Open) }
     ensures sound { IsErrOf result SolveError.Memory → R.stage recorder.new ≢ Failed }
@@ -96,42 +144,50 @@ fn arrive<R: Recorder>(
     // The calls tell that the child's node can be noted, and what the search is behind it.
     searches_go_on();
     instance.units();
-    let best = search.known.cost;
-    let whole = visit(
-        alloc,
-        instance,
-        cases,
-        best,
-        &next,
-        &mut search.yard,
-        &mut search.waiting,
-        recorder,
-    )?;
+    let how = visit(alloc, instance, tree, &next, search, recorder)?;
+    let whole = is_noted_whole(how);
     if whole {
-        keep_cheaper(alloc, instance, &search.yard.path, &mut search.known)?;
+        take_whole(alloc, instance, search)?;
         return Ok(());
     }
     Ok(())
 }
 
-/// Walks to the next child whose bound is below the best cost, and tells whether there was one.
+/// The next child whose bound is below the best cost, and which isn't passed over. Those behind it are left no more.
+fn take_next(search: &mut Search) -> Option<Pending>
+    requires best { search.old.known.cost ≤ 1000000000000 }
+    requires within { search.old.low ≤ℤ pos search.old.known.cost }
+    ensures some { IfSome result (λ t. Falls search.old search.new search.old.waiting.items (search.new.waiting.items ++ t ∷ [])) }
+    ensures below { IfSome result (λ t. t.child.bound <ℤ pos search.new.known.cost) }
+    ensures none { IfNone result (Falls search.old search.new search.old.waiting.items []) }
+    ensures empty { IfNone result (search.new.waiting.items ≡ []) }
+    ensures plain { search.new.plain ≡ search.old.plain }
+{
+    let best = search.known.cost;
+    let plain = search.plain;
+    let Some(next) = next_open(&mut search.waiting, &mut search.low, best, plain) else {
+        return None;
+    };
+    Some(next)
+}
+
+/// Walks to the next child whose bound is below the best cost, and which isn't passed over, and tells whether there was one.
 fn advance<R: Recorder>(
     alloc: Global,
     instance: &Instance,
     pins: &[Block],
-    cases: &Cases,
+    tree: &ProposedTree,
     search: &mut Search,
     recorder: &mut R,
 ) -> Result<bool, SolveError>
-    requires search { IsSearch instance.now pins.now cases.now (R.told recorder.old) (R.number recorder.old) search.old.yard search.old.waiting.items search.old.known }
+    requires search { IsSearch instance.now pins.now tree.now.stock.items (R.told recorder.old) (R.number recorder.old) (R.cases recorder.old) search.old.waiting.items search.old }
     requires stage { R.stage recorder.old ≡ Open }
     requires own { R.owns recorder.old instance.now }
     requires room { R.number recorder.old < 5000 }
-    requires case_room { R.cases recorder.old ≤ 8000 }
-    ensures search { OnOk result (IsSearch instance.now pins.now cases.now (R.told recorder.new) (R.number recorder.new) search.new.yard search.new.waiting.items search.new.known) }
+    ensures search { OnOk result (IsSearch instance.now pins.now tree.now.stock.items (R.told recorder.new) (R.number recorder.new) (R.cases recorder.new) search.new.waiting.items search.new) }
     ensures more { IfOk result (λ more. more ≡ true → R.number recorder.new ≡ R.number recorder.old + 1) }
     ensures done { IfOk result (λ more. more ≡ false → (R.number recorder.new ≡ R.number recorder.old) × (search.new.waiting.items ≡ [])) }
-    ensures cases { OnOk result (R.cases recorder.new ≡ R.cases recorder.old) }
+    ensures plain { OnOk result (search.new.plain ≡ search.old.plain) }
     ensures tells { OnOk result (TellsOn (R.told recorder.old) (R.told recorder.new)) }
     ensures open { OnOk result (R.stage recorder.new ≡ Open) }
     ensures sound { IsErrOf result SolveError.Memory → R.stage recorder.new ≢ Failed }
@@ -141,36 +197,35 @@ fn advance<R: Recorder>(
     ensures cause { HasCause SolveError.Recorder (R.faults recorder.old) (R.faults recorder.new) result }
     ensures keeps { R.keeps recorder.old recorder.new }
 {
-    // The call tells that what is closed isn't needed.
+    // The call tells that what is closed or passed over isn't needed.
     searches_go_on();
-    let Some(next) = next_open(&mut search.waiting, search.known.cost) else {
+    let Some(next) = take_next(search) else {
         return Ok(false);
     };
-    arrive(alloc, instance, pins, cases, next, search, recorder)?;
+    arrive(alloc, instance, pins, tree, next, search, recorder)?;
     Ok(true)
 }
 
-/// Walks on until so many nodes are noted, or no child is left whose bound is below the best cost, and gives the number of nodes.
+/// Walks on until so many nodes are noted, or no child is left whose bound is below the best cost and which isn't passed over.
 pub(crate) fn walk_on<R: Recorder>(
     alloc: Global,
     instance: &Instance,
     pins: &[Block],
-    cases: &Cases,
+    tree: &ProposedTree,
     nodes: u32,
     search: &mut Search,
     recorder: &mut R,
-) -> Result<u32, SolveError>
-    requires search { IsSearch instance.now pins.now cases.now (R.told recorder.old) (R.number recorder.old) search.old.yard search.old.waiting.items search.old.known }
+) -> Result<(), SolveError>
+    requires search { IsSearch instance.now pins.now tree.now.stock.items (R.told recorder.old) (R.number recorder.old) (R.cases recorder.old) search.old.waiting.items search.old }
     requires first { R.number recorder.old ≡ 1 }
     requires some { 1 ≤ nodes }
     requires few { nodes ≤ 5000 }
     requires stage { R.stage recorder.old ≡ Open }
     requires own { R.owns recorder.old instance.now }
-    requires case_room { R.cases recorder.old ≤ 8000 }
-    ensures search { OnOk result (IsSearch instance.now pins.now cases.now (R.told recorder.new) (R.number recorder.new) search.new.yard search.new.waiting.items search.new.known) }
-    ensures number { IfOk result (λ count. count ≡ R.number recorder.new) }
-    ensures most { IfOk result (λ count. count ≤ nodes) }
-    ensures done { IfOk result (λ count. (count ≡ nodes) ⊎ (search.new.waiting.items ≡ [])) }
+    ensures search { OnOk result (IsSearch instance.now pins.now tree.now.stock.items (R.told recorder.new) (R.number recorder.new) (R.cases recorder.new) search.new.waiting.items search.new) }
+    ensures most { OnOk result (R.number recorder.new ≤ nodes) }
+    ensures done { OnOk result ((R.number recorder.new ≡ nodes) ⊎ (search.new.waiting.items ≡ [])) }
+    ensures plain { OnOk result (search.new.plain ≡ search.old.plain) }
     ensures tells { OnOk result (TellsOn (R.told recorder.old) (R.told recorder.new)) }
     ensures open { OnOk result (R.stage recorder.new ≡ Open) }
     ensures sound { IsErrOf result SolveError.Memory → R.stage recorder.new ≢ Failed }
@@ -182,11 +237,11 @@ pub(crate) fn walk_on<R: Recorder>(
 {
     let mut count = 1;
     'walk: while count < nodes {
-        let more = advance(alloc, instance, pins, cases, search, recorder)?;
+        let more = advance(alloc, instance, pins, tree, search, recorder)?;
         if !more {
-            return Ok(count);
+            return Ok(());
         }
         count += 1;
     }
-    Ok(count)
+    Ok(())
 }

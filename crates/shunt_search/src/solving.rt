@@ -14,12 +14,12 @@ ghost use Rattle.shunt_proof.specs.defs.Certificates.{IsCertificate};
 ghost use Rattle.shunt_proof.specs.defs.Recording.{Open, Finished, Failed};
 ghost use Rattle.shunt_search.specs.defs.Conditions.{MeetConditions, MeetsConditions, IsBoundForPlans};
 ghost use Rattle.shunt_search.specs.defs.Searching.{IsSearch};
-ghost use Rattle.shunt_search.specs.defs.Endings.{IsLeft, IsShown, certificate_of};
+ghost use Rattle.shunt_search.specs.defs.Endings.{IsLeft, IsDone, IsShown, certificate_of};
 
-use crate::beginning::begin;
+use crate::attempting::walk_whole;
 use crate::ending::searches_end;
 use crate::preparing::prepare;
-use crate::searching::{Search, walk_on};
+use crate::searching::Search;
 use crate::solved::{SolveError, Solved};
 use crate::tidying::tidy_plan;
 use crate::walking::give_up;
@@ -29,13 +29,20 @@ use shunt_matching::laws::masks_alike;
 use shunt_proof::Recorder;
 use std::alloc::Global;
 
-/// The least of the best cost and of the bounds that are left, which isn't negative.
-fn bound_left(search: &Search) -> u64
-    requires small { search.now.known.cost ≤ 1000000000000 }
-    requires natural { (low : ℤ) → IsLeft search.now.waiting.items search.now.known.cost low → (b : ℕ) × (low ≡ pos b) }
-    ensures { IsLeft search.now.waiting.items search.now.known.cost (pos result) }
+/// The low bound of a search.
+fn low_bound(search: &Search) -> i64
+    ensures { result ≡ search.now.low }
 {
-    let low = give_up(&search.waiting, search.known.cost);
+    search.low
+}
+
+/// The least of the low bound and of the bounds that are left, which isn't negative.
+fn bound_left(search: &Search) -> u64
+    requires { (low : ℤ) → IsLeft search.now.waiting.items search.now.low low → (b : ℕ) × (low ≡ pos b) }
+    ensures { IsLeft search.now.waiting.items search.now.low (pos result) }
+{
+    let least = low_bound(search);
+    let low = give_up(&search.waiting, least);
     low as u64
 }
 
@@ -45,15 +52,13 @@ fn conclude<R: Recorder>(
     instance: &Instance,
     pins: &[Block],
     nodes: u32,
-    count: u32,
     search: Search,
     recorder: &mut R,
 ) -> Result<Solved, SolveError>
-    requires search { (cases : List OneCase) × IsSearch instance.now pins.now cases (R.told recorder.old) (R.number recorder.old) search.yard search.waiting.items search.known }
-    requires number { count ≡ R.number recorder.old }
-    requires most { count ≤ nodes }
+    requires search { (stock : List (List OneCase)) × IsSearch instance.now pins.now stock (R.told recorder.old) (R.number recorder.old) (R.cases recorder.old) search.waiting.items search }
+    requires most { R.number recorder.old ≤ nodes }
     requires few { nodes ≤ 5000 }
-    requires done { (count ≡ nodes) ⊎ (search.waiting.items ≡ []) }
+    requires done { IsDone (R.number recorder.old) nodes search.waiting.items search.known.cost search.low }
     requires stage { R.stage recorder.old ≡ Open }
     ensures meets { IfOk result (MeetsConditions instance.now pins.now nodes) }
     ensures in_range { IfOk result (λ s. IsPlanInRange instance.now s.plan) }
@@ -75,6 +80,7 @@ fn conclude<R: Recorder>(
     // The call tells that the bound isn't negative, and what the nodes and the plan meet.
     searches_end();
     instance.units();
+    let nodes = search.count;
     let bound = bound_left(&search);
     let plan = tidy_plan(alloc, instance, pins, &search.known.blocks)?;
     let cost = plan.cost;
@@ -83,7 +89,7 @@ fn conclude<R: Recorder>(
         plan,
         cost,
         bound,
-        nodes: count,
+        nodes,
     })
 }
 
@@ -126,10 +132,9 @@ pub fn solve_pinned<R: Recorder>(
     ensures cause { HasCause SolveError.Recorder (R.faults recorder.old) (R.faults recorder.new) result }
     ensures keeps { R.keeps recorder.old recorder.new }
 {
-    let (mut search, cases) = prepare(alloc, instance, pins)?;
-    let cases = begin(alloc, instance, pins, cases, &mut search, recorder)?;
-    let count = walk_on(alloc, instance, pins, &cases, nodes, &mut search, recorder)?;
-    conclude(alloc, instance, pins, nodes, count, search, recorder)
+    let (mut search, tree) = prepare(alloc, instance, pins, nodes)?;
+    walk_whole(alloc, instance, pins, &tree, nodes, &mut search, recorder)?;
+    conclude(alloc, instance, pins, nodes, search, recorder)
 }
 
 /// `solve_pinned` with no pins: the bound is one on every feasible plan, and NoMatching comes exactly where the night has no matching,

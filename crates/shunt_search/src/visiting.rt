@@ -1,25 +1,27 @@
 // One step of a walk: a child becomes a node.
-ghost use Rattle.std.specs.Prelude.{◌≡◌, ◌≢◌, ◌↔◌, ◌∷◌, ◌++◌, [], ◌+◌, ◌<◌, ◌≤◌, Bool, true, false, take, length, None, IsSome, IfOk, OnOk, IfSome, IsErrOf};
+ghost use Rattle.std.specs.Prelude.{◌≡◌, ◌≢◌, ◌↔◌, ◌∷◌, ◌++◌, [], ◌+◌, ◌<◌, ◌≤◌, ◌≤ℤ◌, true, false, All, None, length, IsSome, IsTrue, IfOk, OnOk, IsErrOf};
 ghost use Rattle.shunt_store.specs.defs.Causes.{HasCause};
 ghost use Rattle.shunt_store.specs.defs.Files.{BothTold};
 ghost use Rattle.shunt_instance.specs.defs.Instance.{Night};
-ghost use Rattle.shunt_choices.specs.defs.Paths.{next_of};
-ghost use Rattle.shunt_prices.specs.defs.Limits.{AreCases};
+ghost use Rattle.shunt_choices.specs.defs.Paths.{IsTrailOf, next_of};
 ghost use Rattle.shunt_matching.specs.declared.types.Shortage.{Shortage as OneShortage};
-ghost use Rattle.shunt_proof.specs.defs.Nodes.{CanFollow};
+ghost use Rattle.shunt_proof.specs.defs.Nodes.{AreStatable};
 ghost use Rattle.shunt_proof.specs.defs.Recording.{Open, Failed};
-ghost use Rattle.shunt_search.specs.defs.Yards.{IsYard, IsNextBlock};
-ghost use Rattle.shunt_search.specs.defs.Walking.{kept, goal_of, node_below, AddsChildren, IsVisited};
+ghost use Rattle.shunt_search.specs.defs.Yards.{IsYard};
+ghost use Rattle.shunt_search.specs.defs.Walking.{cases_in, node_below, cases_of, place_of, IsInStock, IsLifted, IsNoted, Opens};
+ghost use Rattle.shunt_search.specs.defs.Searching.{IsStock, IsReady, Arrives};
 
-use crate::children::{Child, plan_children};
-use crate::noting::{go_to, next_nodes, note_below};
+use crate::listing::add_children;
+use crate::noting::{Noted, cases_in, go_to, next_nodes, note_below};
+use crate::searching::Search;
 use crate::solved::SolveError;
-use crate::yard::Yard;
-use shunt_base::Cases;
+use crate::walking::Pending;
 use shunt_blocks::laws::few_blocks;
 use shunt_choices::Path;
+use shunt_dual::{cases_bound, cases_hold};
 use shunt_instance::Instance;
 use shunt_proof::Recorder;
+use shunt_tree::ProposedTree;
 use std::alloc::{AllocError, Global};
 
 /// Whether a path covers all units.
@@ -33,56 +35,173 @@ pub(crate) fn is_whole(path: &Path) -> bool
     }
 }
 
-/// The children of the yard's path come to those that are still to be walked to.
-pub(crate) fn add_children(
-    alloc: Global,
-    instance: &Instance,
-    cases: &Cases,
-    best: u64,
-    yard: &mut Yard,
-    waiting: &mut Vec<Child>,
-) -> Result<(), AllocError>
-    requires yard { IsYard instance.now yard.old }
-    requires cases { AreCases instance.now cases.now }
-    requires best { best ≤ 1000000000000 }
-    ensures children { OnOk result (AddsChildren instance.now cases.now best yard.old.path.blocks waiting.old.items waiting.new.items) }
-    ensures same { yard.new ≡ yard.old }
+/// Whether a bound is a search's floor or more.
+fn is_above_floor(bound: i64, search: &Search) -> bool
+    ensures { result ≡ true → search.now.floor ≤ℤ bound }
 {
-    let mut children = plan_children(alloc, instance, yard, cases, best)?;
-    waiting.append(&mut children)?;
-    Ok(())
+    let floor = search.floor;
+    if bound < floor {
+        return false;
+    }
+    true
 }
 
-/// Goes to a child and notes its node; the children of a branch come to those that are still to be walked to. Ok tells whether its
-/// path is whole.
+/// Whether the cases at a place of a stock hold at a search's path and bound it by its floor or more.
+fn lifts(instance: &Instance, tree: &ProposedTree, place: usize, search: &Search) -> bool
+    requires path { IsTrailOf instance.now search.now.yard.path }
+    requires stock { All (AreStatable instance.now) tree.now.stock.items }
+    ensures { IsTrue result → IsLifted instance.now tree.now.stock.items search.now.yard.path.blocks search.now.floor place }
+{
+    if place >= tree.stock.len() {
+        return false;
+    }
+    let cases = cases_in(tree, place);
+    if !cases_hold(instance, &search.yard.path, cases) {
+        return false;
+    }
+    let bound = cases_bound(instance, &search.yard.path, cases);
+    if !is_above_floor(bound, search) {
+        return false;
+    }
+    true
+}
+
+/// The place in the stock of the cases that are proposed for a node.
+fn proposed_cases(tree: &ProposedTree, hint: Option<usize>) -> Option<usize> {
+    let node = tree.nodes.get(hint?)?;
+    node.cases
+}
+
+/// How many cases of its own a node has.
+fn count_cases(tree: &ProposedTree, how: Noted) -> u32
+    requires { IsInStock tree.now.stock.items how }
+    ensures { result ≡ cases_of tree.now.stock.items how }
+{
+    match how {
+        Noted::Whole => 0,
+        Noted::Same => 0,
+        Noted::Own(place) => cases_in(tree, place).len() as u32,
+    }
+}
+
+/// The place in the stock of a root's cases: those that are proposed for it where they lift it, else the first.
+pub(crate) fn root_place(instance: &Instance, tree: &ProposedTree, search: &Search) -> usize
+    requires path { IsTrailOf instance.now search.now.yard.path }
+    requires stock { All (AreStatable instance.now) tree.now.stock.items }
+    requires first { IsLifted instance.now tree.now.stock.items search.now.yard.path.blocks search.now.floor 0 }
+    ensures { IsLifted instance.now tree.now.stock.items search.now.yard.path.blocks search.now.floor result }
+{
+    let Some(place) = proposed_cases(tree, Some(0)) else {
+        return 0;
+    };
+    let better = lifts(instance, tree, place, search);
+    if !better {
+        return 0;
+    }
+    place
+}
+
+/// As what a search's path is noted: as a branch with cases of its own where those that are proposed lift it, and there is room for so
+/// many.
+fn noted_as(instance: &Instance, tree: &ProposedTree, hint: Option<usize>, search: &Search) -> Noted
+    requires path { IsTrailOf instance.now search.now.yard.path }
+    requires stock { All (AreStatable instance.now) tree.now.stock.items }
+    requires room { search.now.owned ≤ 8000 }
+    ensures noted { IsNoted instance.now tree.now.stock.items search.now.yard.path.blocks search.now.floor result }
+    ensures there { IsInStock tree.now.stock.items result }
+    ensures room { search.now.owned + cases_of tree.now.stock.items result ≤ 8000 }
+{
+    let whole = is_whole(&search.yard.path);
+    if whole {
+        return Noted::Whole;
+    }
+    let Some(place) = proposed_cases(tree, hint) else {
+        return Noted::Same;
+    };
+    let better = lifts(instance, tree, place, search);
+    if !better {
+        return Noted::Same;
+    }
+    if cases_in(tree, place).len() as u32 > 8000 - search.owned {
+        return Noted::Same;
+    }
+    Noted::Own(place)
+}
+
+/// The place in the stock of a node's cases, where its parent's are at this one.
+fn cases_place(how: Noted, above: usize) -> Option<usize>
+    ensures { result ≡ place_of how above }
+{
+    match how {
+        Noted::Whole => None,
+        Noted::Same => Some(above),
+        Noted::Own(place) => Some(place),
+    }
+}
+
+/// The children of a branch that was noted come to those that are still to be walked to.
+fn list_children(
+    alloc: Global,
+    instance: &Instance,
+    tree: &ProposedTree,
+    next: &Pending,
+    how: Noted,
+    search: &mut Search,
+) -> Result<(), AllocError>
+    requires yard { IsYard instance.now search.old.yard }
+    requires stock { All (AreStatable instance.now) tree.now.stock.items }
+    requires inherits { next.now.cases < length tree.now.stock.items }
+    requires there { IsInStock tree.now.stock.items how }
+    requires best { search.old.known.cost ≤ 1000000000000 }
+    ensures opens { OnOk result (Opens instance.now tree.now.stock.items search.old.known.cost search.old.yard.path.blocks search.old.count (place_of how next.now.cases) search.old.waiting.items search.new.waiting.items) }
+    ensures yard { search.new.yard ≡ search.old.yard }
+    ensures known { search.new.known ≡ search.old.known }
+    ensures low { search.new.low ≡ search.old.low }
+    ensures floor { search.new.floor ≡ search.old.floor }
+    ensures plain { search.new.plain ≡ search.old.plain }
+    ensures count { search.new.count ≡ search.old.count }
+    ensures owned { search.new.owned ≡ search.old.owned }
+{
+    let Some(place) = cases_place(how, next.cases) else {
+        return Ok(());
+    };
+    add_children(
+        alloc,
+        instance,
+        tree,
+        place,
+        search.count as usize,
+        next.hint,
+        search.known.cost,
+        &mut search.yard,
+        &mut search.waiting,
+    )
+}
+
+/// Goes to a child and notes its node; the children of a branch come to those that are still to be walked to. Ok tells as what its path
+/// was noted.
 pub(crate) fn visit<R: Recorder>(
     alloc: Global,
     instance: &Instance,
-    cases: &Cases,
-    best: u64,
-    next: &Child,
-    yard: &mut Yard,
-    waiting: &mut Vec<Child>,
+    tree: &ProposedTree,
+    next: &Pending,
+    search: &mut Search,
     recorder: &mut R,
-) -> Result<bool, SolveError>
-    requires yard { IsYard instance.now yard.old }
-    requires cases { AreCases instance.now cases.now }
-    requires best { best ≤ 1000000000000 }
-    requires pins { yard.old.path.pins ≤ kept next.now }
-    requires there { kept next.now ≤ length yard.old.path.blocks }
-    requires next { IsNextBlock instance.now (take (kept next.now) yard.old.path.blocks) next.now.block }
+) -> Result<Noted, SolveError>
+    requires yard { IsYard instance.now search.old.yard }
+    requires stocked { IsStock instance.now tree.now.stock.items }
+    requires ready { IsReady instance.now tree.now.stock.items (R.told recorder.old) search.old.yard next.now }
+    requires best { search.old.known.cost ≤ 1000000000000 }
     requires stage { R.stage recorder.old ≡ Open }
     requires own { R.owns recorder.old instance.now }
     requires room { R.number recorder.old < 5000 }
+    requires count { search.old.count ≡ R.number recorder.old }
+    requires cases { search.old.owned ≡ R.cases recorder.old }
     requires case_room { R.cases recorder.old ≤ 8000 }
-    requires place { (whole : Bool) → IfSome (R.told recorder.old) (λ nodes. CanFollow nodes (node_below yard.old.path.pins next.now.block whole)) }
-    ensures path { yard.new.path.blocks ≡ goal_of yard.old.path.blocks next.now }
-    ensures pins { yard.new.path.pins ≡ yard.old.path.pins }
-    ensures yard { IsYard instance.now yard.new }
-    ensures visited { IfOk result (λ whole. IsVisited instance.now cases.now best (goal_of yard.old.path.blocks next.now) whole waiting.old.items waiting.new.items) }
-    ensures told { IfOk result (λ whole. BothTold (R.told recorder.old) (R.told recorder.new) (λ old new. new ≡ old ++ node_below yard.old.path.pins next.now.block whole ∷ [])) }
+    ensures arrives { IfOk result (λ how. Arrives instance.now tree.now.stock.items search.old search.new next.now how search.old.waiting.items) }
+    ensures told { IfOk result (λ how. BothTold (R.told recorder.old) (R.told recorder.new) (λ old new. new ≡ old ++ node_below search.old.yard.path.pins next.now.child.block tree.now.stock.items how ∷ [])) }
     ensures number { OnOk result (R.number recorder.new ≡ R.number recorder.old + 1) }
-    ensures cases { OnOk result (R.cases recorder.new ≡ R.cases recorder.old) }
+    ensures cases { IfOk result (λ how. R.cases recorder.new ≡ R.cases recorder.old + cases_of tree.now.stock.items how) }
     ensures open { OnOk result (R.stage recorder.new ≡ Open) }
     ensures sound { IsErrOf result SolveError.Memory → R.stage recorder.new ≢ Failed }
     ensures failed { IsErrOf result SolveError.Recorder → R.stage recorder.new ≡ Failed }
@@ -95,13 +214,21 @@ pub(crate) fn visit<R: Recorder>(
     next_nodes();
     few_blocks();
     instance.units();
-    let pins = yard.path.pins();
-    go_to(instance, yard, next);
-    let whole = is_whole(&yard.path);
-    note_below(instance, pins, &next.block, whole, recorder)?;
-    if whole {
-        return Ok(true);
-    }
-    add_children(alloc, instance, cases, best, yard, waiting)?;
-    Ok(false)
+    let pins = search.yard.path.pins();
+    go_to(instance, &mut search.yard, &next.child);
+    let how = noted_as(instance, tree, next.hint, search);
+    let own = count_cases(tree, how);
+    note_below(
+        alloc,
+        instance,
+        pins,
+        &next.child.block,
+        tree,
+        how,
+        recorder,
+    )?;
+    list_children(alloc, instance, tree, next, how, search)?;
+    search.count += 1;
+    search.owned += own;
+    Ok(how)
 }

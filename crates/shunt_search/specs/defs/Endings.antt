@@ -1,5 +1,5 @@
 -- What a search has found when it ends.
-use Rattle.std.specs.Prelude.{◌≡◌, ◌⊎◌, ℕ, ◌≤◌, ℤ, pos, ◌≤ℤ◌, List, length, Option, IfSome}
+use Rattle.std.specs.Prelude.{◌≡◌, ◌⊎◌, ℕ, ◌≤◌, ℤ, pos, ◌≤ℤ◌, List, [], length, Option, IfSome}
 use Rattle.shunt_lists.specs.defs.Members.{In}
 use Rattle.shunt_instance.specs.defs.Instance.{Night}
 use Rattle.shunt_blocks.specs.declared.records.Block.{Block}
@@ -9,14 +9,18 @@ use Rattle.shunt_plan.specs.declared.records.Plan.{Plan}
 use Rattle.shunt_proof.specs.declared.records.Node.{Node}
 use Rattle.shunt_proof.specs.declared.records.Certificate.{Certificate}
 use Rattle.shunt_proof.specs.defs.Certificates.{IsCertificate}
-use Rattle.shunt_search.specs.declared.children.Child.{Child}
+use Rattle.shunt_search.specs.declared.walking.Pending.{Pending}
 use Rattle.shunt_search.specs.defs.Conditions.{IsAboveAssignment, AreSpent, MeetConditions, IsBoundForPlans}
 
--- the least of a cost and the bounds of the children that are left
-pub record IsLeft (waiting : List Child) (best : ℕ) (bound : ℤ) : Type 0 where
-  pub within : bound ≤ℤ pos best
-  pub left : (t : Child) → In t waiting → bound ≤ℤ t.bound
-  pub least : (bound ≡ pos best) ⊎ ((t : Child) × In t waiting × (bound ≡ t.bound))
+-- the least of the low bound and the bounds of the children that are left
+pub record IsLeft (waiting : List Pending) (low bound : ℤ) : Type 0 where
+  pub within : bound ≤ℤ low
+  pub left : (t : Pending) → In t waiting → bound ≤ℤ t.child.bound
+  pub least : (bound ≡ low) ⊎ ((t : Pending) × In t waiting × (bound ≡ t.child.bound))
+
+-- a search is done: it has noted so many nodes, or no child is left and none was passed over
+abbrev pub IsDone : ℕ → ℕ → List Pending → ℕ → ℤ → Type 0
+IsDone number most waiting best low = (number ≡ most) ⊎ ((waiting ≡ []) × (low ≡ pos best))
 
 -- nodes with a plan's cost and a bound
 abbrev pub certificate_of : Plan → ℕ → List Node → Certificate

@@ -9,8 +9,10 @@ returns c =
       kept_plan = c.kept_plans.ensures;
       opening = c.starts.ensures.opening;
       partial = c.starts.ensures.partial;
+      cost = c.floors.ensures;
+      rise = c.bounds_rise.ensures.bound;
     } in
     record {
-      whole = λ night pins cases told now count y k better i f tells first visited cheaper. whole_begins laws night i pins cases told now count y k f first tells better visited cheaper;
-      branch = λ night pins cases told now count y waiting k i f tells first visited. branch_begins laws night i pins cases told now count y k f first tells waiting visited;
+      whole = λ night pins stock told now count cases s z w i f tells first none begins empty covers takes. whole_begins laws night i pins stock told now count cases s f first z w tells none begins empty covers takes;
+      branch = λ night pins stock told now count cases s z place i f lifts tells first owns begins unfinished adds. branch_begins laws night i pins stock told now count cases s f first z place lifts tells owns begins unfinished adds;
     }

@@ -4,8 +4,6 @@ use Rattle.shunt_search.proofs.ending.searches_end.Goals as goal
 pub returns : goal.returns
 returns c =
     let laws : EndLaws = record {
-      left_floor = c.floors.ensures.left;
-      cost_floor = c.floors.ensures.cost;
       right = c.walks_go_on.ensures.right;
       exactly = c.trees.ensures.exactly;
       one = c.starts.ensures.one;
@@ -16,6 +14,6 @@ returns c =
       all_plans = c.all_plans.ensures;
     } in
     record {
-      natural = λ night pins cases told number y waiting k bound i s left. natural laws night i pins cases told number y waiting k s bound left;
-      end = λ night pins cases told number most b y waiting k plan i s left for_plan tidy cheap few limit done. end laws night i pins cases told number y waiting k s most b plan left for_plan tidy cheap few limit done;
+      natural = λ night pins stock told number owned s bound i h left. natural laws night i pins stock told number owned s h bound left;
+      end = λ night pins stock told number owned most b s plan i h left for_plan tidy cheap few limit done. end laws night i pins stock told number owned s h most b plan left for_plan tidy cheap few limit done;
     }

@@ -1,17 +1,22 @@
 use Rattle.std.proofs.Common.{[], sym, subst, List}
-use Rattle.shunt_search.specs.declared.children.Child.{Child}
+use Rattle.shunt_search.specs.declared.walking.Pending.{Pending}
 use Rattle.shunt_search.specs.defs.Searching.{IsSearch}
 use Rattle.shunt_search.proofs.Telling.{tells_same}
 use Rattle.shunt_search.proofs.searching.advance.Goals as goal
 
+pub take_next-requires-clause-within : goal.take_next-requires-clause-within
+take_next-requires-clause-within g c = c.requires.search.walk.within
+
 pub arrive-requires-clause-search : goal.arrive-requires-clause-search
 arrive-requires-clause-search g c =
-    c.searches_go_on.ensures.closed c.args.instance.now c.args.pins.now c.args.cases.now (g.R.Recorder.told c.args.recorder.now) (g.R.Recorder.number c.args.recorder.now) c.args.search.now.yard c.args.search.now.waiting.items _ c.args.search.now.known c.requires.search c.in-Some.ensures.some
+    c.searches_go_on.ensures.closed c.args.instance.now c.args.pins.now c.args.tree.now.stock.items (g.R.Recorder.told c.args.recorder.now) (g.R.Recorder.number c.args.recorder.now) (g.R.Recorder.cases c.args.recorder.now) c.args.search.now.waiting.items _ c.args.search.now c.take_next.new.search
+    c.requires.search c.in-Some.ensures.some
 
 pub returns-in_default-clause-search : goal.returns-in_default-clause-search
 returns-in_default-clause-search g c =
-    subst (λ (l : List Child). IsSearch c.args.instance.now c.args.pins.now c.args.cases.now (g.R.Recorder.told c.args.recorder.now) (g.R.Recorder.number c.args.recorder.now) c.args.search.now.yard l c.args.search.now.known) (sym c.in_default.ensures.empty)
-    (c.searches_go_on.ensures.closed c.args.instance.now c.args.pins.now c.args.cases.now (g.R.Recorder.told c.args.recorder.now) (g.R.Recorder.number c.args.recorder.now) c.args.search.now.yard c.args.search.now.waiting.items [] c.args.search.now.known c.requires.search c.in_default.ensures.none)
+    subst (λ (l : List Pending). IsSearch c.args.instance.now c.args.pins.now c.args.tree.now.stock.items (g.R.Recorder.told c.args.recorder.now) (g.R.Recorder.number c.args.recorder.now) (g.R.Recorder.cases c.args.recorder.now) l c.take_next.new.search) (sym c.in_default.ensures.empty)
+    (c.searches_go_on.ensures.closed c.args.instance.now c.args.pins.now c.args.tree.now.stock.items (g.R.Recorder.told c.args.recorder.now) (g.R.Recorder.number c.args.recorder.now) (g.R.Recorder.cases c.args.recorder.now) c.args.search.now.waiting.items [] c.args.search.now c.take_next.new.search
+    c.requires.search c.in_default.ensures.none)
 
 pub returns-in_default-clause-tells : goal.returns-in_default-clause-tells
 returns-in_default-clause-tells g c = tells_same (g.R.Recorder.told c.args.recorder.now)

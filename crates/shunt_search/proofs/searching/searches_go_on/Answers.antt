@@ -11,15 +11,17 @@ returns c =
       hold = c.walks_go_on.ensures.hold;
       node = c.next_nodes.ensures;
       kept_plan = c.kept_plans.ensures;
+      cost = c.floors.ensures;
+      rise = c.bounds_rise.ensures.bound;
       partial = c.few_nodes.ensures.partial;
       grows = c.plans_grow.ensures.grows;
       most = c.few_blocks.ensures.most;
     } in
     record {
-      ready = λ night pins cases told number y left t k i s below. is_ready laws night i (c.unit_numbers.ensures.units_few night i) pins cases told number y left t k s below;
-      whole = λ night pins cases told now number count y z left waiting t k better i s below arrives more visited both cheaper.
-          whole_search laws night i (c.unit_numbers.ensures.units_few night i) pins cases told number y left t k s below z now count arrives more waiting better visited both cheaper;
-      branch = λ night pins cases told now number count y z left waiting t k i s below arrives more visited both.
-          branch_search laws night i (c.unit_numbers.ensures.units_few night i) pins cases told number y left t k s below z now count arrives more waiting visited both;
-      closed = λ night pins cases told number y waiting left k s passes. closed_search c.walks_go_on.ensures.closed night pins cases told number y waiting left k s passes;
+      ready = λ night pins stock told number owned left t s i h below. is_ready laws night i (c.unit_numbers.ensures.units_few night i) pins stock told number owned left t s h below;
+      branch = λ night pins stock told now number count owned cases left t s z how i h below arrives not_whole more owns both.
+          branch_search laws night i (c.unit_numbers.ensures.units_few night i) pins stock told number owned left t s h below z how arrives now count cases more owns both not_whole;
+      whole = λ night pins stock told now number count owned cases left t s z w i h below arrives more owns both takes.
+          whole_search laws night i (c.unit_numbers.ensures.units_few night i) pins stock told number owned left t s h below z w arrives now count cases more owns both takes;
+      closed = λ night pins stock told number owned waiting left s z h falls. closed_search c.walks_go_on.ensures.closed night pins stock told number owned waiting left s z h falls;
     }

@@ -1,4 +1,4 @@
-use Rattle.std.proofs.Common.{sym, arith}
+use Rattle.std.proofs.Common.{refl, sym, ◌∙◌, arith}
 use Rattle.std.proofs.lemmas.Grind.{common_steps}
 use Rattle.shunt_search.proofs.Telling.{tells_same, tells_then}
 use Rattle.shunt_search.proofs.searching.walk_on.Goals as goal
@@ -6,10 +6,10 @@ use Rattle.shunt_search.proofs.searching.walk_on.Goals as goal
 pub walk-init : goal.walk-init
 walk-init g c = record {
   search = c.requires.search;
+  plain = refl;
   tells = tells_same (g.R.Recorder.told c.args.recorder.now);
   number = sym c.requires.first;
   few = c.requires.some;
-  cases = c.requires.case_room;
   opened = c.requires.stage;
   own = λ night. (λ h. h, λ h. h);
   later = omega arith;
@@ -22,16 +22,14 @@ walk-preserved g c =
     let more = c.in_ok-more.ensures in
     let one = more.more (grind (arith, common_steps)) in
     let number = before.number in
-    let cases = before.cases in
-    let same = more.cases in
     let later = before.later in
     let after = c.advance.ensures.cause.later in
     record {
       search = more.search;
+      plain = more.plain ∙ before.plain;
       tells = tells_then _ _ _ before.tells more.tells;
       number = omega (arith, number, one);
       few = omega (arith, c.walk-test.true);
-      cases = omega (arith, cases, same);
       opened = more.«open»;
       own = λ night. (let a = before.own night in let b = c.advance.ensures.own night in (λ h. a.0 (b.0 h), λ h. b.1 (a.1 h)));
       later = omega (arith, later, after);
@@ -49,3 +47,6 @@ returns-in_err-more-clause-cause g c = record {
 
 pub returns-in_err-more-clause-keeps : goal.returns-in_err-more-clause-keeps
 returns-in_err-more-clause-keeps g c = g.R.Recorder.keeps_on _ _ _ c.walk.invariant.keeps c.advance.ensures.keeps
+
+pub returns-then-not-more-clause-keeps : goal.returns-then-not-more-clause-keeps
+returns-then-not-more-clause-keeps g c = g.R.Recorder.keeps_on _ _ _ c.walk.invariant.keeps c.advance.ensures.keeps

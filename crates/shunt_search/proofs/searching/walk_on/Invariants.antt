@@ -8,11 +8,11 @@ abbrev pub invariant-walk : goal.invariant-walk
 invariant-walk g l =
     let R = g.R.Recorder in
     record {
-      search : IsSearch l.instance l.pins l.cases (R.told l.recorder) (R.number l.recorder) l.search.yard l.search.waiting.items l.search.known;
+      search : IsSearch l.instance l.pins l.tree.stock.items (R.told l.recorder) (R.number l.recorder) (R.cases l.recorder) l.search.waiting.items l.search;
+      plain : l.search.plain ≡ l.fn.search.plain;
       tells : TellsOn (R.told l.fn.recorder) (R.told l.recorder);
       number : l.count ≡ R.number l.recorder;
       few : l.count ≤ l.nodes;
-      cases : R.cases l.recorder ≤ 8000;
       opened : R.stage l.recorder ≡ Open;
       own : (night : Night) → R.owns l.recorder night ↔ R.owns l.fn.recorder night;
       later : R.faults l.fn.recorder ≤ R.faults l.recorder;

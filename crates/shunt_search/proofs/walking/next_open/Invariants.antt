@@ -1,8 +1,12 @@
+use Rattle.std.proofs.Common.{◌≡◌, true}
 use Rattle.shunt_search.specs.defs.Walking.{Passes}
 use Rattle.shunt_search.proofs.walking.next_open.Given as goal
 
-abbrev pub invariant-closed : goal.invariant-closed
-invariant-closed l = Passes l.best l.initial.waiting.items l.waiting.items
+abbrev pub invariant-passed : goal.invariant-passed
+invariant-passed l = record {
+  passes : Passes l.initial.waiting.items l.waiting.items l.initial.low l.low;
+  same : l.plain ≡ true → l.low ≡ l.initial.low;
+}
 
-abbrev pub decreases-closed : goal.decreases-closed
-decreases-closed l = goal.left-closed l
+abbrev pub decreases-passed : goal.decreases-passed
+decreases-passed l = goal.left-passed l

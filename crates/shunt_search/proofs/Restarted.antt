@@ -1,0 +1,63 @@
+-- A search that starts again, and one that is done.
+use Rattle.std.specs.Prelude.{◌≤ℤ◌, Option, Some, None, IfSome}
+use Rattle.std.proofs.Common.{◌≡◌, ◌⊎◌, inl, inr, ⊎_elim, ℕ, ◌≤◌, List, [], length, ℤ, pos, sym, subst, ap, arith, IsPermutation}
+use Rattle.std.proofs.lemmas.Int.{ints}
+use Rattle.std.proofs.lemmas.List.Sorted.{length_permutation}
+use Rattle.shunt_store.specs.defs.Files.{BothTold}
+use Rattle.shunt_base.specs.declared.duals.Case.{Case}
+use Rattle.shunt_instance.specs.defs.Instance.{Night}
+use Rattle.shunt_blocks.specs.declared.records.Block.{Block}
+use Rattle.shunt_blocks.specs.defs.Pins.{opening_cost}
+use Rattle.shunt_prices.specs.defs.Bounds.{IsCasesBound}
+use Rattle.shunt_proof.specs.declared.records.Node.{Node}
+use Rattle.shunt_proof.specs.defs.Trees.{IsStart, best_before}
+use Rattle.shunt_search.specs.declared.known.Known.{Known}
+use Rattle.shunt_search.specs.declared.walking.Pending.{Pending}
+use Rattle.shunt_search.specs.declared.searching.Search.{Search}
+use Rattle.shunt_search.specs.defs.Walking.{cases_in}
+use Rattle.shunt_search.specs.defs.Roots.{AreRooted}
+use Rattle.shunt_search.specs.defs.Searching.{IsSearch, IsFresh, StartsAgain}
+use Rattle.shunt_search.specs.defs.Endings.{IsDone}
+use Rattle.shunt_search.proofs.Searched.{same_best}
+
+-- what the laws of the crates below say
+pub record RestartLaws : Type 0 where
+  pub one : (night : Night) (pins start other : List Block) → IsStart night pins start → IsStart night pins other → start ≡ other
+  pub opening : (night : Night) (pins others : List Block) → IsPermutation pins others → opening_cost night others ≡ opening_cost night pins
+  pub before_opening : (night : Night) (start : List Block) (nodes : List Node) (k : ℕ) → best_before night start nodes k ≤ opening_cost night start
+
+pub restarted : RestartLaws → (night : Night) (pins : List Block) (stock : List (List Case)) (told : Option (List Node)) (number owned : ℕ) (s z : Search) → IsSearch night pins stock told number owned s.waiting.items s → StartsAgain night pins s z → IsFresh night pins stock z
+restarted laws night pins stock told number owned s z S a =
+    let same_cost : z.known.cost ≡ s.known.cost = ap (λ (k : Known). k.cost) a.known in
+    record {
+      usable = S.usable;
+      even = S.even;
+      begins = a.begins;
+      stocked = S.stocked;
+      rooted = subst (λ (l : List Block). AreRooted night l (cases_in stock 0)) (laws.one night pins S.start z.yard.path.blocks S.begins a.begins) S.rooted;
+      lowest = subst (λ (l : List Block). IsCasesBound night l (cases_in stock 0) z.floor) (laws.one night pins S.start z.yard.path.blocks S.begins a.begins) (subst (λ (x : ℤ). IsCasesBound night S.start (cases_in stock 0) x) (sym a.floor) S.lowest);
+      yard = a.yard;
+      long = let many = a.many in let same = length_permutation pins z.yard.path.blocks a.begins.same in omega (arith, many, same);
+      best = same_best night pins s.known z.known a.known S.best;
+      opening =
+          let cheap = S.walk.cheap in
+          let most = laws.before_opening night S.start S.nodes (length S.nodes) in
+          let same = laws.opening night pins S.start S.begins.same in
+          omega (arith, same_cost, cheap, most, same);
+      small = let small = S.small in omega (arith, small, same_cost);
+      low = a.low;
+      empty = a.empty;
+    }
+
+-- nothing is told behind a restart
+pub told_none : (o p : Option (List Node)) → BothTold o p (λ old new. new ≡ []) → IfSome p (λ l. l ≡ [])
+told_none None None both = tt
+told_none None (Some y) both = absurd both
+told_none (Some x) None both = absurd both
+told_none (Some x) (Some y) both = both
+
+pub done_at : {number most count cost : ℕ} {low : ℤ} {waiting : List Pending} → count ≡ number → number ≤ most → low ≤ℤ pos cost → (number ≡ most) ⊎ (waiting ≡ []) → (most ≤ count) ⊎ (pos cost ≤ℤ low) → IsDone number most waiting cost low
+done_at counted few within done which = ⊎_elim
+    (λ all. inl (omega (arith, counted, few, all)))
+    (λ high. ⊎_elim inl (λ none. inr (none, omega (arith, ints, within, high))) done)
+    which

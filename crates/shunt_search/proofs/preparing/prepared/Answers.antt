@@ -1,0 +1,37 @@
+use Rattle.std.proofs.Common.{w64, to_z, of_z, ℤ, List, sym, subst, arith}
+use Rattle.std.proofs.lemmas.Int.{to_z-of_z, to_z_pos}
+use Rattle.std.proofs.lemmas.List.Sorted.{length_permutation}
+use Rattle.shunt_base.specs.declared.duals.Case.{Case}
+use Rattle.shunt_prices.specs.defs.Bounds.{IsCasesBound}
+use Rattle.shunt_search.specs.defs.Roots.{AreRooted}
+use Rattle.shunt_search.proofs.preparing.prepared.Goals as goal
+
+pub take_proposed-requires-clause-even : goal.take_proposed-requires-clause-even
+take_proposed-requires-clause-even c = c.requires.even
+
+pub returns : goal.returns
+returns c =
+    let night = c.args.instance.now in
+    let path = c.args.yard.path in
+    let floor = c.cases_bound-floor.result in
+    let small = c.requires.small in
+    let opening = c.requires.opening in
+    let less = c.in_ok-first.ensures.cheaper in
+    let least = c.in_ok-known.ensures.cheaper in
+    let last = c.in_ok-take_proposed.ensures.cheaper in
+    record {
+      usable = c.requires.usable;
+      even = c.requires.even;
+      begins = c.requires.start;
+      stocked = c.in_ok-tree.ensures.stock;
+      rooted = subst (λ (l : List Case). AreRooted night path.blocks l) (sym c.in_ok-tree.ensures.root) c.in_ok-cases.ensures;
+      lowest = subst (λ (l : List Case). IsCasesBound night path.blocks l (to_z w64 (of_z w64 floor))) (sym c.in_ok-tree.ensures.root)
+          (subst (λ (z : ℤ). IsCasesBound night path.blocks c.in_ok-cases.cases z) (sym (to_z-of_z w64 floor (record { sfits = c.cases_bound-floor.type_inv }))) c.cases_bound-floor.ensures);
+      yard = c.requires.yard;
+      long = let many = c.requires.pins in let same = length_permutation c.args.pins.now path.blocks c.requires.start.same in omega (arith, many, same);
+      best = c.in_ok-take_proposed.ensures.best;
+      opening = omega (arith, last, least, less, opening);
+      small = omega (arith, last, least, less, small);
+      low = to_z_pos w64 c.take_proposed.new.known.cost (omega (arith, last, least, less, small));
+      empty = c.new-2.ensures.items;
+    }

@@ -9,7 +9,7 @@ use crate::numbers::{NOTHING, Number, add_at, in_thousandths};
 use crate::slots::{Slot, room_of};
 use shunt_blocks::{
     Block, Park, Shape, are_runs_within, block_cost, block_length, in_range, position_from,
-    shape_of, unit_from,
+    unit_from,
 };
 use shunt_choices::{Covered, Path, options, shapes_from};
 use shunt_instance::{Instance, Origin};

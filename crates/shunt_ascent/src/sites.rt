@@ -13,7 +13,7 @@ use crate::settling::{round, settle};
 use crate::slots::{Slot, slot_of};
 use crate::stating::{case_of, two_cases};
 use shunt_base::{Case, Cases, Price};
-use shunt_blocks::{Block, Park, are_runs_within, in_range, position_from, shape_of, unit_from};
+use shunt_blocks::{Block, Park, are_runs_within, position_from, shape_of, unit_from};
 use shunt_choices::{Path, options};
 use shunt_instance::Instance;
 use std::alloc::{AllocError, Global};

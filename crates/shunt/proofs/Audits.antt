@@ -1,4 +1,4 @@
--- When each status of `audit` comes.
+-- When each status comes of a command that ends by what is wrong with a plan.
 use Rattle.std.proofs.Common.{◌≡◌, Some, sym, subst, ap, inl, inr, refl, ⊎_elim, Result, Ok, Err, List, [], ◌∷◌, ◌∙◌, ℕ}
 use Rattle.std.specs.Prelude.{◌↔◌, ◌⊎◌}
 use Rattle.shunt_store.specs.defs.Files.{Files, content}
@@ -13,22 +13,17 @@ use Rattle.shunt_inputs.specs.declared.answers.Outcome.{Outcome}
 use Rattle.shunt_inputs.specs.declared.answers.Outcome.TheVariants as outcome
 use Rattle.shunt.specs.declared.running.Status.{Status}
 use Rattle.shunt.specs.declared.running.Status.TheVariants as status
-use Rattle.shunt.specs.defs.Words.{Audit}
+use Rattle.shunt.specs.defs.Words.{Call, Audit, Draw}
 use Rattle.shunt_inputs.specs.defs.Inputs.{Agrees, stated_plans, plans_in}
 use Rattle.shunt_inputs.specs.defs.Replies.{Reply, Decided}
+use Rattle.shunt.specs.defs.Replies.{IsReply}
 use Rattle.shunt_judging.specs.defs.Audited.{IsAudited, IsClean, audit_outcome}
+use Rattle.shunt_drawing.specs.defs.Drawn.{IsDrawn}
 use Rattle.shunt.specs.defs.Ends.{Seen, Ends, Yields, the_status}
 use Rattle.shunt.proofs.Exactly.{decides, has_reply, completes, reply_at, EndsAs}
 use Rattle.shunt_inputs.proofs.Stated.{plan_stated}
 
--- ---- the outcome of a reply, by what the files state
-
-audited : (x : Result (Night × Plan) (List ℕ)) (y : Night × Plan) (r : Reply) → x ≡ Ok y → Decided x IsAudited r → IsAudited y r
-audited x y r e is = subst (λ x. Decided x IsAudited r) e is
-
--- ---- what the files state is a night and a plan in it
-
--- ---- exactly when each comes
+-- ---- what a plan's findings decide
 
 -- that a plan has no finding exactly where it is feasible and states its cost
 abbrev pub FoundNone : Type 0
@@ -40,9 +35,6 @@ sound_where law s t p y e = let h = plan_stated s t p y e in law y.0 y.1 h.0 h.1
 -- the findings that are told are those that the audit computes
 pub told_is : (s t p : List ℕ) (y : Night × Plan) (fs : List Finding) → stated_plans s t p ≡ Ok y → ArePlanFindings y.0 y.1 fs → fs ≡ plan_findings y.0 y.1
 told_is s t p y fs e told = only_plan y.0 y.1 fs (plan_stated s t p y e).1.blocks told.in_order told.exactly
-
-told_outcome : (y : Night × Plan) (r : Reply) (a : IsAudited y r) → r.outcome ≡ audit_outcome a.findings
-told_outcome y r a = ap (λ (r : Reply). r.outcome) a.reply
 
 pub some_found : (fs : List Finding) → (fs ≡ [] → ⊥) → audit_outcome fs ≡ outcome.Findings
 some_found [] never_nil = absurd (never_nil refl)
@@ -56,19 +48,38 @@ pub found_some : (fs : List Finding) → audit_outcome fs ≡ outcome.Findings �
 found_some [] e nil = absurd (let h : outcome.Done ≡ outcome.Findings = e in cc)
 found_some (f ∷ fs) e nil = absurd (let h : (f ∷ fs) ≡ [] = nil in cc)
 
-pub done_there : (law : FoundNone) (s t p : List ℕ) (old new : Seen) (x : Status) (files : Files) (y : Night × Plan) → old.files ≡ Some files → plans_in s t p files ≡ Ok y → IsClean y → Ends (Audit s t p) old new x → (x ≡ status.Done) ⊎ Yields x
-done_there law s t p old new x files y told ok sound e =
-    let none = (sound_where law (content files s) (content files t) (content files p) y ok).1 sound in
-    decides (Audit s t p) outcome.Done old new x files told (λ r is.
-    let a = audited (plans_in s t p files) y r ok is in
-    told_outcome y r a ∙ ap audit_outcome (told_is (content files s) (content files t) (content files p) y a.findings ok a.told ∙ none)) e
+pub neither : (fs : List Finding) (o : Outcome) → audit_outcome fs ≡ o → (o ≡ outcome.Done) ⊎ (o ≡ outcome.Findings)
+neither [] o e = inl (sym e)
+neither (f ∷ fs) o e = inr (sym e)
 
-pub findings_there : (law : FoundNone) (s t p : List ℕ) (old new : Seen) (x : Status) (files : Files) (y : Night × Plan) → old.files ≡ Some files → plans_in s t p files ≡ Ok y → (IsClean y → ⊥) → Ends (Audit s t p) old new x → (x ≡ status.Findings) ⊎ Yields x
-findings_there law s t p old new x files y told ok unsound e =
-    decides (Audit s t p) outcome.Findings old new x files told (λ r is.
-    let a = audited (plans_in s t p files) y r ok is in
-    let same = told_is (content files s) (content files t) (content files p) y a.findings ok a.told in
-    told_outcome y r a ∙ some_found a.findings (λ nil. unsound ((sound_where law (content files s) (content files t) (content files p) y ok).0 (sym same ∙ nil)))) e
+abbrev pub EndsWell : Status → Type 0
+EndsWell x = (x ≡ status.Done) ⊎ ((x ≡ status.Findings) ⊎ (x ≡ status.Memory))
+
+pub well : (x : Status) (fs : List Finding) → x ≡ the_status (audit_outcome fs) → EndsWell x
+well x [] e = inl e
+well x (f ∷ fs) e = inr (inl e)
+
+-- ---- the answers
+
+-- an answer on a plan that ends as the plan's findings say
+pub record IsJudged (x : Night × Plan) (r : Reply) : Type 0 where
+  pub findings : List Finding
+  pub told : ArePlanFindings x.0 x.1 findings
+  pub outcome : r.outcome ≡ audit_outcome findings
+
+judged_by : (P : Night × Plan → Reply → Type 0) (to : (y : Night × Plan) (r : Reply) → P y r → IsJudged y r) (x : Result (Night × Plan) (List ℕ)) (r : Reply) → Decided x P r → Decided x IsJudged r
+judged_by P to (Err text) r is = is
+judged_by P to (Ok y) r is = to y r is
+
+-- all answers of a command are such ones
+abbrev pub Judges : Call → List ℕ → List ℕ → List ℕ → Type 0
+Judges c s t p = (files : Files) (r : Reply) → IsReply c files r → Decided (plans_in s t p files) IsJudged r
+
+pub audit_judges : (s t p : List ℕ) → Judges (Audit s t p) s t p
+audit_judges s t p files r is = judged_by IsAudited (λ y r a. record { findings = a.findings; told = a.told; outcome = ap (λ (r : Reply). r.outcome) a.reply }) (plans_in s t p files) r is
+
+pub draw_judges : (s t p n : List ℕ) → Judges (Draw s t p n) s t p
+draw_judges s t p n files r is = judged_by (IsDrawn n) (λ y r d. record { findings = d.findings; told = d.told; outcome = d.outcome }) (plans_in s t p files) r is
 
 -- an outcome of an accepted plan is that of its findings
 record Tells (x : Result (Night × Plan) (List ℕ)) (o : Outcome) : Type 0 where
@@ -78,56 +89,65 @@ record Tells (x : Result (Night × Plan) (List ℕ)) (o : Outcome) : Type 0 wher
   told : ArePlanFindings plan.0 plan.1 findings
   outcome : audit_outcome findings ≡ o
 
-tells : (x : Result (Night × Plan) (List ℕ)) (r : Reply) (o : Outcome) → (o ≡ outcome.Input → ⊥) → Decided x IsAudited r → r.outcome ≡ o → Tells x o
+tells : (x : Result (Night × Plan) (List ℕ)) (r : Reply) (o : Outcome) → (o ≡ outcome.Input → ⊥) → Decided x IsJudged r → r.outcome ≡ o → Tells x o
 tells (Err text) r o other is e = absurd (other (sym e ∙ ap (λ (r : Reply). r.outcome) is))
-tells (Ok y) r o other is e = record { plan = y; ok = refl; findings = is.findings; told = is.told; outcome = sym (told_outcome y r is) ∙ e }
+tells (Ok y) r o other is e = record { plan = y; ok = refl; findings = is.findings; told = is.told; outcome = sym is.outcome ∙ e }
 
-pub done_only : (law : FoundNone) (s t p : List ℕ) (old new : Seen) → Ends (Audit s t p) old new status.Done → (files : Files) × Agrees old.files files × ((y : Night × Plan) × (plans_in s t p files ≡ Ok y) × IsClean y)
-done_only law s t p old new e =
-    let h = has_reply (Audit s t p) outcome.Done old new e in
-    let files = h.1.0 in
-    let at = tells (plans_in s t p files) h.0 outcome.Done (λ e. cc) h.1.2 h.2 in
-    let same = told_is (content files s) (content files t) (content files p) at.plan at.findings at.ok at.told in
-    (files, h.1.1, (at.plan, at.ok, (sound_where law (content files s) (content files t) (content files p) at.plan at.ok).0 (sym same ∙ none_found at.findings at.outcome)))
+-- ---- exactly when each comes
 
-pub findings_only : (law : FoundNone) (s t p : List ℕ) (old new : Seen) → Ends (Audit s t p) old new status.Findings → (files : Files) × Agrees old.files files × ((y : Night × Plan) × (plans_in s t p files ≡ Ok y) × (IsClean y → ⊥))
-findings_only law s t p old new e =
-    let h = has_reply (Audit s t p) outcome.Findings old new e in
-    let files = h.1.0 in
-    let at = tells (plans_in s t p files) h.0 outcome.Findings (λ e. cc) h.1.2 h.2 in
-    let same = told_is (content files s) (content files t) (content files p) at.plan at.findings at.ok at.told in
-    (files, h.1.1, (at.plan, at.ok, λ sound. found_some at.findings at.outcome (same ∙ (sound_where law (content files s) (content files t) (content files p) at.plan at.ok).1 sound)))
+module _ (c : Call) (s t p : List ℕ) (judges : Judges c s t p) where
+  judged : (files : Files) (y : Night × Plan) (r : Reply) → plans_in s t p files ≡ Ok y → IsReply c files r → IsJudged y r
+  judged files y r e is = subst (λ x. Decided x IsJudged r) e (judges files r is)
 
-pub neither : (fs : List Finding) (o : Outcome) → audit_outcome fs ≡ o → (o ≡ outcome.Done) ⊎ (o ≡ outcome.Findings)
-neither [] o e = inl (sym e)
-neither (f ∷ fs) o e = inr (sym e)
+  pub done_there : (law : FoundNone) (old new : Seen) (x : Status) (files : Files) (y : Night × Plan) → old.files ≡ Some files → plans_in s t p files ≡ Ok y → IsClean y → Ends c old new x → (x ≡ status.Done) ⊎ Yields x
+  done_there law old new x files y told ok sound e =
+      let none = (sound_where law (content files s) (content files t) (content files p) y ok).1 sound in
+      decides c outcome.Done old new x files told (λ r is.
+      let a = judged files y r ok is in
+      a.outcome ∙ ap audit_outcome (told_is (content files s) (content files t) (content files p) y a.findings ok a.told ∙ none)) e
 
-never : (s t p : List ℕ) (o : Outcome) (old new : Seen) → (o ≡ outcome.Done → ⊥) → (o ≡ outcome.Findings → ⊥) → (o ≡ outcome.Input → ⊥) → Ends (Audit s t p) old new (the_status o) → ⊥
-never s t p o old new a b d e =
-    let h = has_reply (Audit s t p) o old new e in
-    let at = tells (plans_in s t p h.1.0) h.0 o d h.1.2 h.2 in
-    ⊎_elim a b (neither at.findings o at.outcome)
+  pub findings_there : (law : FoundNone) (old new : Seen) (x : Status) (files : Files) (y : Night × Plan) → old.files ≡ Some files → plans_in s t p files ≡ Ok y → (IsClean y → ⊥) → Ends c old new x → (x ≡ status.Findings) ⊎ Yields x
+  findings_there law old new x files y told ok unsound e =
+      decides c outcome.Findings old new x files told (λ r is.
+      let a = judged files y r ok is in
+      let same = told_is (content files s) (content files t) (content files p) y a.findings ok a.told in
+      a.outcome ∙ some_found a.findings (λ nil. unsound ((sound_where law (content files s) (content files t) (content files p) y ok).0 (sym same ∙ nil)))) e
 
-pub no_matching : (s t p : List ℕ) (old new : Seen) → Ends (Audit s t p) old new status.NoMatching → ⊥
-no_matching s t p old new e = never s t p outcome.NoMatching old new (λ e. cc) (λ e. cc) (λ e. cc) e
+  pub done_only : (law : FoundNone) (old new : Seen) → Ends c old new status.Done → (files : Files) × Agrees old.files files × ((y : Night × Plan) × (plans_in s t p files ≡ Ok y) × IsClean y)
+  done_only law old new e =
+      let h = has_reply c outcome.Done old new e in
+      let files = h.1.0 in
+      let at = tells (plans_in s t p files) h.0 outcome.Done (λ e. cc) (judges files h.0 h.1.2) h.2 in
+      let same = told_is (content files s) (content files t) (content files p) at.plan at.findings at.ok at.told in
+      (files, h.1.1, (at.plan, at.ok, (sound_where law (content files s) (content files t) (content files p) at.plan at.ok).0 (sym same ∙ none_found at.findings at.outcome)))
 
-pub no_unfinished : (s t p : List ℕ) (old new : Seen) → Ends (Audit s t p) old new status.Unfinished → ⊥
-no_unfinished s t p old new e = never s t p outcome.Unfinished old new (λ e. cc) (λ e. cc) (λ e. cc) e
+  pub findings_only : (law : FoundNone) (old new : Seen) → Ends c old new status.Findings → (files : Files) × Agrees old.files files × ((y : Night × Plan) × (plans_in s t p files ≡ Ok y) × (IsClean y → ⊥))
+  findings_only law old new e =
+      let h = has_reply c outcome.Findings old new e in
+      let files = h.1.0 in
+      let at = tells (plans_in s t p files) h.0 outcome.Findings (λ e. cc) (judges files h.0 h.1.2) h.2 in
+      let same = told_is (content files s) (content files t) (content files p) at.plan at.findings at.ok at.told in
+      (files, h.1.1, (at.plan, at.ok, λ sound. found_some at.findings at.outcome (same ∙ (sound_where law (content files s) (content files t) (content files p) at.plan at.ok).1 sound)))
 
--- ---- completeness
+  never : (o : Outcome) (old new : Seen) → (o ≡ outcome.Done → ⊥) → (o ≡ outcome.Findings → ⊥) → (o ≡ outcome.Input → ⊥) → Ends c old new (the_status o) → ⊥
+  never o old new a b d e =
+      let h = has_reply c o old new e in
+      let at = tells (plans_in s t p h.1.0) h.0 o d (judges h.1.0 h.0 h.1.2) h.2 in
+      ⊎_elim a b (neither at.findings o at.outcome)
 
-abbrev pub EndsWell : Status → Type 0
-EndsWell x = (x ≡ status.Done) ⊎ ((x ≡ status.Findings) ⊎ (x ≡ status.Memory))
+  pub no_matching : (old new : Seen) → Ends c old new status.NoMatching → ⊥
+  no_matching old new e = never outcome.NoMatching old new (λ e. cc) (λ e. cc) (λ e. cc) e
 
-pub well : (x : Status) (fs : List Finding) → x ≡ the_status (audit_outcome fs) → EndsWell x
-well x [] e = inl e
-well x (f ∷ fs) e = inr (inl e)
+  pub no_unfinished : (old new : Seen) → Ends c old new status.Unfinished → ⊥
+  no_unfinished old new e = never outcome.Unfinished old new (λ e. cc) (λ e. cc) (λ e. cc) e
 
-pub ends_well : (s t p : List ℕ) (old new : Seen) (x : Status) (files : Files) (y : Night × Plan) → old.files ≡ Some files → plans_in s t p files ≡ Ok y → (Rose old.store_faults new.store_faults → ⊥) → (Rose old.sink_faults new.sink_faults → ⊥) → Ends (Audit s t p) old new x → EndsWell x
-ends_well s t p old new x files y told ok ns nk e = at (completes (Audit s t p) old new x ns nk e)
-  where
-    at : EndsAs (Audit s t p) old x → EndsWell x
-    at (inl m) = inr (inr m)
-    at (inr h) =
-        let a = audited (plans_in s t p files) y h.0 ok (reply_at (Audit s t p) old.files files h.0 told h.1) in
-        well x a.findings (h.2 ∙ ap the_status (told_outcome y h.0 a))
+  -- ---- completeness
+
+  pub ends_well : (old new : Seen) (x : Status) (files : Files) (y : Night × Plan) → old.files ≡ Some files → plans_in s t p files ≡ Ok y → (Rose old.store_faults new.store_faults → ⊥) → (Rose old.sink_faults new.sink_faults → ⊥) → Ends c old new x → EndsWell x
+  ends_well old new x files y told ok ns nk e = at (completes c old new x ns nk e)
+    where
+      at : EndsAs c old x → EndsWell x
+      at (inl m) = inr (inr m)
+      at (inr h) =
+          let a = judged files y h.0 ok (reply_at c old.files files h.0 told h.1) in
+          well x a.findings (h.2 ∙ ap the_status a.outcome)

@@ -6,7 +6,7 @@ use Rattle.std.specs.Fmt.{decimal}
 use Rattle.std.specs.Str.Parse.{digits_value}
 use Rattle.shunt_base.proofs.Decimal.{value_again}
 use Rattle.shunt_store.specs.defs.Files.{Files}
-use Rattle.shunt.specs.defs.Words.{Call, Match, Follow, Audit, Delay, Report, Check, Zones, Sheet, Upgrade, Trial, Drivers, Roster, CheckPinned, Replay, MakePlan, MakePinned, IsUsable, words_of}
+use Rattle.shunt.specs.defs.Words.{Call, Match, Follow, Audit, Delay, Report, Check, Zones, Sheet, Draw, Upgrade, Trial, Drivers, Roster, CheckPinned, Replay, MakePlan, MakePinned, IsUsable, words_of}
 use Rattle.shunt_throat.specs.defs.Shared.{stated_sharing, IsShared}
 use Rattle.shunt_inputs.specs.defs.Inputs.{Agrees, stated_night, stated_plans, Holding}
 use Rattle.shunt_judging.specs.defs.Audited.{IsAudited}
@@ -22,6 +22,7 @@ use Rattle.shunt_judging.specs.defs.Replayed.{stated_turns, IsReplayed}
 use Rattle.shunt_throat.specs.defs.Rostered.{stated_rostering, IsRostered}
 use Rattle.shunt_dispatch.specs.defs.Delayed.{IsDelayed}
 use Rattle.shunt_dispatch.specs.defs.Ordered.{IsOrdered}
+use Rattle.shunt_drawing.specs.defs.Drawn.{IsDrawn}
 use Rattle.shunt_dispatch.specs.defs.Followed.{IsFollowed, stated_following}
 use Rattle.shunt_exchange.specs.defs.Reported.{IsReported}
 use Rattle.shunt_exchange.specs.defs.Upgraded.{IsUpgraded, stated_upgrade}
@@ -101,6 +102,12 @@ sheet_answered told c s t p n r is usable h =
     let names : IsUsable (Sheet s t p n) = subst IsUsable is usable in
     subst (IsAnswered told r) (sym is) (seen_all told (s ∷ t ∷ p ∷ []) P (front_names (s ∷ t ∷ p ∷ []) (n ∷ []) names) h)
 
+pub draw_answered : (told : Option Files) (c : Call) (s t p n : List ℕ) (r : Result Answer Halt) → c ≡ Draw s t p n → IsUsable c → Holding told s (λ x. Holding told t (λ y. Holding told p (λ z. Replies reply_of r (Decided (stated_plans x y z) (IsDrawn n))))) → IsAnswered told r c
+draw_answered told c s t p n r is usable h =
+    let P : List (List ℕ) → Type 0 = λ bs. Replies reply_of r (Decided (stated_plans (get_or bs 0 []) (get_or bs 1 []) (get_or bs 2 [])) (IsDrawn n)) in
+    let names : IsUsable (Draw s t p n) = subst IsUsable is usable in
+    subst (IsAnswered told r) (sym is) (seen_all told (s ∷ t ∷ p ∷ []) P (front_names (s ∷ t ∷ p ∷ []) (n ∷ []) names) h)
+
 pub report_answered : (told : Option Files) (c : Call) (s t p : List ℕ) (r : Result Answer Halt) → c ≡ Report s t p → IsUsable c → Holding told s (λ x. Holding told t (λ y. Holding told p (λ z. Replies reply_of r (Decided (stated_plans x y z) IsReported)))) → IsAnswered told r c
 report_answered told c s t p r is usable h =
     let P : List (List ℕ) → Type 0 = λ bs. Replies reply_of r (Decided (stated_plans (get_or bs 0 []) (get_or bs 1 []) (get_or bs 2 [])) IsReported) in
@@ -129,6 +136,7 @@ asked (w ∷ s ∷ t ∷ p ∷ k ∷ []) =
     if bytes_eq w (codes "check") then Some (Check s t p k)
     else if bytes_eq w (codes "zones") then Some (Zones s t p k)
     else if bytes_eq w (codes "sheet") then Some (Sheet s t p k)
+    else if bytes_eq w (codes "draw") then Some (Draw s t p k)
     else if bytes_eq w (codes "upgrade") then Some (Upgrade s t p k)
     else None
 asked (w ∷ s ∷ t ∷ p ∷ e ∷ n ∷ []) =
@@ -154,6 +162,7 @@ asked_is (Report s t p) u = refl
 asked_is (Check s t p k) u = refl
 asked_is (Zones s t p z) u = refl
 asked_is (Sheet s t p n) u = refl
+asked_is (Draw s t p n) u = refl
 asked_is (Upgrade s t n m) u = refl
 asked_is (Trial n x m s t p k) u =
     let small = u.1 in

@@ -9,6 +9,7 @@ ghost use Rattle.shunt.specs.defs.Ends.{MayBegin};
 
 use crate::words::Command;
 use shunt_dispatch::{reply_to_delay, reply_to_follow, reply_to_sheet};
+use shunt_drawing::reply_to_draw;
 use shunt_exchange::{reply_to_report, reply_to_upgrade};
 use shunt_inputs::{Answer, Halt};
 use shunt_judging::{reply_to_audit, reply_to_check, reply_to_check_pinned, reply_to_replay};
@@ -47,6 +48,9 @@ pub fn answer_to<S: Store>(
         }
         Command::Sheet(first, second, third, sheet) => {
             reply_to_sheet(alloc, store, first, second, third, sheet)
+        }
+        Command::Draw(first, second, third, picture) => {
+            reply_to_draw(alloc, store, first, second, third, picture)
         }
         Command::Upgrade(first, second, station, timetable) => {
             reply_to_upgrade(alloc, store, first, second, station, timetable)

@@ -38,12 +38,14 @@ pub enum Status {
 /// Does what the words ask for: reads and judges the input files in the order of the words, writes the files of the
 /// answer, and then prints its text.
 ///
-/// The words are those behind the program's name. They spell `match STATION TIMETABLE`, `audit STATION TIMETABLE PLAN`,
-/// `check STATION TIMETABLE PLAN CERT`, `check-pinned STATION TIMETABLE PINS PLAN CERT`, `zones STATION TIMETABLE PLAN ZONES`,
-/// `drivers STATION TIMETABLE PLAN CREW ROSTER`, `roster STATION TIMETABLE PLAN CREW ROSTER`, `replay STATION TIMETABLE PLAN EDITS NEWPLAN`,
-/// `plan STATION TIMETABLE NODES PLAN CERT`, `pinned STATION TIMETABLE PINS NODES PLAN CERT` or
-/// `trial NUMBER UNITS NODES STATION TIMETABLE PLAN CERT`, where the files have names that differ and aren't empty, NODES is a number from
-/// 1 to 5,000, NUMBER one up to 2,147,483,647 and UNITS one up to 160, or the answer is `Words` and nothing is read, written or printed.
+/// The words are those behind the program's name. They spell `match STATION TIMETABLE`, `follow STATION SHEET`,
+/// `audit STATION TIMETABLE PLAN`, `delay STATION TIMETABLE PLAN`, `report STATION TIMETABLE PLAN`, `check STATION TIMETABLE PLAN CERT`,
+/// `check-pinned STATION TIMETABLE PINS PLAN CERT`, `zones STATION TIMETABLE PLAN ZONES`, `sheet STATION TIMETABLE PLAN SHEET`,
+/// `draw STATION TIMETABLE PLAN PICTURE`, `drivers STATION TIMETABLE PLAN CREW ROSTER`, `roster STATION TIMETABLE PLAN CREW ROSTER`,
+/// `replay STATION TIMETABLE PLAN EDITS NEWPLAN`, `plan STATION TIMETABLE NODES PLAN CERT`, `pinned STATION TIMETABLE PINS NODES PLAN CERT`,
+/// `upgrade STATION TIMETABLE NEWSTATION NEWTIMETABLE` or `trial NUMBER UNITS NODES STATION TIMETABLE PLAN CERT`, where the files have
+/// names that differ and aren't empty, NODES is a number from 1 to 5,000, NUMBER one up to 2,147,483,647 and UNITS one up to 160, or the
+/// answer is `Words` and nothing is read, written or printed.
 /// The certificate of `plan` and of `pinned` is written while it is found, before the other file.
 /// `Store` comes only where the store failed in this call and `Sink` only where the sink did; `Memory` may come in place
 /// of any answer but `Words`. Each other status is that of the defined answer, all of which then was written and printed.

@@ -25,6 +25,8 @@ pub enum Command<'w> {
     Zones(&'w str, &'w str, &'w str, &'w str),
     /// `sheet STATION TIMETABLE PLAN SHEET`
     Sheet(&'w str, &'w str, &'w str, &'w str),
+    /// `draw STATION TIMETABLE PLAN PICTURE`
+    Draw(&'w str, &'w str, &'w str, &'w str),
     /// `upgrade STATION TIMETABLE NEWSTATION NEWTIMETABLE`
     Upgrade(&'w str, &'w str, &'w str, &'w str),
     /// `trial NUMBER UNITS NODES STATION TIMETABLE PLAN CERT`
@@ -218,6 +220,9 @@ fn of_four_files<'w>(
         }
         "sheet" if are_four_names(first, second, third, fourth) => {
             Some(Command::Sheet(first, second, third, fourth))
+        }
+        "draw" if are_four_names(first, second, third, fourth) => {
+            Some(Command::Draw(first, second, third, fourth))
         }
         "upgrade" if are_four_names(first, second, third, fourth) => {
             Some(Command::Upgrade(first, second, third, fourth))

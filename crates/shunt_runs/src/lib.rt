@@ -16,6 +16,8 @@ mod inputs;
 #[cfg(test)]
 mod matches;
 #[cfg(test)]
+mod pictures;
+#[cfg(test)]
 mod pin_checks;
 #[cfg(test)]
 mod pins;

@@ -1,7 +1,7 @@
 -- The defined answer of a command, over the contents of its files.
 use Rattle.std.specs.Prelude.{Option}
 use Rattle.shunt_store.specs.defs.Files.{Files}
-use Rattle.shunt.specs.defs.Words.{Call, Match, Follow, Audit, Delay, Report, Check, Zones, Sheet, Upgrade, Trial, Drivers, Roster, CheckPinned, Replay, MakePlan, MakePinned}
+use Rattle.shunt.specs.defs.Words.{Call, Match, Follow, Audit, Delay, Report, Check, Zones, Sheet, Draw, Upgrade, Trial, Drivers, Roster, CheckPinned, Replay, MakePlan, MakePinned}
 use Rattle.shunt.specs.defs.Inputs.{Value, stated_in}
 use Rattle.shunt_inputs.specs.defs.Inputs.{Agrees}
 use Rattle.shunt_inputs.specs.defs.Replies.{Reply, Decided}
@@ -14,6 +14,7 @@ use Rattle.shunt_judging.specs.defs.Replayed.{IsReplayed}
 use Rattle.shunt_dispatch.specs.defs.Delayed.{IsDelayed}
 use Rattle.shunt_dispatch.specs.defs.Ordered.{IsOrdered}
 use Rattle.shunt_dispatch.specs.defs.Followed.{IsFollowed}
+use Rattle.shunt_drawing.specs.defs.Drawn.{IsDrawn}
 use Rattle.shunt_exchange.specs.defs.Reported.{IsReported}
 use Rattle.shunt_exchange.specs.defs.Upgraded.{IsUpgraded}
 use Rattle.shunt_trial.specs.defs.Tried.{IsTried}
@@ -31,6 +32,7 @@ IsAnswer (Report s t p) x r = IsReported x r
 IsAnswer (Check s t p k) x r = IsChecked x r
 IsAnswer (Zones s t p z) x r = IsPassed x r
 IsAnswer (Sheet s t p n) x r = IsOrdered n x r
+IsAnswer (Draw s t p n) x r = IsDrawn n x r
 IsAnswer (Upgrade s t n m) x r = IsUpgraded n m x r
 IsAnswer (Trial n u m s t p k) x r = IsTried n u m s t p k r
 IsAnswer (Drivers s t p c d) x r = IsShared d x r

@@ -19,6 +19,7 @@ pub data Call : Type 0 where
   Check : List ℕ → List ℕ → List ℕ → List ℕ → Call
   Zones : List ℕ → List ℕ → List ℕ → List ℕ → Call
   Sheet : List ℕ → List ℕ → List ℕ → List ℕ → Call
+  Draw : List ℕ → List ℕ → List ℕ → List ℕ → Call
   Upgrade : List ℕ → List ℕ → List ℕ → List ℕ → Call
   Trial : ℕ → ℕ → ℕ → List ℕ → List ℕ → List ℕ → List ℕ → Call
   Drivers : List ℕ → List ℕ → List ℕ → List ℕ → List ℕ → Call
@@ -37,6 +38,7 @@ call_of (command.Report s t p) = Report s.now t.now p.now
 call_of (command.Check s t p k) = Check s.now t.now p.now k.now
 call_of (command.Zones s t p z) = Zones s.now t.now p.now z.now
 call_of (command.Sheet s t p n) = Sheet s.now t.now p.now n.now
+call_of (command.Draw s t p n) = Draw s.now t.now p.now n.now
 call_of (command.Upgrade s t n m) = Upgrade s.now t.now n.now m.now
 call_of (command.Trial n u m s t p k) = Trial n u m s.now t.now p.now k.now
 call_of (command.Drivers s t p c d) = Drivers s.now t.now p.now c.now d.now
@@ -56,6 +58,7 @@ words_of (Report s t p) = codes "report" ∷ s ∷ t ∷ p ∷ []
 words_of (Check s t p k) = codes "check" ∷ s ∷ t ∷ p ∷ k ∷ []
 words_of (Zones s t p z) = codes "zones" ∷ s ∷ t ∷ p ∷ z ∷ []
 words_of (Sheet s t p n) = codes "sheet" ∷ s ∷ t ∷ p ∷ n ∷ []
+words_of (Draw s t p n) = codes "draw" ∷ s ∷ t ∷ p ∷ n ∷ []
 words_of (Upgrade s t n m) = codes "upgrade" ∷ s ∷ t ∷ n ∷ m ∷ []
 words_of (Trial n u m s t p k) = codes "trial" ∷ decimal n ∷ decimal u ∷ decimal m ∷ s ∷ t ∷ p ∷ k ∷ []
 words_of (Drivers s t p c d) = codes "drivers" ∷ s ∷ t ∷ p ∷ c ∷ d ∷ []
@@ -75,6 +78,7 @@ inputs_of (Report s t p) = s ∷ t ∷ p ∷ []
 inputs_of (Check s t p k) = s ∷ t ∷ p ∷ k ∷ []
 inputs_of (Zones s t p z) = s ∷ t ∷ p ∷ z ∷ []
 inputs_of (Sheet s t p n) = s ∷ t ∷ p ∷ []
+inputs_of (Draw s t p n) = s ∷ t ∷ p ∷ []
 inputs_of (Upgrade s t n m) = s ∷ t ∷ []
 inputs_of (Trial n u m s t p k) = []
 inputs_of (Drivers s t p c d) = s ∷ t ∷ p ∷ c ∷ []
@@ -94,6 +98,7 @@ outputs_of (Report s t p) = []
 outputs_of (Check s t p k) = []
 outputs_of (Zones s t p z) = []
 outputs_of (Sheet s t p n) = n ∷ []
+outputs_of (Draw s t p n) = n ∷ []
 outputs_of (Upgrade s t n m) = n ∷ m ∷ []
 outputs_of (Trial n u m s t p k) = s ∷ t ∷ p ∷ k ∷ []
 outputs_of (Drivers s t p c d) = d ∷ []

@@ -1,5 +1,5 @@
-use Rattle.shunt.proofs.Audits.{ends_well}
+use Rattle.shunt.proofs.Audits.{audit_judges, ends_well}
 use Rattle.shunt.proofs.laws.audit_completes.Goals as goal
 
 pub returns : goal.returns
-returns c = ends_well
+returns c = λ s t p. ends_well _ s t p (audit_judges s t p)

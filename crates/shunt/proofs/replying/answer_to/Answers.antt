@@ -1,7 +1,7 @@
 use Rattle.std.proofs.Common.{ap, refl, Ok}
 use Rattle.shunt.specs.defs.Words.{call_of}
 use Rattle.shunt.proofs.Firsts.{pinned_leads, plain, planned_leads}
-use Rattle.shunt.proofs.Commands.{match_answered, report_answered, upgrade_answered, trial_answered, follow_answered, audit_answered, delay_answered, sheet_answered, check_answered, zones_answered, drivers_answered, roster_answered, check_pinned_answered, replay_answered}
+use Rattle.shunt.proofs.Commands.{match_answered, report_answered, upgrade_answered, trial_answered, follow_answered, audit_answered, delay_answered, sheet_answered, draw_answered, check_answered, zones_answered, drivers_answered, roster_answered, check_pinned_answered, replay_answered}
 use Rattle.shunt.proofs.replying.answer_to.Goals as goal
 
 pub returns-in-Match-clause-leads : goal.returns-in-Match-clause-leads
@@ -42,6 +42,9 @@ returns-in-Delay-clause-leads g c = plain _ _ _ _ c.reply_to_delay.ensures.files
 
 pub returns-in-Sheet-clause-leads : goal.returns-in-Sheet-clause-leads
 returns-in-Sheet-clause-leads g c = plain _ _ _ _ c.reply_to_sheet.ensures.files (sheet_answered _ _ _ _ _ _ _ (ap call_of c.in-Sheet.is) c.requires.names c.reply_to_sheet.ensures.told)
+
+pub returns-in-Draw-clause-leads : goal.returns-in-Draw-clause-leads
+returns-in-Draw-clause-leads g c = plain _ _ _ _ c.reply_to_draw.ensures.files (draw_answered _ _ _ _ _ _ _ (ap call_of c.in-Draw.is) c.requires.names c.reply_to_draw.ensures.told)
 
 pub returns-in-Report-clause-leads : goal.returns-in-Report-clause-leads
 returns-in-Report-clause-leads g c = plain _ _ _ _ c.reply_to_report.ensures.files (report_answered _ _ _ _ _ _ (ap call_of c.in-Report.is) c.requires.names c.reply_to_report.ensures.told)

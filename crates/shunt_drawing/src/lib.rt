@@ -1,0 +1,6 @@
+//! The command that shows a plan: `draw`.
+#![tactic(auto)]
+
+mod drawing;
+
+pub use drawing::reply_to_draw;

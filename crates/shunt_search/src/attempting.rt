@@ -1,4 +1,5 @@
-// Walks from the root of a tree: one that follows a proposal, and a plain one where that one has passed over too much.
+// Walks from the root of a tree: one that follows a proposal, one with nodes to spare where that one has passed over too much, and a plain
+// one.
 ghost use Rattle.std.specs.Prelude.{◌≡◌, ◌≢◌, ◌↔◌, ◌⊎◌, [], ℕ, ◌≤◌, true, pos, ◌≤ℤ◌, List, Option, OnOk, IfSome, IsErrOf};
 ghost use Rattle.shunt_store.specs.defs.Causes.{HasCause};
 ghost use Rattle.shunt_base.specs.declared.duals.Case.{Case as OneCase};
@@ -32,22 +33,25 @@ fn searches_restart()
     starts();
 }
 
-/// The search goes back to the pins, to walk plainly. Err is want of memory.
+/// The search goes back to the pins, to walk plainly or with so many nodes to spare. Err is want of memory.
 fn start_again(
     alloc: Global,
     instance: &Instance,
     pins: &[Block],
+    plain: bool,
+    spare: u32,
     search: &mut Search,
 ) -> Result<(), AllocError>
     requires usable { AreUsable instance.now pins.now }
     requires small { search.old.known.cost ≤ 1000000000000 }
     ensures again { OnOk result (StartsAgain instance.now pins.now search.old search.new) }
-    ensures plain { OnOk result (search.new.plain ≡ true) }
+    ensures plain { OnOk result (search.new.plain ≡ plain) }
 {
     search.yard = start(alloc, instance, pins)?;
     search.waiting = Vec::new(alloc);
     search.low = search.known.cost as i64;
-    search.plain = true;
+    search.plain = plain;
+    search.spare = spare;
     Ok(())
 }
 
@@ -87,6 +91,44 @@ fn attempt<R: Recorder>(
     Ok(())
 }
 
+/// Forgets the nodes that were noted, and walks from the root again, plainly or with so many nodes to spare.
+fn walk_again<R: Recorder>(
+    alloc: Global,
+    instance: &Instance,
+    pins: &[Block],
+    tree: &ProposedTree,
+    nodes: u32,
+    plain: bool,
+    spare: u32,
+    search: &mut Search,
+    recorder: &mut R,
+) -> Result<(), SolveError>
+    requires search { IsSearch instance.now pins.now tree.now.stock.items (R.told recorder.old) (R.number recorder.old) (R.cases recorder.old) search.old.waiting.items search.old }
+    requires some { 1 ≤ nodes }
+    requires few { nodes ≤ 5000 }
+    requires stage { R.stage recorder.old ≡ Open }
+    requires own { R.owns recorder.old instance.now }
+    ensures search { OnOk result (IsSearch instance.now pins.now tree.now.stock.items (R.told recorder.new) (R.number recorder.new) (R.cases recorder.new) search.new.waiting.items search.new) }
+    ensures most { OnOk result (R.number recorder.new ≤ nodes) }
+    ensures done { OnOk result ((R.number recorder.new ≡ nodes) ⊎ (search.new.waiting.items ≡ [])) }
+    ensures plain { OnOk result (search.new.plain ≡ plain) }
+    ensures tells { OnOk result (TellsOn (R.told recorder.old) (R.told recorder.new)) }
+    ensures open { OnOk result (R.stage recorder.new ≡ Open) }
+    ensures sound { IsErrOf result SolveError.Memory → R.stage recorder.new ≢ Failed }
+    ensures failed { IsErrOf result SolveError.Recorder → R.stage recorder.new ≡ Failed }
+    ensures no_matching { (s : OneShortage) → IsErrOf result (SolveError.NoMatching s) → ⊥ }
+    ensures own { (night : Night) → R.owns recorder.new night ↔ R.owns recorder.old night }
+    ensures cause { HasCause SolveError.Recorder (R.faults recorder.old) (R.faults recorder.new) result }
+    ensures keeps { R.keeps recorder.old recorder.new }
+{
+    // The call tells that the search is to begin.
+    searches_restart();
+    recorder.restart()?;
+    start_again(alloc, instance, pins, plain, spare, search)?;
+    attempt(alloc, instance, pins, tree, nodes, search, recorder)?;
+    Ok(())
+}
+
 /// Forgets the nodes that were noted, and walks from the root plainly.
 fn walk_plainly<R: Recorder>(
     alloc: Global,
@@ -114,11 +156,9 @@ fn walk_plainly<R: Recorder>(
     ensures cause { HasCause SolveError.Recorder (R.faults recorder.old) (R.faults recorder.new) result }
     ensures keeps { R.keeps recorder.old recorder.new }
 {
-    // The call tells that the search is to begin.
-    searches_restart();
-    recorder.restart()?;
-    start_again(alloc, instance, pins, search)?;
-    attempt(alloc, instance, pins, tree, nodes, search, recorder)?;
+    walk_again(
+        alloc, instance, pins, tree, nodes, true, 0, search, recorder,
+    )?;
     Ok(())
 }
 
@@ -134,7 +174,50 @@ fn is_done(search: &Search, nodes: u32) -> bool
 }
 
 /// Walks from the root along the proposal. Where fewer nodes than allowed were noted then, and what was passed over leaves the bound below
-/// the best cost, the nodes are forgotten, and the walk is plain.
+/// the best cost, it walks again, and those that are left become nodes too.
+fn walk_twice<R: Recorder>(
+    alloc: Global,
+    instance: &Instance,
+    pins: &[Block],
+    tree: &ProposedTree,
+    nodes: u32,
+    search: &mut Search,
+    recorder: &mut R,
+) -> Result<(), SolveError>
+    requires fresh { IsFresh instance.now pins.now tree.now.stock.items search.old }
+    requires some { 1 ≤ nodes }
+    requires few { nodes ≤ 5000 }
+    requires stage { R.stage recorder.old ≡ Open }
+    requires own { R.owns recorder.old instance.now }
+    requires none { R.number recorder.old ≡ 0 }
+    requires no_cases { R.cases recorder.old ≡ 0 }
+    requires told { IfSome (R.told recorder.old) (λ told. told ≡ []) }
+    ensures search { OnOk result (IsSearch instance.now pins.now tree.now.stock.items (R.told recorder.new) (R.number recorder.new) (R.cases recorder.new) search.new.waiting.items search.new) }
+    ensures most { OnOk result (R.number recorder.new ≤ nodes) }
+    ensures done { OnOk result ((R.number recorder.new ≡ nodes) ⊎ (search.new.waiting.items ≡ [])) }
+    ensures tells { OnOk result (TellsOn (R.told recorder.old) (R.told recorder.new)) }
+    ensures open { OnOk result (R.stage recorder.new ≡ Open) }
+    ensures sound { IsErrOf result SolveError.Memory → R.stage recorder.new ≢ Failed }
+    ensures failed { IsErrOf result SolveError.Recorder → R.stage recorder.new ≡ Failed }
+    ensures no_matching { (s : OneShortage) → IsErrOf result (SolveError.NoMatching s) → ⊥ }
+    ensures own { (night : Night) → R.owns recorder.new night ↔ R.owns recorder.old night }
+    ensures cause { HasCause SolveError.Recorder (R.faults recorder.old) (R.faults recorder.new) result }
+    ensures keeps { R.keeps recorder.old recorder.new }
+{
+    attempt(alloc, instance, pins, tree, nodes, search, recorder)?;
+    let enough = is_done(search, nodes);
+    if enough {
+        return Ok(());
+    }
+    let spare = nodes.saturating_sub(search.count);
+    walk_again(
+        alloc, instance, pins, tree, nodes, false, spare, search, recorder,
+    )?;
+    Ok(())
+}
+
+/// Walks from the root along the proposal, and again with nodes to spare. Where fewer nodes than allowed were noted even so, and what was
+/// passed over leaves the bound below the best cost, the nodes are forgotten, and the walk is plain.
 pub(crate) fn walk_whole<R: Recorder>(
     alloc: Global,
     instance: &Instance,
@@ -164,7 +247,7 @@ pub(crate) fn walk_whole<R: Recorder>(
     ensures cause { HasCause SolveError.Recorder (R.faults recorder.old) (R.faults recorder.new) result }
     ensures keeps { R.keeps recorder.old recorder.new }
 {
-    attempt(alloc, instance, pins, tree, nodes, search, recorder)?;
+    walk_twice(alloc, instance, pins, tree, nodes, search, recorder)?;
     let done = is_done(search, nodes);
     if done {
         return Ok(());

@@ -133,6 +133,7 @@ fn prepared(
         low,
         floor,
         plain: false,
+        spare: 0,
         count: 0,
         owned: 0,
     };

@@ -47,6 +47,8 @@ pub struct Search {
     pub floor: i64,
     /// Whether no child is passed over.
     pub plain: bool,
+    /// How many children that aren't listed become nodes before one is passed over.
+    pub spare: u32,
     /// How many nodes were noted, and how many cases of their own they have.
     pub count: u32,
     pub owned: u32,
@@ -165,7 +167,13 @@ fn take_next(search: &mut Search) -> Option<Pending>
 {
     let best = search.known.cost;
     let plain = search.plain;
-    let Some(next) = next_open(&mut search.waiting, &mut search.low, best, plain) else {
+    let Some(next) = next_open(
+        &mut search.waiting,
+        &mut search.low,
+        &mut search.spare,
+        best,
+        plain,
+    ) else {
         return None;
     };
     Some(next)

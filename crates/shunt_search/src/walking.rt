@@ -93,11 +93,29 @@ fn fall(bound: &mut i64, child: &Pending)
     *bound = other;
 }
 
-/// The next child whose bound is below the best cost, and which a proposal lists unless the walk is plain. Those behind it are closed or
-/// passed over, and the low bound falls to the bounds of these.
+/// Whether a child is walked to: where the walk is plain, a proposal lists it, or there is a node to spare, which it then takes.
+fn is_taken(child: &Pending, plain: bool, spare: &mut u32) -> bool
+    ensures { plain ≡ true → result ≡ true }
+{
+    if plain {
+        return true;
+    }
+    if child.hint.is_some() {
+        return true;
+    }
+    if *spare == 0 {
+        return false;
+    }
+    *spare -= 1;
+    true
+}
+
+/// The next child whose bound is below the best cost, and which is walked to. Those behind it are closed or passed over, and the low bound
+/// falls to the bounds of these.
 pub(crate) fn next_open(
     waiting: &mut Vec<Pending>,
     low: &mut i64,
+    spare: &mut u32,
     best: u64,
     plain: bool,
 ) -> Option<Pending>
@@ -111,10 +129,8 @@ pub(crate) fn next_open(
 {
     'passed: while let Some(next) = waiting.pop() {
         if next.child.bound < best as i64 {
-            if plain {
-                return Some(next);
-            }
-            if next.hint.is_some() {
+            let taken = is_taken(&next, plain, spare);
+            if taken {
                 return Some(next);
             }
             fall(low, &next);

@@ -1,31 +1,7 @@
-use Rattle.std.proofs.Common.{◌≡◌, [], inl, inr, ⊎_elim, ◌∙◌}
-use Rattle.shunt_search.proofs.Telling.{tells_both, tells_then}
-use Rattle.shunt_search.proofs.Restarted.{told_none}
+use Rattle.std.proofs.Common.{inl, inr, ⊎_elim}
 use Rattle.shunt_search.proofs.attempting.walk_plainly.Goals as goal
-
-pub start_again-requires-clause-usable : goal.start_again-requires-clause-usable
-start_again-requires-clause-usable g c = c.requires.search.usable
-
-pub start_again-requires-clause-small : goal.start_again-requires-clause-small
-start_again-requires-clause-small g c = c.requires.search.small
-
-pub attempt-requires-clause-fresh : goal.attempt-requires-clause-fresh
-attempt-requires-clause-fresh g c =
-    c.searches_restart.ensures c.args.instance.now c.args.pins.now c.args.tree.now.stock.items (g.R.Recorder.told c.args.recorder.now) (g.R.Recorder.number c.args.recorder.now) (g.R.Recorder.cases c.args.recorder.now) c.args.search.now c.start_again.new.search c.requires.search c.in_ok-start_again.ensures.again
-
-pub attempt-requires-clause-told : goal.attempt-requires-clause-told
-attempt-requires-clause-told g c = told_none _ _ c.in_ok-restart.ensures.told
-
-pub returns-in_err-attempt-clause-keeps : goal.returns-in_err-attempt-clause-keeps
-returns-in_err-attempt-clause-keeps g c = g.R.Recorder.keeps_on _ _ _ c.restart.ensures.keeps c.attempt.ensures.keeps
 
 pub returns-clause-done : goal.returns-clause-done
 returns-clause-done g c =
-    let h = c.in_ok-attempt.ensures in
-    ⊎_elim inl (λ none. inr (none, h.search.plain (h.plain ∙ c.in_ok-start_again.ensures.plain))) h.done
-
-pub returns-clause-tells : goal.returns-clause-tells
-returns-clause-tells g c = tells_then _ _ _ (tells_both _ _ (λ x y. y ≡ []) c.in_ok-restart.ensures.told) c.in_ok-attempt.ensures.tells
-
-pub returns-clause-keeps : goal.returns-clause-keeps
-returns-clause-keeps g c = g.R.Recorder.keeps_on _ _ _ c.restart.ensures.keeps c.attempt.ensures.keeps
+    let h = c.in_ok-walk_again.ensures in
+    ⊎_elim inl (λ none. inr (none, h.search.plain h.plain)) h.done

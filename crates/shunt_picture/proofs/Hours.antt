@@ -6,7 +6,7 @@ use Rattle.std.proofs.lemmas.List.{get_or_default}
 use Rattle.shunt_instance.specs.declared.records.Train.{Train}
 use Rattle.shunt_instance.specs.defs.Words.{train_at}
 use Rattle.shunt_instance.specs.defs.Instance.{Night, IsInstance}
-use Rattle.shunt_picture.specs.defs.Pictures.{first_minute, last_minute, first_hour, last_hour, IsWithinHours}
+use Rattle.shunt_picture.specs.defs.Pictures.{first_minute, last_minute, IsWithinHours}
 
 held : (trains : List Train) (low high : ℕ) → IsNonDecreasingBy (λ t. t.minute) trains → low ≤ first_minute trains → last_minute trains ≤ high → All (λ t. (60 * (low / 60) ≤ t.minute) × (t.minute < 60 * (high / 60 + 1))) trains
 held trains low high rises below above = λ k d lt.

@@ -3,7 +3,7 @@ use Rattle.std.proofs.Common.{◌≡◌, ◌≢◌, ⊎_elim, ℕ, ◌+◌, ◌<
 use Rattle.std.specs.Prelude.{All, slice_index}
 use Rattle.std.proofs.lemmas.Bool.{cases_lt, cases_eq}
 use Rattle.std.proofs.lemmas.List.{length_push, get_or_append_left, get_or_push, take_all, take_more}
-use Rattle.std.proofs.lemmas.List.Elements.{All-weaker, All-push, All-get_or}
+use Rattle.std.proofs.lemmas.List.Elements.{All-weaker, All-push}
 use Rattle.shunt_picture.specs.declared.records.TrainMark.{TrainMark}
 use Rattle.shunt_picture.specs.declared.records.Lane.{Lane}
 use Rattle.shunt_picture.specs.defs.Words.{x_of}

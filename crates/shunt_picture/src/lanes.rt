@@ -1,6 +1,6 @@
 // The lanes of the tracks.
-ghost use Rattle.std.specs.Prelude.{◌≡◌, ◌≤◌, ◌<◌, ◌*◌, ◌+◌, min, max, [], IsTrue, All, map, length, IfOk, IfSome, slice_get, Some};
-ghost use Rattle.shunt_blocks.specs.defs.Shapes.{IsInRange, IsWithinTrains};
+ghost use Rattle.std.specs.Prelude.{◌≡◌, ◌≤◌, ◌<◌, ◌+◌, min, max, All, map, length, IfOk, slice_get, Some};
+ghost use Rattle.shunt_blocks.specs.defs.Shapes.{IsWithinTrains};
 ghost use Rattle.shunt_blocks.specs.defs.Lists.{AreInRange};
 ghost use Rattle.shunt_picture.specs.defs.Rows.{IsRowAmong};
 ghost use Rattle.shunt_picture.specs.defs.Lanes.{bar_of, first_of, last_of, IsLaneOf};

@@ -5,7 +5,7 @@ ghost use Rattle.shunt_instance.specs.defs.Words.{train_at};
 ghost use Rattle.shunt_blocks.specs.defs.Lists.{AreInRange};
 ghost use Rattle.shunt_plan.specs.defs.Plans.{IsPlanInRange};
 ghost use Rattle.shunt_picture.specs.defs.Lanes.{IsLaneOf};
-ghost use Rattle.shunt_picture.specs.defs.Pictures.{kind_of, first_minute, last_minute, first_hour, last_hour, IsPictureOf};
+ghost use Rattle.shunt_picture.specs.defs.Pictures.{kind_of, first_hour, last_hour, IsPictureOf};
 ghost use Rattle.shunt_picture.specs.defs.Layouts.{columns_of, lines_high, lane_high, AreStacked, IsLaidOut};
 
 use crate::lanes::lane_of;

@@ -1,5 +1,4 @@
-use Rattle.std.proofs.Common.{◌∙◌, ◌+◌, ◌*◌}
-use Rattle.std.specs.Prelude.{slice_index_or}
+use Rattle.std.proofs.Common.{◌∙◌}
 use Rattle.shunt_picture.specs.defs.PictureTexts.{kind_text}
 use Rattle.shunt_picture.proofs.Drawn.{one_entry}
 use Rattle.shunt_picture.proofs.drawing.push_kinds.Goals as goal

@@ -1,5 +1,4 @@
-use Rattle.std.proofs.Common.{◌≡◌, ◌++◌, ◌+◌, ◌*◌, drop}
-use Rattle.std.specs.Prelude.{slice_index_or}
+use Rattle.std.proofs.Common.{◌≡◌, ◌++◌, drop}
 use Rattle.shunt_picture.specs.defs.Words.{each_from}
 use Rattle.shunt_picture.specs.defs.PictureTexts.{loose_text}
 use Rattle.shunt_picture.proofs.drawing.push_looses.Given as goal

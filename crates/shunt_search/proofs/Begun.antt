@@ -10,7 +10,6 @@ use Rattle.shunt_blocks.specs.defs.Lists.{total_cost}
 use Rattle.shunt_blocks.specs.defs.Pins.{AreUsable, opening_cost}
 use Rattle.shunt_choices.specs.defs.Paths.{Masks, Trail, IsTrailOf, IsPartialPlan, masks_of, next_of}
 use Rattle.shunt_prices.specs.defs.Cases.{CasesHold}
-use Rattle.shunt_prices.specs.defs.Bounds.{IsCasesBound}
 use Rattle.shunt_proof.specs.declared.records.NodeKind.TheVariants.{Branch, Whole}
 use Rattle.shunt_proof.specs.declared.records.Node.{Node}
 use Rattle.shunt_proof.specs.defs.Nodes.{AreStatable, FitsNode, CanFollow}
@@ -20,6 +19,7 @@ use Rattle.shunt_search.specs.declared.yard.Yard.{Yard}
 use Rattle.shunt_search.specs.declared.known.Known.{Known}
 use Rattle.shunt_search.specs.declared.walking.Pending.{Pending}
 use Rattle.shunt_search.specs.declared.searching.Search.{Search}
+use Rattle.shunt_search.specs.defs.Roots.{IsFloor}
 use Rattle.shunt_search.specs.defs.Yards.{IsYard}
 use Rattle.shunt_search.specs.defs.Walking.{cases_in, IsLifted, IsWalk, AddsChildren, OpensAbove, KeepsCheaper, IsBest}
 use Rattle.shunt_search.specs.defs.Searching.{IsSearch, IsFresh, Begins, Takes, whole_root, branch_root, TellsRoot}
@@ -57,7 +57,7 @@ not_whole e = cc
 
 -- the first cases of a stock are as good as those of a root's own
 pub first_lifts : (night : Night) (pins : List Block) (stock : List (List Case)) (s : Search) → IsFresh night pins stock s → IsLifted night stock s.yard.path.blocks s.floor 0
-first_lifts night pins stock s f = record { there = f.stocked.some; hold = f.rooted.hold; reach = (s.floor, f.lowest, omega (arith, ints)) }
+first_lifts night pins stock s f = record { there = f.stocked.some; hold = f.rooted.hold; reach = f.lowest.reach }
 
 module _ (laws : BeginLaws) (night : Night) (i : IsInstance night) (pins : List Block) (stock : List (List Case)) (told now : Option (List Node)) (count cases : ℕ) (s : Search) (f : IsFresh night pins stock s) (first : count ≡ 1) where
   abbrev start : List Block
@@ -69,8 +69,8 @@ module _ (laws : BeginLaws) (night : Night) (i : IsInstance night) (pins : List 
   opened : s.known.cost ≤ opening_cost night start
   opened = let least = f.opening in let same = laws.opening night pins start f.begins.same in omega (arith, least, same)
 
-  lowest_at : (z : Search) → z.floor ≡ s.floor → IsCasesBound night start (cases_in stock 0) z.floor
-  lowest_at z e = subst (λ (x : ℤ). IsCasesBound night start (cases_in stock 0) x) (sym e) f.lowest
+  lowest_at : (z : Search) → z.floor ≡ s.floor → IsFloor night start (cases_in stock 0) floor z.floor
+  lowest_at z e = subst (λ (x : ℤ). IsFloor night start (cases_in stock 0) floor x) (sym e) f.lowest
 
   pub whole_begins : (z w : Search) → TellsRoot whole_root told now → cases ≡ 0 → Begins s z cases → z.waiting.items ≡ [] → next_of (masks_of night start) ≡ None → Takes night z w → IsSearch night pins stock now count cases w.waiting.items w
   whole_begins z w tells none b empty covers takes =
@@ -120,7 +120,7 @@ module _ (laws : BeginLaws) (night : Night) (i : IsInstance night) (pins : List 
       let root = branch_root (cases_in stock place) in
       let statable : AreStatable night (cases_in stock place) = f.stocked.each place [] lifts.there in
       let fits : FitsNode night (branch_root (cases_in stock place)) = record { depth = omega arith; choice = refl; duals = (not_whole, statable) } in
-      let above = opens_above laws.rise night i s.yard.path f.yard.path own s.known.cost (pos floor) lifts.hold (lower night start own s.floor (pos floor) (f.rooted.above s.floor f.lowest) lifts.reach) in
+      let above = opens_above laws.rise night i s.yard.path f.yard.path own s.known.cost (pos floor) lifts.hold (lower night start own s.floor (pos floor) f.lowest.high lifts.reach) in
       let low_is = f.low in
       let walk = laws.branch night start stock floor root s.known.cost s.low place z.waiting.items fits refl refl refl lifts.there opened (omega (arith, ints, low_is)) adds above lifts.hold unfinished in
       let cost_is : z.known.cost ≡ s.known.cost = ap (λ (k : Known). k.cost) b.known in

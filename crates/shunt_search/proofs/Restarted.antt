@@ -8,14 +8,14 @@ use Rattle.shunt_base.specs.declared.duals.Case.{Case}
 use Rattle.shunt_instance.specs.defs.Instance.{Night}
 use Rattle.shunt_blocks.specs.declared.records.Block.{Block}
 use Rattle.shunt_blocks.specs.defs.Pins.{opening_cost}
-use Rattle.shunt_prices.specs.defs.Bounds.{IsCasesBound}
+use Rattle.shunt_prices.specs.defs.Cases.{CasesHold}
 use Rattle.shunt_proof.specs.declared.records.Node.{Node}
 use Rattle.shunt_proof.specs.defs.Trees.{IsStart, best_before}
 use Rattle.shunt_search.specs.declared.known.Known.{Known}
 use Rattle.shunt_search.specs.declared.walking.Pending.{Pending}
 use Rattle.shunt_search.specs.declared.searching.Search.{Search}
 use Rattle.shunt_search.specs.defs.Walking.{cases_in}
-use Rattle.shunt_search.specs.defs.Roots.{AreRooted}
+use Rattle.shunt_search.specs.defs.Roots.{IsAbove, IsFloor}
 use Rattle.shunt_search.specs.defs.Searching.{IsSearch, IsFresh, StartsAgain}
 use Rattle.shunt_search.specs.defs.Endings.{IsDone}
 use Rattle.shunt_search.proofs.Searched.{same_best}
@@ -29,13 +29,20 @@ pub record RestartLaws : Type 0 where
 pub restarted : RestartLaws → (night : Night) (pins : List Block) (stock : List (List Case)) (told : Option (List Node)) (number owned : ℕ) (s z : Search) → IsSearch night pins stock told number owned s.waiting.items s → StartsAgain night pins s z → IsFresh night pins stock z
 restarted laws night pins stock told number owned s z S a =
     let same_cost : z.known.cost ≡ s.known.cost = ap (λ (k : Known). k.cost) a.known in
+    let same_start = laws.one night pins S.start z.yard.path.blocks S.begins a.begins in
     record {
       usable = S.usable;
       even = S.even;
       begins = a.begins;
       stocked = S.stocked;
-      rooted = subst (λ (l : List Block). AreRooted night l (cases_in stock 0)) (laws.one night pins S.start z.yard.path.blocks S.begins a.begins) S.rooted;
-      lowest = subst (λ (l : List Block). IsCasesBound night l (cases_in stock 0) z.floor) (laws.one night pins S.start z.yard.path.blocks S.begins a.begins) (subst (λ (x : ℤ). IsCasesBound night S.start (cases_in stock 0) x) (sym a.floor) S.lowest);
+      rooted = record {
+        statable = S.rooted.statable;
+        hold = subst (λ (l : List Block). CasesHold night l (cases_in stock 0)) same_start S.rooted.hold;
+        floor = S.rooted.floor;
+        assignment = S.rooted.assignment;
+        above = subst (λ (l : List Block). IsAbove night l (cases_in stock 0) S.rooted.floor) same_start S.rooted.above;
+      };
+      lowest = subst (λ (l : List Block). IsFloor night l (cases_in stock 0) S.rooted.floor z.floor) same_start (subst (λ (x : ℤ). IsFloor night S.start (cases_in stock 0) S.rooted.floor x) (sym a.floor) S.lowest);
       yard = a.yard;
       long = let many = a.many in let same = length_permutation pins z.yard.path.blocks a.begins.same in omega (arith, many, same);
       best = same_best night pins s.known z.known a.known S.best;

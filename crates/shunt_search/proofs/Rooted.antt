@@ -56,16 +56,3 @@ module _ (laws : RootLaws) (night : Night) (path : List Block) (d : Duals) where
       let is = subst (λ (z : ℤ). IsBoundOf (pos total) z) number.1 some.1 in
       let statable : AreStatable night (plain d) = record { within = laws.one_case night d are; apart = All-cons (λ (c : Case). AreApart c.duals.prices) (record { to = 160; multiplier = pos 0; duals = d }) [] apart (All-nil (λ (c : Case). AreApart c.duals.prices)) } in
       record { statable = statable; hold = hold; floor = number.0; assignment = assignment number.0 is; above = above (pos total) number.0 le is }
-
--- cases that hold and bound no less than cases for a root are cases for a root
-pub rooted_too : ((night : Night) (path : List Block) (cases : List Case) (bound other : ℤ) → IsCasesBound night path cases bound → IsCasesBound night path cases other → bound ≡ other)
-    → (night : Night) (path : List Block) (known new : List Case) → AreRooted night path known → AreCases night new → All (λ c. AreApart c.duals.prices) new → CasesHold night path new
-    → (old more : ℤ) → IsCasesBound night path known old → IsCasesBound night path new more → old ≤ℤ more → AreRooted night path new
-rooted_too one night path known new r within apart hold old more is_old is_more le =
-    record {
-      statable = record { within = within; apart = apart };
-      hold = hold;
-      floor = r.floor;
-      assignment = r.assignment;
-      above = λ bound is. let e = one night path new more bound is_more is in let low = r.above old is_old in omega (arith, ints, e, low, le);
-    }

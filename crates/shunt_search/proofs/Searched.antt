@@ -29,6 +29,7 @@ use Rattle.shunt_search.specs.declared.walking.Pending.{Pending}
 use Rattle.shunt_search.specs.declared.noting.Noted.{Noted}
 use Rattle.shunt_search.specs.declared.noting.Noted.TheVariants as noted
 use Rattle.shunt_search.specs.declared.searching.Search.{Search}
+use Rattle.shunt_search.specs.defs.Roots.{IsFloor}
 use Rattle.shunt_search.specs.defs.Yards.{choice_of, IsYard, IsNextBlock}
 use Rattle.shunt_search.specs.defs.Walking.{kept, goal_of, cases_in, IsWalk, IsNodeOf, node_below, IsInStock, cases_of, AddsChildren, OpensAbove, KeepsCheaper, IsBest, Passes}
 use Rattle.shunt_search.specs.defs.Searching.{IsSearch, IsReady, Arrives, Takes, Falls}
@@ -127,8 +128,8 @@ module _ (laws : SearchLaws) (night : Night) (i : IsInstance night) (units : uni
   above_floor : pos floor ≤ℤ t.child.bound
   above_floor = (S.walk.pending t (in_right left (t ∷ []) t (inl refl))).above
 
-  lowest_at : (z : Search) → z.floor ≡ s.floor → IsCasesBound night S.start (cases_in stock 0) z.floor
-  lowest_at z e = subst (λ (x : ℤ). IsCasesBound night S.start (cases_in stock 0) x) (sym e) S.lowest
+  lowest_at : (z : Search) → z.floor ≡ s.floor → IsFloor night S.start (cases_in stock 0) floor z.floor
+  lowest_at z e = subst (λ (x : ℤ). IsFloor night S.start (cases_in stock 0) floor x) (sym e) S.lowest
 
   pins_kept : s.yard.path.pins ≤ kept t.child
   pins_kept = let le = ready.0 in let long = S.long in omega (arith, le, long)
@@ -227,7 +228,7 @@ module _ (laws : SearchLaws) (night : Night) (i : IsInstance night) (units : uni
       with_cases below z noted.Same a now count cases more owns both t.cases inherited.0 tt refl refl inherited.1 (lower night goal (cases_in stock t.cases) t.child.bound (pos floor) above_floor inherited.2) a.is_noted a.opens
   branch_search below z (noted.Own place) a now count cases more owns both not_whole =
       let lifts = a.is_noted.1 in
-      with_cases below z (noted.Own place) a now count cases more owns both place lifts.there lifts.there refl refl lifts.hold (lower night goal (cases_in stock place) s.floor (pos floor) (S.rooted.above s.floor S.lowest) lifts.reach) a.is_noted.0 a.opens
+      with_cases below z (noted.Own place) a now count cases more owns both place lifts.there lifts.there refl refl lifts.hold (lower night goal (cases_in stock place) s.floor (pos floor) S.lowest.high lifts.reach) a.is_noted.0 a.opens
 
   pub whole_search : (below : t.child.bound <ℤ pos s.known.cost) (z w : Search) (a : Arrives night stock s z t noted.Whole left) (now : Option (List Node)) (count cases : ℕ) (more : count ≡ number + 1) (owns : cases ≡ owned + cases_of stock noted.Whole)
       → BothTold told now (λ x y. y ≡ x ++ node_below s.yard.path.pins t.child.block stock noted.Whole ∷ []) → Takes night z w → IsSearch night pins stock now count cases w.waiting.items w
@@ -291,7 +292,7 @@ closed_search closed night pins stock told number owned waiting left s z S f =
       begins = S.begins;
       stocked = S.stocked;
       rooted = S.rooted;
-      lowest = subst (λ (x : ℤ). IsCasesBound night S.start (cases_in stock 0) x) (sym f.floor) S.lowest;
+      lowest = subst (λ (x : ℤ). IsFloor night S.start (cases_in stock 0) S.rooted.floor x) (sym f.floor) S.lowest;
       walk = same_walk night S.start stock S.rooted.floor S.nodes s.yard.path.blocks z.yard.path.blocks left left s.known.cost z.known.cost z.low z.low (ap (λ (y : Yard). y.path.blocks) f.yard) refl same_cost refl
           (closed night S.start stock S.rooted.floor S.nodes s.yard.path.blocks waiting left s.known.cost s.low z.low S.walk p);
       high = ⊎_elim

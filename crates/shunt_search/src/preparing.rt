@@ -27,7 +27,6 @@ use shunt_ascent::Proposal;
 use shunt_blocks::Block;
 use shunt_blocks::laws::matchings;
 use shunt_choices::Path;
-use shunt_dual::cases_bound;
 use shunt_instance::Instance;
 use shunt_matching::{MatchError, Matching, first_fit_rest};
 use shunt_proof::laws::starts;
@@ -111,11 +110,11 @@ fn prepared(
 {
     let proposal = Proposal::new(alloc, instance, &yard.path)?;
     let first = first_plan(alloc, instance, pins, &proposal, opening)?;
-    let cases = root_cases(alloc, instance, &yard.path, &proposal, &first)?;
-    let mut known = last_plan(alloc, instance, pins, &cases, &first)?;
-    let floor = cases_bound(instance, &yard.path, &cases);
+    let root = root_cases(alloc, instance, &yard.path, &proposal, &first)?;
+    let mut known = last_plan(alloc, instance, pins, &root.cases, &first)?;
+    let floor = root.floor();
     let tree = proposed_tree(
-        alloc, instance, &yard.path, &proposal, cases, known.cost, nodes,
+        alloc, instance, &yard.path, &proposal, root.cases, known.cost, nodes,
     )?;
     take_proposed(
         alloc,

@@ -12,7 +12,7 @@ ghost use Rattle.shunt_prices.specs.defs.Limits.{AreDuals, AreApart, AreCases, p
 ghost use Rattle.shunt_prices.specs.defs.Cases.{CasesHold, DualsHold};
 ghost use Rattle.shunt_prices.specs.defs.Bounds.{IsBoundOf, IsCasesBound, case_sum, duals_sum};
 ghost use Rattle.shunt_dual.specs.defs.Assignments.{IsAssignmentBound};
-ghost use Rattle.shunt_search.specs.defs.Roots.{AreRooted};
+ghost use Rattle.shunt_search.specs.defs.Roots.{AreRooted, IsRoot};
 
 use crate::known::Known;
 use shunt_ascent::Proposal;
@@ -24,6 +24,23 @@ use shunt_dual::{assign, cases_bound, cases_hold, raise_prices, shares};
 use shunt_instance::Instance;
 use shunt_prices::laws::{bounds, bounds_rise, longer_paths, weak_duality};
 use std::alloc::{AllocError, Global};
+
+/// Cases for the root of a tree, and the floor that the bounds of its nodes have to keep.
+#[derive(Drop)]
+pub struct Root {
+    pub cases: Cases,
+    /// In cost units, at least the assignment bound and at most the bound of the root by its cases.
+    pub floor: i64,
+}
+
+impl Root {
+    /// Its floor.
+    pub(crate) fn floor(&self) -> i64
+        ensures { result ≡ self.now.floor }
+    {
+        self.floor
+    }
+}
 
 /// Cases that hold at a path hold at each longer one whose run goes through: at none of them a sum is less than at the empty path, and
 /// no bound is less than before.
@@ -92,13 +109,25 @@ fn raised_cases(alloc: Global, instance: &Instance, path: &Path) -> Result<Cases
     }))
 }
 
-/// What is proposed, as cases for a root, where it holds at a path and bounds it more than cases for a root there.
-fn if_better(instance: &Instance, path: &Path, known: &Cases, proposed: Cases) -> Option<Cases>
+/// Cases for a root, with their bound of its path as the floor.
+fn root_of(instance: &Instance, path: &Path, cases: Cases) -> Root
     requires path { IsTrailOf instance.now path.now }
-    requires known { AreRooted instance.now path.now.blocks known.now }
+    requires cases { AreRooted instance.now path.now.blocks cases }
+    ensures { IsRoot instance.now path.now.blocks result }
+{
+    Root {
+        floor: cases_bound(instance, path, &cases),
+        cases,
+    }
+}
+
+/// What is proposed, as cases for a root, where it holds at a path and bounds it more than the floor of others there, which stays.
+fn if_better(instance: &Instance, path: &Path, mut known: Root, proposed: Cases) -> Option<Root>
+    requires path { IsTrailOf instance.now path.now }
+    requires known { IsRoot instance.now path.now.blocks known }
     requires cases { AreCases instance.now proposed }
     requires apart { All (λ c. AreApart c.duals.prices) proposed }
-    ensures { IfSome result (AreRooted instance.now path.now.blocks) }
+    ensures { IfSome result (IsRoot instance.now path.now.blocks) }
 {
     // The call tells that a path has one bound by cases.
     bounds();
@@ -106,11 +135,11 @@ fn if_better(instance: &Instance, path: &Path, known: &Cases, proposed: Cases) -
         return None;
     }
     let more = cases_bound(instance, path, &proposed);
-    let least = cases_bound(instance, path, known);
-    if more <= least {
+    if more <= known.floor {
         return None;
     }
-    Some(proposed)
+    known.cases = proposed;
+    Some(known)
 }
 
 /// How many of a plan's blocks are unparked, and 160 where there are more.
@@ -124,26 +153,27 @@ fn unparked_in(blocks: &[Block]) -> u8 {
     unparked
 }
 
-/// Cases for the root of a tree: those that are proposed, parted near the number of unparked blocks of a good plan, or others where these
-/// don't bound more than the assignment. It needs that there is a matching. Err is want of memory.
+/// Cases for the root of a tree: those that are proposed, parted near the number of unparked blocks of a good plan, over the bound of the
+/// assignment's duals as the floor; or others where these don't bound more. It needs that there is a matching. Err is want of memory.
 pub(crate) fn root_cases(
     alloc: Global,
     instance: &Instance,
     path: &Path,
     proposal: &Proposal,
     plan: &Known,
-) -> Result<Cases, AllocError>
+) -> Result<Root, AllocError>
     requires path { IsTrailOf instance.now path.now }
     requires each { All (IsBlockButId instance.now) path.now.blocks }
     requires through { RunsThrough instance.now (placed path.now.blocks) }
     requires matching { (place : List ℕ) × Matches instance.now place }
-    ensures { IfOk result (AreRooted instance.now path.now.blocks) }
+    ensures { IfOk result (IsRoot instance.now path.now.blocks) }
 {
     let unparked = unparked_in(&plan.blocks);
     let proposed = proposal.parted(alloc, instance, unparked, plan.cost)?;
-    let assigned = assigned_cases(alloc, instance, path)?;
-    match if_better(instance, path, &assigned, proposed) {
-        Some(cases) => Ok(cases),
-        None => raised_cases(alloc, instance, path),
+    let known = root_of(instance, path, assigned_cases(alloc, instance, path)?);
+    if let Some(better) = if_better(instance, path, known, proposed) {
+        return Ok(better);
     }
+    let raised = raised_cases(alloc, instance, path)?;
+    Ok(root_of(instance, path, raised))
 }

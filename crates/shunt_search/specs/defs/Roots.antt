@@ -7,6 +7,8 @@ use Rattle.shunt_prices.specs.defs.Cases.{CasesHold}
 use Rattle.shunt_prices.specs.defs.Bounds.{IsCasesBound}
 use Rattle.shunt_dual.specs.defs.Assignments.{IsAssignmentBound}
 use Rattle.shunt_proof.specs.defs.Nodes.{AreStatable}
+use Rattle.shunt_proof.specs.defs.Proves.{Reaches}
+use Rattle.shunt_search.specs.declared.rooting.Root.{Root}
 
 -- the bound of a path by cases is at least this
 abbrev pub IsAbove : Night → List Block → List Case → ℕ → Type 0
@@ -19,3 +21,13 @@ pub record AreRooted (night : Night) (path : List Block) (cases : List Case) : T
   pub floor : ℕ
   pub assignment : IsAssignmentBound night floor
   pub above : IsAbove night path cases floor
+
+-- a floor of a walk whose root has these cases: it is at least the assignment bound, and they bound the path by it or more
+pub record IsFloor (night : Night) (path : List Block) (cases : List Case) (assignment : ℕ) (floor : ℤ) : Type 0 where
+  pub high : pos assignment ≤ℤ floor
+  pub reach : Reaches night path cases floor
+
+-- cases for a root, with a floor
+pub record IsRoot (night : Night) (path : List Block) (r : Root) : Type 0 where
+  pub rooted : AreRooted night path r.cases
+  pub low : IsFloor night path r.cases rooted.floor r.floor

@@ -5,7 +5,6 @@ use Rattle.shunt_base.specs.declared.duals.Case.{Case}
 use Rattle.shunt_instance.specs.defs.Instance.{Night, unit_total, position_total}
 use Rattle.shunt_blocks.specs.declared.records.Block.{Block}
 use Rattle.shunt_blocks.specs.defs.Pins.{AreUsable, opening_cost}
-use Rattle.shunt_prices.specs.defs.Bounds.{IsCasesBound}
 use Rattle.shunt_proof.specs.declared.records.NodeKind.TheVariants.{Branch, Whole}
 use Rattle.shunt_proof.specs.declared.records.NodeDuals.TheVariants.{New, Bare}
 use Rattle.shunt_proof.specs.declared.records.Node.{Node}
@@ -18,7 +17,7 @@ use Rattle.shunt_search.specs.declared.noting.Noted.{Noted}
 use Rattle.shunt_search.specs.declared.searching.Search.{Search}
 use Rattle.shunt_search.specs.defs.Yards.{IsYard, IsNextBlock}
 use Rattle.shunt_search.specs.defs.Walking.{kept, goal_of, cases_in, node_below, IsInStock, cases_of, place_of, IsNoted, Opens, IsLesser, Passes, IsWalk, KeepsCheaper, IsBest}
-use Rattle.shunt_search.specs.defs.Roots.{AreRooted}
+use Rattle.shunt_search.specs.defs.Roots.{AreRooted, IsFloor}
 
 -- a stock of cases that a file can state, the root's first
 pub record IsStock (night : Night) (stock : List (List Case)) : Type 0 where
@@ -26,8 +25,8 @@ pub record IsStock (night : Night) (stock : List (List Case)) : Type 0 where
   pub each : All (AreStatable night) stock
 
 -- some nodes are a walk from the pins to the yard's path, with these children left: they are the nodes that are told, where any are told,
--- and so many, with so many cases of their own; the floor is the bound of the pins by the first cases of the stock; and the low bound is
--- the best cost where the walk is plain
+-- and so many, with so many cases of their own; the floor is at least the assignment bound, and at most the bound of the pins by the first
+-- cases of the stock; and the low bound is the best cost where the walk is plain
 pub record IsSearch (night : Night) (pins : List Block) (stock : List (List Case)) (told : Option (List Node)) (number owned : ℕ) (waiting : List Pending) (s : Search) : Type 0 where
   pub start : List Block
   pub nodes : List Node
@@ -36,7 +35,7 @@ pub record IsSearch (night : Night) (pins : List Block) (stock : List (List Case
   pub begins : IsStart night pins start
   pub stocked : IsStock night stock
   pub rooted : AreRooted night start (cases_in stock 0)
-  pub lowest : IsCasesBound night start (cases_in stock 0) s.floor
+  pub lowest : IsFloor night start (cases_in stock 0) rooted.floor s.floor
   pub walk : IsWalk night start stock rooted.floor nodes s.yard.path.blocks waiting s.known.cost s.low
   pub high : pos rooted.floor ≤ℤ s.low
   pub tells : IfSome told (λ now. now ≡ nodes)
@@ -103,7 +102,7 @@ pub record IsFresh (night : Night) (pins : List Block) (stock : List (List Case)
   pub begins : IsStart night pins s.yard.path.blocks
   pub stocked : IsStock night stock
   pub rooted : AreRooted night s.yard.path.blocks (cases_in stock 0)
-  pub lowest : IsCasesBound night s.yard.path.blocks (cases_in stock 0) s.floor
+  pub lowest : IsFloor night s.yard.path.blocks (cases_in stock 0) rooted.floor s.floor
   pub yard : IsYard night s.yard
   pub long : s.yard.path.pins ≡ length s.yard.path.blocks
   pub best : IsBest night pins s.known.blocks.items s.known.cost

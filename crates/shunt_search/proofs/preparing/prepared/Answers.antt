@@ -1,9 +1,10 @@
-use Rattle.std.proofs.Common.{w64, to_z, of_z, ℤ, List, sym, subst, arith}
+use Rattle.std.proofs.Common.{w64, to_z, of_z, ℤ, List, sym, subst, arith, ◌∙◌}
 use Rattle.std.proofs.lemmas.Int.{to_z-of_z, to_z_pos}
 use Rattle.std.proofs.lemmas.List.Sorted.{length_permutation}
 use Rattle.shunt_base.specs.declared.duals.Case.{Case}
-use Rattle.shunt_prices.specs.defs.Bounds.{IsCasesBound}
-use Rattle.shunt_search.specs.defs.Roots.{AreRooted}
+use Rattle.shunt_prices.specs.defs.Cases.{CasesHold}
+use Rattle.shunt_proof.specs.defs.Nodes.{AreStatable}
+use Rattle.shunt_search.specs.defs.Roots.{IsAbove, IsFloor}
 use Rattle.shunt_search.proofs.preparing.prepared.Goals as goal
 
 pub take_proposed-requires-clause-even : goal.take_proposed-requires-clause-even
@@ -13,7 +14,9 @@ pub returns : goal.returns
 returns c =
     let night = c.args.instance.now in
     let path = c.args.yard.path in
-    let floor = c.cases_bound-floor.result in
+    let root = c.in_ok-root.ensures in
+    let floor = c.floor-floor.result in
+    let root_is = sym c.in_ok-tree.ensures.root in
     let small = c.requires.small in
     let opening = c.requires.opening in
     let less = c.in_ok-first.ensures.cheaper in
@@ -24,9 +27,15 @@ returns c =
       even = c.requires.even;
       begins = c.requires.start;
       stocked = c.in_ok-tree.ensures.stock;
-      rooted = subst (λ (l : List Case). AreRooted night path.blocks l) (sym c.in_ok-tree.ensures.root) c.in_ok-cases.ensures;
-      lowest = subst (λ (l : List Case). IsCasesBound night path.blocks l (to_z w64 (of_z w64 floor))) (sym c.in_ok-tree.ensures.root)
-          (subst (λ (z : ℤ). IsCasesBound night path.blocks c.in_ok-cases.cases z) (sym (to_z-of_z w64 floor (record { sfits = c.cases_bound-floor.type_inv }))) c.cases_bound-floor.ensures);
+      rooted = record {
+        statable = subst (λ (l : List Case). AreStatable night l) root_is root.rooted.statable;
+        hold = subst (λ (l : List Case). CasesHold night path.blocks l) root_is root.rooted.hold;
+        floor = root.rooted.floor;
+        assignment = root.rooted.assignment;
+        above = subst (λ (l : List Case). IsAbove night path.blocks l root.rooted.floor) root_is root.rooted.above;
+      };
+      lowest = subst (λ (l : List Case). IsFloor night path.blocks l root.rooted.floor (to_z w64 (of_z w64 floor))) root_is
+          (subst (λ (z : ℤ). IsFloor night path.blocks c.in_ok-root.root.cases root.rooted.floor z) (sym (to_z-of_z w64 floor (record { sfits = c.floor-floor.type_inv }) ∙ c.floor-floor.ensures)) root.low);
       yard = c.requires.yard;
       long = let many = c.requires.pins in let same = length_permutation c.args.pins.now path.blocks c.requires.start.same in omega (arith, many, same);
       best = c.in_ok-take_proposed.ensures.best;

@@ -1,10 +1,22 @@
 use Rattle.std.proofs.Common.{arith}
 use Rattle.std.proofs.lemmas.Int.{ints}
-use Rattle.shunt_search.proofs.Rooted.{rooted_too}
 use Rattle.shunt_search.proofs.rooting.if_better.Goals as goal
 
 pub returns : goal.returns
 returns c =
-    let more = c.if-more-least.false in
-    rooted_too c.bounds.ensures.one_of_cases c.args.instance.now c.args.path.now.blocks c.args.known.now c.args.proposed c.requires.known c.requires.cases c.requires.apart
-    (c.cases_hold.ensures.0 c.if-not-cases_hold.false) c.cases_bound-least.result c.cases_bound-more.result c.cases_bound-least.ensures c.cases_bound-more.ensures (omega (arith, ints, more))
+    let night = c.args.instance.now in
+    let path = c.args.path.now.blocks in
+    let known = c.requires.known in
+    let most = c.cases_bound-more.result in
+    let is_most = c.cases_bound-more.ensures in
+    let more = c.if-more-known.false in
+    record {
+      rooted = record {
+        statable = record { within = c.requires.cases; apart = c.requires.apart };
+        hold = c.cases_hold.ensures.0 c.if-not-cases_hold.false;
+        floor = known.rooted.floor;
+        assignment = known.rooted.assignment;
+        above = λ bound is. let e = c.bounds.ensures.one_of_cases night path c.args.proposed most bound is_most is in let low = known.low.high in omega (arith, ints, e, low, more);
+      };
+      low = record { high = known.low.high; reach = (most, is_most, omega (arith, ints, more)) };
+    }

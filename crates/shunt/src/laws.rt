@@ -259,10 +259,7 @@ pub fn check_pinned_bounds_every_plan()
 /// Where the files are accepted and neither the store nor the sink fails, `check-pinned` ends with `Done`, `Findings` or `Memory`.
 pub fn check_pinned_completes()
     ensures { (s t i p k : List ℕ) (old new : Seen) (status : Status) (files : Files) (x : PinChecked) → old.files ≡ Some files → pin_check_in s t i p k files ≡ Ok x → (Rose old.store_faults new.store_faults → ⊥) → (Rose old.sink_faults new.sink_faults → ⊥) → Ends (CheckPinned s t i p k) old new status → (status ≡ Status.Done) ⊎ ((status ≡ Status.Findings) ⊎ (status ≡ Status.Memory)) }
-{
-    laws::pins();
-    reasons();
-}
+{}
 
 /// `zones` ends with `Done` exactly where the files are accepted and no two moves of the plan meet in a zone, and with `Findings` exactly
 /// where they are accepted and two do, unless the store, memory or the sink came first. It never ends with `NoMatching` or `Unfinished`.

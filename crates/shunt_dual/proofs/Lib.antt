@@ -13,6 +13,7 @@ pub mod Charged
 pub mod Holds
 pub mod Summed
 pub mod Opening
+pub mod Lengthened
 pub mod Matched
 pub mod Shown
 pub mod Start

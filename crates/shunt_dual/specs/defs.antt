@@ -7,6 +7,7 @@ pub mod Pairing
 pub mod Tree
 pub mod Weighed
 pub mod Opened
+pub mod Longer
 pub mod Refits
 pub mod Asks
 pub mod Raises

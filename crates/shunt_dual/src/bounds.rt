@@ -10,7 +10,7 @@ ghost use Rattle.shunt_prices.specs.defs.Bounds.{most_surcharge, sum_at, case_su
 ghost use Rattle.shunt_dual.specs.defs.Opened.{IsLeastBelow};
 ghost use Rattle.shunt_dual.specs.defs.Weighed.{case_of};
 
-use crate::weighing::{charges, room};
+use crate::weighing::{parked_part, room};
 use shunt_base::{Cases, Duals, Price, PriceKind};
 use shunt_blocks::laws::few_blocks;
 use shunt_blocks::{Block, block_cost, block_length, shape_of};
@@ -24,17 +24,15 @@ fn price_part(instance: &Instance, prices: &[Price], block: &Block) -> u64
     ensures exact { result ≡ price_part instance.now prices.now block.now }
     ensures small { result ≤ 23039936000000000 }
 {
-    // The call tells that there are at most 60 tracks.
-    instance.station();
     let Some(park) = block.park else {
         return 0;
     };
     let long = block_length(instance, block);
-    charges(instance, prices, shape_of(block), long)[park.track.0 as usize]
+    parked_part(instance, prices, shape_of(block), long, park)
 }
 
 /// What a block weighs in a case.
-fn weight(instance: &Instance, multiplier: i64, duals: &Duals, block: &Block) -> i64
+pub(crate) fn weight(instance: &Instance, multiplier: i64, duals: &Duals, block: &Block) -> i64
     requires multiplier { IsValue multiplier }
     requires duals { AreDuals instance.now duals.now }
     requires within { IsWithinTrains instance.now block.now }
@@ -173,8 +171,8 @@ fn sum_at(instance: &Instance, path: &Path, from: u8, to: u8, multiplier: i64, d
 }
 
 /// A sum divided by 1000 and rounded up.
-fn bound_of(sum: i64) -> i64
-    requires { IsWithin 4010000000000000000 sum }
+pub(crate) fn bound_of(sum: i64) -> i64
+    requires { IsWithin 4100000000000000000 sum }
     ensures { IsBoundOf sum result }
 {
     if sum < 0 {
@@ -185,7 +183,7 @@ fn bound_of(sum: i64) -> i64
 }
 
 /// How many blocks are unparked.
-fn unparked_in(blocks: &[Block]) -> usize
+pub(crate) fn unparked_in(blocks: &[Block]) -> usize
     ensures { result ≡ unparked_in blocks.now }
 {
     blocks.iter().filter(|b| b.park.is_none()).count()
@@ -203,6 +201,19 @@ fn from_of(cases: &Cases, k: usize) -> u8
     cases.get(before).to + 1
 }
 
+/// The sum at a path of the case with a number.
+pub(crate) fn case_sum(instance: &Instance, path: &Path, cases: &Cases, k: usize) -> i64
+    requires path { IsTrailOf instance.now path.now }
+    requires cases { AreCases instance.now cases.now }
+    requires there { k < length cases.now }
+    ensures exact { result ≡ case_sum instance.now path.now.blocks cases.now k }
+    ensures small { IsWithin 4010000000000000000 result }
+{
+    let case = cases.get(k);
+    let from = from_of(cases, k);
+    sum_at(instance, path, from, case.to, case.multiplier, &case.duals)
+}
+
 /// The bound of the case with a number.
 fn case_bound(instance: &Instance, path: &Path, cases: &Cases, k: usize) -> i64
     requires path { IsTrailOf instance.now path.now }
@@ -210,9 +221,7 @@ fn case_bound(instance: &Instance, path: &Path, cases: &Cases, k: usize) -> i64
     requires there { k < length cases.now }
     ensures { IsBoundOf (case_sum instance.now path.now.blocks cases.now k) result }
 {
-    let case = cases.get(k);
-    let from = from_of(cases, k);
-    bound_of(sum_at(instance, path, from, case.to, case.multiplier, &case.duals))
+    bound_of(case_sum(instance, path, cases, k))
 }
 
 /// The lesser of a bound and that of the case with a number, where that is open.

@@ -21,7 +21,7 @@ use shunt_instance::Instance;
 use shunt_instance::laws::rooms_of_trains;
 
 /// The values of a shape's units and positions, added up.
-fn duals_over(instance: &Instance, duals: &Duals, shape: Shape) -> i64
+pub(crate) fn duals_over(instance: &Instance, duals: &Duals, shape: Shape) -> i64
     requires duals { AreDuals instance.now duals.now }
     requires within { AreRunsWithin instance.now shape }
     ensures exact { result ≡ duals_over instance.now duals.now shape }

@@ -6,7 +6,7 @@ ghost use Rattle.shunt_blocks.specs.defs.Shapes.{AreRunsWithin, IsOnTrack};
 ghost use Rattle.shunt_blocks.specs.defs.Costs.{cost_with};
 ghost use Rattle.shunt_blocks.specs.defs.Standing.{shape_length};
 ghost use Rattle.shunt_prices.specs.defs.Sums.{sum_z_below, IsWithin};
-ghost use Rattle.shunt_prices.specs.defs.Prices.{track_length, count_of, count, is_there, price_part_with};
+ghost use Rattle.shunt_prices.specs.defs.Prices.{track_length, count_of, count, is_there, counted_with, price_part_with};
 ghost use Rattle.shunt_prices.specs.defs.Limits.{IsKind, IsPrice, ArePrices, IsValue};
 
 use shunt_base::{Price, PriceKind, TrackId};
@@ -94,6 +94,43 @@ fn charge(instance: &Instance, price: Price, shape: Shape, long: u32) -> u64
         return 0;
     }
     price.value * count_of(price.kind, room(instance, price.track), long)
+}
+
+/// What a price takes of a shape that is parked: nothing where it is on another track.
+fn taken(instance: &Instance, price: Price, shape: Shape, long: u32, park: Park) -> u64
+    requires price { IsPrice instance.now price }
+    requires within { AreRunsWithin instance.now shape }
+    requires long { long ≡ shape_length instance.now shape }
+    requires small { long ≤ 40000 }
+    ensures exact { result ≡ price.value * counted_with instance.now price shape (Some park) }
+    ensures small { result ≤ 359999000000000 }
+{
+    if park.track.0 != price.track.0 {
+        return 0;
+    }
+    charge(instance, price, shape, long)
+}
+
+/// What prices take of a shape that is parked.
+pub(crate) fn parked_part(
+    instance: &Instance,
+    prices: &[Price],
+    shape: Shape,
+    long: u32,
+    park: Park,
+) -> u64
+    requires prices { ArePrices instance.now prices.now }
+    requires within { AreRunsWithin instance.now shape }
+    requires long { long ≡ shape_length instance.now shape }
+    requires small { long ≤ 40000 }
+    ensures exact { result ≡ price_part_with instance.now prices.now shape (Some park) }
+    ensures small { result ≤ 23039936000000000 }
+{
+    let mut total = 0;
+    for price in prices {
+        total += taken(instance, *price, shape, long, park);
+    }
+    total
 }
 
 /// Zeros.

@@ -1,7 +1,7 @@
 -- The next block at a path.
 use Rattle.std.specs.Prelude.{All, Option, Some, None, slice_index_or}
 use Rattle.std.specs.Option.{IsSomeAnd}
-use Rattle.std.proofs.Common.{◌≡◌, ℕ, ◌≤◌, true, false, [], ◌∷◌, ◌++◌, length, refl, sym, subst, ap, ◌∙◌, arith}
+use Rattle.std.proofs.Common.{◌≡◌, ℕ, ◌≤◌, true, false, List, [], ◌∷◌, ◌++◌, length, refl, sym, subst, ap, ◌∙◌, arith}
 use Rattle.shunt_instance.specs.defs.Instance.{Night}
 use Rattle.shunt_blocks.specs.declared.records.Block.{Block}
 use Rattle.shunt_blocks.specs.defs.Shapes.{shape_of, begins_at, IsInRange, IsWithinTrains, HasUnit, HasPosition}
@@ -10,6 +10,7 @@ use Rattle.shunt_choices.specs.defs.Paths.{Trail, IsTrailOf, masks_of, next_of}
 use Rattle.shunt_choices.specs.defs.Choices.{IsChoice}
 use Rattle.shunt_choices.proofs.Given.{PlaceLaws}
 use Rattle.shunt_choices.proofs.Trails.{pushed}
+use Rattle.shunt_prices.specs.defs.Cases.{IsFreeBlock}
 use Rattle.shunt_search.specs.defs.Yards.{choice_of, IsNextBlock}
 use Rattle.shunt_search.proofs.Changed.{on_track}
 
@@ -26,12 +27,22 @@ pub at_unit : (o : Option ℕ) (P : ℕ → Type 0) → IsSomeAnd o P → (u : �
 at_unit None P h = absurd h
 at_unit (Some u) P h = (u, refl, h)
 
+pub next_within : (night : Night) (path : List Block) (b : Block) → IsNextBlock night path b → IsWithinTrains night b
+next_within night path b next =
+    let r = at_unit (next_of (masks_of night path)) (λ u. IsChoice night (masks_of night path) u (choice_of b)) next.choice in
+    record { runs = r.2.shape.shape.within; track = on_track night (shape_of b) b.park r.2.option }
+
+pub next_free : (night : Night) (path : List Block) (b : Block) → IsNextBlock night path b → IsFreeBlock night (masks_of night path) (shape_of b) b.park
+next_free night path b next =
+    let r = at_unit (next_of (masks_of night path)) (λ u. IsChoice night (masks_of night path) u (choice_of b)) next.choice in
+    record { shape = record { shape = r.2.shape.shape; first = refl; units = r.2.shape.units; positions = r.2.shape.positions }; option = r.2.option }
+
 pub pushes : (places : PlaceLaws) (night : Night) (t : Trail) (b : Block) → IsTrailOf night t → length t.blocks ≤ 160 → IsNextBlock night t.blocks b → Pushes night t b
 pushes places night t b of few next =
     let r = at_unit (next_of (masks_of night t.blocks)) (λ u. IsChoice night (masks_of night t.blocks) u (choice_of b)) next.choice in
     let c = r.2 in
     let id = next.id in
-    let in_range : IsInRange night b = record { from = omega (arith, id); to = omega (arith, id, few); within = record { runs = c.shape.shape.within; track = on_track night (shape_of b) b.park c.option } } in
+    let in_range : IsInRange night b = record { from = omega (arith, id); to = omega (arith, id, few); within = next_within night t.blocks b next } in
     let units : (u : ℕ) → HasUnit night (shape_of b) u → slice_index_or t.covered.units u true ≡ false = (λ u has. subst (λ m. slice_index_or m.units u true ≡ false) (sym of.covered) (c.shape.units u has)) in
     let positions : (v : ℕ) → HasPosition night (shape_of b) v → slice_index_or t.covered.places v true ≡ false = (λ v has. subst (λ m. slice_index_or m.places v true ≡ false) (sym of.covered) (c.shape.positions v has)) in
     let trail = pushed places night t b of in_range units positions in

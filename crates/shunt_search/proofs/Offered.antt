@@ -1,12 +1,11 @@
 -- The children of a path, while its choices are tried one by one.
-use Rattle.std.specs.Prelude.{pos, not, All, Option, Some, None, IfSome, IfNone}
+use Rattle.std.specs.Prelude.{pos, not, All, Option, Some, None}
 use Rattle.std.specs.List.{flat_map}
 use Rattle.std.proofs.Common.{◌≡◌, inl, inr, ⊎_elim, ◌↔◌, ℕ, zero, suc, ◌+◌, ◌<◌, ◌≤◌, false, List, [], ◌∷◌, ◌++◌, length, map, take, get_or, refl, sym, subst, ap, ◌∙◌, arith}
-use Rattle.std.proofs.lemmas.List.{append-nil, append_assoc, length-append, map-append, take_more, take_all}
+use Rattle.std.proofs.lemmas.List.{append-nil, append_assoc, map-append, take_more, take_all}
 use Rattle.std.proofs.lemmas.List.Elements.{All-append, All-cons, All-nil}
 use Rattle.std.proofs.lemmas.List.Quantifiers.{position-Some}
 use Rattle.std.proofs.lemmas.List.Concat.{flat_map-cons}
-use Rattle.std.proofs.Math.Seq.{take-append_seam}
 use Rattle.shunt_lists.specs.defs.Members.{In, AreDistinct}
 use Rattle.shunt_lists.proofs.Members.{in_left, in_right, in_cases, in_map, in_place, of_one, Distinct}
 use Rattle.shunt_base.specs.declared.duals.Case.{Case}
@@ -21,39 +20,8 @@ use Rattle.shunt_choices.proofs.Trails.{length_units, length_places}
 use Rattle.shunt_choices.specs.defs.Free.{AreMasksOf}
 use Rattle.shunt_proof.specs.defs.Proves.{Reaches}
 use Rattle.shunt_search.specs.declared.children.Child.{Child}
-use Rattle.shunt_search.specs.declared.yard.Yard.{Yard}
 use Rattle.shunt_search.specs.defs.Yards.{choice_of, more_by, choices_in, IsNextBlock, IsOpen, IsClosed, IsTried, AreOpen, AreChildren}
 use Rattle.shunt_search.proofs.Stays.{place_of, of_all, to_all}
-
--- ---- a path that got a block and lost it again
-
-same_front : (xs ys : List Block) (a b : Block) → xs ++ a ∷ [] ≡ ys ++ b ∷ [] → ys ≡ xs
-same_front xs ys a b e =
-    let long : length (xs ++ a ∷ []) ≡ length (ys ++ b ∷ []) = ap (λ (l : List Block). length l) e in
-    let n : length ys ≡ length xs = omega (arith, long, length-append xs (a ∷ []), length-append ys (b ∷ [])) in
-    sym (take-append_seam ys (b ∷ [])) ∙ ap (λ (l : List Block). take (length ys) l) (sym e) ∙ ap (λ k. take k (xs ++ a ∷ [])) n ∙ take-append_seam xs (a ∷ [])
-
-same_trail : (night : Night) (old new : Trail) → IsTrailOf night old → IsTrailOf night new → new.blocks ≡ old.blocks → new.pins ≡ old.pins → new ≡ old
-same_trail night old new of on e p =
-    let covered : new.covered ≡ old.covered = on.covered ∙ ap (masks_of night) e ∙ sym of.covered in
-    ap (λ (b : List Block). record new { blocks = b }) e ∙ ap (λ (m : Masks). record old { covered = m; pins = new.pins }) covered ∙ ap (λ n. record old { pins = n }) p
-
-module _ (night : Night) (old mid new : Trail) (b : Block) (of : IsTrailOf night old) (pushed : mid ≡ record old { blocks = old.blocks ++ b ∷ []; covered = masks_of night (old.blocks ++ b ∷ []) }) (pins : old.pins ≤ length old.blocks) (o : Option Block) (some : IfSome o (λ c. (mid.pins < length mid.blocks) × (mid.blocks ≡ new.blocks ++ c ∷ []))) (none : IfNone o ((length mid.blocks ≤ mid.pins) × (new ≡ mid))) (on : IsTrailOf night new) (same : new.pins ≡ mid.pins) where
-  mid_blocks : mid.blocks ≡ old.blocks ++ b ∷ []
-  mid_blocks = ap (λ (t : Trail). t.blocks) pushed
-
-  mid_pins : mid.pins ≡ old.pins
-  mid_pins = ap (λ (t : Trail). t.pins) pushed
-
-  blocks_back : (p : Option Block) → IfSome p (λ c. (mid.pins < length mid.blocks) × (mid.blocks ≡ new.blocks ++ c ∷ [])) → IfNone p ((length mid.blocks ≤ mid.pins) × (new ≡ mid)) → new.blocks ≡ old.blocks
-  blocks_back (Some c) s n = same_front old.blocks new.blocks b c (sym mid_blocks ∙ s.1)
-  blocks_back None s n =
-      let le = n.0 in
-      let long : length mid.blocks ≡ length old.blocks + 1 = ap (λ (l : List Block). length l) mid_blocks ∙ length-append old.blocks (b ∷ []) in
-      absurd (omega (arith, le, long, mid_pins, pins))
-
-  pub back : new ≡ old
-  back = same_trail night old new of on (blocks_back o some none) (same ∙ mid_pins)
 
 -- ---- the block of a choice
 
@@ -168,14 +136,6 @@ module _ (night : Night) (path : List Block) (cases : List Case) (best : ℕ) wh
     choice = (members (choice_of b)).0 (subst (λ (l : List Choice). In (choice_of b) l) e (in_map choice_of blocks b i));
     id = of_all (λ x. x.id ≡ length path + 1) blocks b ids i;
   })
-
--- ---- at a yard that is as it was
-
-pub next_there : {b : Block} (night : Night) (y z : Yard) → y ≡ z → IsNextBlock night y.path.blocks b → IsNextBlock night z.path.blocks b
-next_there {b} night y z e h = subst (λ (x : Yard). IsNextBlock night x.path.blocks b) e h
-
-pub tried_there : {b : Block} (night : Night) (cases : List Case) (best : ℕ) (old new : List Child) (y z : Yard) → y ≡ z → IsTried night y.path.blocks cases best b old new → IsTried night z.path.blocks cases best b old new
-tried_there {b} night cases best old new y z e h = subst (λ (x : Yard). IsTried night x.path.blocks cases best b old new) e h
 
 -- ---- the choices at a path differ
 

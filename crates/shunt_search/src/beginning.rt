@@ -161,7 +161,7 @@ pub(crate) fn begin<R: Recorder>(
         0,
         Some(0),
         search.known.cost,
-        &mut search.yard,
+        &search.yard,
         &mut search.waiting,
     )?;
     Ok(())

@@ -5,14 +5,16 @@ ghost use Rattle.shunt_choices.specs.defs.Paths.{IsTrailOf, masks_of, next_of};
 ghost use Rattle.shunt_choices.specs.defs.Choices.{choices_with, choices_at};
 ghost use Rattle.shunt_prices.specs.defs.Limits.{AreCases};
 ghost use Rattle.shunt_prices.specs.defs.Bounds.{IsCasesBound};
+ghost use Rattle.shunt_dual.specs.defs.Longer.{AreSumsAt};
 ghost use Rattle.shunt_search.specs.defs.Yards.{IsYard, IsNextBlock, IsOpen, IsClosed, IsTried, AreOpen, AreChildren, more_by, choice_of};
 
 use crate::yard::Yard;
 use shunt_base::Cases;
-use shunt_blocks::{Block, Park, Shape, laws};
+use shunt_blocks::laws::few_blocks;
+use shunt_blocks::{Block, Park, Shape};
 use shunt_choices::laws::{choices, free_shapes};
 use shunt_choices::{Path, options, shapes_from};
-use shunt_dual::cases_bound;
+use shunt_dual::{PathSums, longer_bound, path_sums};
 use shunt_instance::Instance;
 use std::alloc::{AllocError, Global};
 
@@ -23,41 +25,40 @@ pub struct Child {
     pub bound: i64,
 }
 
-/// The bound of a path with the next block, by cases.
-fn bound_with(instance: &Instance, path: &mut Path, block: &Block, cases: &Cases) -> i64
-    requires path { IsTrailOf instance.now path.old }
-    requires pins { path.old.pins ≤ length path.old.blocks }
-    requires next { IsNextBlock instance.now path.old.blocks block.now }
+/// The bound of the yard's path with the next block by cases, from what these come to at the path.
+fn bound_with(
+    instance: &Instance,
+    yard: &Yard,
+    block: &Block,
+    cases: &Cases,
+    sums: &PathSums,
+) -> i64
+    requires next { IsNextBlock instance.now yard.now.path.blocks block.now }
     requires cases { AreCases instance.now cases.now }
-    ensures bound { IsCasesBound instance.now (more_by path.old.blocks block.now) cases.now result }
-    ensures same { path.new ≡ path.old }
+    requires sums { AreSumsAt instance.now yard.now.path.blocks cases.now sums.now }
+    ensures { IsCasesBound instance.now (more_by yard.now.path.blocks block.now) cases.now result }
 {
-    laws::places();
-    laws::few_blocks();
-    instance.units();
-    path.push(instance, *block);
-    let bound = cases_bound(instance, path, cases);
-    path.pop(instance);
-    bound
+    longer_bound(instance, cases, sums, block)
 }
 
 /// The bound of the path with the next block, where that is below a cost and the run goes through.
 fn open_bound(
     instance: &Instance,
-    yard: &mut Yard,
+    yard: &Yard,
     block: &Block,
     cases: &Cases,
+    sums: &PathSums,
     best: u64,
 ) -> Option<i64>
-    requires yard { IsYard instance.now yard.old }
-    requires next { IsNextBlock instance.now yard.old.path.blocks block.now }
+    requires yard { IsYard instance.now yard.now }
+    requires next { IsNextBlock instance.now yard.now.path.blocks block.now }
     requires cases { AreCases instance.now cases.now }
+    requires sums { AreSumsAt instance.now yard.now.path.blocks cases.now sums.now }
     requires best { best ≤ 1000000000000 }
-    ensures some { IfSome result (λ bound. IsOpen instance.now yard.old.path.blocks cases.now best block.now bound) }
-    ensures none { IfNone result (IsClosed instance.now yard.old.path.blocks cases.now best (choice_of block.now)) }
-    ensures same { yard.new ≡ yard.old }
+    ensures some { IfSome result (λ bound. IsOpen instance.now yard.now.path.blocks cases.now best block.now bound) }
+    ensures none { IfNone result (IsClosed instance.now yard.now.path.blocks cases.now best (choice_of block.now)) }
 {
-    let bound = bound_with(instance, &mut yard.path, block, cases);
+    let bound = bound_with(instance, yard, block, cases, sums);
     if bound >= best as i64 {
         return None;
     }
@@ -71,20 +72,21 @@ fn open_bound(
 /// Adds the next block to the children, where it is open.
 fn offer(
     instance: &Instance,
-    yard: &mut Yard,
+    yard: &Yard,
     block: &Block,
     cases: &Cases,
+    sums: &PathSums,
     best: u64,
     children: &mut Vec<Child>,
 ) -> Result<(), AllocError>
-    requires yard { IsYard instance.now yard.old }
-    requires next { IsNextBlock instance.now yard.old.path.blocks block.now }
+    requires yard { IsYard instance.now yard.now }
+    requires next { IsNextBlock instance.now yard.now.path.blocks block.now }
     requires cases { AreCases instance.now cases.now }
+    requires sums { AreSumsAt instance.now yard.now.path.blocks cases.now sums.now }
     requires best { best ≤ 1000000000000 }
-    ensures tried { OnOk result (IsTried instance.now yard.old.path.blocks cases.now best block.now children.old.items children.new.items) }
-    ensures same { yard.new ≡ yard.old }
+    ensures { OnOk result (IsTried instance.now yard.now.path.blocks cases.now best block.now children.old.items children.new.items) }
 {
-    if let Some(bound) = open_bound(instance, yard, block, cases, best) {
+    if let Some(bound) = open_bound(instance, yard, block, cases, sums, best) {
         children.push(Child {
             block: *block,
             bound,
@@ -97,21 +99,22 @@ fn offer(
 fn open_ones(
     alloc: Global,
     instance: &Instance,
-    yard: &mut Yard,
+    yard: &Yard,
     cases: &Cases,
+    sums: &PathSums,
     best: u64,
     blocks: &[Block],
 ) -> Result<Vec<Child>, AllocError>
-    requires yard { IsYard instance.now yard.old }
-    requires next { All (IsNextBlock instance.now yard.old.path.blocks) blocks.now }
+    requires yard { IsYard instance.now yard.now }
+    requires next { All (IsNextBlock instance.now yard.now.path.blocks) blocks.now }
     requires cases { AreCases instance.now cases.now }
+    requires sums { AreSumsAt instance.now yard.now.path.blocks cases.now sums.now }
     requires best { best ≤ 1000000000000 }
-    ensures open { IfOk result (λ v. AreOpen instance.now yard.old.path.blocks cases.now best (map choice_of blocks.now) v.items) }
-    ensures same { yard.new ≡ yard.old }
+    ensures { IfOk result (λ v. AreOpen instance.now yard.now.path.blocks cases.now best (map choice_of blocks.now) v.items) }
 {
     let mut children = Vec::new(alloc);
     for block in blocks {
-        offer(instance, yard, block, cases, best, &mut children)?;
+        offer(instance, yard, block, cases, sums, best, &mut children)?;
     }
     Ok(children)
 }
@@ -184,7 +187,7 @@ fn next_blocks(alloc: Global, instance: &Instance, path: &Path) -> Result<Vec<Bl
     ensures ids { IfOk result (λ v. All (λ b. b.id ≡ length path.now.blocks + 1) v.items) }
 {
     // The calls tell that there are at most 160 blocks.
-    laws::few_blocks();
+    few_blocks();
     instance.units();
     let mut blocks = Vec::new(alloc);
     let Some(unit) = path.next_unit() else {
@@ -199,21 +202,21 @@ fn next_blocks(alloc: Global, instance: &Instance, path: &Path) -> Result<Vec<Bl
 pub(crate) fn plan_children(
     alloc: Global,
     instance: &Instance,
-    yard: &mut Yard,
+    yard: &Yard,
     cases: &Cases,
     best: u64,
 ) -> Result<Vec<Child>, AllocError>
-    requires yard { IsYard instance.now yard.old }
+    requires yard { IsYard instance.now yard.now }
     requires cases { AreCases instance.now cases.now }
     requires best { best ≤ 1000000000000 }
-    ensures children { IfOk result (λ v. AreChildren instance.now yard.old.path.blocks cases.now best v.items) }
-    ensures same { yard.new ≡ yard.old }
+    ensures { IfOk result (λ v. AreChildren instance.now yard.now.path.blocks cases.now best v.items) }
 {
     // The calls tell that the choices are all and differ.
     choices();
     instance.units();
     let blocks = next_blocks(alloc, instance, &yard.path)?;
-    let mut children = open_ones(alloc, instance, yard, cases, best, &blocks)?;
+    let sums = path_sums(alloc, instance, &yard.path, cases)?;
+    let mut children = open_ones(alloc, instance, yard, cases, &sums, best, &blocks)?;
     // The least bound comes last, where a walk goes on.
     children.sort_unstable_by_key(|child| !child.bound);
     Ok(children)

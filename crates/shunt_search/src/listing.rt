@@ -88,15 +88,14 @@ pub(crate) fn add_children(
     parent: usize,
     hint: Option<usize>,
     best: u64,
-    yard: &mut Yard,
+    yard: &Yard,
     waiting: &mut Vec<Pending>,
 ) -> Result<(), AllocError>
-    requires yard { IsYard instance.now yard.old }
+    requires yard { IsYard instance.now yard.now }
     requires stock { All (AreStatable instance.now) tree.now.stock.items }
     requires cases { cases < length tree.now.stock.items }
     requires best { best ≤ 1000000000000 }
-    ensures children { OnOk result (AddsChildren instance.now tree.now.stock.items best yard.old.path.blocks parent cases waiting.old.items waiting.new.items) }
-    ensures same { yard.new ≡ yard.old }
+    ensures { OnOk result (AddsChildren instance.now tree.now.stock.items best yard.now.path.blocks parent cases waiting.old.items waiting.new.items) }
 {
     let own = cases_in(tree, cases);
     let children = plan_children(alloc, instance, yard, own, best)?;

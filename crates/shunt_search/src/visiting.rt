@@ -173,7 +173,7 @@ fn list_children(
         search.count as usize,
         next.hint,
         search.known.cost,
-        &mut search.yard,
+        &search.yard,
         &mut search.waiting,
     )
 }

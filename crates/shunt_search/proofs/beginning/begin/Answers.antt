@@ -26,10 +26,10 @@ returns-clause-search g c =
     let stock = c.args.tree.now.stock.items in
     let old = c.args.search.now in
     let some = subst (λ (m : Masks). IsSome (next_of m)) fresh.yard.path.covered (c.is_whole-whole.ensures.no c.if-whole.false) in
-    let adds = subst (λ (l : List Pending). AddsChildren c.args.instance.now stock old.known.cost old.yard.path.blocks 0 c.root_place-place.result l c.add_children.new.waiting.items) fresh.empty c.in_ok-add_children.ensures.children in
+    let adds = subst (λ (l : List Pending). AddsChildren c.args.instance.now stock old.known.cost old.yard.path.blocks 0 c.root_place-place.result l c.add_children.new.waiting.items) fresh.empty c.in_ok-add_children.ensures in
     c.searches_begin.ensures.branch c.args.instance.now c.args.pins.now stock (g.R.Recorder.told c.args.recorder.now) (g.R.Recorder.told c.note_branch.new.recorder) (g.R.Recorder.number c.note_branch.new.recorder) (g.R.Recorder.cases c.note_branch.new.recorder)
     old _ c.root_place-place.result c.units.ensures.formed fresh c.root_place-place.ensures (c.requires.told, c.in_ok-note_branch.ensures.told) c.in_ok-note_branch.ensures.number c.in_ok-note_branch.ensures.cases
-    (record { yard = c.add_children.ensures.same; known = refl; low = refl; floor = refl; counted = refl; cases_counted = (let is = ap (λ (l : List Case). length l) c.cases_in.ensures in let len = c.len.ensures.value in let noted = c.in_ok-note_branch.ensures.cases in omega (arith, is, len, noted)) }) some adds
+    (record { yard = refl; known = refl; low = refl; floor = refl; counted = refl; cases_counted = (let is = ap (λ (l : List Case). length l) c.cases_in.ensures in let len = c.len.ensures.value in let noted = c.in_ok-note_branch.ensures.cases in omega (arith, is, len, noted)) }) some adds
 
 pub returns-then-whole-clause-tells : goal.returns-then-whole-clause-tells
 returns-then-whole-clause-tells g c =

@@ -1,9 +1,6 @@
-use Rattle.std.proofs.Common.{◌≡◌, map, take}
+use Rattle.std.proofs.Common.{map, take}
 use Rattle.shunt_search.specs.defs.Yards.{choice_of, AreOpen}
 use Rattle.shunt_search.proofs.children.open_ones.Given as goal
 
 abbrev pub invariant-loop-block : goal.invariant-loop-block
-invariant-loop-block l = record {
-  same : l.yard ≡ l.fn.yard;
-  tried : AreOpen l.instance l.fn.yard.path.blocks l.cases l.best (map choice_of (take l.block-index l.blocks)) l.children.items;
-}
+invariant-loop-block l = AreOpen l.instance l.yard.path.blocks l.cases l.best (map choice_of (take l.block-index l.blocks)) l.children.items

@@ -15,11 +15,11 @@ open_ones-requires-clause-next c =
     (ap (λ (l : List Block). map choice_of l) c.deref.ensures.value ∙ c.in_ok-blocks.ensures.choices)
     (subst (λ (l : List Block). All (λ b. b.id ≡ length path + 1) l) (sym c.deref.ensures.value) c.in_ok-blocks.ensures.ids)
 
-pub returns-clause-children : goal.returns-clause-children
-returns-clause-children c =
+pub returns : goal.returns
+returns c =
     let night = c.args.instance.now in
     let path = c.args.yard.now.path.blocks in
     reordered night path c.args.cases.now c.args.best c.in_ok-children.children.items c.sort_unstable_by_key.new.self.items (search rules)
     (are_children night path c.args.cases.now c.args.best (choices_at night path) c.in_ok-children.children.items (λ k. c.choices.ensures.at_path night path k c.units.ensures.formed)
     (choices_differ night path (λ covered u lt. c.choices.ensures.once night covered u c.units.ensures.formed))
-    (subst (λ (l : List Choice). AreOpen night path c.args.cases.now c.args.best l c.in_ok-children.children.items) (ap (λ (l : List Block). map choice_of l) c.deref.ensures.value ∙ c.in_ok-blocks.ensures.choices) c.in_ok-children.ensures.open))
+    (subst (λ (l : List Choice). AreOpen night path c.args.cases.now c.args.best l c.in_ok-children.children.items) (ap (λ (l : List Block). map choice_of l) c.deref.ensures.value ∙ c.in_ok-blocks.ensures.choices) c.in_ok-children.ensures))

@@ -10,4 +10,4 @@ add_children-requires-clause-cases c = place_in c.args.tree.now.stock.items c.ar
 pub returns-clause-opens : goal.returns-clause-opens
 returns-clause-opens c =
     let s = c.args.search.now in
-    subst (λ (o : Option ℕ). OnOk c.add_children.result (Opens c.args.instance.now c.args.tree.now.stock.items s.known.cost s.yard.path.blocks s.count o s.waiting.items c.add_children.new.waiting.items)) c.in-Some.ensures c.add_children.ensures.children
+    subst (λ (o : Option ℕ). OnOk c.add_children.result (Opens c.args.instance.now c.args.tree.now.stock.items s.known.cost s.yard.path.blocks s.count o s.waiting.items c.add_children.new.waiting.items)) c.in-Some.ensures c.add_children.ensures

@@ -2,7 +2,7 @@
 use crate::levels::{Level, share_of};
 use crate::lifting::{Aim, Lifted, lift};
 use crate::nodes::{Node, Open, Pair, Sums, first_at, last_at, path_to};
-use crate::opening::{Opened, choices_at, open_by};
+use crate::opening::{Opened, Range, choices_at, count_up_to, open_by};
 use shunt_ascent::{Fixed, Raised, Site};
 use shunt_blocks::{Block, block_cost, in_range};
 use shunt_instance::Instance;
@@ -55,17 +55,6 @@ fn cost_of_all(instance: &Instance, blocks: &[Block]) -> i64 {
         cost = cost.saturating_add(cost_of(instance, block));
     }
     cost
-}
-
-// How many of these bound no more than a level, which are the last.
-fn count_up_to(choices: &[Open], level: i64) -> usize {
-    let mut count = 0usize;
-    for open in choices {
-        if open.bound <= level {
-            count = count.saturating_add(1);
-        }
-    }
-    count
 }
 
 // How many of these bound less than a cost.
@@ -151,7 +140,7 @@ impl Tree {
         Ok(())
     }
 
-    // Finds the choices of a node by the cases that it inherits.
+    // Finds the next choices of a node by the cases that it has.
     fn open(&mut self, alloc: Global, instance: &Instance, place: usize) -> Result<(), AllocError> {
         let blocks = path_to(alloc, &self.start, &self.nodes, place)?;
         let found = choices_at(alloc, instance, &mut self.site, &blocks)?;
@@ -165,12 +154,13 @@ impl Tree {
             first: first_at(&self.nodes, place),
             last,
         };
-        let opened = open_by(alloc, &mut self.site, &found, &cases, node.sums, self.cost)?;
+        let range = Range {
+            from: node.beyond,
+            cost: self.cost,
+        };
+        let opened = open_by(alloc, &mut self.site, &found, &cases, node.sums, range)?;
         if let Some(node) = self.nodes.get_mut(place) {
-            node.key = node.key.max(opened.least);
-            node.inherited = node.key;
-            node.choices = opened.choices;
-            node.is_open = true;
+            node.open(opened);
         }
         Ok(())
     }
@@ -208,7 +198,10 @@ impl Tree {
             &found,
             &lifted.over(&cases),
             sums,
-            self.cost,
+            Range {
+                from: i64::MIN,
+                cost: self.cost,
+            },
         )?;
         if opened.least > node.key {
             return Ok(Some((lifted, opened)));
@@ -332,11 +325,7 @@ impl Tree {
         let mut choices = mem::replace(&mut node.choices, Vec::new(alloc));
         self.list_some(alloc, instance, place, level, &mut choices, most)?;
         if let Some(node) = self.nodes.get_mut(place) {
-            node.key = match choices.last() {
-                Some(open) => open.bound,
-                None => i64::MAX,
-            };
-            node.choices = choices;
+            node.leave(choices);
         }
         Ok(())
     }
@@ -449,10 +438,15 @@ fn put_case(old: &mut Option<Fixed>, raised: Option<Raised>) {
 // Gives a node cases of its own.
 fn take_over(node: &mut Node, lifted: Lifted, opened: Opened) {
     let Lifted { first, last } = lifted;
-    let Opened { choices, least } = opened;
+    let Opened {
+        choices,
+        least,
+        beyond,
+    } = opened;
     put_case(&mut node.first, first);
     put_case(&mut node.last, last);
     node.is_lifted = true;
     node.key = least;
     node.choices = choices;
+    node.beyond = beyond;
 }

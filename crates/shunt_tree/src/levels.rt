@@ -41,12 +41,12 @@ impl Level {
         self.done = self.done.saturating_add(share);
     }
 
-    /// Gives the bound up where by the share that is done it takes more than three times the nodes that are left.
+    /// Gives the bound up where by the share that is done it takes more nodes in all than it took and three times those that are left.
+    /// The share tells little at first, and more the fewer are left.
     pub(crate) fn judge(&mut self, left: usize) {
         let work = self.nodes.saturating_mul(WHOLE_WORK);
-        let nodes = self.nodes.saturating_add(left as u64);
-        let most = self.done.saturating_mul(3).saturating_mul(nodes);
-        if self.nodes >= PATIENCE && work > most {
+        let nodes = self.nodes.saturating_add((left as u64).saturating_mul(3));
+        if self.nodes >= PATIENCE && work > self.done.saturating_mul(nodes) {
             self.given_up = true;
         }
     }

@@ -1,4 +1,5 @@
 // The nodes of a tree while it grows.
+use crate::opening::Opened;
 use shunt_ascent::Fixed;
 use shunt_blocks::Block;
 use std::alloc::{AllocError, Global};
@@ -46,9 +47,11 @@ pub(crate) struct Node {
     pub key: i64,
     /// The least bound of its choices by the inherited cases.
     pub inherited: i64,
-    /// Whether its choices are found; those that aren't listed, the least bound last.
+    /// Whether its next choices are found; those that aren't listed, the least bound last; and the least bound of those that were found and not
+    /// kept, which is the greatest number where there are none.
     pub is_open: bool,
     pub choices: Vec<Open>,
+    pub beyond: i64,
     pub children: Vec<usize>,
     /// The bound up to which its cases were tried to lift.
     pub tried: i64,
@@ -96,6 +99,7 @@ impl Node {
             inherited: i64::MIN,
             is_open: false,
             choices: Vec::new(alloc),
+            beyond: i64::MIN,
             children: Vec::new(alloc),
             tried: i64::MIN,
             share: 0,
@@ -126,10 +130,35 @@ impl Node {
             inherited: open.bound,
             is_open: false,
             choices: Vec::new(alloc),
+            beyond: i64::MIN,
             children: Vec::new(alloc),
             tried: i64::MIN,
             share,
         }
+    }
+}
+
+impl Node {
+    /// Its next choices are found. The first ones, which no case of its own bounds yet, tell what the inherited cases bound.
+    pub(crate) fn open(&mut self, opened: Opened) {
+        self.key = self.key.max(opened.least);
+        if self.children.is_empty() {
+            self.inherited = self.key;
+        }
+        self.choices = opened.choices;
+        self.beyond = opened.beyond;
+        self.is_open = true;
+    }
+
+    /// Choices that weren't listed are left. Where there are none, those beyond have to be found.
+    pub(crate) fn leave(&mut self, choices: Vec<Open>) {
+        if let Some(open) = choices.last() {
+            self.key = open.bound;
+        } else {
+            self.key = self.beyond;
+            self.is_open = false;
+        }
+        self.choices = choices;
     }
 }
 

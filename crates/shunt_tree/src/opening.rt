@@ -7,11 +7,23 @@ use shunt_instance::Instance;
 use std::alloc::{AllocError, Global};
 use std::cmp::Reverse;
 
-/// Choices that bound less than a plan costs, the least last, and the least bound, which is at most that cost.
+/// How far above the least bound choices are kept: the others would fill the memory, and few of them are ever listed.
+const KEPT: i64 = 2;
+
+/// What choices at a path have to bound: no less than those that aren't listed yet, and less than a plan costs.
+#[derive(Clone, Copy)]
+pub(crate) struct Range {
+    pub from: i64,
+    pub cost: i64,
+}
+
+/// Choices of a range that bound little, the least last, with the least bound of all, which is at most the cost, and that of those that weren't
+/// kept, which is the greatest number where there are none.
 #[derive(Drop)]
 pub(crate) struct Opened {
     pub choices: Vec<Open>,
     pub least: i64,
+    pub beyond: i64,
 }
 
 /// The choices at a path that go through, once the site is there. Err is want of memory.
@@ -61,20 +73,32 @@ fn is_open(cases: &Pair<'_>, unparked: i64) -> bool {
     }
 }
 
-/// Of choices that go through those that bound less than a cost by some cases, and the least bound. Err is want of memory.
+/// How many of these bound no more than a level.
+pub(crate) fn count_up_to(choices: &[Open], level: i64) -> usize {
+    let mut count = 0usize;
+    for open in choices {
+        if open.bound <= level {
+            count = count.saturating_add(1);
+        }
+    }
+    count
+}
+
+/// Of choices that go through those that bound little by some cases, of a range. Err is want of memory.
 pub(crate) fn open_by(
     alloc: Global,
     site: &mut Site,
     found: &[Choice],
     cases: &Pair<'_>,
     sums: Sums,
-    cost: i64,
+    range: Range,
 ) -> Result<Opened, AllocError> {
     let firsts = first_sums(alloc, site, found, cases, sums)?;
     let lasts = site.sums(alloc, cases.last, sums.last, found)?;
     let mut opened = Opened {
         choices: Vec::new(alloc),
-        least: cost,
+        least: range.cost,
+        beyond: i64::MAX,
     };
     for (place, choice) in found.iter().enumerate() {
         let sums = Sums {
@@ -89,24 +113,35 @@ pub(crate) fn open_by(
                 sums,
                 place,
             },
-            cost,
+            range,
         )?;
     }
-    opened.sort();
+    opened.keep(alloc)?;
     Ok(opened)
 }
 
 impl Opened {
-    fn offer(&mut self, open: Open, cost: i64) -> Result<(), AllocError> {
-        self.least = self.least.min(open.bound);
-        if open.bound < cost {
+    fn offer(&mut self, open: Open, range: Range) -> Result<(), AllocError> {
+        if range.from <= open.bound && open.bound < range.cost {
+            self.least = self.least.min(open.bound);
             self.choices.push(open)?;
         }
         Ok(())
     }
 
-    fn sort(&mut self) {
-        self.choices
-            .sort_unstable_by_key(|open| (Reverse(open.bound), open.place));
+    // Keeps those that bound little, in their order.
+    fn keep(&mut self, alloc: Global) -> Result<(), AllocError> {
+        let most = self.least.saturating_add(KEPT);
+        let mut kept = Vec::with_capacity(alloc, count_up_to(&self.choices, most))?;
+        for open in &self.choices {
+            if open.bound <= most {
+                kept.push(*open)?;
+            } else {
+                self.beyond = self.beyond.min(open.bound);
+            }
+        }
+        kept.sort_unstable_by_key(|open| (Reverse(open.bound), open.place));
+        self.choices = kept;
+        Ok(())
     }
 }

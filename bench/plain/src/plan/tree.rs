@@ -269,11 +269,11 @@ impl Tree<'_> {
         waiting.into_iter().for_each(|node| self.nodes[node].share = share);
     }
 
-    // Whether a level is given up: by the share that is done it would take more than three times the nodes that are left.
+    // Whether a level is given up: by the share that is done it takes more nodes in all than it took and three times those that are left.
     fn gives_up(&self, left: usize) -> bool {
         let level = &self.level;
         let work = i128::from(level.nodes) * i128::from(WHOLE_WORK);
-        level.given_up || level.nodes >= 300 && work > 3 * i128::from(level.done) * (left as i128 + i128::from(level.nodes))
+        level.given_up || level.nodes >= 300 && work > i128::from(level.done) * (i128::from(level.nodes) + 3 * left as i128)
     }
 
     // A node at the level is opened, lifted, or its choices are listed.

@@ -4,7 +4,7 @@
 #SBATCH --job-name=nights
 #SBATCH --ntasks=1
 #SBATCH --cpus-per-task=1
-#SBATCH --mem=1G
+#SBATCH --mem=256M
 #SBATCH --time=00:10:00
 #SBATCH --output=nights-%A.log
 #SBATCH --open-mode=append

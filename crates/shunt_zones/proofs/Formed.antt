@@ -54,7 +54,7 @@ same_number k = grind (arith, nat_tests)
 
 same_itself : (o p : Over) → p ≡ o → is_same o p ≡ true
 same_itself o p e =
-    subst (λ (w : Over). (p.platform.0 == w.platform.0 && p.track.0 == w.track.0 && same_side p.side w.side && p.zone == w.zone) ≡ true) e
+    subst (λ (w : Over). (w.platform.0 == p.platform.0 && w.track.0 == p.track.0 && same_side w.side p.side && w.zone == p.zone) ≡ true) e
     (and_from _ _ (and_from _ _ (and_from _ _ (same_number p.platform.0) (same_number p.track.0)) (same_side_itself p.side)) (same_number p.zone))
 
 over_formed : (s : Station) (n : ℕ) (z t : Zones) (row : List (List ℕ)) → IsZones s z → answer n (over_of s z row) ≡ Ok t → IsZones s t

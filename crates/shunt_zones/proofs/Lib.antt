@@ -7,4 +7,5 @@ mod Parts
 pub mod Plain
 pub mod Rising
 pub mod RoundTrip
+mod Same
 pub mod Tables

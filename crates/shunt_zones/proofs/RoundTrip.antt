@@ -72,9 +72,12 @@ four test p q t u a b i j e f g h = ap (λ k. test k t a i) e ∙ ap (λ k. test
 same_tells : (o p : Over) → is_same o p ≡ true → p ≡ o
 same_tells o p e =
     let c = and_parts _ _ e in
-    let d = and_parts _ (same_side p.side o.side) c.0 in
-    let f = and_parts (p.platform.0 == o.platform.0) _ d.0 in
-    four over_from p.platform.0 o.platform.0 p.track.0 o.track.0 p.side o.side p.zone o.zone (eqb-true p.platform.0 o.platform.0 f.0) (eqb-true p.track.0 o.track.0 f.1) (same_side_tells p.side o.side d.1) (eqb-true p.zone o.zone c.1)
+    let d = and_parts _ (same_side o.side p.side) c.0 in
+    let f = and_parts (o.platform.0 == p.platform.0) _ d.0 in
+    let platform = eqb-true o.platform.0 p.platform.0 f.0 in
+    let track = eqb-true o.track.0 p.track.0 f.1 in
+    let zone = eqb-true o.zone p.zone c.1 in
+    sym (four over_from o.platform.0 p.platform.0 o.track.0 p.track.0 o.side p.side o.zone p.zone platform track (same_side_tells o.side p.side d.1) zone)
 
 over_read : (s : Station) (z : Zones) → IsStation s → IsZones s z → (n : ℕ) (xs : List Over) (y : Over) (zs : List Over) → z.over ≡ xs ++ y ∷ zs
     → answer n (later_of s (partial z.names xs) (over_row s z.names y)) ≡ Ok (partial z.names (xs ++ y ∷ []))

@@ -5,6 +5,7 @@ pub mod laws;
 mod loading;
 mod meeting;
 mod moves;
+mod overs;
 mod passing;
 mod reading;
 mod records;

@@ -1,18 +1,17 @@
 // From records to zones.
-ghost use Rattle.std.specs.Prelude.{◌≡◌, ◌≤◌, length, IfOk};
-ghost use Rattle.shunt_base.specs.defs.Sides.{same_side};
+ghost use Rattle.std.specs.Prelude.{◌≡◌, ◌≤◌, false, length, IfOk};
 ghost use Rattle.shunt_rows.specs.defs.Checks.{answer};
 ghost use Rattle.shunt_rows.specs.defs.Formats.{reading};
 ghost use Rattle.shunt_rows.specs.defs.Given.{Gives};
 ghost use Rattle.shunt_instance.specs.defs.Wellformed.{IsStation};
 ghost use Rattle.shunt_zones.specs.declared.records.Zones.{Zones};
-ghost use Rattle.shunt_zones.specs.defs.ZonesFormat.{is_same, stands, first_of, zone_of, over_in, over_of, later_of, zones_format, IsZones};
+ghost use Rattle.shunt_zones.specs.defs.ZonesFormat.{stands, first_of, zone_of, over_in, over_of, later_of, zones_format, IsZones};
 
+use crate::overs::Overs;
 use crate::records::{Over, Zones};
-use crate::ways::{KnownStation, Way, is_same_side};
+use crate::ways::{KnownStation, Way};
 use shunt_base::{Name, is_name};
 use shunt_instance::Station;
-use shunt_lists::Items;
 use shunt_plan::read_first;
 use shunt_rows::{
     FormatReader, Naming, Numbered, ReadError, Row, RowFault, RowKind, fields_in, found, must, read,
@@ -37,7 +36,7 @@ impl Naming for ZoneNames {
 #[derive(Drop)]
 struct Stated<'r, 's> {
     names: Numbered<'r, ZoneNames>,
-    over: Vec<Over>,
+    over: Overs,
     // The station outlives what is read over it.
     station: PhantomData<&'s Station>,
 }
@@ -48,39 +47,24 @@ impl<'r, 's> Model for Stated<'r, 's> {
 
     ghost Value = { Zones };
 
-    ghost view = { λ s. record { names = s.names; over = s.over.items } };
+    ghost view = { λ s. record { names = s.names; over = s.over } };
 
     ghost invariant = { λ s. length s.names ≤ 64 };
-}
-
-fn is_same(over: &Over, other: &Over) -> bool
-    ensures { result ≡ is_same over.now other.now }
-{
-    other.platform.0 == over.platform.0
-        && other.track.0 == over.track.0
-        && is_same_side(other.side, over.side)
-        && other.zone == over.zone
-}
-
-#[tactic(auto, unfolding(crate::specs::defs::ZonesFormat::stands))]
-fn stands(all: &[Over], over: &Over) -> bool
-    ensures { result ≡ stands all.now over.now }
-{
-    all.iter().any(|other| is_same(over, other))
 }
 
 // The zone at field 5 over a way, where it doesn't stand already.
 #[tactic(auto, unfolding(crate::specs::defs::ZonesFormat::over_in))]
 fn read_new(
     names: &Numbered<'_, ZoneNames>,
-    all: &[Over],
+    all: &Overs,
     way: Way,
     row: &Row,
     n: u32,
 ) -> Result<Over, RowFault>
     requires few { length names.now ≤ 64 }
     requires last { 5 ≤ length row.now }
-    ensures { result ≡ answer n (over_in names.now all.now way row.now) }
+    ensures answer { result ≡ answer n (over_in names.now all.now way row.now) }
+    ensures new { IfOk result (λ o. stands all.now o ≡ false) }
 {
     let zone = found(names.number_of(row.field(5)), n, 5, RowKind::Unknown)?;
     let over = Over {
@@ -89,7 +73,7 @@ fn read_new(
         side: way.side,
         zone: zone as u8,
     };
-    let repeats = stands(all, &over);
+    let repeats = all.has(over);
     must(!repeats, n, 5, RowKind::Repeat)?;
     Ok(over)
 }
@@ -138,7 +122,7 @@ impl<'r, 's> FormatReader<'r> for Stated<'r, 's> {
         read_first(row, b"zones")?;
         Ok(Stated {
             names: Numbered::new(alloc),
-            over: Vec::new(alloc),
+            over: Overs::new(alloc),
             station: PhantomData,
         })
     }
@@ -169,7 +153,7 @@ impl<'r, 's> FormatReader<'r> for Stated<'r, 's> {
     fn into_output(self, _: &'r KnownStation<'s>) -> Zones {
         Zones {
             names: self.names.into_items(),
-            over: Items::from_vec(self.over),
+            over: self.over.into_items(),
         }
     }
 }

@@ -4,7 +4,7 @@ use shunt_lists::Items;
 use shunt_tracks::Event;
 
 /// A zone lies over the way between a platform and a side of a track.
-#[derive(Clone, Copy, Debug, PartialEq, Eq, Drop)]
+#[derive(Clone, Copy, Debug, PartialEq, Eq, Hash, Drop)]
 pub struct Over {
     pub platform: PlatformId,
     pub track: TrackId,

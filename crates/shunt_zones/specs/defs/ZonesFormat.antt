@@ -39,7 +39,7 @@ over_way w zone = record { platform = w.platform; track = w.track; side = w.side
 
 -- whether one of these is the same in all four
 abbrev pub is_same : Over → Over → Bool
-is_same o p = p.platform.0 == o.platform.0 && p.track.0 == o.track.0 && same_side p.side o.side && p.zone == o.zone
+is_same o p = o.platform.0 == p.platform.0 && o.track.0 == p.track.0 && same_side o.side p.side && o.zone == p.zone
 
 unfoldable pub stands : List Over → Over → Bool
 stands over o = list_any (is_same o) over

@@ -17,9 +17,9 @@ pub returns-in_err-over : goal.returns-in_err-over
 returns-in_err-over c =
     let five = in_range 5 5 (length c.args.row.now) c.in_ok-fields_in.ensures.within.0 c.in_ok-fields_in.ensures.within.1 in
     gives_err _ _ (errors.Fault c.in_err-over.field-0.0) _ c.from_residual-in_err-over.ensures.1
-    (over_fails c.args.n c.args.station.now c.args.self.now _ c.args.row.now c.in_ok-way.way _ _ _ (sym c.self.view_is) five c.in_ok-way.ensures refl c.deref.ensures.value c.in_err-over.ensures)
+    (over_fails c.args.n c.args.station.now c.args.self.now _ c.args.row.now c.in_ok-way.way _ _ _ (sym c.self.view_is) five c.in_ok-way.ensures refl refl c.in_err-over.ensures.answer)
 
 pub returns : goal.returns
 returns c =
     let five = in_range 5 5 (length c.args.row.now) c.in_ok-fields_in.ensures.within.0 c.in_ok-fields_in.ensures.within.1 in
-    over_ok c.args.n c.args.station.now c.args.self.now _ c.args.row.now c.in_ok-way.way _ _ c.push.new.self.items c.in_ok-over.over (sym c.self.view_is) five c.in_ok-way.ensures refl c.deref.ensures.value c.in_ok-over.ensures c.in_ok-push.ensures.items
+    over_ok c.args.n c.args.station.now c.args.self.now _ c.args.row.now c.in_ok-way.way _ _ c.push.new.self c.in_ok-over.over (sym c.self.view_is) five c.in_ok-way.ensures refl refl c.in_ok-over.ensures.answer c.in_ok-push.ensures.added

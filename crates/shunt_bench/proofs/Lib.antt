@@ -1,4 +1,1 @@
 mod Numbers
-mod Bare
-mod Counts
-mod Chains

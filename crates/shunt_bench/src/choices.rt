@@ -1,19 +1,13 @@
 // The choices for each unit of a night, and how long a walk over them takes.
-ghost use Rattle.std.specs.Prelude.{◌≡◌, ◌<◌, ◌+◌, ◌-◌, ◌^◌, ℕ, IfOk, length, min};
-ghost use Rattle.std.specs.List.{AllByRecursion};
-ghost use Rattle.shunt_lists.specs.defs.Below.{sum_below};
+ghost use Rattle.std.specs.Prelude.{◌≡◌, ◌<◌, length, IfSome};
 ghost use Rattle.shunt_instance.specs.defs.Instance.{unit_total};
 ghost use Rattle.shunt_choices.specs.defs.Free.{AreMasksOf};
-ghost use Rattle.shunt_blocks.specs.defs.Shapes.{AreRunsWithin};
-ghost use Rattle.shunt_choices.specs.defs.Choices.{choices_of, options_of, shapes_of};
-ghost use Rattle.shunt_blocks.specs.defs.Costs.{IsCheapest};
 
 use crate::nights::{read_night, times};
-use shunt_blocks::{Shape, cheapest};
-use shunt_choices::laws::free_shapes;
-use shunt_choices::{Covered, Path, Shapes, options, shapes_from};
+use shunt_blocks::{Shape, are_runs_within, cheapest};
+use shunt_choices::{Covered, options, shapes_from};
 use shunt_instance::Instance;
-use std::alloc::{AllocError, Global};
+use std::alloc::Global;
 use std::io;
 use std::rt::Files;
 use std::time::CpuClock;
@@ -25,53 +19,28 @@ struct Tally {
     least: u64,
 }
 
-// How many options a shape has.
-fn count_options(instance: &Instance, shape: Shape) -> u64
-    requires { AreRunsWithin instance.now shape }
-    ensures { result ≡ min (length (options_of instance.now shape)) (2 ^ 64 - 1) }
-{
-    let mut left = options(instance, shape);
-    let mut count: u64 = 0;
-    'left: while let Some(_option) = left.next() {
+// Adds a shape's options and its least cost.
+fn add_shape(tally: Tally, instance: &Instance, shape: Shape) -> Tally {
+    let Tally { mut count, least } = tally;
+    if !are_runs_within(instance, shape) {
+        return tally;
+    }
+    for _ in options(instance, shape) {
         count = count.saturating_add(1);
     }
-    count
-}
-
-// Adds a shape's options and its least cost.
-fn add_shape(tally: Tally, instance: &Instance, shape: Shape) -> Tally
-    requires { AreRunsWithin instance.now shape }
-    ensures count { result.count ≡ min (tally.count + length (options_of instance.now shape)) (2 ^ 64 - 1) }
-    ensures least { (cost : ℕ) × IsCheapest instance.now shape cost × (result.least ≡ min (tally.least + cost) (2 ^ 64 - 1)) }
-{
     Tally {
-        count: tally.count.saturating_add(count_options(instance, shape)),
-        least: tally.least.saturating_add(cheapest(instance, shape)),
+        count,
+        least: least.saturating_add(cheapest(instance, shape)),
     }
-}
-
-// The shapes that begin at a unit.
-fn shapes_at<'a>(instance: &'a Instance, covered: &'a Covered, u: usize) -> Shapes<'a>
-    requires covered { AreMasksOf instance.now covered.now }
-    requires unit { u < unit_total instance.now }
-    ensures exact { result ≡ shapes_of instance.now covered.now u }
-    ensures within { AllByRecursion (AreRunsWithin instance.now) result }
-{
-    // The first call tells that the night is well formed, the second which shapes these are.
-    instance.units();
-    free_shapes();
-    shapes_from(instance, u, covered)
 }
 
 // Adds the shapes that begin at a unit.
 fn add_unit(tally: Tally, instance: &Instance, covered: &Covered, u: usize) -> Tally
     requires covered { AreMasksOf instance.now covered.now }
     requires unit { u < unit_total instance.now }
-    ensures { result.count ≡ min (tally.count + length (choices_of instance.now covered.now u)) (2 ^ 64 - 1) }
 {
     let mut tally = tally;
-    let mut shapes = shapes_at(instance, covered, u);
-    'shapes: while let Some(shape) = shapes.next() {
+    for shape in shapes_from(instance, u, covered) {
         tally = add_shape(tally, instance, shape);
     }
     tally
@@ -80,7 +49,6 @@ fn add_unit(tally: Tally, instance: &Instance, covered: &Covered, u: usize) -> T
 // Walks over the choices for each unit.
 fn walk(instance: &Instance, covered: &Covered) -> Tally
     requires { AreMasksOf instance.now covered.now }
-    ensures { result.count ≡ min (sum_below (unit_total instance.now) (λ u. length (choices_of instance.now covered.now u))) (2 ^ 64 - 1) }
 {
     let mut tally = Tally { count: 0, least: 0 };
     for u in 0..instance.units() {
@@ -89,11 +57,23 @@ fn walk(instance: &Instance, covered: &Covered) -> Tally
     tally
 }
 
-// A path that covers nothing.
-fn bare(alloc: Global, instance: &Instance) -> Result<Path, AllocError>
-    ensures { IfOk result (λ p. AreMasksOf instance.now p.covered) }
+// So many units or positions that aren't covered.
+fn bare(alloc: Global, count: usize) -> Option<Vec<bool>>
+    ensures { IfSome result (λ v. length v.items ≡ count) }
 {
-    Path::start(alloc, instance)
+    match vec![in alloc; false; count] {
+        Ok(mask) => Some(mask),
+        Err(_) => None,
+    }
+}
+
+// Nothing is covered.
+fn nothing(alloc: Global, instance: &Instance) -> Option<Covered>
+    ensures { IfSome result (AreMasksOf instance.now) }
+{
+    let units = bare(alloc, instance.units())?;
+    let places = bare(alloc, instance.positions())?;
+    Some(Covered::new(units, places))
 }
 
 // Walks so many times: what one walk adds up, and its time in microseconds.
@@ -131,9 +111,9 @@ pub(crate) fn measure_choices(
         Ok(instance) => instance,
         Err(refused) => return rt.println(refused.line()),
     };
-    let Ok(path) = bare(rt.alloc(), &instance) else {
+    let Some(covered) = nothing(rt.alloc(), &instance) else {
         return rt.println("out of memory");
     };
-    let (Tally { count, least }, micros) = time_walks(rt, &instance, path.covered(), walks)?;
+    let (Tally { count, least }, micros) = time_walks(rt, &instance, &covered, walks)?;
     println!(rt; "choices {count} least {least} microseconds {micros}")
 }

@@ -1,28 +1,17 @@
-//! Measures, by the first word: `records FILE`, `tracks`, `timelines`, `choices STATION TIMETABLE WALKS`, `audit STATION
-//! TIMETABLE PLAN RUNS`, `delay STATION TIMETABLE PLAN RUNS`, `assign STATION TIMETABLE RUNS`, `duals STATION TIMETABLE
-//! RUNS`, `moves STATION TIMETABLE PLAN EDITS`, `certificate write STATION TIMETABLE FILE` and `certificate read STATION
-//! TIMETABLE FILE`. Without words it prints nothing.
+//! Measures of what no whole run of the program shows, by the first word: `records FILE`, `tracks`, `timelines`, `choices STATION
+//! TIMETABLE WALKS`, `assign STATION TIMETABLE RUNS` and `duals STATION TIMETABLE RUNS`. Without words it prints nothing.
 #![tactic(auto)]
 
 mod assignments;
-mod audits;
-mod certificates;
 mod choices;
-mod delays;
 mod duals;
-mod moves;
 mod nights;
 mod timelines;
 mod tracks;
-mod trees;
 
 use assignments::measure_assign;
-use audits::measure_audit;
-use certificates::measure_certificate;
 use choices::measure_choices;
-use delays::measure_delay;
 use duals::measure_duals;
-use moves::measure_moves;
 use shunt_rows::records;
 use shunt_store::{DiskStore, read_all};
 use std::rt::{Clock, Env, Files};
@@ -85,16 +74,11 @@ fn measure_made(rt: &(impl AllocGlobal + CpuClock + Print), words: &[String]) ->
 // Measures over the files that the words name.
 fn measure(rt: &(impl Files + AllocGlobal + CpuClock + Print), words: &[String]) -> io::Result<()> {
     let (first, second, third) = (word(words, 1), word(words, 2), word(words, 3));
-    let fourth = word(words, 4);
     match word(words, 0) {
         "records" => measure_records(rt, first),
         "choices" => measure_choices(rt, first, second, third),
-        "audit" => measure_audit(rt, first, second, third, fourth),
-        "delay" => measure_delay(rt, first, second, third, fourth),
         "assign" => measure_assign(rt, first, second, third),
         "duals" => measure_duals(rt, first, second, third),
-        "moves" => measure_moves(rt, first, second, third, fourth),
-        "certificate" => measure_certificate(rt, first, second, third, fourth),
         _ => measure_made(rt, words),
     }
 }

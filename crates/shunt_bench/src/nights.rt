@@ -1,10 +1,8 @@
 // Reading the files that are measured.
-ghost use Rattle.std.specs.Prelude.{◌<◌, IfOk, IfSome};
-ghost use Rattle.shunt_plan.specs.defs.Plans.{IsPlanInRange};
+ghost use Rattle.std.specs.Prelude.{◌<◌, IfSome};
 
 use shunt_base::parse_decimal;
 use shunt_instance::Instance;
-use shunt_plan::{Plan, read_plan};
 use shunt_rows::{Row, records};
 use shunt_station::read_station;
 use shunt_store::{DiskStore, read_all};
@@ -19,7 +17,6 @@ const MOST_BYTES: u64 = 4_194_304;
 pub(crate) enum Refused {
     Station,
     Timetable,
-    Plan,
     Memory,
 }
 
@@ -29,7 +26,6 @@ impl Refused {
         match self {
             Refused::Station => "the station was refused",
             Refused::Timetable => "the timetable was refused",
-            Refused::Plan => "the plan was refused",
             Refused::Memory => "out of memory",
         }
     }
@@ -57,21 +53,6 @@ pub(crate) fn read_night(
         return Err(Refused::Timetable);
     };
     Instance::join(rt.alloc(), station, timetable).or(Err(Refused::Memory))
-}
-
-/// The plan of a file over a night.
-pub(crate) fn read_plan_of(
-    rt: &(impl Files + AllocGlobal),
-    instance: &Instance,
-    plan: &str,
-) -> Result<Plan, Refused>
-    ensures { IfOk result (IsPlanInRange instance.now) }
-{
-    let rows = rows_of(rt, plan).ok_or(Refused::Plan)?;
-    match read_plan(rt.alloc(), instance, &rows) {
-        Ok(plan) => Ok(plan),
-        Err(_) => Err(Refused::Plan),
-    }
 }
 
 /// How many times a word says, at least once.

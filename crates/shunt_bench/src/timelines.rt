@@ -1,5 +1,5 @@
 // Stays that come to tracks one after the other and go again, and how long that takes beside a fresh count.
-ghost use Rattle.std.specs.Prelude.{◌≡◌, ◌+◌, ◌<◌, ◌≤◌, length, IfOk};
+ghost use Rattle.std.specs.Prelude.{◌≡◌, ◌+◌, ◌<◌, ◌≤◌, length, IfOk, IfSome};
 ghost use Rattle.std.specs.List.{All};
 ghost use Rattle.shunt_base.specs.defs.Keys.{AreStays, IsWellFormed};
 ghost use Rattle.shunt_stays.specs.defs.Run.{AreOnTracks};
@@ -127,6 +127,56 @@ struct Times {
     left: Clash,
 }
 
+// What all runs took, in nanoseconds.
+#[derive(Clone, Copy)]
+struct Sums {
+    inserts: u128,
+    removals: u128,
+}
+
+// Empty timelines with room for so many stays. None where memory runs out.
+fn empty(alloc: Global, lengths: &[u32], count: u16) -> Option<Timelines>
+    ensures empty { IfSome result (λ t. length t.stays ≡ 0) }
+    ensures lengths { IfSome result (λ t. t.lengths ≡ lengths.now) }
+    ensures room { IfSome result (λ t. count ≤ t.spare) }
+{
+    let Ok(mut timelines) = Timelines::new(alloc, lengths) else {
+        return None;
+    };
+    match timelines.reserve(usize::from(count)) {
+        Ok(()) => Some(timelines),
+        Err(_) => None,
+    }
+}
+
+// All stays come and go.
+fn time_stays(
+    rt: &impl CpuClock,
+    timelines: &mut Timelines,
+    count: u16,
+    tracks: u8,
+) -> io::Result<Times>
+    requires empty { length timelines.old.stays ≡ 0 }
+    requires lengths { length timelines.old.lengths ≡ tracks }
+    requires room { count ≤ timelines.old.spare }
+    requires count { count ≤ 10000 }
+    requires tracks { 0 < tracks }
+{
+    let start = rt.process_cpu_time()?;
+    insert_all(timelines, count, tracks);
+    let middle = rt.process_cpu_time()?;
+    let clash = timelines.clash();
+    remove_all(timelines, count);
+    let end = rt.process_cpu_time()?;
+    Ok(Times {
+        inserts: middle.as_nanos().saturating_sub(start.as_nanos()),
+        removals: end.as_nanos().saturating_sub(middle.as_nanos()),
+        clash,
+        left: timelines.clash(),
+    })
+}
+
+// The same on new timelines. None where memory runs out.
 fn time_run(
     rt: &(impl AllocGlobal + CpuClock),
     lengths: &[u32],
@@ -137,24 +187,40 @@ fn time_run(
     requires count { count ≤ 10000 }
     requires tracks { 0 < tracks }
 {
-    let Ok(mut timelines) = Timelines::new(rt.alloc(), lengths) else {
-        return Ok(None);
-    };
-    if timelines.reserve(usize::from(count)).is_err() {
-        return Ok(None);
+    match empty(rt.alloc(), lengths, count) {
+        Some(mut timelines) => Ok(Some(time_stays(rt, &mut timelines, count, tracks)?)),
+        None => Ok(None),
     }
-    let start = rt.process_cpu_time()?;
-    insert_all(&mut timelines, count, tracks);
-    let middle = rt.process_cpu_time()?;
-    let clash = timelines.clash();
-    remove_all(&mut timelines, count);
-    let end = rt.process_cpu_time()?;
-    Ok(Some(Times {
-        inserts: middle.as_nanos().saturating_sub(start.as_nanos()),
-        removals: end.as_nanos().saturating_sub(middle.as_nanos()),
-        clash,
-        left: timelines.clash(),
-    }))
+}
+
+// So many runs, each of which has to find what a fresh count found. None where one differs, or memory runs out.
+fn time_runs(
+    rt: &(impl AllocGlobal + CpuClock),
+    lengths: &[u32],
+    count: u16,
+    tracks: u8,
+    runs: u32,
+    fresh: Clash,
+) -> io::Result<Option<Sums>>
+    requires lengths { length lengths.now ≡ tracks }
+    requires count { count ≤ 10000 }
+    requires tracks { 0 < tracks }
+{
+    let mut sums = Sums {
+        inserts: 0,
+        removals: 0,
+    };
+    for _ in 0..runs {
+        let Some(times) = time_run(rt, lengths, count, tracks)? else {
+            return Ok(None);
+        };
+        if times.clash != fresh || times.left != (Clash { pairs: 0, over: 0 }) {
+            return Ok(None);
+        }
+        sums.inserts = sums.inserts.saturating_add(times.inserts);
+        sums.removals = sums.removals.saturating_add(times.removals);
+    }
+    Ok(Some(sums))
 }
 
 // The time of a fresh count in nanoseconds, and what it found.
@@ -167,6 +233,65 @@ fn time_clashes(rt: &impl CpuClock, lengths: &[u32], stays: &[Stay]) -> io::Resu
     let clash = clashes(lengths, stays);
     let end = rt.process_cpu_time()?;
     Ok((clash, end.as_nanos().saturating_sub(start.as_nanos())))
+}
+
+// A fresh count of all stays. None where memory runs out.
+fn count_fresh(
+    rt: &(impl AllocGlobal + CpuClock),
+    lengths: &[u32],
+    count: u16,
+    tracks: u8,
+) -> io::Result<Option<(Clash, u128)>>
+    requires lengths { length lengths.now ≡ tracks }
+    requires count { count ≤ 10000 }
+    requires tracks { 0 < tracks }
+{
+    match stays(rt.alloc(), count, tracks) {
+        Ok(stays) => Ok(Some(time_clashes(rt, lengths, &stays)?)),
+        Err(_) => Ok(None),
+    }
+}
+
+// Prints the time of a fresh count and the means of the others, in nanoseconds.
+fn tell(
+    rt: &impl Print,
+    tracks: u8,
+    count: u16,
+    sums: Sums,
+    stays: u128,
+    fresh: u128,
+) -> io::Result<()>
+    requires { 0 < stays }
+{
+    let insert = sums.inserts / stays;
+    let removal = sums.removals / stays;
+    println!(rt;
+        "timelines tracks {tracks} stays {count} insert nanoseconds {insert} removal nanoseconds {removal} clashes nanoseconds {fresh}"
+    )
+}
+
+// The same on tracks of these lengths.
+fn measure_on(
+    rt: &(impl AllocGlobal + CpuClock + Print),
+    lengths: &[u32],
+    count: u16,
+    tracks: u8,
+    runs: u32,
+) -> io::Result<()>
+    requires lengths { length lengths.now ≡ tracks }
+    requires some { 0 < count }
+    requires count { count ≤ 10000 }
+    requires tracks { 0 < tracks }
+    requires runs { 0 < runs }
+{
+    let Some((clash, fresh)) = count_fresh(rt, lengths, count, tracks)? else {
+        return rt.println("out of memory");
+    };
+    let Some(sums) = time_runs(rt, lengths, count, tracks, runs, clash)? else {
+        return rt.println("the counts differ, or there is no memory");
+    };
+    let stays = u128::from(count) * u128::from(runs);
+    tell(rt, tracks, count, sums, stays, fresh)
 }
 
 /// Prints how long the coming of one stay takes, and its going, when so many come to so many tracks and go again, beside a fresh
@@ -182,30 +307,8 @@ pub(crate) fn measure_timelines(
     requires tracks { 0 < tracks }
     requires runs { 0 < runs }
 {
-    let (Ok(stays), Ok(lengths)) = (
-        stays(rt.alloc(), count, tracks),
-        lengths_of(rt.alloc(), tracks),
-    ) else {
-        return rt.println("out of memory");
-    };
-    let (fresh, count_time) = time_clashes(rt, &lengths, &stays)?;
-    let mut inserts = 0u128;
-    let mut removals = 0u128;
-    for _ in 0..runs {
-        let Some(times) = time_run(rt, &lengths, count, tracks)? else {
-            return rt.println("out of memory");
-        };
-        if times.clash != fresh || times.left != (Clash { pairs: 0, over: 0 }) {
-            return rt.println("the counts differ");
-        }
-        inserts = inserts.saturating_add(times.inserts);
-        removals = removals.saturating_add(times.removals);
+    match lengths_of(rt.alloc(), tracks) {
+        Ok(lengths) => measure_on(rt, &lengths, count, tracks, runs),
+        Err(_) => rt.println("out of memory"),
     }
-    let each = u128::from(count) * u128::from(runs);
-    let insert = inserts / each;
-    let removal = removals / each;
-    let Clash { pairs, over } = fresh;
-    println!(rt;
-        "timelines tracks {tracks} stays {count} runs {runs} insert nanoseconds {insert} removal nanoseconds {removal} clashes nanoseconds {count_time} pairs {pairs} over {over}"
-    )
 }

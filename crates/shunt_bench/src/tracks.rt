@@ -112,6 +112,26 @@ fn time_clashes(rt: &impl CpuClock, stays: &[Stay], runs: u32) -> io::Result<(Cl
     Ok((clash, micros / u128::from(runs)))
 }
 
+// Both over the same stays.
+fn measure_stays(
+    rt: &(impl AllocGlobal + CpuClock + Print),
+    stays: &[Stay],
+    runs: u32,
+) -> io::Result<()>
+    requires formed { AreStays stays.now }
+    requires tracks { All (λ s. s.track.0 < 1) stays.now }
+    requires few { length stays.now ≤ 65536 }
+    requires runs { 0 < runs }
+{
+    let count = stays.len();
+    let (events, lists) = time_run_lists(rt, stays, runs)?;
+    let (clash, counts) = time_clashes(rt, stays, runs)?;
+    let pairs = clash.pairs;
+    println!(rt;
+        "tracks stays {count} events {events} pairs {pairs} run_lists microseconds {lists} clashes microseconds {counts}"
+    )
+}
+
 /// Prints how long the run of the lists and the count of the clashes take over so many stays on one track, each the
 /// time of one of so many runs, in microseconds.
 pub(crate) fn measure_tracks(
@@ -122,12 +142,8 @@ pub(crate) fn measure_tracks(
     requires count { count < 65000 }
     requires runs { 0 < runs }
 {
-    let Ok(stays) = stays(rt.alloc(), count) else {
-        return rt.println("out of memory");
-    };
-    let (events, lists) = time_run_lists(rt, &stays, runs)?;
-    let (Clash { pairs, over }, counts) = time_clashes(rt, &stays, runs)?;
-    println!(rt;
-        "tracks stays {count} runs {runs} run_lists microseconds {lists} events {events} clashes microseconds {counts} pairs {pairs} over {over}"
-    )
+    match stays(rt.alloc(), count) {
+        Ok(stays) => measure_stays(rt, &stays, runs),
+        Err(_) => rt.println("out of memory"),
+    }
 }

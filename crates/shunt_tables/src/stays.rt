@@ -1,5 +1,5 @@
 // Stays on tracks: the clashes among them, and how the run of the track lists goes.
-ghost use Rattle.std.specs.Prelude.{◌≡◌, ◌<◌, ◌≤◌, length, IfSome};
+ghost use Rattle.std.specs.Prelude.{◌≡◌, ◌<◌, ◌≤◌, length, IfOk, IfSome};
 ghost use Rattle.std.specs.List.{All};
 ghost use Rattle.shunt_base.specs.defs.Keys.{AreStays, IsWellFormed};
 ghost use Rattle.shunt_stays.specs.defs.Run.{AreOnTracks};
@@ -112,23 +112,42 @@ fn stay_of(row: &Row, id: u32, tracks: usize) -> Option<Stay>
     Some(stay(id, track, length, sides, (span.from, span.to), span.place))
 }
 
-// The stays of records, numbered from 0.
-fn stays(alloc: Global, rows: &[Row], tracks: usize) -> Option<Vec<Stay>>
-    ensures formed { IfSome result (λ v. AreStays v.items) }
-    ensures tracks { IfSome result (λ v. All (λ s. s.track.0 < tracks) v.items) }
-    ensures few { IfSome result (λ v. length v.items ≤ 65536) }
+// Whether each record is a stay on one of so many tracks.
+fn are_stays(rows: &[Row], tracks: usize) -> bool {
+    for row in rows {
+        if stay_of(row, 0, tracks).is_none() {
+            return false;
+        }
+    }
+    true
+}
+
+// The stay of a record, with a number. One of a minute on the first track where the record has none, which is looked at before.
+fn stay_at(row: &Row, number: u16, tracks: usize) -> Stay
+    requires { 0 < tracks }
+    ensures formed { IsWellFormed result }
+    ensures id { result.id ≡ number }
+    ensures track { result.track.0 < tracks }
 {
-    if rows.len() > 65_536 {
-        return None;
+    match stay_of(row, u32::from(number), tracks) {
+        Some(found) => found,
+        None => stay(u32::from(number), 0, 1, (Side::A, Side::A), (0, 1), 0),
     }
+}
+
+// The stays of so many records, numbered from 0.
+fn stays(alloc: Global, rows: &[Row], count: u16, tracks: usize) -> Result<Vec<Stay>, AllocError>
+    requires count { count ≤ length rows.now }
+    requires tracks { 0 < tracks }
+    ensures formed { IfOk result (λ v. AreStays v.items) }
+    ensures tracks { IfOk result (λ v. All (λ s. s.track.0 < tracks) v.items) }
+    ensures count { IfOk result (λ v. length v.items ≡ count) }
+{
     let mut all = Vec::new(alloc);
-    for number in 0..rows.len() {
-        let stay = stay_of(&rows[number], number as u32, tracks)?;
-        let Ok(()) = all.push(stay) else {
-            return None;
-        };
+    for number in 0..count {
+        all.push(stay_at(&rows[usize::from(number)], number, tracks))?;
     }
-    Some(all)
+    Ok(all)
 }
 
 // The lengths of tracks, from the fields of a record.
@@ -192,12 +211,22 @@ fn clash(lengths: &[u32], stays: &[Stay], pairs: u64, over: u64) -> bool
     u64::from(found.pairs) == pairs && u64::from(found.over) == over
 }
 
+// Whether the stays of records clash, and run, as a record of the table says.
+fn are_judged(alloc: Global, lengths: &[u32], rows: &[Row], row: &Row) -> Option<bool> {
+    if rows.len() > 1_000 || lengths.is_empty() || !are_stays(rows, lengths.len()) {
+        return None;
+    }
+    let Ok(stays) = stays(alloc, rows, rows.len() as u16, lengths.len()) else {
+        return None;
+    };
+    let clash = clash(lengths, &stays, number(row, 2)?, number(row, 3)?);
+    Some(clash && runs(alloc, lengths, &stays, field(row, 4))?)
+}
+
 /// A record is the lengths of tracks in dm, how many pairs cross, how many entries are over, how the run goes, and the stays.
 pub(crate) fn is_clash(alloc: Global, row: &Row) -> Option<bool> {
     let tracks = records(alloc, field(row, 1)).ok()?;
     let lengths = lengths(alloc, tracks.first()?)?;
     let rows = records(alloc, field(row, 5)).ok()?;
-    let stays = stays(alloc, &rows, lengths.len())?;
-    let clash = clash(&lengths, &stays, number(row, 2)?, number(row, 3)?);
-    Some(clash && runs(alloc, &lengths, &stays, field(row, 4))?)
+    are_judged(alloc, &lengths, &rows, row)
 }

@@ -35,12 +35,19 @@ fn are_listed(row: &Row, places: &[u16]) -> bool {
     true
 }
 
-/// A record is a night, the total of its assignment in thousandths of a cost unit, and the position of each unit.
-pub(crate) fn is_assigned(rt: &(impl Files + AllocGlobal), row: &Row) -> Option<bool> {
-    let night = night(rt, word(row, 1))?;
-    let found = assigned(rt.alloc(), &night)?;
+// Whether a record has the assignment of its night.
+fn is_assigned_in(alloc: Global, night: &Instance, row: &Row) -> Option<bool> {
+    let found = assigned(alloc, night)?;
     let total = number(row, 2) == u64::try_from(found.total).ok();
     Some(total && are_listed(row, found.matching.place_of.as_slice()))
+}
+
+/// A record is a night, the total of its assignment in thousandths of a cost unit, and the position of each unit.
+pub(crate) fn is_assigned(rt: &(impl Files + AllocGlobal), row: &Row) -> Option<bool> {
+    match night(rt, word(row, 1)) {
+        Some(night) => is_assigned_in(rt.alloc(), &night, row),
+        None => None,
+    }
 }
 
 // The share of a unit and a position, 0 where there is none.
@@ -68,12 +75,19 @@ fn are_shares(row: &Row, shares: &Shares, night: &Instance, u: usize) -> bool
     true
 }
 
+// Whether a record has shares of its night.
+fn is_shared_in(alloc: Global, night: &Instance, row: &Row) -> Option<bool> {
+    let u = number(row, 2)?;
+    match shares(alloc, night) {
+        Ok(shares) => Some(are_shares(row, &shares, night, u as usize)),
+        Err(_) => None,
+    }
+}
+
 /// A record is a night, one of its units, counted from 0, and its shares with the first positions in thousandths of a cost unit.
 pub(crate) fn is_shared(rt: &(impl Files + AllocGlobal), row: &Row) -> Option<bool> {
-    let night = night(rt, word(row, 1))?;
-    let u = number(row, 2)?;
-    match shares(rt.alloc(), &night) {
-        Ok(shares) => Some(are_shares(row, &shares, &night, u as usize)),
-        Err(_) => None,
+    match night(rt, word(row, 1)) {
+        Some(night) => is_shared_in(rt.alloc(), &night, row),
+        None => None,
     }
 }

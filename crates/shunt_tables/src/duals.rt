@@ -91,11 +91,30 @@ fn answers(night: &Instance, path: &Path, cases: &Cases, holds: &str, least: i64
     word == holds && cases_bound(night, path, cases) == least
 }
 
+// Whether the cases of a record hold at its path, and bound it, as it says.
+fn is_bounded_from(alloc: Global, night: &Instance, path: &Path, row: &Row) -> Option<bool>
+    requires { IsTrailOf night.now path.now }
+{
+    let least = signed(row, 5)?;
+    let leaf = leaf(alloc, night, field(row, 3))?;
+    match root_cases(night, &leaf) {
+        Some(cases) => Some(answers(night, path, cases, word(row, 4), least)),
+        None => None,
+    }
+}
+
+// Whether the cases of a record do so over its night.
+fn is_bounded_in(alloc: Global, night: &Instance, row: &Row) -> Option<bool> {
+    match path(alloc, night, field(row, 2)) {
+        Some(path) => is_bounded_from(alloc, night, &path, row),
+        None => None,
+    }
+}
+
 /// A record is a night, a pin or none, cases as a certificate has them, whether they hold, and what they bound.
 pub(crate) fn is_bounded(rt: &(impl Files + AllocGlobal), row: &Row) -> Option<bool> {
-    let night = night(rt, word(row, 1))?;
-    let path = path(rt.alloc(), &night, field(row, 2))?;
-    let leaf = leaf(rt.alloc(), &night, field(row, 3))?;
-    let cases = root_cases(&night, &leaf)?;
-    Some(answers(&night, &path, cases, word(row, 4), signed(row, 5)?))
+    match night(rt, word(row, 1)) {
+        Some(night) => is_bounded_in(rt.alloc(), &night, row),
+        None => None,
+    }
 }

@@ -77,21 +77,38 @@ fn push_repeated(alloc: Global, text: &mut Vec<u8>, row: &Row) -> Option<()> {
     Some(())
 }
 
+// What the text of a record begins with.
+fn front(rt: &(impl Files + AllocGlobal), row: &Row) -> Option<Vec<u8>> {
+    let name = format!(in rt.alloc(); "fronts/{}", word(row, 3)).ok()?;
+    bytes_of(rt, name.as_str())
+}
+
 // The text that a record names: a front, lines that are repeated, and the rest.
 fn text_of(rt: &(impl Files + AllocGlobal), row: &Row) -> Option<Vec<u8>> {
-    let front = format!(in rt.alloc(); "fronts/{}", word(row, 3)).ok()?;
-    let mut text = bytes_of(rt, front.as_str())?;
+    let mut text = front(rt, row)?;
     push_repeated(rt.alloc(), &mut text, row)?;
     text.extend_from_slice(field(row, 5)).ok()?;
     Some(text)
 }
 
+// Whether the first fault of records is where a record says.
+fn is_there(alloc: Global, night: &Instance, rows: &Vec<Row>, row: &Row) -> Option<bool> {
+    let found = place_in(alloc, night, word(row, 1), rows)?;
+    Some(found.as_bytes() == field(row, 4))
+}
+
+// Whether a record has the first fault of its text over its night.
+fn is_first_fault_in(rt: &(impl Files + AllocGlobal), night: &Instance, row: &Row) -> Option<bool> {
+    let text = text_of(rt, row)?;
+    let rows = records(rt.alloc(), &text).ok()?;
+    is_there(rt.alloc(), night, &rows, row)
+}
+
 /// A record is a format, a night, the file that the text begins with, the place of the first fault, and the rest of the text; and
 /// behind these how many times a line stands between the two, and that line, in which `#` is its number.
 pub(crate) fn is_first_fault(rt: &(impl Files + AllocGlobal), row: &Row) -> Option<bool> {
-    let night = night(rt, word(row, 2))?;
-    let text = text_of(rt, row)?;
-    let rows = records(rt.alloc(), &text).ok()?;
-    let found = place_in(rt.alloc(), &night, word(row, 1), &rows)?;
-    Some(found.as_bytes() == field(row, 4))
+    match night(rt, word(row, 2)) {
+        Some(night) => is_first_fault_in(rt, &night, row),
+        None => None,
+    }
 }

@@ -73,12 +73,16 @@ fn night_of(alloc: Global, station: &Vec<Row>, timetable: &Vec<Row>) -> Option<I
     Instance::join(alloc, station, timetable).ok()
 }
 
+// The records of a file of a night.
+fn rows_in(rt: &(impl Files + AllocGlobal), night: &str, file: &str) -> Option<Vec<Row>> {
+    let name = format!(in rt.alloc(); "nights/{night}/{file}").ok()?;
+    rows_of(rt, name.as_str())
+}
+
 /// The night with a name: its folder holds a station file and a timetable file.
 pub(crate) fn night(rt: &(impl Files + AllocGlobal), name: &str) -> Option<Instance> {
-    let station = format!(in rt.alloc(); "nights/{name}/S").ok()?;
-    let timetable = format!(in rt.alloc(); "nights/{name}/T").ok()?;
-    let station = rows_of(rt, station.as_str())?;
-    let timetable = rows_of(rt, timetable.as_str())?;
+    let station = rows_in(rt, name, "S")?;
+    let timetable = rows_in(rt, name, "T")?;
     night_of(rt.alloc(), &station, &timetable)
 }
 

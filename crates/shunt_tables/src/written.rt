@@ -65,10 +65,17 @@ fn again(alloc: Global, night: &Instance, format: &str, rows: &Vec<Row>) -> Opti
     }
 }
 
+// Whether a record has what is written of its text over its night.
+fn is_written_in(alloc: Global, night: &Instance, row: &Row) -> Option<bool> {
+    let rows = records(alloc, field(row, 3)).ok()?;
+    let found = again(alloc, night, word(row, 1), &rows)?;
+    Some(found.as_slice() == field(row, 4))
+}
+
 /// A record is a format, a night, a text, and what is written of it.
 pub(crate) fn is_written(rt: &(impl Files + AllocGlobal), row: &Row) -> Option<bool> {
-    let night = night(rt, word(row, 2))?;
-    let rows = records(rt.alloc(), field(row, 3)).ok()?;
-    let found = again(rt.alloc(), &night, word(row, 1), &rows)?;
-    Some(found.as_slice() == field(row, 4))
+    match night(rt, word(row, 2)) {
+        Some(night) => is_written_in(rt.alloc(), &night, row),
+        None => None,
+    }
 }

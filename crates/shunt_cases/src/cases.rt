@@ -126,10 +126,10 @@ fn add_files(rt: &HostRuntime, folder: &str, files: &mut Vec<File>) -> io::Resul
     Ok(())
 }
 
-// The files of `out`.
+// The files of `after`.
 fn read_written(rt: &HostRuntime, folder: &str) -> io::Result<Vec<Wanted>> {
     let mut written = Vec::new(rt.alloc());
-    let outputs = format!(in rt.alloc(); "{folder}/out")?;
+    let outputs = format!(in rt.alloc(); "{folder}/after")?;
     for name in names_in(rt, &outputs)? {
         let pattern = text_in(rt, &outputs, &name)?.unwrap_or(String::new(rt.alloc()));
         written.push(Wanted { name, pattern })?;

@@ -25,7 +25,7 @@ use Rattle.shunt_inputs.proofs.Stated.{plan_stated}
 
 -- ---- what a plan's findings decide
 
--- that a plan has no finding exactly where it is feasible and states its cost
+-- that a plan has no finding exactly when it is feasible and states its cost
 abbrev pub FoundNone : Type 0
 FoundNone = (night : Night) (plan : Plan) → IsInstance night → AreInRange night plan.blocks → (plan_findings night plan ≡ []) ↔ IsFeasible night plan.blocks × (plan.cost ≡ total_cost night plan.blocks)
 

@@ -60,7 +60,7 @@ formed s t i p k y is =
 
 -- ---- what each answer shows
 
--- that pins are usable exactly where they have no finding
+-- that pins are usable exactly when they have no finding
 abbrev pub Usable : Type 0
 Usable = (night : Night) (pins : List Block) → IsInstance night → AreInRange night pins → (pin_findings night pins ≡ []) ↔ AreUsable night pins
 

@@ -44,7 +44,7 @@ module _ (s t : List ℕ) (m : ℕ) (p k : List ℕ) where
 
 -- ---- `pinned`
 
--- that pins have no finding exactly where they are usable
+-- that pins have no finding exactly when they are usable
 abbrev pub UsableLaw : Type 0
 UsableLaw = (night : Night) (pins : List Block) → IsInstance night → AreInRange night pins → (pin_findings night pins ≡ []) ↔ AreUsable night pins
 

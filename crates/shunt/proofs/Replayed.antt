@@ -40,7 +40,7 @@ turns_stated s t p e y is =
     let made : record { night = first.0.0; plan = first.0.1; turns = second.0 } ≡ y = cc (second.2) in
     subst (λ (z : Replayable). IsInstance z.night × IsPlanInRange z.night z.plan) made (plan_stated s t p first.0 first.1)
 
--- that blocks have no finding exactly where they are a feasible plan
+-- that blocks have no finding exactly when they are a feasible plan
 abbrev pub NoneFound : Type 0
 NoneFound = (night : Night) (blocks : List Block) → IsInstance night → AreInRange night blocks → (findings_in night blocks ≡ []) ↔ IsFeasible night blocks
 

@@ -49,7 +49,7 @@ use shunt_proof::laws::{few_nodes, known_by_paths, proved_bounds, trees};
 use shunt_proof::text_laws::texts_of_certificates;
 use shunt_sheet::laws::{sheets_of_plans, texts_of_sheets};
 
-/// `Store` comes only where the store failed in the call, and `Sink` only where the sink did, so neither over a store or a
+/// `Store` comes only if the store failed in the call, and `Sink` only if the sink did, so neither over a store or a
 /// sink whose count of faults is 0. `Words` never comes of words that spell a command.
 pub fn failures_have_causes()
     ensures store { (c : Call) (old new : Seen) → Ends c old new Status.Store → Rose old.store_faults new.store_faults }
@@ -59,7 +59,7 @@ pub fn failures_have_causes()
     ensures sure_sink { (c : Call) (old new : Seen) → new.sink_faults ≡ 0 → Ends c old new Status.Sink → ⊥ }
 {}
 
-/// A command ends with `Input` exactly where an input file isn't accepted, unless the store, memory or the sink came first.
+/// A command ends with `Input` exactly when an input file isn't accepted, unless the store, memory or the sink came first.
 /// Then no file was written, and the line for the first file that isn't accepted was printed.
 pub fn input_exactly()
     ensures there { (c : Call) (old new : Seen) (status : Status) (files : Files) (text : List ℕ) → old.files ≡ Some files → refused c files ≡ Some text → Ends c old new status → ((status ≡ Status.Input) × IsWhole (refusal text) old new) ⊎ Yields status }
@@ -86,14 +86,14 @@ pub fn what_stands_after()
     ensures sink { (c : Call) (old new : Seen) → Ends c old new Status.Sink → (r : Reply) × IsReplyOver c old.files r × CutInText r old new }
 {}
 
-/// `match` ends with `NoMatching` exactly where both files are accepted and no list is a matching, unless the store,
+/// `match` ends with `NoMatching` exactly when both files are accepted and no list is a matching, unless the store,
 /// memory or the sink came first.
 pub fn match_no_matching_exactly()
     ensures there { (s t : List ℕ) (old new : Seen) (status : Status) (files : Files) (night : Night) → old.files ≡ Some files → stated_night (content files s) (content files t) ≡ Ok night → ((place : List ℕ) → Matches night place → ⊥) → Ends (Match s t) old new status → (status ≡ Status.NoMatching) ⊎ Yields status }
     ensures only { (s t : List ℕ) (old new : Seen) → Ends (Match s t) old new Status.NoMatching → (files : Files) × Agrees old.files files × ((night : Night) × (stated_night (content files s) (content files t) ≡ Ok night) × ((place : List ℕ) → Matches night place → ⊥)) }
 {}
 
-/// `match` ends with `Done` exactly where both files are accepted and a matching exists, unless the store, memory or the
+/// `match` ends with `Done` exactly when both files are accepted and a matching exists, unless the store, memory or the
 /// sink came first; it never ends with `Findings` or `Unfinished`.
 pub fn match_done_exactly()
     ensures there { (s t : List ℕ) (old new : Seen) (status : Status) (files : Files) (night : Night) → old.files ≡ Some files → stated_night (content files s) (content files t) ≡ Ok night → ((place : List ℕ) × Matches night place) → Ends (Match s t) old new status → (status ≡ Status.Done) ⊎ Yields status }
@@ -102,14 +102,14 @@ pub fn match_done_exactly()
     ensures no_unfinished { (s t : List ℕ) (old new : Seen) → Ends (Match s t) old new Status.Unfinished → ⊥ }
 {}
 
-/// Where both files are accepted and neither the store nor the sink fails, `match` ends with `Done`, `NoMatching` or
+/// If both files are accepted and neither the store nor the sink fails, `match` ends with `Done`, `NoMatching` or
 /// `Memory`.
 pub fn match_completes()
     ensures { (s t : List ℕ) (old new : Seen) (status : Status) (files : Files) (night : Night) → old.files ≡ Some files → stated_night (content files s) (content files t) ≡ Ok night → (Rose old.store_faults new.store_faults → ⊥) → (Rose old.sink_faults new.sink_faults → ⊥) → Ends (Match s t) old new status → (status ≡ Status.Done) ⊎ ((status ≡ Status.NoMatching) ⊎ (status ≡ Status.Memory)) }
 {}
 
-/// `audit` ends with `Done` exactly where the files are accepted and the plan is feasible and states its cost, and with
-/// `Findings` exactly where they are accepted and it isn't so, unless the store, memory or the sink came first. It never ends
+/// `audit` ends with `Done` exactly when the files are accepted and the plan is feasible and states its cost, and with
+/// `Findings` exactly when they are accepted and it isn't so, unless the store, memory or the sink came first. It never ends
 /// with `NoMatching` or `Unfinished`.
 pub fn audit_done_exactly()
     ensures done { (s t p : List ℕ) (old new : Seen) (status : Status) (files : Files) (x : Night × Plan) → old.files ≡ Some files → plans_in s t p files ≡ Ok x → IsClean x → Ends (Audit s t p) old new status → (status ≡ Status.Done) ⊎ Yields status }
@@ -122,13 +122,13 @@ pub fn audit_done_exactly()
     laws::plan_findings();
 }
 
-/// Where the files are accepted and neither the store nor the sink fails, `audit` ends with `Done`, `Findings` or `Memory`.
+/// If the files are accepted and neither the store nor the sink fails, `audit` ends with `Done`, `Findings` or `Memory`.
 pub fn audit_completes()
     ensures { (s t p : List ℕ) (old new : Seen) (status : Status) (files : Files) (x : Night × Plan) → old.files ≡ Some files → plans_in s t p files ≡ Ok x → (Rose old.store_faults new.store_faults → ⊥) → (Rose old.sink_faults new.sink_faults → ⊥) → Ends (Audit s t p) old new status → (status ≡ Status.Done) ⊎ ((status ≡ Status.Findings) ⊎ (status ≡ Status.Memory)) }
 {}
 
-/// `delay` ends with `Done` exactly where the files are accepted and the plan is feasible and states its cost, and with
-/// `Findings` exactly where they are accepted and it isn't so, unless the store, memory or the sink came first. It never ends
+/// `delay` ends with `Done` exactly when the files are accepted and the plan is feasible and states its cost, and with
+/// `Findings` exactly when they are accepted and it isn't so, unless the store, memory or the sink came first. It never ends
 /// with `NoMatching` or `Unfinished`.
 pub fn delay_done_exactly()
     ensures done { (s t p : List ℕ) (old new : Seen) (status : Status) (files : Files) (x : Night × Plan) → old.files ≡ Some files → plans_in s t p files ≡ Ok x → IsClean x → Ends (Delay s t p) old new status → (status ≡ Status.Done) ⊎ Yields status }
@@ -141,13 +141,13 @@ pub fn delay_done_exactly()
     laws::plan_findings();
 }
 
-/// Where the files are accepted and neither the store nor the sink fails, `delay` ends with `Done`, `Findings` or `Memory`.
+/// If the files are accepted and neither the store nor the sink fails, `delay` ends with `Done`, `Findings` or `Memory`.
 pub fn delay_completes()
     ensures { (s t p : List ℕ) (old new : Seen) (status : Status) (files : Files) (x : Night × Plan) → old.files ≡ Some files → plans_in s t p files ≡ Ok x → (Rose old.store_faults new.store_faults → ⊥) → (Rose old.sink_faults new.sink_faults → ⊥) → Ends (Delay s t p) old new status → (status ≡ Status.Done) ⊎ ((status ≡ Status.Findings) ⊎ (status ≡ Status.Memory)) }
 {}
 
-/// `report` ends with `Done` exactly where the files are accepted and the plan is feasible and states its cost, and with
-/// `Findings` exactly where they are accepted and it isn't so, unless the store, memory or the sink came first. It never ends
+/// `report` ends with `Done` exactly when the files are accepted and the plan is feasible and states its cost, and with
+/// `Findings` exactly when they are accepted and it isn't so, unless the store, memory or the sink came first. It never ends
 /// with `NoMatching` or `Unfinished`.
 pub fn report_done_exactly()
     ensures done { (s t p : List ℕ) (old new : Seen) (status : Status) (files : Files) (x : Night × Plan) → old.files ≡ Some files → plans_in s t p files ≡ Ok x → IsClean x → Ends (Report s t p) old new status → (status ≡ Status.Done) ⊎ Yields status }
@@ -160,12 +160,12 @@ pub fn report_done_exactly()
     laws::plan_findings();
 }
 
-/// Where the files are accepted and neither the store nor the sink fails, `report` ends with `Done`, `Findings` or `Memory`.
+/// If the files are accepted and neither the store nor the sink fails, `report` ends with `Done`, `Findings` or `Memory`.
 pub fn report_completes()
     ensures { (s t p : List ℕ) (old new : Seen) (status : Status) (files : Files) (x : Night × Plan) → old.files ≡ Some files → plans_in s t p files ≡ Ok x → (Rose old.store_faults new.store_faults → ⊥) → (Rose old.sink_faults new.sink_faults → ⊥) → Ends (Report s t p) old new status → (status ≡ Status.Done) ⊎ ((status ≡ Status.Findings) ⊎ (status ≡ Status.Memory)) }
 {}
 
-/// `upgrade` ends with `Done` exactly where the files are accepted, unless the store, memory or the sink came first. It never ends
+/// `upgrade` ends with `Done` exactly when the files are accepted, unless the store, memory or the sink came first. It never ends
 /// with `Findings`, `NoMatching` or `Unfinished`.
 pub fn upgrade_done_exactly()
     ensures done { (s t n m : List ℕ) (old new : Seen) (status : Status) (files : Files) (x : Upgradable) → old.files ≡ Some files → upgrade_in s t files ≡ Ok x → Ends (Upgrade s t n m) old new status → (status ≡ Status.Done) ⊎ Yields status }
@@ -175,7 +175,7 @@ pub fn upgrade_done_exactly()
     ensures no_unfinished { (s t n m : List ℕ) (old new : Seen) → Ends (Upgrade s t n m) old new Status.Unfinished → ⊥ }
 {}
 
-/// Where the files are accepted and neither the store nor the sink fails, `upgrade` ends with `Done` or `Memory`.
+/// If the files are accepted and neither the store nor the sink fails, `upgrade` ends with `Done` or `Memory`.
 pub fn upgrade_completes()
     ensures { (s t n m : List ℕ) (old new : Seen) (status : Status) (files : Files) (x : Upgradable) → old.files ≡ Some files → upgrade_in s t files ≡ Ok x → (Rose old.store_faults new.store_faults → ⊥) → (Rose old.sink_faults new.sink_faults → ⊥) → Ends (Upgrade s t n m) old new status → (status ≡ Status.Done) ⊎ (status ≡ Status.Memory) }
 {}
@@ -190,7 +190,7 @@ pub fn trial_done_exactly()
     ensures no_unfinished { (n u m : ℕ) (s t p k : List ℕ) (old new : Seen) → Ends (Trial n u m s t p k) old new Status.Unfinished → ⊥ }
 {}
 
-/// Where neither the store nor the sink fails, `trial` ends with `Done` or `Memory`.
+/// If neither the store nor the sink fails, `trial` ends with `Done` or `Memory`.
 pub fn trial_completes()
     ensures { (n u m : ℕ) (s t p k : List ℕ) (old new : Seen) (status : Status) → (Rose old.store_faults new.store_faults → ⊥) → (Rose old.sink_faults new.sink_faults → ⊥) → Ends (Trial n u m s t p k) old new status → (status ≡ Status.Done) ⊎ (status ≡ Status.Memory) }
 {}
@@ -205,8 +205,8 @@ pub fn trial_bounds_every_plan()
     proved_bounds();
 }
 
-/// `check` ends with `Done` exactly where the files are accepted and the certificate is accepted with the plan, and with `Findings`
-/// exactly where they are accepted and it isn't so, unless the store, memory or the sink came first. It never ends with `NoMatching`
+/// `check` ends with `Done` exactly when the files are accepted and the certificate is accepted with the plan, and with `Findings`
+/// exactly when they are accepted and it isn't so, unless the store, memory or the sink came first. It never ends with `NoMatching`
 /// or `Unfinished`.
 pub fn check_done_exactly()
     ensures done { (s t p k : List ℕ) (old new : Seen) (status : Status) (files : Files) (x : Checkable) → old.files ≡ Some files → check_in s t p k files ≡ Ok x → IsProved x → Ends (Check s t p k) old new status → (status ≡ Status.Done) ⊎ Yields status }
@@ -228,13 +228,13 @@ pub fn check_bounds_every_plan()
     reasons();
 }
 
-/// Where the files are accepted and neither the store nor the sink fails, `check` ends with `Done`, `Findings` or `Memory`.
+/// If the files are accepted and neither the store nor the sink fails, `check` ends with `Done`, `Findings` or `Memory`.
 pub fn check_completes()
     ensures { (s t p k : List ℕ) (old new : Seen) (status : Status) (files : Files) (x : Checkable) → old.files ≡ Some files → check_in s t p k files ≡ Ok x → (Rose old.store_faults new.store_faults → ⊥) → (Rose old.sink_faults new.sink_faults → ⊥) → Ends (Check s t p k) old new status → (status ≡ Status.Done) ⊎ ((status ≡ Status.Findings) ⊎ (status ≡ Status.Memory)) }
 {}
 
-/// `check-pinned` ends with `Done` exactly where the files are accepted, the pins are usable and the certificate is accepted with the plan,
-/// which keeps them, and with `Findings` exactly where the files are accepted and it isn't so, unless the store, memory or the sink came
+/// `check-pinned` ends with `Done` exactly when the files are accepted, the pins are usable and the certificate is accepted with the plan,
+/// which keeps them, and with `Findings` exactly when the files are accepted and it isn't so, unless the store, memory or the sink came
 /// first. It never ends with `NoMatching` or `Unfinished`.
 pub fn check_pinned_done_exactly()
     ensures done { (s t i p k : List ℕ) (old new : Seen) (status : Status) (files : Files) (x : PinChecked) → old.files ≡ Some files → pin_check_in s t i p k files ≡ Ok x → IsPinProved x → Ends (CheckPinned s t i p k) old new status → (status ≡ Status.Done) ⊎ Yields status }
@@ -256,12 +256,12 @@ pub fn check_pinned_bounds_every_plan()
     reasons();
 }
 
-/// Where the files are accepted and neither the store nor the sink fails, `check-pinned` ends with `Done`, `Findings` or `Memory`.
+/// If the files are accepted and neither the store nor the sink fails, `check-pinned` ends with `Done`, `Findings` or `Memory`.
 pub fn check_pinned_completes()
     ensures { (s t i p k : List ℕ) (old new : Seen) (status : Status) (files : Files) (x : PinChecked) → old.files ≡ Some files → pin_check_in s t i p k files ≡ Ok x → (Rose old.store_faults new.store_faults → ⊥) → (Rose old.sink_faults new.sink_faults → ⊥) → Ends (CheckPinned s t i p k) old new status → (status ≡ Status.Done) ⊎ ((status ≡ Status.Findings) ⊎ (status ≡ Status.Memory)) }
 {}
 
-/// `zones` ends with `Done` exactly where the files are accepted and no two moves of the plan meet in a zone, and with `Findings` exactly
+/// `zones` ends with `Done` exactly when the files are accepted and no two moves of the plan meet in a zone, and with `Findings` exactly
 /// where they are accepted and two do, unless the store, memory or the sink came first. It never ends with `NoMatching` or `Unfinished`.
 pub fn zones_done_exactly()
     ensures done { (s t p z : List ℕ) (old new : Seen) (status : Status) (files : Files) (x : Passable) → old.files ≡ Some files → passing_in s t p z files ≡ Ok x → NoneMeet x → Ends (Zones s t p z) old new status → (status ≡ Status.Done) ⊎ Yields status }
@@ -272,13 +272,13 @@ pub fn zones_done_exactly()
     ensures no_unfinished { (s t p z : List ℕ) (old new : Seen) → Ends (Zones s t p z) old new Status.Unfinished → ⊥ }
 {}
 
-/// Where the files are accepted and neither the store nor the sink fails, `zones` ends with `Done`, `Findings` or `Memory`.
+/// If the files are accepted and neither the store nor the sink fails, `zones` ends with `Done`, `Findings` or `Memory`.
 pub fn zones_completes()
     ensures { (s t p z : List ℕ) (old new : Seen) (status : Status) (files : Files) (x : Passable) → old.files ≡ Some files → passing_in s t p z files ≡ Ok x → (Rose old.store_faults new.store_faults → ⊥) → (Rose old.sink_faults new.sink_faults → ⊥) → Ends (Zones s t p z) old new status → (status ≡ Status.Done) ⊎ ((status ≡ Status.Findings) ⊎ (status ≡ Status.Memory)) }
 {}
 
-/// `sheet` ends with `Done` exactly where the files are accepted and the plan is feasible and states its cost, and with
-/// `Findings` exactly where they are accepted and it isn't so, unless the store, memory or the sink came first. It never ends
+/// `sheet` ends with `Done` exactly when the files are accepted and the plan is feasible and states its cost, and with
+/// `Findings` exactly when they are accepted and it isn't so, unless the store, memory or the sink came first. It never ends
 /// with `NoMatching` or `Unfinished`.
 pub fn sheet_done_exactly()
     ensures done { (s t p n : List ℕ) (old new : Seen) (status : Status) (files : Files) (x : Night × Plan) → old.files ≡ Some files → plans_in s t p files ≡ Ok x → IsClean x → Ends (Sheet s t p n) old new status → (status ≡ Status.Done) ⊎ Yields status }
@@ -291,13 +291,13 @@ pub fn sheet_done_exactly()
     laws::plan_findings();
 }
 
-/// Where the files are accepted and neither the store nor the sink fails, `sheet` ends with `Done`, `Findings` or `Memory`.
+/// If the files are accepted and neither the store nor the sink fails, `sheet` ends with `Done`, `Findings` or `Memory`.
 pub fn sheet_completes()
     ensures { (s t p n : List ℕ) (old new : Seen) (status : Status) (files : Files) (x : Night × Plan) → old.files ≡ Some files → plans_in s t p files ≡ Ok x → (Rose old.store_faults new.store_faults → ⊥) → (Rose old.sink_faults new.sink_faults → ⊥) → Ends (Sheet s t p n) old new status → (status ≡ Status.Done) ⊎ ((status ≡ Status.Findings) ⊎ (status ≡ Status.Memory)) }
 {}
 
-/// `draw` ends with `Done` exactly where the files are accepted and the plan is feasible and states its cost, and with
-/// `Findings` exactly where they are accepted and it isn't so, unless the store, memory or the sink came first. It never ends
+/// `draw` ends with `Done` exactly when the files are accepted and the plan is feasible and states its cost, and with
+/// `Findings` exactly when they are accepted and it isn't so, unless the store, memory or the sink came first. It never ends
 /// with `NoMatching` or `Unfinished`.
 pub fn draw_done_exactly()
     ensures done { (s t p n : List ℕ) (old new : Seen) (status : Status) (files : Files) (x : Night × Plan) → old.files ≡ Some files → plans_in s t p files ≡ Ok x → IsClean x → Ends (Draw s t p n) old new status → (status ≡ Status.Done) ⊎ Yields status }
@@ -310,12 +310,12 @@ pub fn draw_done_exactly()
     laws::plan_findings();
 }
 
-/// Where the files are accepted and neither the store nor the sink fails, `draw` ends with `Done`, `Findings` or `Memory`.
+/// If the files are accepted and neither the store nor the sink fails, `draw` ends with `Done`, `Findings` or `Memory`.
 pub fn draw_completes()
     ensures { (s t p n : List ℕ) (old new : Seen) (status : Status) (files : Files) (x : Night × Plan) → old.files ≡ Some files → plans_in s t p files ≡ Ok x → (Rose old.store_faults new.store_faults → ⊥) → (Rose old.sink_faults new.sink_faults → ⊥) → Ends (Draw s t p n) old new status → (status ≡ Status.Done) ⊎ ((status ≡ Status.Findings) ⊎ (status ≡ Status.Memory)) }
 {}
 
-/// `follow` ends with `Done` exactly where the files are accepted and all orders can be followed, and with `Findings` exactly where they
+/// `follow` ends with `Done` exactly when the files are accepted and all orders can be followed, and with `Findings` exactly when they
 /// are accepted and one can't, unless the store, memory or the sink came first. It never ends with `NoMatching` or `Unfinished`.
 pub fn follow_done_exactly()
     ensures done { (s n : List ℕ) (old new : Seen) (status : Status) (files : Files) (x : Followable) → old.files ≡ Some files → following_in s n files ≡ Ok x → GoesThrough x → Ends (Follow s n) old new status → (status ≡ Status.Done) ⊎ Yields status }
@@ -326,7 +326,7 @@ pub fn follow_done_exactly()
     ensures no_unfinished { (s n : List ℕ) (old new : Seen) → Ends (Follow s n) old new Status.Unfinished → ⊥ }
 {}
 
-/// Where the files are accepted and neither the store nor the sink fails, `follow` ends with `Done`, `Findings` or `Memory`.
+/// If the files are accepted and neither the store nor the sink fails, `follow` ends with `Done`, `Findings` or `Memory`.
 pub fn follow_completes()
     ensures { (s n : List ℕ) (old new : Seen) (status : Status) (files : Files) (x : Followable) → old.files ≡ Some files → following_in s n files ≡ Ok x → (Rose old.store_faults new.store_faults → ⊥) → (Rose old.sink_faults new.sink_faults → ⊥) → Ends (Follow s n) old new status → (status ≡ Status.Done) ⊎ ((status ≡ Status.Findings) ⊎ (status ≡ Status.Memory)) }
 {}
@@ -342,7 +342,7 @@ pub fn written_sheets_go_through()
     texts_of_sheets();
 }
 
-/// `drivers` ends with `Done` exactly where the files are accepted, unless the store, memory or the sink came first. It never ends
+/// `drivers` ends with `Done` exactly when the files are accepted, unless the store, memory or the sink came first. It never ends
 /// with `Findings`, `NoMatching` or `Unfinished`.
 pub fn drivers_done_exactly()
     ensures done { (s t p c d : List ℕ) (old new : Seen) (status : Status) (files : Files) (x : Sharable) → old.files ≡ Some files → sharing_in s t p c files ≡ Ok x → Ends (Drivers s t p c d) old new status → (status ≡ Status.Done) ⊎ Yields status }
@@ -352,13 +352,13 @@ pub fn drivers_done_exactly()
     ensures no_unfinished { (s t p c d : List ℕ) (old new : Seen) → Ends (Drivers s t p c d) old new Status.Unfinished → ⊥ }
 {}
 
-/// Where the files are accepted and neither the store nor the sink fails, `drivers` ends with `Done` or `Memory`.
+/// If the files are accepted and neither the store nor the sink fails, `drivers` ends with `Done` or `Memory`.
 pub fn drivers_completes()
     ensures { (s t p c d : List ℕ) (old new : Seen) (status : Status) (files : Files) (x : Sharable) → old.files ≡ Some files → sharing_in s t p c files ≡ Ok x → (Rose old.store_faults new.store_faults → ⊥) → (Rose old.sink_faults new.sink_faults → ⊥) → Ends (Drivers s t p c d) old new status → (status ≡ Status.Done) ⊎ (status ≡ Status.Memory) }
 {}
 
-/// `roster` ends with `Done` exactly where the files are accepted and the duties are a sharing of the plan's moves, and with `Findings`
-/// exactly where they are accepted and it isn't so, unless the store, memory or the sink came first. It never ends with `NoMatching` or
+/// `roster` ends with `Done` exactly when the files are accepted and the duties are a sharing of the plan's moves, and with `Findings`
+/// exactly when they are accepted and it isn't so, unless the store, memory or the sink came first. It never ends with `NoMatching` or
 /// `Unfinished`.
 pub fn roster_done_exactly()
     ensures done { (s t p c d : List ℕ) (old new : Seen) (status : Status) (files : Files) (x : Rosterable) → old.files ≡ Some files → rostering_in s t p c d files ≡ Ok x → SharesAll x → Ends (Roster s t p c d) old new status → (status ≡ Status.Done) ⊎ Yields status }
@@ -372,7 +372,7 @@ pub fn roster_done_exactly()
     roster_fault_in_words();
 }
 
-/// Where the files are accepted and neither the store nor the sink fails, `roster` ends with `Done`, `Findings` or `Memory`.
+/// If the files are accepted and neither the store nor the sink fails, `roster` ends with `Done`, `Findings` or `Memory`.
 pub fn roster_completes()
     ensures { (s t p c d : List ℕ) (old new : Seen) (status : Status) (files : Files) (x : Rosterable) → old.files ≡ Some files → rostering_in s t p c d files ≡ Ok x → (Rose old.store_faults new.store_faults → ⊥) → (Rose old.sink_faults new.sink_faults → ⊥) → Ends (Roster s t p c d) old new status → (status ≡ Status.Done) ⊎ ((status ≡ Status.Findings) ⊎ (status ≡ Status.Memory)) }
 {}
@@ -387,8 +387,8 @@ pub fn roster_accepts_what_drivers_wrote()
     texts_of_rosters();
 }
 
-/// `replay` ends with `Done` exactly where the files are accepted and the blocks that the turns leave are a feasible plan, and
-/// with `Findings` exactly where they are accepted and it isn't so, whatever cost the plan states and whichever turns were
+/// `replay` ends with `Done` exactly when the files are accepted and the blocks that the turns leave are a feasible plan, and
+/// with `Findings` exactly when they are accepted and it isn't so, whatever cost the plan states and whichever turns were
 /// refused, unless the store, memory or the sink came first. It never ends with `NoMatching` or `Unfinished`.
 pub fn replay_done_exactly()
     ensures done { (s t p e n : List ℕ) (old new : Seen) (status : Status) (files : Files) (x : Replayable) → old.files ≡ Some files → turns_in s t p e files ≡ Ok x → EndsFeasible x → Ends (Replay s t p e n) old new status → (status ≡ Status.Done) ⊎ Yields status }
@@ -401,7 +401,7 @@ pub fn replay_done_exactly()
     laws::feasible();
 }
 
-/// Where the files are accepted and neither the store nor the sink fails, `replay` ends with `Done`, `Findings` or `Memory`.
+/// If the files are accepted and neither the store nor the sink fails, `replay` ends with `Done`, `Findings` or `Memory`.
 pub fn replay_completes()
     ensures { (s t p e n : List ℕ) (old new : Seen) (status : Status) (files : Files) (x : Replayable) → old.files ≡ Some files → turns_in s t p e files ≡ Ok x → (Rose old.store_faults new.store_faults → ⊥) → (Rose old.sink_faults new.sink_faults → ⊥) → Ends (Replay s t p e n) old new status → (status ≡ Status.Done) ⊎ ((status ≡ Status.Findings) ⊎ (status ≡ Status.Memory)) }
 {}
@@ -411,7 +411,7 @@ pub fn replay_leaves_a_state()
     ensures { (s t p e : List ℕ) (x : Replayable) → stated_turns s t p e ≡ Ok x → IsState x.night (last_of x) }
 {}
 
-/// `plan` ends with `NoMatching` exactly where both input files are accepted and no list is a matching, unless the store, memory or
+/// `plan` ends with `NoMatching` exactly when both input files are accepted and no list is a matching, unless the store, memory or
 /// the sink came first. It never ends with `Findings`.
 pub fn plan_no_matching_exactly()
     ensures there { (s t : List ℕ) (m : ℕ) (p k : List ℕ) (old new : Seen) (status : Status) (files : Files) (night : Night) → old.files ≡ Some files → stated_night (content files s) (content files t) ≡ Ok night → ((place : List ℕ) → Matches night place → ⊥) → Ends (MakePlan s t m p k) old new status → (status ≡ Status.NoMatching) ⊎ Yields status }
@@ -439,15 +439,15 @@ pub fn plan_is_unfinished()
     trees();
 }
 
-/// Where both input files are accepted, a matching exists, and more nodes are allowed than there are partial plans, `plan` ends with
-/// `Done`, unless the store, memory or the sink came first. Where neither the store nor the sink fails, it ends with `Done`,
+/// If both input files are accepted, a matching exists, and more nodes are allowed than there are partial plans, `plan` ends with
+/// `Done`, unless the store, memory or the sink came first. If neither the store nor the sink fails, it ends with `Done`,
 /// `NoMatching`, `Unfinished` or `Memory`.
 pub fn plan_completes()
     ensures done { (s t : List ℕ) (m : ℕ) (p k : List ℕ) (old new : Seen) (status : Status) (files : Files) (night : Night) → old.files ≡ Some files → stated_night (content files s) (content files t) ≡ Ok night → ((place : List ℕ) × Matches night place) → partial_plans night [] < m → Ends (MakePlan s t m p k) old new status → (status ≡ Status.Done) ⊎ Yields status }
     ensures ends { (s t : List ℕ) (m : ℕ) (p k : List ℕ) (old new : Seen) (status : Status) (files : Files) (night : Night) → old.files ≡ Some files → stated_night (content files s) (content files t) ≡ Ok night → (Rose old.store_faults new.store_faults → ⊥) → (Rose old.sink_faults new.sink_faults → ⊥) → Ends (MakePlan s t m p k) old new status → (status ≡ Status.Done) ⊎ ((status ≡ Status.NoMatching) ⊎ ((status ≡ Status.Unfinished) ⊎ (status ≡ Status.Memory))) }
 {}
 
-/// `pinned` ends with `Findings` exactly where its input files are accepted and the pins aren't usable, unless the store, memory or the
+/// `pinned` ends with `Findings` exactly when its input files are accepted and the pins aren't usable, unless the store, memory or the
 /// sink came first.
 pub fn pinned_findings_exactly()
     ensures there { (s t i : List ℕ) (m : ℕ) (p k : List ℕ) (old new : Seen) (status : Status) (files : Files) (x : Pinned) → old.files ≡ Some files → pinned_in s t i files ≡ Ok x → (AreUsable x.instance x.pins → ⊥) → Ends (MakePinned s t i m p k) old new status → (status ≡ Status.Findings) ⊎ Yields status }
@@ -456,7 +456,7 @@ pub fn pinned_findings_exactly()
     laws::pins();
 }
 
-/// `pinned` ends with `NoMatching` exactly where its input files are accepted, the pins are usable, and no list is a matching of the units
+/// `pinned` ends with `NoMatching` exactly when its input files are accepted, the pins are usable, and no list is a matching of the units
 /// and positions that they leave, unless the store, memory or the sink came first.
 pub fn pinned_no_matching_exactly()
     ensures there { (s t i : List ℕ) (m : ℕ) (p k : List ℕ) (old new : Seen) (status : Status) (files : Files) (x : Pinned) → old.files ≡ Some files → pinned_in s t i files ≡ Ok x → AreUsable x.instance x.pins → HasNoMatching x.instance (units_taken x.instance x.pins) (positions_taken x.instance x.pins) → Ends (MakePinned s t i m p k) old new status → (status ≡ Status.NoMatching) ⊎ Yields status }
@@ -487,8 +487,8 @@ pub fn pinned_is_unfinished()
     trees();
 }
 
-/// Where the input files are accepted, the pins are usable, a matching of what they leave exists, and more nodes are allowed than there are
-/// partial plans over them, `pinned` ends with `Done`, unless the store, memory or the sink came first. Where neither the store nor the
+/// If the input files are accepted, the pins are usable, a matching of what they leave exists, and more nodes are allowed than there are
+/// partial plans over them, `pinned` ends with `Done`, unless the store, memory or the sink came first. If neither the store nor the
 /// sink fails, it ends with `Findings`, `Done`, `NoMatching`, `Unfinished` or `Memory`.
 pub fn pinned_completes()
     ensures done { (s t i : List ℕ) (m : ℕ) (p k : List ℕ) (old new : Seen) (status : Status) (files : Files) (x : Pinned) → old.files ≡ Some files → pinned_in s t i files ≡ Ok x → AreUsable x.instance x.pins → HasMatching x.instance (units_taken x.instance x.pins) (positions_taken x.instance x.pins) → partial_plans x.instance x.pins < m → Ends (MakePinned s t i m p k) old new status → (status ≡ Status.Done) ⊎ Yields status }

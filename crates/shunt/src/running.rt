@@ -47,9 +47,9 @@ pub enum Status {
 /// names that differ and aren't empty, NODES is a number from 1 to 5,000, NUMBER one up to 2,147,483,647 and UNITS one up to 160, or the
 /// answer is `Words` and nothing is read, written or printed.
 /// The certificate of `plan` and of `pinned` is written while it is found, before the other file.
-/// `Store` comes only where the store failed in this call and `Sink` only where the sink did; `Memory` may come in place
+/// `Store` comes only if the store failed in this call and `Sink` only if the sink did; `Memory` may come in place
 /// of any answer but `Words`. Each other status is that of the defined answer, all of which then was written and printed.
-/// Where the store doesn't tell what its files hold, that is the defined answer over some contents of them.
+/// If the store doesn't say what its files hold, that is the defined answer over some contents of them.
 pub fn run<S: Store, O: Sink>(
     alloc: Global,
     words: &Vec<String>,

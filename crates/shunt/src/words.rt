@@ -45,7 +45,7 @@ pub enum Command<'w> {
     MakePinned(&'w str, &'w str, &'w str, u32, &'w str, &'w str),
 }
 
-/// The command that the words spell. None exactly where they spell none.
+/// The command that the words spell. None exactly when they spell none.
 pub fn command_of(words: &[String]) -> Option<Command<'_>>
     ensures some { IfSome result (λ c. Spells (texts words.now) (call_of c)) }
     ensures only { (c : Call) → Spells (texts words.now) c → IsSome result }

@@ -11,7 +11,7 @@ use std::num::Wrapping;
 /// How far a number goes from 0 at most.
 const FARTHEST: i64 = 999_999_999 * ONE;
 
-/// Where an ascent goes: which numbers it changes, how far it goes at first, and when it ends.
+/// If an ascent goes: which numbers it changes, how far it goes at first, and when it ends.
 #[derive(Clone, Copy, Drop)]
 pub(crate) struct Ascent {
     /// Whether the prices of length change too, which are coarse once they are whole.

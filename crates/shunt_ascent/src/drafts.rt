@@ -276,7 +276,7 @@ fn lengths_within(alloc: Global, scene: &Scene, room: u32) -> Result<Vec<u32>, A
     Ok(lengths)
 }
 
-// Whether some length counts more of so many parts than of the track's length.
+// Whether some length counts more of that many parts than of the track's length.
 fn are_useful(parts: u8, room: u32, lengths: &[u32]) -> bool {
     for long in lengths {
         let count = counts(PriceKind::Parts(parts), room, *long, u64::from(room));
@@ -333,7 +333,7 @@ fn add_parts(
     Ok(())
 }
 
-// Above so many prices only those that cost anything get prices of parts beside them.
+// Above that many prices only those that cost anything get prices of parts beside them.
 const MANY: usize = 64;
 
 // Adds prices of parts at the moments of a draft.

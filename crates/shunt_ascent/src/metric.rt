@@ -3,7 +3,7 @@ use crate::numbers::{NOTHING, Number, fill, put};
 use std::alloc::{AllocError, Global};
 use std::num::Wrapping;
 
-/// Entries of the matrix, and directions, are so many to one.
+/// Entries of the matrix, and directions, are that many to one.
 const FINE: i64 = 1 << 24;
 
 /// The largest entry of the matrix.
@@ -19,7 +19,7 @@ pub(crate) struct Metric {
     // Vectors of length 1, at 2^20 to one.
     along: Vec<Number>,
     across: Vec<Number>,
-    /// Where the next step goes, 2^24 to one.
+    /// If the next step goes, 2^24 to one.
     pub direction: Vec<Number>,
 }
 

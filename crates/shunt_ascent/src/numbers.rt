@@ -7,10 +7,10 @@ pub(crate) type Number = Wrapping<i64>;
 /// Nothing.
 pub(crate) const NOTHING: Number = Wrapping(0);
 
-/// Numbers are searched for so many to one.
+/// Numbers are searched for that many to one.
 pub(crate) const ONE: i64 = 1024;
 
-/// What a number of cost units is in an ascent: thousandths, so many to one.
+/// What a number of cost units is in an ascent: thousandths, that many to one.
 pub(crate) fn in_thousandths(cost: u32) -> Number {
     Wrapping(1000 * ONE) * Wrapping(i64::from(cost))
 }
@@ -41,7 +41,7 @@ pub(crate) fn add_at(into: &mut [Number], place: usize, more: Number) {
     }
 }
 
-/// The nearest whole number, so many to one.
+/// The nearest whole number, that many to one.
 pub(crate) fn whole(number: Number) -> Number {
     (number + Wrapping(ONE / 2)) >> 10
 }

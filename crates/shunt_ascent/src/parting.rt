@@ -19,7 +19,7 @@ pub(crate) struct Parted {
     pub last: Found,
 }
 
-/// An ascent of the values of positions alone, for a scene with so many units.
+/// An ascent of the values of positions alone, for a scene with that many units.
 pub(crate) fn values_alone(units: usize) -> Ascent {
     Ascent {
         lengths: false,

@@ -3,7 +3,7 @@ use crate::numbers::{NOTHING, Number};
 use std::alloc::{AllocError, Global};
 use std::num::Wrapping;
 
-/// Values of positions, values of prices and a multiplier, so many to one.
+/// Values of positions, values of prices and a multiplier, that many to one.
 #[derive(Drop)]
 pub(crate) struct Point {
     pub beta: Vec<Number>,

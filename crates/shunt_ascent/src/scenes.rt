@@ -98,7 +98,7 @@ pub(crate) struct Scene {
     pub left: Number,
     /// For each price what the path's blocks count there less its most.
     pub counts: Vec<Number>,
-    /// Where there are any, a case comes to the least that it comes to at the path with one of these.
+    /// If there are any, a case comes to the least that it comes to at the path with one of these.
     pub entries: Vec<Entry>,
 }
 

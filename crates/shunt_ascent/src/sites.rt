@@ -19,7 +19,7 @@ use shunt_instance::Instance;
 use std::alloc::{AllocError, Global};
 use std::num::Wrapping;
 
-/// A case with whole numbers while a tree grows by it: what it speaks of, its numbers and its values of units, so many to one.
+/// A case with whole numbers while a tree grows by it: what it speaks of, its numbers and its values of units, that many to one.
 #[derive(Drop)]
 pub struct Fixed {
     span: Span,
@@ -41,7 +41,7 @@ pub struct Choice {
     entry: Entry,
 }
 
-/// How far a case is raised: to a sum in thousandths of a cost unit, by so many evaluations at most, and whether its multiplier changes.
+/// How far a case is raised: to a sum in thousandths of a cost unit, by that many evaluations at most, and whether its multiplier changes.
 #[derive(Clone, Copy)]
 pub struct Raise {
     pub goal: i64,
@@ -118,7 +118,7 @@ fn shapes_of(alloc: Global, scene: &Scene) -> Result<Vec<Vec<Row>>, AllocError> 
     Ok(shapes)
 }
 
-// Marks so many from one on.
+// Marks that many from one on.
 fn mark(marks: &mut [bool], from: usize, n: usize) {
     for k in 0..n {
         if let Some(free) = marks.get_mut(from.saturating_add(k)) {
@@ -142,7 +142,7 @@ fn find_runs(free: &[bool], runs: &mut [usize]) {
     }
 }
 
-// Keeps the shapes of a unit that are free, where so many units and positions follow each other.
+// Keeps the shapes of a unit that are free, where that many units and positions follow each other.
 fn keep_free(
     stand: &mut Stand,
     shapes: &[Row],
@@ -174,7 +174,7 @@ fn scaled(value: i64) -> Number {
     Wrapping(value) * Wrapping(ONE)
 }
 
-// The sum of so many values from one on.
+// The sum of that many values from one on.
 fn run_sum(values: &[Number], from: usize, n: usize) -> Number {
     let mut sum = NOTHING;
     for k in 0..n {

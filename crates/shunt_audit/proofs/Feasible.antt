@@ -1,4 +1,4 @@
--- There is no finding exactly where the blocks are a feasible plan.
+-- There is no finding exactly when the blocks are a feasible plan.
 use Rattle.std.proofs.Common.{◌≡◌, inl, ⊎_elim, ◌↔◌, ℕ, zero, suc, ◌<◌, ◌≤◌, List, [], ◌∷◌, get_or, refl, sym, subst, ◌∙◌, arith}
 use Rattle.std.specs.Prelude.{All, IsSome, IfSome, Option, Some, None, slice_index}
 use Rattle.std.proofs.lemmas.Bool.{cases_lt, false_from_ne_true, false≢true}

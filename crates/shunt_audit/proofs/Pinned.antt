@@ -1,4 +1,4 @@
--- Pins have no finding but of bare units and positions exactly where they are usable.
+-- Pins have no finding but of bare units and positions exactly when they are usable.
 use Rattle.std.proofs.Common.{◌≡◌, ⊎_elim, ◌↔◌, ℕ, ◌+◌, ◌<◌, ◌≤◌, Bool, true, false, cond, List, [], ◌∷◌, get_or, refl, subst, arith, inl, inr}
 use Rattle.std.specs.Prelude.{◌==◌, ◌||◌, not, nat_le, nat_lt}
 use Rattle.std.specs.List.{count_by}

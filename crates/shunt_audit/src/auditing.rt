@@ -14,7 +14,7 @@ use shunt_plan::{Plan, plan_cost};
 use std::alloc::{AllocError, Global};
 
 /// What is wrong with a plan in range, and what it really costs: exactly the findings of its blocks, and then `StatedCost`
-/// where it states another cost. There are none exactly where the plan is feasible and states its cost.
+/// where it states another cost. There are none exactly when the plan is feasible and states its cost.
 #[tactic(auto, unfolding(crate::specs::defs::Plans::plan_findings))]
 pub fn audit(alloc: Global, instance: &Instance, plan: &Plan) -> Result<Audit, AllocError>
     requires { IsPlanInRange instance.now plan.now }

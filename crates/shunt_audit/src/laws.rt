@@ -27,7 +27,7 @@ pub fn findings()
         findings_in night others ≡ findings_in night blocks }
 {}
 
-/// There is no finding exactly where the blocks are a feasible plan.
+/// There is no finding exactly when the blocks are a feasible plan.
 pub fn feasible()
     ensures none { (night : Night) (blocks : List Block) → IsInstance night → AreInRange night blocks →
         (findings_in night blocks ≡ []) ↔ IsFeasible night blocks }
@@ -36,7 +36,7 @@ pub fn feasible()
     laws::stays_of_blocks();
 }
 
-/// The same of a plan, which has no finding exactly where it is feasible and states its cost.
+/// The same of a plan, which has no finding exactly when it is feasible and states its cost.
 pub fn plan_findings()
     ensures exactly { (night : Night) (plan : Plan) (f : Finding) → In f (plan_findings night plan) ↔ IsPlanFinding night plan f }
     ensures in_order { (night : Night) (plan : Plan) → AreInRange night plan.blocks → AreSorted (plan_findings night plan) }
@@ -49,7 +49,7 @@ pub fn plan_findings()
     laws::stays_of_blocks();
 }
 
-/// Pins are usable exactly where they have no finding but of units and positions that are in none of them.
+/// Pins are usable exactly when they have no finding but of units and positions that are in none of them.
 pub fn pins()
     ensures usable { (night : Night) (pins : List Block) → IsInstance night → AreInRange night pins →
         (pin_findings night pins ≡ []) ↔ AreUsable night pins }

@@ -25,7 +25,7 @@ fn by_id(alloc: Global, blocks: &[Block]) -> Result<Vec<Block>, AllocError>
 }
 
 /// What is wrong with a list of blocks: exactly its findings of the kinds 1 to 10, by kind and then by the numbers that they
-/// carry. There are none exactly where the blocks are a feasible plan.
+/// carry. There are none exactly when the blocks are a feasible plan.
 ///
 /// The blocks may stand in any order. There are at most 400 in range, and no two have one id.
 pub fn findings_of(

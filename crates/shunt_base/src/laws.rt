@@ -23,7 +23,7 @@ pub fn spellings_are_read_back()
     ensures minute { (m : ℕ) → m < 2880 → minute_of (minute_text m) ≡ Some m }
 {}
 
-/// The tests of names and of sides tell what they say.
+/// The tests of names and of sides say what they say.
 pub fn tests_tell()
     ensures name { (bytes : List ℕ) → IsTrue (is_name_text bytes) ↔ IsName bytes }
     ensures side { (x y : Side) → IsTrue (same_side x y) ↔ (x ≡ y) }

@@ -56,7 +56,7 @@ fn digit(b: u8) -> Option<u16>
 
 /// The minute that is spelled `HH:MM`, with hours below 48 and minutes below 60.
 ///
-/// None exactly where the bytes spell no minute.
+/// None exactly when the bytes spell no minute.
 pub fn parse_minute(bytes: &[u8]) -> Option<Minute>
     ensures some { IfSome result (λ m. (m < 2880) × (bytes.now ≡ minute_text m)) }
     ensures only { (m : ℕ) → m < 2880 → bytes.now ≡ minute_text m → result ≡ Some m }

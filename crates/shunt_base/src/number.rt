@@ -39,7 +39,7 @@ fn value_of(bytes: &[u8]) -> u64
 
 /// The number that these bytes spell: `0`, or up to 18 digits with no 0 in front.
 ///
-/// None exactly where they spell no number.
+/// None exactly when they spell no number.
 #[tactic(auto, unfolding(crate::specs::defs::Spelling::decimal_of))]
 pub fn parse_decimal(bytes: &[u8]) -> Option<u64>
     ensures exact { SomeIff result (IsDecimal bytes.now) (digits_value 10 bytes.now) }
@@ -69,7 +69,7 @@ fn parse_negative(bytes: &[u8]) -> Option<i64>
 
 /// The signed number that these bytes spell: a decimal, or `-` and a decimal that isn't `0`.
 ///
-/// None exactly where they spell no signed number.
+/// None exactly when they spell no signed number.
 #[tactic(auto, unfolding(crate::specs::defs::Spelling::signed_of))]
 pub fn parse_signed(bytes: &[u8]) -> Option<i64>
     ensures some { IfSome result (λ z. IsSigned z × (bytes.now ≡ signed_decimal z)) }

@@ -39,7 +39,7 @@ fn total_of(alloc: Global, instance: &Instance, shares: &Shares) -> Option<i64>
     }
 }
 
-// Makes the table of shares so many times: the time of one in nanoseconds.
+// Makes the table of shares that many times: the time of one in nanoseconds.
 fn time_shares(
     rt: &(impl AllocGlobal + CpuClock),
     instance: &Instance,
@@ -58,7 +58,7 @@ fn time_shares(
     Ok(nanos / u128::from(runs))
 }
 
-// Assigns so many times: the total, and the time of one in nanoseconds.
+// Assigns that many times: the total, and the time of one in nanoseconds.
 fn time_assignments(
     rt: &(impl AllocGlobal + CpuClock),
     instance: &Instance,
@@ -115,7 +115,7 @@ fn time_matched(
 }
 
 /// Prints what the least assignment of a night adds up to, in thousandths of a cost unit, and the times of the table of
-/// shares and of the assignment, each the mean of so many, in nanoseconds.
+/// shares and of the assignment, each the mean of that many, in nanoseconds.
 pub(crate) fn measure_assign(
     rt: &(impl Files + AllocGlobal + CpuClock + Print),
     station: &str,

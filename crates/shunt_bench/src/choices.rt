@@ -57,7 +57,7 @@ fn walk(instance: &Instance, covered: &Covered) -> Tally
     tally
 }
 
-// So many units or positions that aren't covered.
+// That many units or positions that aren't covered.
 fn bare(alloc: Global, count: usize) -> Option<Vec<bool>>
     ensures { IfSome result (λ v. length v.items ≡ count) }
 {
@@ -76,7 +76,7 @@ fn nothing(alloc: Global, instance: &Instance) -> Option<Covered>
     Some(Covered::new(units, places))
 }
 
-// Walks so many times: what one walk adds up, and its time in microseconds.
+// Walks that many times: what one walk adds up, and its time in microseconds.
 fn time_walks(
     rt: &impl CpuClock,
     instance: &Instance,
@@ -97,7 +97,7 @@ fn time_walks(
 }
 
 /// Prints how many options the shapes of all units have where nothing is covered, their least costs added up, and the
-/// time of one walk over them in microseconds, the mean of so many.
+/// time of one walk over them in microseconds, the mean of that many.
 pub(crate) fn measure_choices(
     rt: &(impl Files + AllocGlobal + CpuClock + Print),
     station: &str,

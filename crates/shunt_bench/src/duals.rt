@@ -110,7 +110,7 @@ fn cases(alloc: Global, instance: &Instance) -> Result<Cases, AllocError>
     Ok(two_cases(few, many))
 }
 
-// Whether the cases hold at a path, and the time in nanoseconds of telling so, the mean of so many.
+// Whether the cases hold at a path, and the time in nanoseconds of telling so, the mean of that many.
 fn time_holding(
     rt: &impl CpuClock,
     instance: &Instance,
@@ -144,7 +144,7 @@ fn thousand_bounds(instance: &Instance, path: &Path, cases: &Cases) -> i64
     bound
 }
 
-// The bound of a path by the cases, and the time of a thousand in nanoseconds, the mean of so many.
+// The bound of a path by the cases, and the time of a thousand in nanoseconds, the mean of that many.
 fn time_bounds(
     rt: &impl CpuClock,
     instance: &Instance,
@@ -271,7 +271,7 @@ fn time_matched(
 }
 
 /// Prints whether two cases of 64 prices hold at the path without blocks of a night, what they bound there, and the times of
-/// telling so once and of a thousand bounds in nanoseconds, each the mean of so many.
+/// telling so once and of a thousand bounds in nanoseconds, each the mean of that many.
 pub(crate) fn measure_duals(
     rt: &(impl Files + AllocGlobal + CpuClock + Print),
     station: &str,

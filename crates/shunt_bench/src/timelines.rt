@@ -17,7 +17,7 @@ const LENGTH: u32 = 2000;
 /// The stays don't come in the order of their minutes, but with this step from one to the next.
 const STEP: u32 = 7919;
 
-// A stay of so many, the next in the order in which they come. On each track ten blocks enter by one side, minute after minute,
+// A stay of that many, the next in the order in which they come. On each track ten blocks enter by one side, minute after minute,
 // and leave by A in the opposite order; ten minutes after the first of them the next ten begin to enter by the other side. So
 // there are crossings, and loads that are over, for the two counts to agree on.
 fn stay(number: u16, count: u16, tracks: u8) -> Stay
@@ -74,7 +74,7 @@ fn stays(alloc: Global, count: u16, tracks: u8) -> Result<Vec<Stay>, AllocError>
     Ok(all)
 }
 
-// The lengths of so many tracks.
+// The lengths of that many tracks.
 fn lengths_of(alloc: Global, tracks: u8) -> Result<Vec<u32>, AllocError>
     ensures { IfOk result (λ v. length v.items ≡ tracks) }
 {
@@ -118,7 +118,7 @@ fn remove_all(timelines: &mut Timelines, count: u16) {
     }
 }
 
-// What one run of so many took, in nanoseconds, and what it found.
+// What one run of that many took, in nanoseconds, and what it found.
 #[derive(Clone, Copy)]
 struct Times {
     inserts: u128,
@@ -134,7 +134,7 @@ struct Sums {
     removals: u128,
 }
 
-// Empty timelines with room for so many stays. None where memory runs out.
+// Empty timelines with room for that many stays. None where memory runs out.
 fn empty(alloc: Global, lengths: &[u32], count: u16) -> Option<Timelines>
     ensures empty { IfSome result (λ t. length t.stays ≡ 0) }
     ensures lengths { IfSome result (λ t. t.lengths ≡ lengths.now) }
@@ -193,7 +193,7 @@ fn time_run(
     }
 }
 
-// So many runs, each of which has to find what a fresh count found. None where one differs, or memory runs out.
+// That many runs, each of which has to find what a fresh count found. None where one differs, or memory runs out.
 fn time_runs(
     rt: &(impl AllocGlobal + CpuClock),
     lengths: &[u32],
@@ -294,8 +294,8 @@ fn measure_on(
     tell(rt, tracks, count, sums, stays, fresh)
 }
 
-/// Prints how long the coming of one stay takes, and its going, when so many come to so many tracks and go again, beside a fresh
-/// count of all of them. The first two are means over so many runs, in nanoseconds.
+/// Prints how long the coming of one stay takes, and its going, when that many come to that many tracks and go again, beside a fresh
+/// count of all of them. The first two are means over that many runs, in nanoseconds.
 pub(crate) fn measure_timelines(
     rt: &(impl AllocGlobal + CpuClock + Print),
     count: u16,

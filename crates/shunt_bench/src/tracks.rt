@@ -75,7 +75,7 @@ fn events_done(alloc: Global, stays: &[Stay]) -> usize
     }
 }
 
-// Runs the lists so many times: the events of a run, and the time of one in microseconds.
+// Runs the lists that many times: the events of a run, and the time of one in microseconds.
 fn time_run_lists(
     rt: &(impl AllocGlobal + CpuClock),
     stays: &[Stay],
@@ -95,7 +95,7 @@ fn time_run_lists(
     Ok((events, micros / u128::from(runs)))
 }
 
-// Counts the clashes so many times: the clashes, and the time of one count in microseconds.
+// Counts the clashes that many times: the clashes, and the time of one count in microseconds.
 fn time_clashes(rt: &impl CpuClock, stays: &[Stay], runs: u32) -> io::Result<(Clash, u128)>
     requires formed { AreStays stays.now }
     requires tracks { All (λ s. s.track.0 < 1) stays.now }
@@ -132,8 +132,8 @@ fn measure_stays(
     )
 }
 
-/// Prints how long the run of the lists and the count of the clashes take over so many stays on one track, each the
-/// time of one of so many runs, in microseconds.
+/// Prints how long the run of the lists and the count of the clashes take over that many stays on one track, each the
+/// time of one of that many runs, in microseconds.
 pub(crate) fn measure_tracks(
     rt: &(impl AllocGlobal + CpuClock + Print),
     count: u16,

@@ -1,4 +1,4 @@
--- Tests hold exactly where their facts do.
+-- Tests hold exactly when their facts do.
 use Rattle.std.specs.Prelude.{◌↔◌, ◌&&◌, is_some, IsTrue, Option, Some, None}
 use Rattle.std.proofs.Common.{◌≡◌, ℕ, Bool, true, false, refl, sym, arith}
 use Rattle.std.proofs.lemmas.Bool.{true≢false}

@@ -21,7 +21,7 @@ ghost use Rattle.shunt_blocks.specs.defs.Standing.{is_too_soon, stay_of, IsSound
 ghost use Rattle.shunt_blocks.specs.defs.Lists.{has_unit, has_position, times_unit, Covers, IsFeasible, ShareNothing, AreInRange, CanStand, track_lengths, stays_of, RunsThrough, total_cost, placed, units_taken, positions_taken};
 ghost use Rattle.shunt_blocks.specs.defs.Pins.{AreUsable, Keeps, without_id, IsSingle, opening_cost, singles};
 
-/// All numbers below one pass a test exactly where each does.
+/// All numbers below one pass a test exactly when each does.
 pub fn all_numbers()
     ensures { (n : ℕ) (test : ℕ → Bool) → IsTrue (all_below n test) ↔ ((k : ℕ) → k < n → IsTrue (test k)) }
 {}
@@ -53,7 +53,7 @@ pub fn blocks()
     ensures { (night : Night) (b : Block) → IsBlock night b ↔ IsSound night b }
 {}
 
-/// The stays of blocks that can stand are stays with distinct ids on tracks of the night. Where the blocks share nothing,
+/// The stays of blocks that can stand are stays with distinct ids on tracks of the night. If the blocks share nothing,
 /// the keys of these stays differ before the ids. Blocks in range with distinct ids can stand, and so can blocks that
 /// share nothing, with their places as ids, whatever their own ids.
 pub fn stays_of_blocks()
@@ -124,7 +124,7 @@ pub fn opening_plans()
     ensures keeps { (pins others : List Block) → Keeps (placed (pins ++ others)) pins }
 {}
 
-/// Where there is a feasible list, there is a matching of all units; and so where usable pins leave a rest that has one.
+/// If there is a feasible list, there is a matching of all units; and so where usable pins leave a rest that has one.
 pub fn matchings()
     ensures of_plan { (night : Night) (blocks : List Block) → IsFeasible night blocks →
         (place : List ℕ) × IsMatching (unit_entries night) (position_entries night) place }
@@ -133,7 +133,7 @@ pub fn matchings()
         (whole : List ℕ) × IsMatching (unit_entries night) (position_entries night) whole }
 {}
 
-/// The tests of units, positions and pairs hold exactly where their facts do.
+/// The tests of units, positions and pairs hold exactly when their facts do.
 pub fn tests()
     ensures unit { (night : Night) (s : Shape) (u : ℕ) → IsTrue (has_unit night s u) ↔ HasUnit night s u }
     ensures position { (night : Night) (s : Shape) (v : ℕ) → IsTrue (has_position night s v) ↔ HasPosition night s v }

@@ -115,7 +115,7 @@ fn stay_of(instance: &Instance, block: &Block) -> Option<Stay>
 }
 
 /// The block's stay on the track where it is parked: it enters at its arriving train's minute, and leaves at its departing
-/// train's minute. None exactly where the block isn't parked, or where its departing train leaves before one of its units is
+/// train's minute. None exactly when the block isn't parked, or where its departing train leaves before one of its units is
 /// ready.
 pub fn stay(instance: &Instance, block: &Block) -> Option<Stay>
     requires { IsWithinTrains instance.now block.now }

@@ -73,7 +73,7 @@ pub(crate) fn park_way_out(instance: &Instance, dep: DepId, park: Park) -> Optio
 }
 
 /// The cost of the block's way in, at most 1,000,000: the route from its arriving train's platform to the track and the side
-/// in, or 0 for a standing train's own track by B. None exactly where there is no such way, as for a block that isn't parked.
+/// in, or 0 for a standing train's own track by B. None exactly when there is no such way, as for a block that isn't parked.
 pub fn way_in(instance: &Instance, block: &Block) -> Option<u32>
     requires { IsWithinTrains instance.now block.now }
     ensures exact { result ≡ way_in instance.now block.now }
@@ -86,7 +86,7 @@ pub fn way_in(instance: &Instance, block: &Block) -> Option<u32>
 }
 
 /// The cost of the block's way out, at most 1,000,000: the route from its departing train's platform to the track and the
-/// side out. None exactly where there is no such way, as for a block that isn't parked.
+/// side out. None exactly when there is no such way, as for a block that isn't parked.
 pub fn way_out(instance: &Instance, block: &Block) -> Option<u32>
     requires { IsWithinTrains instance.now block.now }
     ensures exact { result ≡ way_out instance.now block.now }

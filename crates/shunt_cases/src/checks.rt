@@ -180,7 +180,7 @@ fn check_sink(report: &mut Report<'_>, case: &Case, plain: &Ended) -> io::Result
     Ok(())
 }
 
-// The last of so many calls of the store is one that the run makes, and the next one isn't.
+// The last of that many calls of the store is one that the run makes, and the next one isn't.
 fn check_calls(report: &mut Report<'_>, case: &Case, plain: &Ended) -> io::Result<()> {
     let Some(calls) = case.calls else {
         return Ok(());
@@ -198,7 +198,7 @@ fn check_calls(report: &mut Report<'_>, case: &Case, plain: &Ended) -> io::Resul
     Ok(())
 }
 
-/// Runs a case in all ways, tells what differs, and hands out the run that isn't disturbed.
+/// Runs a case in all ways, says what differs, and hands out the run that isn't disturbed.
 pub(crate) fn check(report: &mut Report<'_>, case: &Case) -> io::Result<Ended> {
     let plain = run_case(report.rt.alloc(), case, Way::Whole)?;
     check_plain(report, case, &plain)?;

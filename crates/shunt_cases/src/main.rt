@@ -1,4 +1,4 @@
-//! Runs the program over files in memory, once or more for each case, and tells what isn't as the case has it. The cases are the folders
+//! Runs the program over files in memory, once or more for each case, and says what isn't as the case has it. The cases are the folders
 //! in the folder that the first word names, or in the current one; a second word leaves those alone whose names contain it.
 #![tactic(auto)]
 

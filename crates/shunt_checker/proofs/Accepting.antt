@@ -1,4 +1,4 @@
--- Where nothing is wrong, a certificate is accepted.
+-- If nothing is wrong, a certificate is accepted.
 use Rattle.std.specs.Prelude.{◌≢◌, ◌≤ℤ◌, IsSome, is_ok, Result, Ok, Err}
 use Rattle.std.proofs.Common.{◌≡◌, ◌⊎◌, ⊎_elim, inl, inr, ℕ, ◌≤◌, ℤ, pos, true, List, Option, Some, None, length, refl, sym, ◌∙◌, arith}
 use Rattle.std.proofs.lemmas.Int.{ints, by_lt_z}

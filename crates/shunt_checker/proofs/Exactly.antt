@@ -1,4 +1,4 @@
--- Nothing is wrong exactly where a certificate is accepted.
+-- Nothing is wrong exactly when a certificate is accepted.
 use Rattle.std.specs.Prelude.{◌↔◌, ◌≢◌}
 use Rattle.std.proofs.Common.{◌≡◌, inl, inr, ℕ, ◌+◌, ◌<◌, ◌≤◌, ℤ, pos, List, Some, None, length, sym, subst, arith}
 use Rattle.shunt_base.specs.declared.duals.Case.{Case}

@@ -1,4 +1,4 @@
--- Where a certificate is accepted, nothing is wrong.
+-- If a certificate is accepted, nothing is wrong.
 use Rattle.std.specs.Prelude.{◌≢◌, ◌≤ℤ◌, IsSome, is_some, is_ok, Err}
 use Rattle.std.proofs.Common.{◌≡◌, ◌⊎◌, ⊎_elim, ℕ, ◌≤◌, ℤ, pos, List, Option, Some, None, refl, sym, ap, subst, ◌∙◌, arith}
 use Rattle.std.proofs.lemmas.Int.{ints}

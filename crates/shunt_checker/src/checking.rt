@@ -22,7 +22,7 @@ use shunt_plan::{Plan, plan_cost};
 use shunt_proof::Certificate;
 use std::alloc::{AllocError, Global};
 
-/// Whether a certificate proves its bound with a plan that keeps the pins. Accepted exactly where it does, with that bound: then each
+/// Whether a certificate proves its bound with a plan that keeps the pins. Accepted exactly when it does, with that bound: then each
 /// feasible plan that keeps the pins costs at least the bound. Else rejected with the first reason: the plan is looked at first, then
 /// each node in its turn, then the last record. The only error is want of memory.
 pub fn check_pinned(
@@ -47,7 +47,7 @@ pub fn check_pinned(
     judged(alloc, instance, pins, plan, certificate)
 }
 
-/// Whether a certificate proves its bound with a plan: `check_pinned` with no pins. Where it is accepted, each feasible plan costs at
+/// Whether a certificate proves its bound with a plan: `check_pinned` with no pins. If it is accepted, each feasible plan costs at
 /// least the bound that the verdict names. The only error is want of memory.
 pub fn check(
     alloc: Global,

@@ -49,7 +49,7 @@ fn path_runs(alloc: Global, instance: &Instance, path: &Path) -> Result<bool, Al
     runs_placed(alloc, instance, path.blocks())
 }
 
-/// Whether a node's choice is one at its parent's path and gives a partial plan. Where it does, the path is then the node's.
+/// Whether a node's choice is one at its parent's path and gives a partial plan. If it does, the path is then the node's.
 fn there_fault(
     alloc: Global,
     instance: &Instance,
@@ -110,7 +110,7 @@ fn lean_reason(bound: i64, best: u64) -> Option<Reason>
     Some(Reason::ChildNotLean { bound, best })
 }
 
-/// What is wrong with a node's choice and with its bound by its parent's duals. Where nothing is, the path is then the node's.
+/// What is wrong with a node's choice and with its bound by its parent's duals. If nothing is, the path is then the node's.
 pub(crate) fn child_fault(
     alloc: Global,
     instance: &Instance,

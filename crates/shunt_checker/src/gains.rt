@@ -131,7 +131,7 @@ pub(crate) fn unparked_with(unparked: usize, park: Option<Park>) -> usize
     }
 }
 
-/// Whether the case with a number speaks of plans with so many unparked blocks or more.
+/// Whether the case with a number speaks of plans with that many unparked blocks or more.
 pub(crate) fn is_open_to(cases: &Cases, k: usize, unparked: usize) -> bool
     requires { k < length cases.now }
     ensures { IsTrue result ↔ ((k + 1 ≡ length cases.now) ⊎ (unparked ≤ (case_at cases.now k).to)) }

@@ -18,8 +18,8 @@ use shunt_blocks::laws::places;
 use shunt_prices::laws::bounds;
 use shunt_proof::laws::{parents, proved_bounds, starts, trees};
 
-/// Nothing is wrong with a plan and a certificate exactly where the certificate is accepted with the plan. So the verdict is that it
-/// is accepted exactly where it is; and there is one verdict. Where it is accepted, each feasible plan that keeps the pins costs at
+/// Nothing is wrong with a plan and a certificate exactly when the certificate is accepted with the plan. So the verdict is that it
+/// is accepted exactly when it is; and there is one verdict. If it is accepted, each feasible plan that keeps the pins costs at
 /// least the bound that the verdict names.
 pub fn reasons()
     ensures none { (night : Night) (pins start : List Block) (plan : Plan) (c : Certificate) → IsInstance night → IsPlanInRange night plan → Keeps plan.blocks pins →

@@ -134,7 +134,7 @@ fn late_fault(
     Ok(None)
 }
 
-/// What is wrong with a plan in range: its first fault. None exactly where it is feasible and states its cost.
+/// What is wrong with a plan in range: its first fault. None exactly when it is feasible and states its cost.
 pub(crate) fn plan_fault(
     alloc: Global,
     instance: &Instance,

@@ -1,4 +1,4 @@
-// Where the records of a certificate's nodes stand in its text.
+// If the records of a certificate's nodes stand in its text.
 ghost use Rattle.std.specs.Prelude.{◌≡◌, ◌≤◌, [], ◌∷◌, length};
 ghost use Rattle.shunt_prices.specs.defs.Limits.{AreCases};
 ghost use Rattle.shunt_proof.specs.defs.Nodes.{FitsNode, AreNodes};

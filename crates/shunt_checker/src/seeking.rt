@@ -41,7 +41,7 @@ pub(crate) trait Sought {
         ensures { IfOk result (Finds (IsOneOfShape (holds self.now instance.now) shape) (EarlierChoice instance.now)) };
 }
 
-/// The first one among the options of the shape of so many units from a unit on that goes with a departing train from a place on,
+/// The first one among the options of the shape of that many units from a unit on that goes with a departing train from a place on,
 /// where that is free.
 fn found_from<S: Sought>(
     alloc: Global,

@@ -114,7 +114,7 @@ fn frame_above(
     frames[depth_at(instance, certificate, k) - 1]
 }
 
-/// Takes blocks away from the end of a path until so many are left.
+/// Takes blocks away from the end of a path until that many are left.
 fn shorten(instance: &Instance, path: &mut Path, left: usize)
     requires of { IsTrailOf instance.now path.old }
     requires pins { path.old.pins ≤ left }
@@ -130,7 +130,7 @@ fn shorten(instance: &Instance, path: &mut Path, left: usize)
     }
 }
 
-/// What is wrong with a node's choice and with its bound by its parent's duals, from the path of the node before it. Where nothing is,
+/// What is wrong with a node's choice and with its bound by its parent's duals, from the path of the node before it. If nothing is,
 /// the path is then the node's.
 fn parent_fault(
     alloc: Global,
@@ -227,7 +227,7 @@ fn owner_of(
     frame_above(instance, certificate, k, frames).owner
 }
 
-/// What is wrong with a node, from what is known before it. Where nothing is, the path is then the node's.
+/// What is wrong with a node, from what is known before it. If nothing is, the path is then the node's.
 fn node_fault(
     alloc: Global,
     instance: &Instance,

@@ -27,7 +27,7 @@ pub record IsNext (night : Night) (blocks : List Block) (u : ℕ) : Type 0 where
   pub free : times_unit night blocks u ≡ 0
   pub before : (w : ℕ) → w < u → 1 ≤ times_unit night blocks w
 
--- a list of counts has true only where the count isn't 0
+-- a list of counts has true only if the count isn't 0
 taken : (count : ℕ → ℕ) (total i : ℕ) (d : Bool) → i < total → slice_index_or (map (λ k. not (count k == 0)) (range_with_len 0 total)) i d ≡ true → 1 ≤ count i
 taken count total i d lt e =
     let at = get_or-map-range_with_len (λ k. not (count k == 0)) 0 total i i d lt (omega arith) in

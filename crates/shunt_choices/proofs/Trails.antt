@@ -28,7 +28,7 @@ has_position_from night b v e = record { from = grind (arith, nat_tests); to = g
 
 -- ---- a block more
 
--- a list of counts has false only where the count is 0
+-- a list of counts has false only if the count is 0
 pub not_taken : (count : ℕ → ℕ) (total i : ℕ) (d : Bool) → i < total → slice_index_or (map (λ k. not (count k == 0)) (range_with_len 0 total)) i d ≡ false → count i ≡ 0
 not_taken count total i d lt e =
     let at = get_or-map-range_with_len (λ k. not (count k == 0)) 0 total i i d lt (omega arith) in

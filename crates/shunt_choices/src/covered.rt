@@ -33,7 +33,7 @@ fn fill(mask: &mut [bool], from: usize, n: usize, covered: bool)
     }
 }
 
-// So many entries that aren't covered.
+// That many entries that aren't covered.
 fn uncovered(alloc: Global, n: usize) -> Result<Vec<bool>, AllocError>
     ensures { IfOk result (λ v. v.items ≡ replicate n false) }
 {

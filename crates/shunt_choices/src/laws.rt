@@ -39,7 +39,7 @@ pub fn choices()
     laws::places();
 }
 
-/// Usable pins in the order of their first units are a partial plan. A choice at a partial plan gives one exactly where its run
+/// Usable pins in the order of their first units are a partial plan. A choice at a partial plan gives one exactly when its run
 /// goes through. Each partial plan other than the pins comes so, but for ids, and from one choice at one shorter partial plan alone.
 pub fn plans_grow()
     ensures pins { (night : Night) (pins start : List Block) → IsInstance night → AreUsable night pins → IsPermutation pins start → AreInOrder night start →

@@ -109,7 +109,7 @@ impl Path {
         self.pins
     }
 
-    /// The least uncovered unit. None exactly where all units are covered.
+    /// The least uncovered unit. None exactly when all units are covered.
     pub fn next_unit(&self) -> Option<usize>
         ensures { result ≡ next_of self.now.covered }
     {
@@ -134,7 +134,7 @@ impl Path {
         }
     }
 
-    /// Takes the last block away. None exactly where the path holds no more blocks than the pins that it began with.
+    /// Takes the last block away. None exactly when the path holds no more blocks than the pins that it began with.
     pub fn pop(&mut self, instance: &Instance) -> Option<Block>
         requires of { IsTrailOf instance.now self.old }
         ensures some { IfSome result (λ b. (self.old.pins < length self.old.blocks) × (self.old.blocks ≡ self.new.blocks ++ b ∷ [])) }

@@ -1,4 +1,4 @@
--- Where nothing clashes, and what is answered of the run.
+-- If nothing clashes, and what is answered of the run.
 use Rattle.std.proofs.Common.{◌≡◌, ◌↔◌, ℕ, List, Result, Ok, Err, refl, sym, subst, ap, ◌∙◌}
 use Rattle.std.specs.Result.{IsOk}
 use Rattle.std.proofs.lemmas.Bool.{false≢true}

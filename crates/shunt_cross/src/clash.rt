@@ -44,7 +44,7 @@ fn overs(lengths: &[u32], stays: &[Stay]) -> u32
     over
 }
 
-/// How these stays clash on tracks of these lengths, in dm: not at all exactly where their run goes through.
+/// How these stays clash on tracks of these lengths, in dm: not at all exactly when their run goes through.
 ///
 /// A track's number is its place among the lengths. Each pair that crosses counts once. There are at most 65,536 stays, which
 /// are well formed; no two have one id, and each has a track among these. It takes no memory.

@@ -95,7 +95,7 @@ listed night blocks =
     (join is_of_delay (block_findings night (by_id blocks)) clashes (too_soons night (by_id blocks)) clashes
     (block_kept night (by_id blocks)) (clash_kept (track_lengths night.station) (stays_of night (by_id blocks))))
 
--- ---- there is none exactly where the blocks stay feasible
+-- ---- there is none exactly when the blocks stay feasible
 
 module _ (night : Night) (blocks : List Block) (formed : AreStays (stays_of night blocks)) (tracks : AreOnTracks (track_lengths night.station) (stays_of night blocks)) where
   nothing : StaysFeasible night blocks → (f : Finding) → is_of_delay f ≡ true → IsFinding night blocks f → ⊥

@@ -148,7 +148,7 @@ fn stop_of(finding: Finding) -> Stop
     }
 }
 
-/// What stops a train from being so late: nothing exactly where the plan stays feasible.
+/// What stops a train from being so late: nothing exactly when the plan stays feasible.
 pub(crate) fn first_stop(
     alloc: Global,
     instance: &Instance,

@@ -22,7 +22,7 @@ fn late_by(block: &Block, train: ArrId, minutes: u16) -> u16
     0
 }
 
-/// Whether the block's departing train leaves before one of its units is ready, so many minutes late.
+/// Whether the block's departing train leaves before one of its units is ready, that many minutes late.
 pub(crate) fn is_too_soon_by(instance: &Instance, block: &Block, minutes: u16) -> bool
     requires within { IsWithinTrains instance.now block.now }
     requires few { minutes ≤ 120 }
@@ -50,7 +50,7 @@ pub(crate) fn becomes_too_soon(
     requires in_time { is_too_soon instance.now (shape_of block.now) ≡ false }
     ensures { result ≡ is_too_soon (late train.0 minutes instance.now) (shape_of block.now) }
 {
-    // It tells which units a shape has.
+    // It says which units a shape has.
     laws::places();
     if block.arr.0 == train.0 {
         return is_too_soon_by(instance, block, minutes);
@@ -65,7 +65,7 @@ pub(crate) fn minutes_in_time(instance: &Instance, block: &Block, train: ArrId) 
     ensures few { result ≤ 120 }
     ensures in_time { (d : ℕ) → d ≤ result → is_too_soon (late train.0 d instance.now) (shape_of block.now) ≡ false }
 {
-    // It tells which units a shape has.
+    // It says which units a shape has.
     laws::places();
     if block.arr.0 != train.0 {
         return LIMIT;
@@ -80,7 +80,7 @@ pub(crate) fn minutes_in_time(instance: &Instance, block: &Block, train: ArrId) 
     minutes
 }
 
-/// The stay with so many minutes more before it begins.
+/// The stay with that many minutes more before it begins.
 pub(crate) fn later(stay: &Stay, minutes: u16) -> Stay
     requires begins { stay.now.enter.minute < 2880 }
     requires few { minutes ≤ 120 }
@@ -99,7 +99,7 @@ fn late_stay(instance: &Instance, block: &Block, train: ArrId, minutes: u16) -> 
     requires few { minutes ≤ 120 }
     ensures { result ≡ stay_of (late train.0 minutes instance.now) block.now }
 {
-    // The first call tells which units a shape has, the other that minutes are small.
+    // The first call says which units a shape has, the other that minutes are small.
     laws::places();
     instance.arrive(block.arr);
     let own = late_by(block, train, minutes);

@@ -17,8 +17,8 @@ ghost use Rattle.shunt_delay.specs.defs.Kept.{late_by, is_too_soon_by, later};
 use shunt_blocks::laws;
 
 /// What a late train changes of blocks. One of its own is too soon where its departing train leaves before one of its units is
-/// ready and so many minutes more, and else its stay begins so many minutes later, all else of it unchanged. A block of another
-/// train stays as it is. Where no train is late, the night is the same.
+/// ready and that many minutes more, and else its stay begins that many minutes later, all else of it unchanged. A block of another
+/// train stays as it is. If no train is late, the night is the same.
 pub fn late_blocks()
     ensures soon { (i d : ℕ) (night : Night) (b : Block) → AreRunsWithin night (shape_of b) →
         is_too_soon (late i d night) (shape_of b) ≡ is_too_soon_by night (late_by i d b) (shape_of b) }
@@ -29,7 +29,7 @@ pub fn late_blocks()
     laws::places();
 }
 
-/// The findings that a late train brings are those of the three kinds, and there are none exactly where the blocks stay
+/// The findings that a late train brings are those of the three kinds, and there are none exactly when the blocks stay
 /// feasible. The first of them comes before all others.
 pub fn findings_of_late_trains()
     ensures exactly { (night : Night) (blocks : List Block) (f : Finding) →
@@ -44,7 +44,7 @@ pub fn findings_of_late_trains()
     laws::stays_of_blocks();
 }
 
-/// The delays of a plan are one list. A train is stopped by the limit exactly where its delay is 120 minutes.
+/// The delays of a plan are one list. A train is stopped by the limit exactly when its delay is 120 minutes.
 pub fn delays_are_one()
     ensures one { (night : Night) (blocks : List Block) (delays others : List Delay) →
         AreDelays night blocks delays → AreDelays night blocks others → delays ≡ others }

@@ -10,7 +10,7 @@ use crate::late::later;
 use shunt_base::Stay;
 use shunt_timeline::Timelines;
 
-/// Stays come, so many minutes later. It takes no memory.
+/// Stays come, that many minutes later. It takes no memory.
 pub(crate) fn put(timelines: &mut Timelines, own: &[Stay], minutes: u16)
     requires { CanCome own.now minutes timelines.old }
     ensures members { (s : OneStay) → In s timelines.new.stays ↔ In s (map (later minutes) own.now) ⊎ In s timelines.old.stays }
@@ -33,7 +33,7 @@ pub(crate) fn take(timelines: &mut Timelines, own: &[Stay])
     }
 }
 
-/// Whether the run of all stays goes through once these have come, so many minutes later. The timelines hold what they held.
+/// Whether the run of all stays goes through once these have come, that many minutes later. The timelines hold what they held.
 ///
 /// It takes no memory.
 pub(crate) fn goes_through(timelines: &mut Timelines, own: &[Stay], minutes: u16) -> bool

@@ -31,7 +31,7 @@ fn train_in_time(instance: &Instance, blocks: &[Block], train: ArrId) -> u16
     minutes
 }
 
-/// What stops a train from being so late that no block is too soon; nothing exactly where the plan stays feasible.
+/// What stops a train from being so late that no block is too soon; nothing exactly when the plan stays feasible.
 ///
 /// The timelines hold the stays of all other trains.
 fn stop_at(

@@ -19,7 +19,7 @@ use shunt_report::delays_text;
 use shunt_store::Store;
 use std::alloc::{AllocError, Global};
 
-/// The answer of `delay`: reads and judges its files, and tells how late each train of the plan can be.
+/// The answer of `delay`: reads and judges its files, and says how late each train of the plan can be.
 pub fn reply_to_delay<S: Store>(
     alloc: Global,
     store: &mut S,

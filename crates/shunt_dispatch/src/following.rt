@@ -15,7 +15,7 @@ use shunt_sheet::{Followed, Order, follow};
 use shunt_store::Store;
 use std::alloc::{AllocError, Global};
 
-/// The answer of `follow`: reads and judges its files, and tells what following the orders comes to.
+/// The answer of `follow`: reads and judges its files, and says what following the orders comes to.
 pub fn reply_to_follow<S: Store>(
     alloc: Global,
     store: &mut S,

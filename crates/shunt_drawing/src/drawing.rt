@@ -18,7 +18,7 @@ use shunt_report::findings_text;
 use shunt_store::Store;
 use std::alloc::{AllocError, Global};
 
-/// The answer of `draw`: reads and judges its files, writes the picture of the plan, and tells what is wrong with it.
+/// The answer of `draw`: reads and judges its files, writes the picture of the plan, and says what is wrong with it.
 pub fn reply_to_draw<S: Store>(
     alloc: Global,
     store: &mut S,

@@ -115,7 +115,7 @@ fn shared(
 ///
 /// The crew is one that a file can state over the instance's station. The duties are those of the moves in key order. Drivers are
 /// numbered from 1 to `drivers`, each has a move, and no two moves of one driver run at one minute. `busy` is the first minute at
-/// which `drivers` moves run, and None exactly where there are no moves. A file can state these duties. The error is want of
+/// which `drivers` moves run, and None exactly when there are no moves. A file can state these duties. The error is want of
 /// memory.
 pub fn share_moves(
     alloc: Global,

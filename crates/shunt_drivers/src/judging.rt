@@ -124,7 +124,7 @@ fn fault_of(
 }
 
 /// What is at fault with duties of a plan's moves: the first move without a duty, else the first two duties of one driver whose
-/// moves run at one minute, by key order of the first move and then the second; None exactly where the duties are a sharing of
+/// moves run at one minute, by key order of the first move and then the second; None exactly when the duties are a sharing of
 /// the moves.
 ///
 /// The plan is in range, the crew is one that a file can state over the instance's station, and no two duties are of one move.

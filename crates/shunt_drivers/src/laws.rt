@@ -15,12 +15,12 @@ ghost use Rattle.shunt_drivers.specs.defs.RosterFormat.{roster_format, AreDuties
 ghost use Rattle.shunt_drivers.specs.defs.RosterRows.{rows_of, ReadsAsRoster};
 ghost use Rattle.shunt_drivers.specs.defs.RosterFaults.{InWords};
 
-/// Over each station, records state a crew or have a first fault, and never both, and reading them tells which.
+/// Over each station, records state a crew or have a first fault, and never both, and reading them says which.
 pub fn crew_or_first_fault()
     ensures { (station : Station) (rows : List (List (List ℕ))) → Tells (crew_format station) rows }
 {}
 
-/// Over any moves, records state duties or have a first fault, and never both, and reading them tells which.
+/// Over any moves, records state duties or have a first fault, and never both, and reading them says which.
 pub fn roster_or_first_fault()
     ensures { (moves : List Event) (rows : List (List (List ℕ))) → Tells (roster_format moves) rows }
 {}
@@ -39,7 +39,7 @@ pub fn texts_of_rosters()
     ensures short { (moves : List Event) (duties : List Duty) → IsRoster moves duties → length (text_of_rows (rows_of duties)) ≤ 27209 }
 {}
 
-/// With a crew that a file can state, duties of a plan's moves, none of them twice, have no fault exactly where they are a sharing;
+/// With a crew that a file can state, duties of a plan's moves, none of them twice, have no fault exactly when they are a sharing;
 /// the fault is Absent exactly with the first move without a duty, and Overlap exactly with the first pair of one driver that runs
 /// at one minute, where every move has a duty.
 pub fn roster_fault_in_words()

@@ -39,7 +39,7 @@ pub struct Sharing {
     pub duties: Vec<Duty>,
     /// At most 800, numbered from 1.
     pub drivers: u32,
-    /// The first minute at which as many moves run as there are drivers; None exactly where there is no move.
+    /// The first minute at which as many moves run as there are drivers; None exactly when there is no move.
     pub busy: Option<Minute>,
 }
 

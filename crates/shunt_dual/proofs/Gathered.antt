@@ -18,7 +18,7 @@ use Rattle.shunt_dual.specs.defs.Asks.{IsAskOf, AreAsksOf, AreFreeBelow, AreFree
 
 -- ---- asks
 
--- what so many of the shapes ask
+-- what that many of the shapes ask
 pub record AreSoFar (night : Night) (beta : List ℤ) (prices : List Price) (shapes : List Shape) (k : ℕ) (asks : List Ask) : Type 0 where
   pub long : length asks ≡ k
   pub each : (i : ℕ) (s : Shape) (a : Ask) → i < k → IsAskOf night beta prices (slice_index_or shapes i s) (slice_index_or asks i a)

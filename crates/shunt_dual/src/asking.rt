@@ -72,7 +72,7 @@ fn costs_of(instance: &Instance, shape: Shape, long: u32, unparked: u64) -> [u64
     requires unparked { unparked ≡ cost_with instance.now shape None }
     ensures { AreCosts instance.now shape result }
 {
-    // The call tells which options these are.
+    // The call says which options these are.
     shape_options();
     let mut costs = [unparked; 60];
     let mut options = options(instance, shape);
@@ -203,7 +203,7 @@ fn all_shapes(
     ensures exact { IfOk result (λ shapes. AreFreeShapes instance.now covered.now shapes.items) }
     ensures within { IfOk result (λ shapes. All (AreRunsWithin instance.now) shapes.items) }
 {
-    // Each shape of the night begins at one of its units, and the second law tells which begin at a unit.
+    // Each shape of the night begins at one of its units, and the second law says which begin at a unit.
     rooms_of_trains();
     free_shapes();
     let mut shapes = Vec::new(alloc);

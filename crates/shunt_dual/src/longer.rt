@@ -72,7 +72,7 @@ fn bound_with(instance: &Instance, cases: &Cases, sums: &PathSums, block: &Block
     bound_of(sums.sums[k] + gain(instance, case.multiplier, &case.duals, block))
 }
 
-/// Whether there are at most so many unparked blocks with a block more.
+/// Whether there are at most that many unparked blocks with a block more.
 fn are_at_most(unparked: usize, block: &Block, to: u8) -> bool
     ensures { result ≡ nat_le (unparked + one_unparked block.now) to }
 {

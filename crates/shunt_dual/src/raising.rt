@@ -232,7 +232,7 @@ fn tried(
     }))
 }
 
-/// Whether the last of so many units of a price raises the sum.
+/// Whether the last of that many units of a price raises the sum.
 fn is_worth(
     alloc: Global,
     instance: &Instance,
@@ -389,7 +389,7 @@ fn copied_duals(alloc: Global, duals: &Duals) -> Result<Duals, AllocError>
     })
 }
 
-/// Duals with higher prices of kind length. Where some price step from the given ones has a higher sum at the path, theirs is
+/// Duals with higher prices of kind length. If some price step from the given ones has a higher sum at the path, theirs is
 /// higher too; it is never lower. A price step is made for one track and one arriving train: the price of kind length there
 /// rises by 1, and each uncovered unit, in ascending order, gets the greatest value with which the duals still hold.
 ///

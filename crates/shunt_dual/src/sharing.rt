@@ -89,7 +89,7 @@ fn reach_before(instance: &Instance, u: usize, v: usize) -> u8
     room
 }
 
-/// The shape of n pairs that begins so many places before a pair.
+/// The shape of n pairs that begins that many places before a pair.
 fn shape_around(instance: &Instance, u: usize, v: usize, back: u8, n: u8) -> Shape
     requires unit { u < unit_total instance.now }
     requires position { v < position_total instance.now }
@@ -116,7 +116,7 @@ fn part(instance: &Instance, shape: Shape) -> u64
     1000 * cheapest(instance, shape) / shape.n as u64
 }
 
-/// The part of the shape of n pairs that begins so many places before a pair.
+/// The part of the shape of n pairs that begins that many places before a pair.
 fn part_around(instance: &Instance, u: usize, v: usize, back: u8, n: u8) -> u64
     requires night { IsInstance instance.now }
     requires unit { u < unit_total instance.now }
@@ -138,7 +138,7 @@ fn lesser(first: u64, second: u64) -> u64
     if second < first { second } else { first }
 }
 
-/// The least part of the shapes that begin so many places before a pair and end with one of so many pairs from it on.
+/// The least part of the shapes that begin that many places before a pair and end with one of that many pairs from it on.
 fn least_from(instance: &Instance, u: usize, v: usize, back: u8, after: u8) -> u64
     requires night { IsInstance instance.now }
     requires unit { u < unit_total instance.now }

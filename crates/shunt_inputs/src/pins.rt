@@ -78,7 +78,7 @@ fn findings_of_pins(
     Ok(findings)
 }
 
-/// What is wrong with pins that aren't usable, and what they cost; None exactly where they are usable.
+/// What is wrong with pins that aren't usable, and what they cost; None exactly when they are usable.
 ///
 /// The pins are in range. The error is want of memory.
 pub fn pins_answer(

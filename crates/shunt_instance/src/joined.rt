@@ -221,7 +221,7 @@ impl Instance {
         self.first_positions[train.0 as usize]
     }
 
-    /// The cost of the route between a platform and a track's side. None exactly where the station has no such route.
+    /// The cost of the route between a platform and a track's side. None exactly when the station has no such route.
     pub fn route(&self, platform: PlatformId, track: TrackId, side: Side) -> Option<u32>
         requires platform { platform.0 < length self.now.station.platforms }
         requires track { track.0 < length self.now.station.tracks }
@@ -241,7 +241,7 @@ impl Instance {
         !self.named[track.0 as usize] || self.pairs[permit_cell(track, kind)]
     }
 
-    /// The arriving train with a name. None exactly where no arriving train has it.
+    /// The arriving train with a name. None exactly when no arriving train has it.
     pub fn arr_named(&self, name: &[u8]) -> Option<ArrId>
         ensures exact { result ≡ arr_of_name self.now name.now }
         ensures some { IfSome result (λ a. slice_get (names_of self.now.arrive) a.0 ≡ Some name.now) }
@@ -253,7 +253,7 @@ impl Instance {
         }
     }
 
-    /// The departing train with a name. None exactly where no departing train has it.
+    /// The departing train with a name. None exactly when no departing train has it.
     pub fn dep_named(&self, name: &[u8]) -> Option<DepId>
         ensures exact { result ≡ dep_of_name self.now name.now }
         ensures some { IfSome result (λ d. slice_get (names_of self.now.depart) d.0 ≡ Some name.now) }
@@ -265,7 +265,7 @@ impl Instance {
         }
     }
 
-    /// The track with a name. None exactly where no track has it.
+    /// The track with a name. None exactly when no track has it.
     pub fn track_named(&self, name: &[u8]) -> Option<TrackId>
         ensures exact { result ≡ track_of_name self.now.station name.now }
         ensures some { IfSome result (λ t. slice_get (track_names self.now.station) t.0 ≡ Some name.now) }

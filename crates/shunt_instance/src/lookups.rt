@@ -7,7 +7,7 @@ use crate::records::{Permit, Route};
 use shunt_base::{PlatformId, Side, TrackId, TypeId};
 use std::alloc::{AllocError, Global};
 
-/// Where the table of costs holds a route.
+/// If the table of costs holds a route.
 pub(crate) fn route_cell(platform: PlatformId, track: TrackId, side: Side) -> usize
     requires platform { platform.0 < 30 }
     requires track { track.0 < 60 }
@@ -36,7 +36,7 @@ pub(crate) fn cost_table(alloc: Global, routes: &[Route]) -> Result<Vec<Option<u
     Ok(costs)
 }
 
-/// Where the table of permits holds a track and a type.
+/// If the table of permits holds a track and a type.
 pub(crate) fn permit_cell(track: TrackId, kind: TypeId) -> usize
     requires track { track.0 < 60 }
     requires kind { kind.0 < 40 }

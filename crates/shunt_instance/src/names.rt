@@ -41,7 +41,7 @@ impl Names {
         Ok(())
     }
 
-    /// The place of a name, from 0. None exactly where it isn't there.
+    /// The place of a name, from 0. None exactly when it isn't there.
     pub(crate) fn place_of(&self, name: &[u8]) -> Option<usize>
         ensures exact { result ≡ position (λ n. bytes_eq n name.now) self.now }
         ensures within { IfSome result (λ k. k < length self.now) }

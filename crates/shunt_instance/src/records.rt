@@ -61,7 +61,7 @@ pub struct Station {
     pub unparked: u32,
 }
 
-/// Where a train is before the night's first minute: it comes to a platform, or it stands on a track.
+/// If a train is before the night's first minute: it comes to a platform, or it stands on a track.
 ///
 /// A departing train leaves from its platform.
 #[derive(Clone, Copy, Debug, PartialEq, Eq, Drop)]

@@ -17,7 +17,7 @@ use shunt_report::findings_text;
 use shunt_store::Store;
 use std::alloc::{AllocError, Global};
 
-/// The answer of `audit`: reads and judges its files, and tells what is wrong with the plan.
+/// The answer of `audit`: reads and judges its files, and says what is wrong with the plan.
 pub fn reply_to_audit<S: Store>(
     alloc: Global,
     store: &mut S,
@@ -61,7 +61,7 @@ fn audit_answer(alloc: Global, instance: &Instance, plan: &Plan) -> Result<Answe
     })
 }
 
-/// What is wrong with a plan that has findings, where a command wants one without. None exactly where it has none. The error is want of
+/// What is wrong with a plan that has findings, where a command wants one without. None exactly when it has none. The error is want of
 /// memory.
 pub fn fault_answer(
     alloc: Global,

@@ -19,7 +19,7 @@ use shunt_report::verdict_text;
 use shunt_store::Store;
 use std::alloc::{AllocError, Global};
 
-/// The answer of `check`: reads and judges its files, and tells whether the certificate proves its bound.
+/// The answer of `check`: reads and judges its files, and says whether the certificate proves its bound.
 pub fn reply_to_check<S: Store>(
     alloc: Global,
     store: &mut S,

@@ -102,7 +102,7 @@ fn reply_over_pins<S: Store>(
     Ok(check_pinned_answer(alloc, instance, pins, &plan, &certificate)?)
 }
 
-/// The answer of `check-pinned`: reads and judges its files, and tells whether the pins are usable, whether the plan keeps them, and whether
+/// The answer of `check-pinned`: reads and judges its files, and says whether the pins are usable, whether the plan keeps them, and whether
 /// the certificate proves its bound over all plans that do.
 pub fn reply_to_check_pinned<S: Store>(
     alloc: Global,

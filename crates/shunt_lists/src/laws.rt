@@ -13,7 +13,7 @@ pub fn members<X, Y>()
     ensures flat { (f : X → List Y) (xs : List X) (y : Y) → In y (flat_map f xs) ↔ ((x : X) × In x xs × In y (f x)) }
 {}
 
-/// All numbers below one pass a test exactly where each does.
+/// All numbers below one pass a test exactly when each does.
 pub fn all_numbers()
     ensures { (n : ℕ) (test : ℕ → Bool) → IsTrue (all_below n test) ↔ ((k : ℕ) → k < n → IsTrue (test k)) }
 {}
@@ -27,7 +27,7 @@ pub fn sums()
     ensures small { (n most : ℕ) (value : ℕ → ℕ) → ((k : ℕ) → value k ≤ most) → sum_below n value ≤ most * n }
 {}
 
-/// Where each number below m that passes is given a place below n that passes, and each of these is given once, sums and counts
+/// If each number below m that passes is given a place below n that passes, and each of these is given once, sums and counts
 /// over the ones agree with those over the others.
 pub fn one_to_one()
     ensures sums { (m n : ℕ) (a b : ℕ → Bool) (place f : ℕ → ℕ) → ((u : ℕ) → u < m → a u ≡ true → (place u < n) × (b (place u) ≡ true)) → ((v : ℕ) → v < n → b v ≡ true → count_below m (λ u. a u && (place u == v)) ≡ 1) → sum_below n (λ v. cond (b v) (f v) 0) ≡ sum_below m (λ u. cond (a u) (f (place u)) 0) }

@@ -2,7 +2,7 @@
 ghost use Rattle.std.specs.Prelude.{◌≡◌, ◌<◌};
 ghost use Rattle.shunt_make.specs.defs.Drawing.{next, drawn};
 
-/// Where the generator stands between two draws.
+/// If the generator stands between two draws.
 #[derive(Debug, Drop)]
 pub struct Draws {
     pub state: u32,

@@ -12,7 +12,7 @@ use crate::trains::made_timetable;
 use shunt_instance::{Station, Timetable};
 use std::alloc::{AllocError, Global};
 
-/// The night of a number below 2^31 and of so many units, at most 160: its station and its timetable, as docs/RULES.md says.
+/// The night of a number below 2^31 and of that many units, at most 160: its station and its timetable, as docs/RULES.md says.
 ///
 /// The same number and the same count of units give the same night each time. The error is want of memory.
 pub fn make(alloc: Global, number: u32, units: u32) -> Result<(Station, Timetable), AllocError>

@@ -1,4 +1,4 @@
--- A first shortage is the only one, and comes exactly where the counts fail.
+-- A first shortage is the only one, and comes exactly when the counts fail.
 use Rattle.std.proofs.Common.{◌≡◌, ⊎_elim, ℕ, ◌<◌, ◌≤◌, Bool, false, List, length, sym, ap, ◌∙◌, subst, arith}
 use Rattle.std.proofs.lemmas.Bool.{cases_lt, cases_order, and_left, and_right, ne_eqb}
 use Rattle.shunt_lists.proofs.CountsBelow.{count_below-none}

@@ -8,7 +8,7 @@ use std::alloc::{AllocError, Global};
 /// The position that a unit which is left out has.
 const NOWHERE: u16 = 65535;
 
-/// The position of the rest of this type with so many of its type before it.
+/// The position of the rest of this type with that many of its type before it.
 fn place_of_rank<V: Entries>(vs: &V, vm: &[bool], kind: u8, rank: u32) -> u16
     ensures { result ≡ slice_index_or (numbers_of_kind (V.entries vs.now) vm.now kind) rank 65535 }
 {

@@ -5,7 +5,7 @@ ghost use Rattle.shunt_matching.specs.declared.types.Shortage.{Shortage};
 ghost use Rattle.shunt_matching.specs.defs.Counts.{IsBalanced, AreAlikeBelow, first_fit_of};
 ghost use Rattle.shunt_matching.specs.defs.Shortages.{IsFirstShortage};
 
-/// A matching of the rest exists only where the counts allow it. There, where the minutes rise within each type, the
+/// A matching of the rest exists only if the counts allow it. There, where the minutes rise within each type, the
 /// k-th units of each type go with its k-th positions.
 pub fn matching_by_counts()
     ensures only { (us vs : List Entry) (um vm : List Bool) (place : List ℕ) →

@@ -85,7 +85,7 @@ fn judged(instance: &Instance, um: &[bool], vm: &[bool]) -> Option<Shortage>
     })
 }
 
-/// The first shortage of the rest. None exactly where it has a matching, and then the k-th go together.
+/// The first shortage of the rest. None exactly when it has a matching, and then the k-th go together.
 pub(crate) fn first_shortage(instance: &Instance, um: &[bool], vm: &[bool]) -> Option<Shortage>
     ensures none { IfNone result (HasMatching instance.now um.now vm.now) }
     ensures first_fit { let place = first_fit_of_rest instance.now um.now vm.now in

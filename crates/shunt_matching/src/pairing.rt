@@ -65,7 +65,7 @@ fn pairing(
 /// The matching of the rest that pairs the k-th unit of each type in it with the k-th position of that type in it. The
 /// rest is the units and positions whose entries are false.
 ///
-/// Short comes exactly where `shortage_rest` gives that shortage, before any memory is taken.
+/// Short comes exactly when `shortage_rest` gives that shortage, before any memory is taken.
 pub fn first_fit_rest(
     alloc: Global,
     instance: &Instance,
@@ -88,7 +88,7 @@ pub fn first_fit_rest(
 /// The matching that pairs the k-th unit of each type with the k-th position of that type: `first_fit_rest` with nothing
 /// left out.
 ///
-/// Short comes exactly where `shortage` gives that shortage, before any memory is taken.
+/// Short comes exactly when `shortage` gives that shortage, before any memory is taken.
 pub fn first_fit(alloc: Global, instance: &Instance) -> Result<Matching, MatchError>
     ensures ok { IfOk result (λ m. m.place_of ≡ first_fit_of_rest instance.now [] []) }
     ensures matching { IfOk result (λ m. Matches instance.now m.place_of) }

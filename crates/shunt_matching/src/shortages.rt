@@ -9,7 +9,7 @@ use shunt_instance::Instance;
 
 /// Why no matching of the rest exists, which is the units and positions whose entries are false. It takes no memory.
 ///
-/// It is None exactly where one exists, and else the first shortage: a type whose units and positions differ in number,
+/// It is None exactly when one exists, and else the first shortage: a type whose units and positions differ in number,
 /// or else a type and its least minute by which more positions leave than units are ready.
 pub fn shortage_rest(instance: &Instance, units: &[bool], places: &[bool]) -> Option<Shortage>
     requires units { length units.now ≡ unit_total instance.now }

@@ -4,7 +4,7 @@ use shunt_base::{Minute, TypeId};
 /// The first shortage of units.
 ///
 /// `Balance` comes where a type's units and positions differ in number, and names the first such type with its numbers
-/// of units and of positions. Where all types agree, `ByMinute` names the first type, and its least minute, by which
+/// of units and of positions. If all types agree, `ByMinute` names the first type, and its least minute, by which
 /// more of its positions leave (`need`) than of its units are ready (`have`), both counted at that minute or before.
 #[derive(Clone, Copy, Debug, PartialEq, Eq)]
 pub enum Shortage {

@@ -189,7 +189,7 @@ module _ (night : Night) (b : Block) (less : List Block) (before after : Holding
     cheap = all_from (λ c. block_cost night c ≤ 4000000) (insert_by_id b less) (λ c i. ⊎_elim (λ e. subst (λ (x : Block). block_cost night x ≤ 4000000) (sym e) low) (λ j. all_in (λ c. block_cost night c ≤ 4000000) less c k.cheap j) (of_insert b less c i));
   }
 
--- so many blocks cost so much at most
+-- that many blocks cost so much at most
 pub cost_most : (night : Night) (blocks : List Block) → AllByRecursion (λ b. block_cost night b ≤ 4000000) blocks → total_cost night blocks ≤ 4000000 * length blocks
 cost_most night [] h = omega arith
 cost_most night (b ∷ blocks) h = let one = h.0 in omega (arith, cost_most night blocks h.1, sum_by-cons (block_cost night) b blocks)

@@ -134,7 +134,7 @@ impl<'i> Workbench<'i> {
     /// Makes an edit, or refuses it for the first reason that holds in the order of the reasons.
     ///
     /// An accepted edit puts the old state on the past list and empties the undone list. After any refusal, want of memory
-    /// included, all is as it was. Memory is taken only where no other reason holds.
+    /// included, all is as it was. Memory is taken only if no other reason holds.
     pub fn apply(&mut self, edit: &Edit) -> Result<(), MoveError>
         ensures refused { (error : AnError) → step self.old.night self.old.present edit.now ≡ Err error → result ≡ Err error }
         ensures accepted { (next : State) → step self.old.night self.old.present edit.now ≡ Ok next → (result ≡ Ok tt) ⊎ (result ≡ Err errors.Memory) }
@@ -154,7 +154,7 @@ impl<'i> Workbench<'i> {
         Ok(())
     }
 
-    /// Goes back to the last past state and puts the present one on the undone list. Nothing exactly where there is no past
+    /// Goes back to the last past state and puts the present one on the undone list. Nothing exactly when there is no past
     /// state, and then all is as it was. It takes no memory.
     pub fn undo(&mut self) -> Result<(), Nothing>
         ensures made { self.new ≡ after_undo self.old }
@@ -168,7 +168,7 @@ impl<'i> Workbench<'i> {
         Ok(())
     }
 
-    /// Goes on to the last undone state and puts the present one on the past list. Nothing exactly where there is no undone
+    /// Goes on to the last undone state and puts the present one on the past list. Nothing exactly when there is no undone
     /// state, and then all is as it was. It takes no memory.
     pub fn redo(&mut self) -> Result<(), Nothing>
         ensures made { self.new ≡ after_redo self.old }

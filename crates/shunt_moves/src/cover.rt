@@ -27,7 +27,7 @@ impl Model for Cover {
 }
 
 impl Cover {
-    /// So many that are in no block.
+    /// That many that are in no block.
     pub fn new(total: usize) -> Cover
         requires { total ≤ 160 }
         ensures total { result.total ≡ total }
@@ -80,7 +80,7 @@ impl Cover {
         self.twice = self.twice + u32::from(times >= 2) - u32::from(before >= 2);
     }
 
-    /// So many from this one on are in one block more.
+    /// That many from this one on are in one block more.
     pub fn raise(&mut self, from: usize, n: usize)
         requires within { from + n ≤ self.old.total }
         requires small { from + n ≤ 160 }
@@ -94,7 +94,7 @@ impl Cover {
         }
     }
 
-    /// So many from this one on are in one block less.
+    /// That many from this one on are in one block less.
     pub fn lower(&mut self, from: usize, n: usize)
         requires within { from + n ≤ self.old.total }
         requires small { from + n ≤ 160 }

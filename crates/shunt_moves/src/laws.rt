@@ -8,7 +8,7 @@ ghost use Rattle.shunt_moves.specs.defs.Edits.{refusal, made, edit};
 ghost use Rattle.shunt_moves.specs.defs.Exchanges.{Agrees, Leads, exchanged, flipped, planned};
 
 /// An accepted edit makes a state of a state. What goes and what comes at an edit leads to what the edit makes, and is refused
-/// exactly where and for the reason that the edit is; and the exchange that is turned round leads back.
+/// exactly when and for the reason that the edit is; and the exchange that is turned round leads back.
 pub fn edits()
     ensures kept { (night : Night) (s t : State) (e : Edit) → IsState night s → edit night s e ≡ Ok t → IsState night t }
     ensures agree { (night : Night) (s : State) (e : Edit) → IsState night s → Agrees night s (made s e) (refusal night s e) (planned night s e) }

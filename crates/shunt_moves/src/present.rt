@@ -236,7 +236,7 @@ impl<'i> Present<'i> {
         requires { In block.now self.old.state.blocks }
         ensures { self.new ≡ record self.old { state = record self.old.state { blocks = without_block block.now.id self.old.state.blocks } } }
     {
-        // The first call tells how the stays of blocks stand, the other that the night is well formed.
+        // The first call says how the stays of blocks stand, the other that the night is well formed.
         laws::stays_of_blocks();
         let instance = self.instance;
         instance.station();

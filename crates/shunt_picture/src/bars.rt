@@ -9,7 +9,7 @@ use crate::words::{colour, push_faults, push_fitting, push_label, push_time, x_o
 use shunt_base::{Side, Stay};
 use std::alloc::{AllocError, Global};
 
-// Where a bar is drawn: two pixels wide for each minute, 14 high, in rows of 16.
+// If a bar is drawn: two pixels wide for each minute, 14 high, in rows of 16.
 fn area_of(from: u16, lane: &Lane, bar: &Bar) -> Area
     ensures exact { result ≡ area_of from lane.now bar.now }
     ensures x { result.x < 1000000 }

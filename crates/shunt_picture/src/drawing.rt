@@ -14,7 +14,7 @@ use crate::words::{colour, push_faults, push_label, push_letter, push_letters, p
 use shunt_base::{Name, TypeId};
 use std::alloc::{AllocError, Global};
 
-// Where the hours end, in pixels.
+// If the hours end, in pixels.
 fn right_of(picture: &Picture) -> u64
     ensures exact { result ≡ right_of picture.now }
     ensures small { result < 10000000 }
@@ -132,7 +132,7 @@ fn push_title(text: &mut Text, picture: &Picture) -> Result<(), AllocError>
     push_note(text)
 }
 
-// Where an entry of a list stands, by its number from 0.
+// If an entry of a list stands, by its number from 0.
 fn entry_x(columns: u32, entry: u64) -> u64
     ensures exact { result ≡ entry_x columns entry }
     ensures small { result < 2000000000000 }
@@ -424,7 +424,7 @@ fn push_trains(
     Ok(())
 }
 
-// Where a loose block is parked, but its train leaves too soon.
+// If a loose block is parked, but its train leaves too soon.
 #[tactic(auto, unfolding(crate::specs::defs::PictureTexts::track_words))]
 fn push_track(text: &mut Text, track: &Option<Name>) -> Result<(), AllocError>
     ensures { OnOk result (text.new ≡ text.old ++ track_words track.now) }

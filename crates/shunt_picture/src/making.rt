@@ -141,7 +141,7 @@ fn columns_of(from: u16, to: u16) -> u32
     u32::from(to.saturating_sub(from) * 120 / 300).max(1)
 }
 
-// How high so many entries are, in lines of so many.
+// How high that many entries are, in lines of that many.
 fn lines_high(entries: usize, columns: u32) -> u32
     ensures exact { result ≡ lines_high entries columns }
     ensures small { result ≤ 65552 }

@@ -50,7 +50,7 @@ fn note_place(
     Ok(())
 }
 
-// The places of a train with so many units, whose first one has a number, that findings of a kind are of.
+// The places of a train with that many units, whose first one has a number, that findings of a kind are of.
 fn places_of(
     alloc: Global,
     findings: &[Finding],
@@ -81,7 +81,7 @@ fn origin_name(instance: &Instance, origin: Origin) -> &Name
     }
 }
 
-// A train whose first unit or position has a number. Findings of the first kind tell what is bare, and those of the next one what is
+// A train whose first unit or position has a number. Findings of the first kind say what is bare, and those of the next one what is
 // twice.
 fn train_mark(
     alloc: Global,

@@ -73,7 +73,7 @@ pub struct Lane {
     pub bars: Items<Bar>,
     /// At each minute at which a block comes or goes.
     pub levels: Items<Level>,
-    /// Where it begins, in pixels from the top.
+    /// If it begins, in pixels from the top.
     pub top: u32,
 }
 
@@ -115,13 +115,13 @@ pub struct Picture {
     pub loose: Items<Loose>,
     /// How many entries the legend and the list of loose blocks have in a line.
     pub columns: u32,
-    /// Where the line of arriving trains begins, in pixels from the top.
+    /// If the line of arriving trains begins, in pixels from the top.
     pub arrive_top: u32,
-    /// Where that of departing trains begins.
+    /// If that of departing trains begins.
     pub depart_top: u32,
-    /// Where the first lane begins.
+    /// If the first lane begins.
     pub lanes_top: u32,
-    /// Where the loose blocks begin.
+    /// If the loose blocks begin.
     pub loose_top: u32,
     /// How high it is.
     pub height: u32,

@@ -111,7 +111,7 @@ fn row_by_side(seats: &[Seat], minute: u16, side: Side) -> u16
     }
 }
 
-// The next seat. Where the picture shows the order, it keeps its row until its leave; else for a quarter of an hour at least, so that
+// The next seat. If the picture shows the order, it keeps its row until its leave; else for a quarter of an hour at least, so that
 // there is room for marks.
 fn seat_of(seats: &[Seat], standing: Standing, is_ordered: bool) -> Seat
     requires among { All (λ s. IsRowAmong (length seats.now) s.row) seats.now }

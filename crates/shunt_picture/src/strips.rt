@@ -18,7 +18,7 @@ fn rows_high(lane: &Lane) -> u64
     16 * (u64::from(lane.last.saturating_sub(lane.first)) + 1)
 }
 
-// Where the line of a lane's load is at 0.
+// If the line of a lane's load is at 0.
 fn base_of(lane: &Lane) -> u64
     ensures { result ≡ base_of lane.now }
 {

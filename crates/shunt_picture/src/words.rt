@@ -8,7 +8,7 @@ use crate::text::Text;
 use shunt_base::TypeId;
 use std::alloc::{AllocError, Global};
 
-// Where a minute stands in a picture that begins at an hour, in pixels: two for each minute.
+// If a minute stands in a picture that begins at an hour, in pixels: two for each minute.
 pub(crate) fn x_of(from: u16, minute: u16) -> u64
     ensures { result ≡ x_of from minute }
 {
@@ -93,7 +93,7 @@ fn id_of(alloc: Global, told: &Told) -> Result<Vec<u8>, AllocError>
     Ok(text.into_bytes())
 }
 
-// The label where there is room for so many bytes, else the id where there is.
+// The label where there is room for that many bytes, else the id where there is.
 pub(crate) fn push_fitting(
     text: &mut Text,
     alloc: Global,
@@ -133,7 +133,7 @@ fn push_numbers(text: &mut Text, faults: &[u8]) -> Result<(), AllocError>
     Ok(())
 }
 
-// The long words where there is room for so many bytes, else the short ones, else none.
+// The long words where there is room for that many bytes, else the short ones, else none.
 #[tactic(auto, unfolding(crate::specs::defs::Words::fitting))]
 fn fitting<'w>(long: &'w [u8], short: &'w [u8], room: u64) -> &'w [u8]
     ensures { result.now ≡ fitting long.now short.now room }

@@ -193,7 +193,7 @@ id_new : (xs zs : List Block) (y : Block) → AreDistinct (map (λ (b : Block). 
 unfolding has_id
 id_new xs zs y all = not_before (λ (b : Block). b.id) (λ b. b.id == y.id) xs zs y (λ b. eqb-true b.id y.id) all
 
--- a plan of which so many blocks were read
+-- a plan of which that many blocks were read
 abbrev partial : List Block → Draft
 partial blocks = record { blocks = blocks; cost = None }
 

@@ -62,7 +62,7 @@ pub enum Turn {
     Redo,
 }
 
-// The runs of one more block, behind so many turns.
+// The runs of one more block, behind that many turns.
 #[tactic(auto, unfolding(crate::specs::defs::Edits::runs_in))]
 fn read_runs(instance: &Instance, before: usize, row: &Row, n: u32) -> Result<Shape, RowFault>
     ensures answer { result ≡ answer n (runs_in instance.now before row.now) }
@@ -186,7 +186,7 @@ fn read_redo(before: usize, row: &Row, n: u32) -> Result<Turn, RowFault>
     Ok(Turn::Redo)
 }
 
-// The turn of a record behind so many turns.
+// The turn of a record behind that many turns.
 #[tactic(auto, unfolding(crate::specs::defs::Edits::turn_of))]
 fn read_turn(instance: &Instance, before: usize, row: &Row, n: u32) -> Result<Turn, RowFault>
     ensures { result ≡ answer n (turn_of instance.now before row.now) }

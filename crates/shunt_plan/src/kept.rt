@@ -30,7 +30,7 @@ fn is_kept(blocks: &[Block], pin: &Block) -> bool
     false
 }
 
-/// The id of the first of these pins whose shape and option is that of none of the plan's blocks; None exactly where the
+/// The id of the first of these pins whose shape and option is that of none of the plan's blocks; None exactly when the
 /// plan keeps all pins. Ids aren't compared. It takes no memory.
 pub fn lost_pin(plan: &Plan, pins: &[Block]) -> Option<u32>
     ensures none { result ≡ None ↔ Keeps plan.now.blocks pins.now }

@@ -15,12 +15,12 @@ ghost use Rattle.shunt_plan.specs.declared.edits.Turn.{Turn};
 ghost use Rattle.shunt_plan.specs.defs.Edits.{AreTurns, edits_format};
 ghost use Rattle.shunt_plan.specs.defs.WrittenEdits.{rows_of_edits, ReadsAsEdits};
 
-/// In each night, records state a plan or have a first fault, and never both, and reading them tells which.
+/// In each night, records state a plan or have a first fault, and never both, and reading them says which.
 pub fn plan_or_first_fault()
     ensures { (night : Night) (rows : List (List (List ℕ))) → Tells (plan_format night) rows }
 {}
 
-/// In each night, records state pins or have a first fault, and never both, and reading them tells which.
+/// In each night, records state pins or have a first fault, and never both, and reading them says which.
 pub fn pins_or_first_fault()
     ensures { (night : Night) (rows : List (List (List ℕ))) → Tells (pins_format night) rows }
 {}
@@ -38,7 +38,7 @@ pub fn texts_of_plans()
     ensures short { (night : Night) (p : Plan) → IsInstance night → IsPlanInRange night p → length (text_of_rows (rows_of night p)) ≤ 32026 }
 {}
 
-/// In each night, records state turns or have a first fault, and never both, and reading them tells which.
+/// In each night, records state turns or have a first fault, and never both, and reading them says which.
 pub fn edits_or_first_fault()
     ensures { (night : Night) (rows : List (List (List ℕ))) → Tells (edits_format night) rows }
 {}

@@ -92,7 +92,7 @@ fn stream<S: Store>(
     }
 }
 
-// Searches with at most so many nodes, and writes the certificate node by node.
+// Searches with at most that many nodes, and writes the certificate node by node.
 fn search<S: Store>(
     alloc: Global,
     store: &mut S,

@@ -118,7 +118,7 @@ module _ (laws : PlanLaws) (night : Night) (i : IsInstance night) (plan : List B
   ends (suc n) path le apart keeps hold = next (next_of (masks_of night path)) path refl (λ e. here path apart keeps e)
       (λ u e. further path u apart keeps hold e (λ longer more apart_too keeps_too hold_too. ends n longer (omega (arith, le, more)) apart_too keeps_too hold_too))
 
-  -- ---- the case that speaks of so many unparked blocks
+  -- ---- the case that speaks of that many unparked blocks
 
   record IsOfCase (n k : ℕ) : Type 0 where
     there : k < length cases

@@ -1,4 +1,4 @@
--- Where there are cases, a path has a bound.
+-- If there are cases, a path has a bound.
 use Rattle.std.specs.Prelude.{◌==◌, nat_le, ◌≤ℤ◌}
 use Rattle.std.proofs.Common.{◌≡◌, ◌⊎◌, inl, inr, ⊎_elim, ℕ, zero, suc, ◌+◌, ◌-◌, ◌<◌, ◌≤◌, List, length, ℤ, sym, subst, ◌∙◌, arith}
 use Rattle.std.proofs.lemmas.Int.{ints, by_lt_z}

@@ -58,7 +58,7 @@ pub fn room()
     shapes();
 }
 
-/// Where a path gets one more block, of uncovered units and positions, cases that hold at it still hold, and what is open was
+/// If a path gets one more block, of uncovered units and positions, cases that hold at it still hold, and what is open was
 /// open before. The sum of a case grows by what the block weighs more than its duals.
 pub fn longer_paths()
     ensures hold { (night : Night) (path : List Block) (b : Block) (cases : List Case) → CasesHold night path cases → CasesHold night (path ++ b ∷ []) cases }
@@ -69,7 +69,7 @@ pub fn longer_paths()
     places();
 }
 
-/// Where cases hold at a path that shares nothing, and its run with one more block of uncovered units and positions goes
+/// If cases hold at a path that shares nothing, and its run with one more block of uncovered units and positions goes
 /// through, no sum of a case falls, and so the bound doesn't.
 pub fn bounds_rise()
     ensures sum { (night : Night) (path : List Block) (b : Block) (cases : List Case) (k : ℕ) → IsInstance night → All (IsWithinTrains night) path →
@@ -113,7 +113,7 @@ pub fn weights()
         pos (1000 * total_cost night path + sum_by (price_part night c.duals.prices) path) +ℤ (c.multiplier *ℤ pos (unparked_in path)) }
 {}
 
-/// Where the price of kind length for a track and a train rises by 1, the price part of a shape grows by what that price counts of
+/// If the price of kind length for a track and a train rises by 1, the price part of a shape grows by what that price counts of
 /// it, what the prices take at most grows by the track's length, and duals that hold still hold; the sum of the duals grows by what
 /// that price counts of the path, less that length. Another value of an uncovered unit takes the place of the old one in the sum. A
 /// price step from duals within the limits gives duals within them that hold.
@@ -133,7 +133,7 @@ pub fn price_steps()
         AreDuals night new × DualsHold night path new }
 {}
 
-/// Each sum has one bound, and a greater sum has no lesser bound. Where there are cases, a path has one bound by them.
+/// Each sum has one bound, and a greater sum has no lesser bound. If there are cases, a path has one bound by them.
 pub fn bounds()
     ensures there { (sum : ℤ) → (bound : ℤ) × IsBoundOf sum bound }
     ensures one { (sum bound other : ℤ) → IsBoundOf sum bound → IsBoundOf sum other → bound ≡ other }

@@ -74,7 +74,7 @@ size_fits word zs =
     let same : length (word ∷ map signed_decimal zs) ≡ length zs + 1 = (let e = length-map zs signed_decimal in omega (arith, e)) in
     ap (λ k. is_within (length zs + 1) (length zs + 1) k) same ∙ in_range (length zs + 1) (length zs + 1) (length zs + 1) (omega arith) (omega arith)
 
--- so many fields with so many values, where a case begins where there is room
+-- that many fields with that many values, where a case begins where there is room
 abbrev sized : Judged (Unit {0}) → List (List ℕ) → ℕ → Judged (List ℤ)
 sized room row count = do
   _ ← fields_in row (count + 1) (count + 1)

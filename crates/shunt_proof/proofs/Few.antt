@@ -44,7 +44,7 @@ few {X} (suc n) f ys within apart =
 
 -- ---- the partial plans as a list
 
--- the partial plans that begin with these blocks and add at most so many
+-- the partial plans that begin with these blocks and add at most that many
 abbrev plans : ℕ → Night → List Block → List (List Block)
 plans zero night blocks = blocks ∷ []
 plans (suc more) night blocks = blocks ∷ flat_map (λ c. if runs_placed night (longer_by blocks c) then plans more night (longer_by blocks c) else []) (choices_at night blocks)

@@ -1,4 +1,4 @@
--- The root proves L exactly where each node is locally right for L, which is easier where L is less.
+-- The root proves L exactly when each node is locally right for L, which is easier where L is less.
 use Rattle.std.specs.Prelude.{◌↔◌, ◌≤ℤ◌}
 use Rattle.std.proofs.Common.{◌≡◌, ⊎_elim, inl, inr, ℕ, zero, suc, ◌+◌, ◌<◌, ◌≤◌, List, length, ℤ, sym, subst, arith}
 use Rattle.std.proofs.lemmas.Int.{ints}

@@ -73,7 +73,7 @@ price_new : (xs zs : List Price) (y : Price) → AreApart (xs ++ y ∷ zs) → h
 unfolding has_price
 price_new xs zs y all = not_before place_of_price (is_price y.kind y.track y.train) xs zs y (λ p e. place_same y.kind y.track y.train p e) all
 
--- a case of which so many prices were read
+-- a case of which that many prices were read
 abbrev pub priced : Draft → Case → List Price → Draft
 priced d c ps = record d { place = places.Beta; now = record c { duals = record c.duals { prices = ps } } }
 

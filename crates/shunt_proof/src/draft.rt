@@ -397,7 +397,7 @@ impl Draft {
     }
 }
 
-// What the last record says behind so many nodes: a cost and a bound.
+// What the last record says behind that many nodes: a cost and a bound.
 #[tactic(auto, unfolding(crate::specs::defs::CertificateFormat::end_in))]
 fn read_end(begun: u32, row: &Row, n: u32) -> Result<(u64, u64), RowFault>
     ensures { result ≡ answer n (end_in begun row.now) }

@@ -79,7 +79,7 @@ fn read_head(row: &Row, n: u32, depth: u8) -> Result<Head, RowFault>
     })
 }
 
-/// The record of the first node, behind so many.
+/// The record of the first node, behind that many.
 #[tactic(auto, unfolding(crate::specs::defs::CertificateFormat::root_in))]
 pub fn read_root(begun: u32, row: &Row, n: u32) -> Result<Head, RowFault>
     ensures answer { result ≡ answer n (root_in begun row.now) }
@@ -101,7 +101,7 @@ fn deepest(last: Head) -> u64
     }
 }
 
-// The record of a node behind so many, of which this was the last, and what it adds, with its option yet to come.
+// The record of a node behind that many, of which this was the last, and what it adds, with its option yet to come.
 #[tactic(auto, unfolding(crate::specs::defs::CertificateFormat::later_in))]
 fn read_later(
     instance: &Instance,
@@ -132,7 +132,7 @@ fn read_later(
     Ok((head, choice))
 }
 
-/// The record of a node behind so many, of which this was the last.
+/// The record of a node behind that many, of which this was the last.
 pub fn read_child(
     instance: &Instance,
     begun: u32,

@@ -76,7 +76,7 @@ pub fn fronts()
         IsRight night start nodes k L → IsRight night start (nodes ++ more) k L }
 {}
 
-/// Nodes with one more are nodes exactly where they are so without it, and it fits and can follow them. Its parent is the last node
+/// Nodes with one more are nodes exactly when they are so without it, and it fits and can follow them. Its parent is the last node
 /// whose depth is one less, and the parent's path is a front of the path of the node before it. It is placed where its choice is one
 /// there and gives a partial plan, and no node before it has its path.
 pub fn one_more()
@@ -111,7 +111,7 @@ pub fn best_costs()
         ((j : ℕ) × (j < k) × ((node_at nodes j).kind ≡ Whole) × (best_before night start nodes k ≡ total_cost night (path_at night start nodes j))) }
 {}
 
-/// The root proves L exactly where each node is locally right for L; and a node that is locally right for L is so for what is less. The
+/// The root proves L exactly when each node is locally right for L; and a node that is locally right for L is so for what is less. The
 /// bound of a path by cases decides what it reaches.
 pub fn trees()
     ensures exactly { (night : Night) (start : List Block) (nodes : List Node) (L : ℤ) → AreNodes night nodes → 1 ≤ length nodes →
@@ -151,7 +151,7 @@ pub fn proved_bounds()
     weights();
 }
 
-/// Where each node is placed, no two nodes have one path, whatever the ids; so a node lists a choice where some node has the path with
+/// If each node is placed, no two nodes have one path, whatever the ids; so a node lists a choice where some node has the path with
 /// it. A node is placed where its choice is one at its parent's path and gives a partial plan, and no earlier node has its path.
 pub fn known_by_paths()
     ensures one { (night : Night) (start : List Block) (nodes : List Node) (j k : ℕ) → IsInstance night → AreNodes night nodes →
@@ -170,7 +170,7 @@ pub fn known_by_paths()
     plans_grow();
 }
 
-/// Where each node is placed, each path is a partial plan, and they differ. So there are at most as many nodes as partial plans; and so
+/// If each node is placed, each path is a partial plan, and they differ. So there are at most as many nodes as partial plans; and so
 /// it is with the nodes of a certificate that is accepted.
 pub fn few_nodes()
     ensures partial { (night : Night) (pins start : List Block) (nodes : List Node) (k : ℕ) → IsInstance night → AreNodes night nodes → AreUsable night pins →

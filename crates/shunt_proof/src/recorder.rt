@@ -40,7 +40,7 @@ impl<T: Drop> From<AllocFailed<T>> for RecordError {
 
 /// Keeps the nodes of a certificate, one after the other, while they are found.
 ///
-/// A call that is refused leaves it stalled, for want of memory, or failed. A Fault comes only where the count of faults rose
+/// A call that is refused leaves it stalled, for want of memory, or failed. A Fault comes only if the count of faults rose
 /// in that call.
 pub trait Recorder {
     /// Whether nodes of this night can be noted.

@@ -12,7 +12,7 @@ ghost use Rattle.shunt_proof.specs.defs.Certificates.{IsCertificate};
 ghost use Rattle.shunt_proof.specs.defs.CertificateFormat.{certificate_format};
 ghost use Rattle.shunt_proof.specs.defs.CertificateRows.{node_row, rows_of, row_of, ReadsAsCertificate};
 
-/// In each night, records state a certificate or have a first fault, and never both, and reading them tells which.
+/// In each night, records state a certificate or have a first fault, and never both, and reading them says which.
 pub fn certificate_or_first_fault()
     ensures { (night : Night) (rows : List (List (List ℕ))) → Tells (certificate_format night) rows }
 {}

@@ -17,7 +17,7 @@ use shunt_rows::RowWriter;
 use shunt_store::{Store, StoreError};
 use std::alloc::{AllocError, Global};
 
-// What it can do. Where it is shut, it is stalled and its file is closed.
+// What it can do. If it is shut, it is stalled and its file is closed.
 #[derive(Clone, Copy, Debug, PartialEq, Eq, Drop)]
 pub enum Doing {
     Open,
@@ -151,7 +151,7 @@ fn begin_again<S: Store>(alloc: Global, store: &mut S, name: &str) -> Result<(),
 /// Writes nodes into a file of a store that it borrows, one at a time: it owns none of them. Only the instance that it was made
 /// with is its own.
 ///
-/// While it is open its store writes its file, which holds the first record and the text of the nodes that were noted. Where its
+/// While it is open its store writes its file, which holds the first record and the text of the nodes that were noted. If its
 /// store tells its files, and it is open or finished, it tells these nodes.
 #[derive(Drop)]
 pub struct TextRecorder<'s, S: Store> {

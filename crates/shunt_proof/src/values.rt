@@ -55,7 +55,7 @@ fn read_values(alloc: Global, row: &Row, n: u32, count: usize) -> Result<Vec<i64
     Ok(values)
 }
 
-/// The limits of a node's first case, behind so many cases of the file.
+/// The limits of a node's first case, behind that many cases of the file.
 #[tactic(auto, unfolding(crate::specs::defs::CertificateFormat::first_limits_in))]
 pub fn read_first_limits(cases: u32, row: &Row, n: u32) -> Result<Limits, RowFault>
     ensures answer { result ≡ answer n (first_limits_in cases row.now) }
@@ -74,7 +74,7 @@ pub fn read_first_limits(cases: u32, row: &Row, n: u32) -> Result<Limits, RowFau
     })
 }
 
-/// The limits of a node's second case, behind so many cases of the file.
+/// The limits of a node's second case, behind that many cases of the file.
 #[tactic(auto, unfolding(crate::specs::defs::CertificateFormat::second_limits_in))]
 pub fn read_second_limits(cases: u32, row: &Row, n: u32) -> Result<Limits, RowFault>
     ensures answer { result ≡ answer n (second_limits_in cases row.now) }
@@ -105,7 +105,7 @@ pub fn read_alpha(
     read_values(alloc, row, n, units)
 }
 
-/// The same at the start of a case behind so many of the file.
+/// The same at the start of a case behind that many of the file.
 #[tactic(auto, unfolding(crate::specs::defs::CertificateFormat::lone_alpha_in))]
 pub fn read_lone_alpha(
     instance: &Instance,

@@ -22,7 +22,7 @@ fn push_busy(text: &mut Text, busy: Option<Minute>) -> Result<(), AllocError>
     }
 }
 
-/// The line of moves that are shared: `drivers N busy HH:MM moves M`, with the number of drivers, the first minute at which so many
+/// The line of moves that are shared: `drivers N busy HH:MM moves M`, with the number of drivers, the first minute at which that many
 /// moves run, and the number of duties; `drivers 0 moves 0` where there are no moves. The error is want of memory.
 #[tactic(auto, unfolding(crate::specs::defs::DriversTexts::sharing_of))]
 pub fn sharing_text(alloc: Global, sharing: &Sharing) -> Result<Vec<u8>, AllocError>

@@ -81,7 +81,7 @@ fn route_sum(instance: &Instance, blocks: &[Block]) -> u64
     sum
 }
 
-// What so many blocks cost together, each of them this much.
+// What that many blocks cost together, each of them this much.
 fn times(count: usize, each: u32) -> u64
     requires { count ≤ 400 }
     ensures { result ≡ count * each }

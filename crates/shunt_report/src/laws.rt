@@ -28,6 +28,6 @@ pub fn meets()
     ensures each { (night : Night) (zones : Zones) (plan : Plan) → IsInstance night → IsZones night.station zones → IsPlanInRange night plan → All (IsMeetOf zones) (meets_in night zones plan) }
     ensures loads { (night : Night) (zones : Zones) (plan : Plan) → length (loads_in night zones plan) ≡ length zones.names }
 {
-    // The call tells what the stays of blocks are.
+    // The call says what the stays of blocks are.
     stays_of_blocks();
 }

@@ -42,7 +42,7 @@ pub fn plain_rows_have_their_width()
 {}
 
 /// In every format whose tables are in order, a list of records states a value or has a first fault, and never both,
-/// and reading it record by record tells which.
+/// and reading it record by record says which.
 pub fn value_or_first_fault<S, V>()
     ensures { (f : Format S V) → IsInOrder f → (rows : List (List (List ℕ))) → Tells f rows }
 {}
@@ -52,12 +52,12 @@ pub fn reading_goes_on<S, V>()
     ensures { (f : Format S V) (s : S) (n : ℕ) (rows more : List (List (List ℕ))) → GoesOn f s n rows more }
 {}
 
-/// The answer to a record is a value exactly where all its checks hold and the record says that value.
+/// The answer to a record is a value exactly when all its checks hold and the record says that value.
 pub fn values_are_said<A>()
     ensures { (n : ℕ) (m : Judged A) (x : A) → (answer n m ≡ Ok x) ↔ Says m x }
 {}
 
-/// Where each thing of a list is read from its own record, behind those before it, all of them are read from theirs.
+/// If each thing of a list is read from its own record, behind those before it, all of them are read from theirs.
 pub fn lists_are_read<X, S, V>()
     ensures { (f : Format S V) (row : X → List (List ℕ)) (state : List X → S) (all : List X) (n : ℕ) → IsReadByEach f row state all → reads f (state []) n (map row all) ≡ Ok (state all) }
 {}

@@ -118,7 +118,7 @@ impl RowWriter {
         Ok(())
     }
 
-    /// The text of the rows. Where they are plain, `records` reads them back.
+    /// The text of the rows. If they are plain, `records` reads them back.
     #[tactic(auto, using(crate::proofs::Again::again))]
     pub fn finish(self) -> Result<Vec<u8>, AllocError>
         requires { self.row ≡ [] }

@@ -53,7 +53,7 @@ fn set(numbers: &mut [u16], place: usize, number: u16) {
     }
 }
 
-/// Sets so many numbers from a place on.
+/// Sets that many numbers from a place on.
 fn set_all(numbers: &mut [u16], from: u16, many: u8, number: u16) {
     for k in 0..usize::from(many) {
         set(numbers, usize::from(from) + k, number);
@@ -83,7 +83,7 @@ fn count_up(alloc: Global, many: usize) -> Result<Vec<u16>, AllocError> {
     Ok(numbers)
 }
 
-/// So many places without a block.
+/// That many places without a block.
 pub(crate) fn no_blocks(alloc: Global, many: usize) -> Result<Vec<Option<Placed>>, AllocError> {
     let mut blocks = Vec::with_capacity(alloc, many)?;
     for _unit in 0..many {

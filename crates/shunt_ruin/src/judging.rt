@@ -112,7 +112,7 @@ fn go_through(alloc: Global, instance: &Instance, blocks: &[Block]) -> Result<bo
     requires few { length blocks.now ≤ 160 }
     ensures { IfOk result (λ b. IsTrue b → RunsThrough instance.now blocks.now) }
 {
-    // The calls tell how the stays of blocks stand.
+    // The calls say how the stays of blocks stand.
     laws::stays_of_blocks();
     instance.units();
     let lengths = track_lengths(alloc, instance)?;

@@ -160,7 +160,7 @@ fn go_round(
     Ok(())
 }
 
-/// So many rounds, ever cooler. Err is want of memory.
+/// That many rounds, ever cooler. Err is want of memory.
 fn go_rounds(
     alloc: Global,
     tables: &Tables,
@@ -199,7 +199,7 @@ fn numbered(alloc: Global, blocks: &[Option<Placed>]) -> Result<Vec<Block>, Allo
     Ok(listed)
 }
 
-/// The cheapest plan that so many rounds find; it may be none. Err is want of memory.
+/// The cheapest plan that that many rounds find; it may be none. Err is want of memory.
 fn propose(
     alloc: Global,
     instance: &Instance,
@@ -226,7 +226,7 @@ fn propose(
 }
 
 /// A plan that keeps the pins and costs no more than one that does: blocks of it are taken away by chance and others are put in their
-/// place, so many times, guided by what a case makes of them.
+/// place, that many times, guided by what a case makes of them.
 ///
 /// Any case will do; a better one leads to a cheaper plan. The ids of a plan that is found are its blocks' places, in the order of first
 /// units. Err is want of memory.

@@ -90,7 +90,7 @@ pub(crate) struct Tables {
     pub(crate) unparked_weight: i64,
 }
 
-/// So many groups get ways; a shape of another isn't parked.
+/// That many groups get ways; a shape of another isn't parked.
 const MOST_GROUPS: usize = 2048;
 
 /// Those from one place to before another, or none.
@@ -218,7 +218,7 @@ fn run_sum(values: &[i64], from: usize, many: u8) -> i64 {
     sum
 }
 
-/// Whether so many units from one on go with positions from one on: a unit and a position more are of the same trains, and of one type and in time.
+/// Whether that many units from one on go with positions from one on: a unit and a position more are of the same trains, and of one type and in time.
 fn goes_on(instance: &Instance, unit: usize, position: usize, many: u8) -> bool
     requires unit { unit < unit_total instance.now }
     requires position { position < position_total instance.now }
@@ -486,7 +486,7 @@ impl Tables {
         self.rows.get(place).copied()
     }
 
-    /// Where the shapes of a unit and a position begin.
+    /// If the shapes of a unit and a position begin.
     fn start(&self, unit: usize, position: usize) -> usize {
         let place = unit.wrapping_mul(self.positions).wrapping_add(position);
         self.starts.get(place).copied().unwrap_or(0)

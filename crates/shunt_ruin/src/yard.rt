@@ -111,7 +111,7 @@ pub(crate) struct Yard {
 }
 
 impl Yard {
-    /// So many tracks, on which nothing stands. Err is want of memory.
+    /// That many tracks, on which nothing stands. Err is want of memory.
     pub(crate) fn new(alloc: Global, many: usize) -> Result<Yard, AllocError> {
         let mut tracks = Vec::new(alloc);
         for _track in 0..many {

@@ -33,7 +33,7 @@ fn searches_restart()
     starts();
 }
 
-/// The search goes back to the pins, to walk plainly or with so many nodes to spare. Err is want of memory.
+/// The search goes back to the pins, to walk plainly or with that many nodes to spare. Err is want of memory.
 fn start_again(
     alloc: Global,
     instance: &Instance,
@@ -55,7 +55,7 @@ fn start_again(
     Ok(())
 }
 
-/// Walks from the root until so many nodes are noted, or no child is left whose bound is below the best cost and which isn't passed over.
+/// Walks from the root until that many nodes are noted, or no child is left whose bound is below the best cost and which isn't passed over.
 fn attempt<R: Recorder>(
     alloc: Global,
     instance: &Instance,
@@ -91,7 +91,7 @@ fn attempt<R: Recorder>(
     Ok(())
 }
 
-/// Forgets the nodes that were noted, and walks from the root again, plainly or with so many nodes to spare.
+/// Forgets the nodes that were noted, and walks from the root again, plainly or with that many nodes to spare.
 fn walk_again<R: Recorder>(
     alloc: Global,
     instance: &Instance,
@@ -162,7 +162,7 @@ fn walk_plainly<R: Recorder>(
     Ok(())
 }
 
-/// Whether a search has noted so many nodes, or its low bound is the best cost.
+/// Whether a search has noted that many nodes, or its low bound is the best cost.
 fn is_done(search: &Search, nodes: u32) -> bool
     requires { search.now.known.cost ≤ 1000000000000 }
     ensures { result ≡ true → (nodes ≤ search.now.count) ⊎ (pos search.now.known.cost ≤ℤ search.now.low) }

@@ -139,7 +139,7 @@ pub(crate) fn begin<R: Recorder>(
     ensures cause { HasCause SolveError.Recorder (R.faults recorder.old) (R.faults recorder.new) result }
     ensures keeps { R.keeps recorder.old recorder.new }
 {
-    // The calls tell what the search is behind its root.
+    // The calls say what the search is behind its root.
     searches_begin();
     instance.units();
     search.count = 1;

@@ -13,7 +13,7 @@ use shunt_instance::Instance;
 use shunt_ruin::ruin_and_recreate;
 use std::alloc::{AllocError, Global};
 
-// How often blocks are ruined before the cases of the root are parted, in a night of so many units.
+// How often blocks are ruined before the cases of the root are parted, in a night of that many units.
 fn first_rounds(units: u32) -> u32 {
     if units > 12 { 60_000 } else { 5_000 * units }
 }

@@ -170,7 +170,7 @@ fn add_shapes(
     ensures choices { OnOk result (map choice_of blocks.new.items ≡ choices_at instance.now path.now.blocks) }
     ensures ids { OnOk result (All (λ b. b.id ≡ id) blocks.new.items) }
 {
-    // The call tells which shapes these are.
+    // The call says which shapes these are.
     free_shapes();
     instance.units();
     let mut shapes = shapes_from(instance, unit, path.covered());

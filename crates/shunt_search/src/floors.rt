@@ -13,7 +13,7 @@ ghost use Rattle.shunt_search.specs.defs.Roots.{IsAbove};
 use shunt_prices::laws::{bounds, weak_duality};
 use shunt_proof::laws::starts;
 
-/// Where the bound at the pins' path is at least a number, so is what a plan costs that keeps the pins.
+/// If the bound at the pins' path is at least a number, so is what a plan costs that keeps the pins.
 pub(crate) fn floors()
     ensures { (night : Night) (pins start : List OneBlock) (cases : List OneCase) (floor : ℕ) (plan : List OneBlock) →
         IsInstance night → AreUsable night pins → IsStart night pins start → AreCases night cases → CasesHold night start cases → IsAbove night start cases floor →

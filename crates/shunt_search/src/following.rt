@@ -52,7 +52,7 @@ fn child_in(children: &[Child], plan: &[Block]) -> Option<Child>
     None
 }
 
-/// The path gets the next block of a plan, where that gives a partial plan whose bound is below a cost. Ok tells whether it did.
+/// The path gets the next block of a plan, where that gives a partial plan whose bound is below a cost. Ok says whether it did.
 fn follow(
     alloc: Global,
     instance: &Instance,

@@ -21,7 +21,7 @@ pub struct Known {
     pub cost: u64,
 }
 
-/// Where a whole partial plan is the path, the plan that is known goes on to be feasible, to keep the pins and to cost what it says.
+/// If a whole partial plan is the path, the plan that is known goes on to be feasible, to keep the pins and to cost what it says.
 pub(crate) fn kept_plans()
     ensures { (night : Night) (pins : List OneBlock) (t : Trail) (old new : KnownPlan) → IsInstance night → IsTrailOf night t → IsPartialPlan night pins t.blocks →
         next_of t.covered ≡ None → position_total night ≡ unit_total night → IsBest night pins old.blocks.items old.cost → KeepsCheaper night t.blocks old new →

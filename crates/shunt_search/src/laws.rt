@@ -10,7 +10,7 @@ ghost use Rattle.shunt_proof.specs.defs.Accepted.{IsAccepted};
 
 use shunt_proof::laws::{few_nodes, proved_bounds};
 
-/// Where an accepted certificate has all nodes that were allowed unless its bound is its cost, the bound is the cost wherever
+/// If an accepted certificate has all nodes that were allowed unless its bound is its cost, the bound is the cost wherever
 /// more nodes were allowed than there are partial plans.
 pub fn all_plans()
     ensures { (night : Night) (pins own : List Block) (stated most : ℕ) (c : Certificate) → IsInstance night → AreNodes night c.nodes → AreUsable night pins →

@@ -66,7 +66,7 @@ fn stated(block: &Block) -> Choice
     }
 }
 
-/// The node of a next block, so many pins before the first node's, as it is noted. Err is want of memory.
+/// The node of a next block, that many pins before the first node's, as it is noted. Err is want of memory.
 fn node_below(
     alloc: Global,
     pins: usize,
@@ -120,7 +120,7 @@ pub(crate) fn go_to(instance: &Instance, yard: &mut Yard, next: &Child)
     yard.push(instance, next.block);
 }
 
-/// Notes the node of a next block, so many pins before the first node's.
+/// Notes the node of a next block, that many pins before the first node's.
 pub(crate) fn note_below<R: Recorder>(
     alloc: Global,
     instance: &Instance,

@@ -64,7 +64,7 @@ pub(crate) fn goes_through(instance: &Instance, others: &Timelines, block: &Bloc
     requires few { length others.now.stays < 65536 }
     ensures { IsTrue result ↔ RunsWith instance.now block.now block.now.park others.now }
 {
-    // The call tells when counts are 0.
+    // The call says when counts are 0.
     clash_law();
     let alone = others.clash();
     let Some(stay) = stay(instance, block) else {
@@ -114,7 +114,7 @@ fn cheapest_through(instance: &Instance, others: &Timelines, block: &Block) -> O
     ensures through { RunsWith instance.now block.now result others.now }
     ensures least { (option : Option OnePark) → IsOption instance.now (shape_of block.now) option → NoLess instance.now block.now others.now (cost_with instance.now (shape_of block.now) result) option }
 {
-    // The call tells which options these are.
+    // The call says which options these are.
     shape_options();
     let mut best = None;
     let mut least = block_cost(instance, &with_park(block, None));
@@ -167,7 +167,7 @@ fn withdraw(instance: &Instance, blocks: &[Block], timelines: &mut Timelines, pl
     ensures few { length timelines.new.stays < length blocks.now }
     ensures room { timelines.new.spare + length timelines.new.stays ≡ timelines.old.spare + length timelines.old.stays }
 {
-    // The calls tell how the stays of blocks stand, and that a part of a run goes through.
+    // The calls say how the stays of blocks stand, and that a part of a run goes through.
     laws::stays_of_blocks();
     part_of_a_run();
     instance.station();
@@ -177,7 +177,7 @@ fn withdraw(instance: &Instance, blocks: &[Block], timelines: &mut Timelines, pl
     block
 }
 
-/// Gives a block its cheapest option, where that costs less than its own, and tells whether it did.
+/// Gives a block its cheapest option, where that costs less than its own, and says whether it did.
 fn improve(
     instance: &Instance,
     blocks: &mut [Block],
@@ -198,7 +198,7 @@ fn improve(
     ensures same { (blocks.new ≡ blocks.old) ⊎ IsTrue result }
     ensures least { (d : OneBlock) → IsTrue result ⊎ IsLeast instance.now blocks.old (slice_index_or blocks.old place d) }
 {
-    // The calls tell how the stays of blocks stand, and that a part of a run goes through.
+    // The calls say how the stays of blocks stand, and that a part of a run goes through.
     laws::stays_of_blocks();
     part_of_a_run();
     instance.station();
@@ -233,7 +233,7 @@ fn is_pin(pins: &[Block], block: &Block) -> bool
     false
 }
 
-/// Gives a block its cheapest option, where it is no pin and that costs less than its own, and tells whether it did.
+/// Gives a block its cheapest option, where it is no pin and that costs less than its own, and says whether it did.
 fn improve_free(
     instance: &Instance,
     pins: &[Block],
@@ -262,7 +262,7 @@ fn improve_free(
     improve(instance, blocks, timelines, place)
 }
 
-/// Gives each block that is no pin its cheapest option, one after the other, and tells whether one has changed.
+/// Gives each block that is no pin its cheapest option, one after the other, and says whether one has changed.
 fn sweep(
     instance: &Instance,
     pins: &[Block],

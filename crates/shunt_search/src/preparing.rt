@@ -139,7 +139,7 @@ fn prepared(
     Ok((search, tree))
 }
 
-/// A search that is to begin, and the tree that it is to follow, which has at most so many nodes. NoMatching comes exactly where what the
+/// A search that is to begin, and the tree that it is to follow, which has at most that many nodes. NoMatching comes exactly when what the
 /// pins leave has no matching, unless memory runs out before.
 pub(crate) fn prepare(
     alloc: Global,

@@ -27,7 +27,7 @@ fn with_root(mut tree: ProposedTree, cases: Cases) -> Result<ProposedTree, Alloc
     Ok(tree)
 }
 
-/// A tree of at most so many nodes that is proposed for a path, the first of whose stock are these cases, which came from a proposal. A
+/// A tree of at most that many nodes that is proposed for a path, the first of whose stock are these cases, which came from a proposal. A
 /// plan is known that costs this many cost units. Err is want of memory.
 pub(crate) fn proposed_tree(
     alloc: Global,

@@ -34,7 +34,7 @@ use shunt_proof::laws::few_nodes;
 use shunt_tree::ProposedTree;
 use std::alloc::{AllocError, Global};
 
-/// Where a search stands: at the path of the last node, with the children that are still to be walked to, and the best plan that is
+/// If a search stands: at the path of the last node, with the children that are still to be walked to, and the best plan that is
 /// known.
 #[derive(Drop)]
 pub struct Search {
@@ -179,7 +179,7 @@ fn take_next(search: &mut Search) -> Option<Pending>
     Some(next)
 }
 
-/// Walks to the next child whose bound is below the best cost, and which isn't passed over, and tells whether there was one.
+/// Walks to the next child whose bound is below the best cost, and which isn't passed over, and says whether there was one.
 fn advance<R: Recorder>(
     alloc: Global,
     instance: &Instance,
@@ -214,7 +214,7 @@ fn advance<R: Recorder>(
     Ok(true)
 }
 
-/// Walks on until so many nodes are noted, or no child is left whose bound is below the best cost and which isn't passed over.
+/// Walks on until that many nodes are noted, or no child is left whose bound is below the best cost and which isn't passed over.
 pub(crate) fn walk_on<R: Recorder>(
     alloc: Global,
     instance: &Instance,

@@ -96,8 +96,8 @@ fn conclude<R: Recorder>(
 /// Searches for a cheap plan that keeps pins, and notes the nodes of a tree that proves a bound on every such plan.
 ///
 /// The pins are usable, `nodes` is from 1 to 5,000, and the recorder is open, has no nodes, and can note nodes of this night. At most
-/// `nodes` nodes are noted, and fewer only where the bound is the plan's cost, in cost units. NoMatching comes exactly where what the pins
-/// leave has no matching, before a node is noted, unless memory runs out first; Recorder only where the recorder failed and counted it.
+/// `nodes` nodes are noted, and fewer only if the bound is the plan's cost, in cost units. NoMatching comes exactly when what the pins
+/// leave has no matching, before a node is noted, unless memory runs out first; Recorder only if the recorder failed and counted it.
 /// After Memory the recorder hasn't failed.
 pub fn solve_pinned<R: Recorder>(
     alloc: Global,
@@ -137,7 +137,7 @@ pub fn solve_pinned<R: Recorder>(
     conclude(alloc, instance, pins, nodes, search, recorder)
 }
 
-/// `solve_pinned` with no pins: the bound is one on every feasible plan, and NoMatching comes exactly where the night has no matching,
+/// `solve_pinned` with no pins: the bound is one on every feasible plan, and NoMatching comes exactly when the night has no matching,
 /// unless memory runs out first.
 pub fn solve<R: Recorder>(
     alloc: Global,

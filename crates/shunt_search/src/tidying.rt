@@ -46,7 +46,7 @@ pub(crate) fn tidy_plan(
     ensures in_range { IfOk result (IsPlanInRange instance.now) }
     ensures cheaper { IfOk result (λ p. total_cost instance.now p.blocks ≤ total_cost instance.now blocks.now) }
 {
-    // The calls tell what holds of the blocks in order, and that there are at most 160.
+    // The calls say what holds of the blocks in order, and that there are at most 160.
     numbered_plans();
     feasible_lists();
     instance.units();

@@ -44,7 +44,7 @@ pub(crate) fn walks_begin()
 {}
 
 /// How a walk goes on: the last child becomes a node, a branch whose children come in its place, or a whole path; or it is closed or passed
-/// over. Its node can follow the others, its parent's cases are in the stock and hold at its path, and its bound is by them. Where what is
+/// over. Its node can follow the others, its parent's cases are in the stock and hold at its path, and its bound is by them. If what is
 /// left isn't walked to, each node is locally right for what neither the low bound nor a bound that is left is below.
 pub(crate) fn walks_go_on()
     ensures branch { (night : Night) (start : List OneBlock) (stock : List (List OneCase)) (floor : ℕ) (nodes : List OneNode) (path : List OneBlock) (left waiting : List OnePending) (t : OnePending) (best : ℕ) (low : ℤ) (n : OneNode) (place : ℕ) →

@@ -13,7 +13,7 @@ use shunt_blocks::{Block, block_cost};
 use shunt_instance::Instance;
 use std::alloc::{AllocError, Global};
 
-/// Where there are as many positions as units, a path that covers all units covers all positions; so it is a feasible plan with its
+/// If there are as many positions as units, a path that covers all units covers all positions; so it is a feasible plan with its
 /// places as ids.
 pub(crate) fn whole_paths()
     ensures covers { (night : Night) (t : Trail) → IsTrailOf night t → next_of t.covered ≡ None → position_total night ≡ unit_total night → Covers night t.blocks }

@@ -73,7 +73,7 @@ impl Yard {
         requires next { IsNextBlock instance.now self.now.path.blocks block.now }
         ensures { IsTrue result ↔ RunsThrough instance.now (placed (more_by self.now.path.blocks block.now)) }
     {
-        // The calls tell how the stays of blocks stand, and that a part of a run goes through.
+        // The calls say how the stays of blocks stand, and that a part of a run goes through.
         laws::stays_of_blocks();
         laws::places();
         laws::few_blocks();
@@ -113,7 +113,7 @@ impl Yard {
         self.path.pop(instance);
     }
 
-    /// The path keeps so many of its first blocks, the pins among them.
+    /// The path keeps that many of its first blocks, the pins among them.
     pub(crate) fn back_to(&mut self, instance: &Instance, keep: usize)
         requires yard { IsYard instance.now self.old }
         requires pins { self.old.path.pins ≤ keep }

@@ -79,7 +79,7 @@ fn follow_on(
 
 /// Follows orders that a file can state over a station, in their order, from empty tracks on.
 ///
-/// `Through` exactly where each can be done, with the number of blocks that are left on tracks; else `Blocked` or `Over` with
+/// `Through` exactly when each can be done, with the number of blocks that are left on tracks; else `Blocked` or `Over` with
 /// the first order that can't be done, counted from 1. A leave needs its block at its side; an entry puts its block at a side,
 /// where the track is long enough for all that then stand there. Err is want of memory.
 #[tactic(auto, unfolding(crate::specs::defs::Following::followed))]

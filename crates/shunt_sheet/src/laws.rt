@@ -16,7 +16,7 @@ ghost use Rattle.shunt_sheet.specs.defs.Following.{InWords, LeavesNone};
 
 use shunt_blocks::laws as blocks_laws;
 
-/// Over each station, records state orders or have a first fault, and never both, and reading them tells which.
+/// Over each station, records state orders or have a first fault, and never both, and reading them says which.
 pub fn sheet_or_first_fault()
     ensures { (station : Station) (rows : List (List (List ℕ))) → Tells (sheet_format station) rows }
 {}
@@ -34,7 +34,7 @@ pub fn texts_of_sheets()
     ensures short { (station : Station) (orders : List Order) → IsStation station → AreOrders station orders → length (text_of_rows (rows_of station orders)) ≤ 40808 }
 {}
 
-/// Following orders is the run of them in their order: it is Through exactly where that goes through, with as many blocks as then
+/// Following orders is the run of them in their order: it is Through exactly when that goes through, with as many blocks as then
 /// stand on tracks; it is Blocked or Over exactly at the first order that can't be done, which is a leave of a block that isn't at
 /// its side, or an entry that would leave this load.
 pub fn following_in_words()
@@ -48,7 +48,7 @@ pub fn sheets_of_plans()
     ensures again { (night : Night) (blocks : List Block) → IsInstance night → IsFeasible night blocks → ReadsAsSheet night.station (orders_in night blocks) (text_of_rows (rows_of night.station (orders_in night blocks))) }
     ensures followed { (night : Night) (blocks : List Block) → IsInstance night → IsFeasible night blocks → LeavesNone night.station (orders_in night blocks) }
 {
-    // The calls tell what the stays of blocks are, how long blocks are, and which lists are in range.
+    // The calls say what the stays of blocks are, how long blocks are, and which lists are in range.
     blocks_laws::stays_of_blocks();
     blocks_laws::places();
     blocks_laws::feasible_lists();

@@ -19,7 +19,7 @@ pub struct Order {
 /// What following orders comes to. Orders are counted from 1.
 #[derive(Clone, Copy, Debug, PartialEq, Eq, Drop)]
 pub enum Followed {
-    /// Each order can be done, and so many blocks are left on tracks.
+    /// Each order can be done, and that many blocks are left on tracks.
     Through { left: u32 },
     /// The first order that can't be done is this leave: its block isn't at its side.
     Blocked { order: u32 },

@@ -8,7 +8,7 @@ ghost use Rattle.shunt_instance.specs.defs.Wellformed.{IsStation};
 ghost use Rattle.shunt_station.specs.defs.Stating.{station_format};
 ghost use Rattle.shunt_station.specs.defs.Writing.{rows_of, ReadsAsStation};
 
-/// Records state a station or have a first fault, and never both, and reading them tells which.
+/// Records state a station or have a first fault, and never both, and reading them says which.
 pub fn station_or_first_fault()
     ensures { (rows : List (List (List ℕ))) → Tells station_format rows }
 {}

@@ -174,7 +174,7 @@ GoesAll lengths ((s, false) ∷ halves) states = (rest : List Stay) × (get_or s
 abbrev pub tracks_of : List (List Stay) → List (List Standing)
 tracks_of states = map blocks_of states
 
--- a run goes on exactly where its first move can be done and the rest goes on
+-- a run goes on exactly when its first move can be done and the rest goes on
 ok_then : (r : Result Through Stop) (f : Through → Through) → IsOk (r >>= (λ t. Ok (f t))) ↔ IsOk r
 ok_then (Ok t) f = (λ _. refl, λ _. refl)
 ok_then (Err e) f = (λ h. h, λ h. h)

@@ -115,7 +115,7 @@ module _ (lengths : List ℕ) (stays : List Stay) (a : AreStays stays) (on : Are
   in_range : (m : Half) → In m (halves_of stays) → m.0.track.0 < length lengths
   in_range m h = on_tracks lengths stays m.0 on (of_stay stays m h)
 
-  -- the run over all tracks goes through exactly where that of each track does
+  -- the run over all tracks goes through exactly when that of each track does
   pub by_track : GoesThrough lengths stays ↔ ((t : ℕ) → Alone t)
   by_track = (
     λ go t. (alone t).0 (split lengths (halves_of stays) (nothing lengths) (λ m h. let lt = in_range m h in omega (arith, sized)) (blocks_all lengths stays a (halves_of stays) (nothing lengths) sized (λ m h. (of_stay stays m h, in_range m h)) none_known (subst IsOk same_run go)) t),

@@ -1,4 +1,4 @@
--- The run of one track goes through exactly where no two stays meet and no entry is over, from any state on.
+-- The run of one track goes through exactly when no two stays meet and no entry is over, from any state on.
 use Rattle.std.proofs.Common.{◌≡◌, ◌≢◌, ◌⊎◌, inl, inr, ⊎_elim, ℕ, ◌<◌, ◌≤◌, leb, ltb, Bool, true, false, List, [], ◌∷◌, refl, sym, subst, ap, arith}
 use Rattle.std.proofs.lemmas.Bool.{true≢false, false≢true, and_parts, leb-true, ltb-true}
 use Rattle.std.proofs.lemmas.Bool.Decides.{nat_tests}

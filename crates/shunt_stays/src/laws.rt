@@ -24,7 +24,7 @@ pub fn sorted_events()
     ensures stays { (stays others : List Stay) → AreStays stays → IsPermutation stays others → AreStays others }
 {}
 
-/// A block is taken away at a side exactly where it stands there.
+/// A block is taken away at a side exactly when it stands there.
 pub fn leaving()
     ensures others { (side : Side) (id : ℕ) (blocks others : List Standing) →
         without side id blocks ≡ Some others ↔ ((b : Standing) × (b.id ≡ id) × (blocks ≡ put side b others)) }
@@ -53,7 +53,7 @@ pub fn seen_moves()
         map seen moves ≡ map seen others → IsOk (run lengths moves tracks) → IsOk (run lengths others tracks) }
 {}
 
-/// Where the run of a list of stays goes through, so does the run of each part of it.
+/// If the run of a list of stays goes through, so does the run of each part of it.
 pub fn part_of_a_run()
     ensures part { (lengths : List ℕ) (stays part : List Stay) → AreStays stays → AreOnTracks lengths stays →
         AreStays part → ((s : Stay) → In s part → In s stays) → GoesThrough lengths stays → GoesThrough lengths part }
@@ -75,7 +75,7 @@ pub fn renaming()
         GoesThrough lengths stays ↔ GoesThrough lengths others }
 {}
 
-/// Where the run goes through, the stays that stand on a track at any moment fit it.
+/// If the run goes through, the stays that stand on a track at any moment fit it.
 pub fn standing_together()
     ensures { (lengths : List ℕ) (stays : List Stay) (track : ℕ) (moment : EventKey) →
         AreStays stays → AreOnTracks lengths stays → IsKey moment → GoesThrough lengths stays →
@@ -89,7 +89,7 @@ pub fn crossing()
     ensures never_itself { (b : Stay) → IsWellFormed b → Crosses b b → ⊥ }
 {}
 
-/// The run of stays goes through exactly where no two of them cross and no entry leaves more than its track's length.
+/// The run of stays goes through exactly when no two of them cross and no entry leaves more than its track's length.
 pub fn clash_law()
     ensures law { (lengths : List ℕ) (stays : List Stay) → AreStays stays → AreOnTracks lengths stays →
         GoesThrough lengths stays ↔ NoneCross stays × NoneOver lengths stays }
@@ -97,7 +97,7 @@ pub fn clash_law()
         GoesThrough lengths stays ↔ (pairs_in stays ≡ 0) × (overs_in lengths stays ≡ 0) }
 {}
 
-/// The counts are 0 exactly where nothing is counted, and see no order of the stays.
+/// The counts are 0 exactly when nothing is counted, and see no order of the stays.
 pub fn counting()
     ensures pairs { (stays : List Stay) → pairs_in stays ≡ 0 ↔ NoneCross stays }
     ensures overs { (lengths : List ℕ) (stays : List Stay) → overs_in lengths stays ≡ 0 ↔ NoneOver lengths stays }

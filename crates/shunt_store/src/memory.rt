@@ -92,7 +92,7 @@ impl MemStore {
         Ok(())
     }
 
-    /// From then on a read gives, and a write takes, at most so many bytes.
+    /// From then on a read gives, and a write takes, at most that many bytes.
     pub fn set_piece(&mut self, most: usize)
         requires { 1 ≤ most }
         ensures { self.new ≡ record self.old { piece = Some most } }
@@ -100,14 +100,14 @@ impl MemStore {
         self.piece = Some(most);
     }
 
-    /// What the file holds. None exactly where there is none of the name.
+    /// What the file holds. None exactly when there is none of the name.
     pub fn file(&self, name: &str) -> Option<&[u8]>
         ensures { option_map (λ b. b.now) result ≡ map.get self.now.files name.now }
     {
         bytes_at(&self.files, name.as_bytes())
     }
 
-    // Counts a call, and tells whether it is to fail.
+    // Counts a call, and says whether it is to fail.
     fn call_fails(&mut self) -> bool
         ensures later { self.old.faults ≤ self.new.faults }
         ensures rose { OnTrue result (Rose self.old.faults self.new.faults) }

@@ -69,7 +69,7 @@ impl MemSink {
         Ok(())
     }
 
-    // Counts a call, and tells whether it is to fail.
+    // Counts a call, and says whether it is to fail.
     fn call_fails(&mut self) -> bool
         ensures later { self.old.faults ≤ self.new.faults }
         ensures rose { OnTrue result (Rose self.old.faults self.new.faults) }

@@ -3,7 +3,7 @@ ghost use Rattle.std.specs.Prelude.{◌≡◌, ◌-◌, ◌≤◌, min, length};
 ghost use Rattle.shunt_store.specs.defs.Files.{HandsOut};
 ghost use Rattle.shunt_store.specs.defs.Pieces.{bounded, LetsThrough};
 
-/// How many of so many bytes a call moves.
+/// How many of that many bytes a call moves.
 pub fn in_one_call(piece: Option<usize>, count: usize) -> usize
     ensures value { result ≡ bounded piece count }
     ensures within { result ≤ count }

@@ -70,7 +70,7 @@ impl SureStore {
         Ok(())
     }
 
-    /// What the file holds. None exactly where there is none of the name.
+    /// What the file holds. None exactly when there is none of the name.
     pub fn file(&self, name: &str) -> Option<&[u8]>
         ensures { option_map (λ b. b.now) result ≡ map.get self.now.files name.now }
     {

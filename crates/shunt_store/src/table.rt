@@ -13,7 +13,7 @@ pub struct File {
     pub bytes: Vec<u8>,
 }
 
-/// Where the first file of a name stands.
+/// If the first file of a name stands.
 pub fn place_of(files: &[File], name: &[u8]) -> Option<usize>
     ensures some { IfSome result (λ place. IsPlaceOf files.now name.now place) }
     ensures found { IfSome result (λ _. map.get (files_of files.now) name.now ≢ None) }
@@ -28,7 +28,7 @@ pub fn place_of(files: &[File], name: &[u8]) -> Option<usize>
     }
 }
 
-// Where the first file of a name stands, or behind the last.
+// If the first file of a name stands, or behind the last.
 fn first_of(files: &[File], name: &[u8]) -> usize
     ensures within { result ≤ length files.now }
     ensures before { All (λ f. f.name.items ≢ name.now) (take result files.now) }
@@ -69,7 +69,7 @@ fn put_at(files: &mut Vec<File>, place: usize, bytes: Vec<u8>)
     files[place].bytes = bytes;
 }
 
-/// Puts bytes at a name, and tells where the file stands.
+/// Puts bytes at a name, and says where the file stands.
 pub fn put(
     alloc: Global,
     files: &mut Vec<File>,

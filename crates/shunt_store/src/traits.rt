@@ -7,7 +7,7 @@ ghost use Rattle.shunt_store.specs.defs.Causes.{counted_on, Counts, HasCause};
 use crate::errors::{SinkError, StoreError};
 
 /// Files by name, of which at most one is open, to be read from its first byte to its end or
-/// to be written anew. A Fault comes only where the count of faults rose in that call.
+/// to be written anew. A Fault comes only if the count of faults rose in that call.
 pub trait Store {
     /// The files, where the store tells them. What doesn't tell them never does, and what does always will.
     ghost told: { Self → Option Files };

@@ -7,7 +7,7 @@ ghost use Rattle.shunt_store.specs.defs.Causes.{HasCause};
 use crate::errors::{SinkError, StoreError};
 use crate::traits::{Sink, Store};
 
-/// Prints all of the bytes. After a refusal a front of them was printed. Where there are none
+/// Prints all of the bytes. After a refusal a front of them was printed. If there are none
 /// the sink isn't called.
 pub fn print<O: Sink>(out: &mut O, bytes: &[u8]) -> Result<(), SinkError>
     ensures ok { OnOk result (BothTold (O.told out.old) (O.told out.new) (λ old new. new ≡ old ++ bytes.now)) }

@@ -88,7 +88,7 @@ fn span(row: &Row) -> Option<Times>
     })
 }
 
-// The track of a record's stay, one of so many.
+// The track of a record's stay, one of that many.
 fn track(row: &Row, tracks: usize) -> Option<u8>
     ensures { IfSome result (λ t. t < tracks) }
 {
@@ -112,7 +112,7 @@ fn stay_of(row: &Row, id: u32, tracks: usize) -> Option<Stay>
     Some(stay(id, track, length, sides, (span.from, span.to), span.place))
 }
 
-// Whether each record is a stay on one of so many tracks.
+// Whether each record is a stay on one of that many tracks.
 fn are_stays(rows: &[Row], tracks: usize) -> bool {
     for row in rows {
         if stay_of(row, 0, tracks).is_none() {
@@ -135,7 +135,7 @@ fn stay_at(row: &Row, number: u16, tracks: usize) -> Stay
     }
 }
 
-// The stays of so many records, numbered from 0.
+// The stays of that many records, numbered from 0.
 fn stays(alloc: Global, rows: &[Row], count: u16, tracks: usize) -> Result<Vec<Stay>, AllocError>
     requires count { count ≤ length rows.now }
     requires tracks { 0 < tracks }
@@ -201,7 +201,7 @@ fn runs(alloc: Global, lengths: &[u32], stays: &[Stay], text: &[u8]) -> Option<b
     Some(told.as_slice() == text)
 }
 
-// Whether there are so many crossings and overs.
+// Whether there are that many crossings and overs.
 fn clash(lengths: &[u32], stays: &[Stay], pairs: u64, over: u64) -> bool
     requires stays { AreStays stays.now }
     requires tracks { AreOnTracks lengths.now stays.now }

@@ -7,7 +7,7 @@ use shunt_rows::Row;
 use shunt_store::{MemStore, ReadAllError, StoreError, read_all, write_all_to};
 use std::alloc::Global;
 
-// A store with one file, of seven bytes, that moves at most so many bytes in a call (0: any number), and in which this call fails.
+// A store with one file, of seven bytes, that moves at most that many bytes in a call (0: any number), and in which this call fails.
 fn with_station(alloc: Global, piece: u64, failing: u64) -> Option<MemStore>
     ensures { IfSome result (λ s. s.stage ≡ Closed) }
 {
@@ -24,7 +24,7 @@ fn with_station(alloc: Global, piece: u64, failing: u64) -> Option<MemStore>
     Some(store)
 }
 
-// Whether reading a file of at most so many bytes gives what a field says.
+// Whether reading a file of at most that many bytes gives what a field says.
 fn reads(alloc: Global, store: &mut MemStore, name: &str, most: u64, said: &[u8]) -> bool
     requires closed { store.old.stage ≡ Closed }
     requires most { most < 2 ^ 64 - 1 }

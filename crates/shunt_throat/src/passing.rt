@@ -18,7 +18,7 @@ use shunt_store::Store;
 use shunt_zones::{Meet, Zones, loads, meets};
 use std::alloc::{AllocError, Global};
 
-/// The answer of `zones`: reads and judges its files, and tells which moves meet.
+/// The answer of `zones`: reads and judges its files, and says which moves meet.
 pub fn reply_to_zones<S: Store>(
     alloc: Global,
     store: &mut S,

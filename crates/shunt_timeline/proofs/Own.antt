@@ -131,7 +131,7 @@ module _ (stays : List Stay) (x : Stay) (A B C : List Event) (c : Cut stays x A 
       ∙ ap (λ n. cond (eqb s.track.0 x.track.0) (flag (part s && by s)) 0 + n) (swap_cond (eqb s.track.0 x.track.0) out (flag (cover s))))
       ∙ ap (λ n. sum_on x.track.0 (λ s. flag (part s && by s)) stays + n) rest
 
-  -- of those that stand at x's entry, so many leave before it
+  -- of those that stand at x's entry, that many leave before it
   pub left_within : (standing : ℕ) → standing ≡ count_by (stands_at x.track.0 x.enter) stays → count_by (has_left x) B ≤ standing
   left_within n e = omega (arith, left_is, standing_is)
 

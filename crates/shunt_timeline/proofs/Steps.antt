@@ -50,7 +50,7 @@ module _ {X : Type 0} (f : X → X) (xs ys : List X) (i : ℕ) (d : X) (lt : i <
 pub count_map : {X : Type 0} (p : X → Bool) (f : X → X) (xs : List X) → count_by p (map f xs) ≡ count_by (λ x. p (f x)) xs
 count_map p f xs = sum_map (λ x. flag (p x)) f xs
 
--- so many events count to no more than that
+-- that many events count to no more than that
 pub counts_within : {X : Type 0} (p : X → Bool) (xs : List X) (i n : ℕ) → i < length xs → length xs ≤ 131072 → n ≡ count_by p (take i xs) → n < 131072
 counts_within p xs i n lt le e = omega (arith, count_by-le-length p (take i xs), length-take-le i xs (omega arith))
 

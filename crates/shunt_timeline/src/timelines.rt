@@ -33,7 +33,7 @@ pub struct Timelines {
     over: u32,
 }
 
-/// So many slots are never there, since the stays alone would fill more than the memory that can be named.
+/// That many slots are never there, since the stays alone would fill more than the memory that can be named.
 const MOST_SLOTS: usize = 1 << 61;
 
 impl Model for Timelines {
@@ -59,7 +59,7 @@ fn place_of(stays: &[Stay], id: u32) -> usize
     stays.partition_point(|stay| stay.id < id)
 }
 
-// Where the stay of an id is.
+// If the stay of an id is.
 fn find(stays: &[Stay], id: u32) -> Option<usize>
     requires { Ascends (λ s. s.id) stays.now }
     ensures some { IfSome result (λ i. (i < length stays.now) × ((d : Stay) → (slice_index_or stays.now i d).id ≡ id)) }
@@ -90,7 +90,7 @@ fn empty_tracks(alloc: Global, lengths: &[u32]) -> Result<Vec<Track>, AllocError
     Ok(tracks)
 }
 
-// Room for so many events on each track. Err is want of memory.
+// Room for that many events on each track. Err is want of memory.
 fn reserve_events(tracks: &mut Vec<Track>, most: usize) -> Result<(), AllocError>
     ensures same { AreSame tracks.old.items tracks.new.items }
     ensures ok { OnOk result ((t : ℕ) (d : Track) → t < length tracks.new.items → most ≤ vec_capacity (slice_index_or tracks.new.items t d).events) }
@@ -116,7 +116,7 @@ impl Timelines {
         })
     }
 
-    /// Room for at least so many stays more. Err is want of memory, and then nothing changes.
+    /// Room for at least that many stays more. Err is want of memory, and then nothing changes.
     pub fn reserve(&mut self, slots: usize) -> Result<(), AllocError>
         ensures ok { OnOk result (self.new ≡ record self.old { spare = max self.old.spare slots }) }
         ensures err { OnErr result (self.new ≡ self.old) }
@@ -178,7 +178,7 @@ impl Timelines {
         self.spare -= 1;
     }
 
-    /// The stay of an id goes. None exactly where there is none, and then nothing changes. It takes no memory.
+    /// The stay of an id goes. None exactly when there is none, and then nothing changes. It takes no memory.
     pub fn remove(&mut self, id: u32) -> Option<Stay>
         ensures some { IfSome result (λ stay. (stay.id ≡ id) × IsPermutation (stay ∷ self.new.stays) self.old.stays × (self.new.spare ≡ self.old.spare + 1)) }
         ensures none { result ≡ None ↔ All (λ s. s.id ≢ id) self.old.stays }

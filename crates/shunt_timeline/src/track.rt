@@ -21,7 +21,7 @@ pub struct Track {
     pub events: Vec<Event>,
 }
 
-// Where the events of a stay that comes belong, and what stands there without it.
+// If the events of a stay that comes belong, and what stands there without it.
 #[derive(Clone, Copy, Debug)]
 struct Arrival {
     from: usize,
@@ -30,7 +30,7 @@ struct Arrival {
     others: Level,
 }
 
-// Where the events of a stay that goes are.
+// If the events of a stay that goes are.
 #[derive(Clone, Copy, Debug)]
 struct Departure {
     from: usize,
@@ -169,7 +169,7 @@ fn leave_of(stay: &Stay, others: Level) -> Event
     }
 }
 
-// Where a new stay's events belong, by binary search.
+// If a new stay's events belong, by binary search.
 fn arrival_of(events: &[Event], stay: &Stay) -> Arrival
     requires { (stays : List Stay) × AreStays (stay.now ∷ stays) × IsKept stays stay.now.track.0 events.now }
     ensures from { IsPlace events.now stay.now.enter result.from }
@@ -190,7 +190,7 @@ fn arrival_of(events: &[Event], stay: &Stay) -> Arrival
     }
 }
 
-// Where the events of a stay that is there are, by binary search.
+// If the events of a stay that is there are, by binary search.
 fn departure_of(events: &[Event], stay: &Stay) -> Departure
     requires { (stays : List Stay) × AreStays (stay.now ∷ stays) × IsKept (stay.now ∷ stays) stay.now.track.0 events.now }
     ensures from { IsPlace events.now stay.now.enter result.from }
@@ -205,7 +205,7 @@ fn departure_of(events: &[Event], stay: &Stay) -> Departure
 }
 
 impl Track {
-    /// Room for so many events in all. Err is want of memory.
+    /// Room for that many events in all. Err is want of memory.
     pub fn reserve(&mut self, most: usize) -> Result<(), AllocError>
         ensures events { self.new.events.items ≡ self.old.events.items }
         ensures length { self.new.length ≡ self.old.length }

@@ -187,7 +187,7 @@ fn midnight() -> Minute
     }
 }
 
-// The type at field `k`, of one more unit behind so many.
+// The type at field `k`, of one more unit behind that many.
 fn read_unit(
     station: &KnownStation,
     before: usize,

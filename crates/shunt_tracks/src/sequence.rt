@@ -27,7 +27,7 @@ impl Model for Sequence {
 }
 
 impl Sequence {
-    /// No ids, with room for so many. Err is want of memory.
+    /// No ids, with room for that many. Err is want of memory.
     pub fn new(alloc: Global, room: usize) -> Result<Sequence, AllocError>
         ensures { IfOk result (λ s. s ≡ record { ids = []; room = room }) }
     {
@@ -63,7 +63,7 @@ impl Sequence {
         }
     }
 
-    /// Takes an id from an end. It takes no memory. Err exactly where the id isn't there, and then nothing changes.
+    /// Takes an id from an end. It takes no memory. Err exactly when the id isn't there, and then nothing changes.
     pub fn leave(&mut self, side: Side, id: u32) -> Result<(), Blocked>
         ensures room { self.new.room ≡ self.old.room }
         ensures ok { OnOk result (self.old.ids ≡ put side id self.new.ids) }

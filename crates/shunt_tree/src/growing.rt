@@ -381,7 +381,7 @@ impl Tree {
         }
     }
 
-    /// Grows to so many nodes that bound less than the best plan costs, or until nothing is below the best plan. Answers the bound; Err is want of memory.
+    /// Grows to that many nodes that bound less than the best plan costs, or until nothing is below the best plan. Answers the bound; Err is want of memory.
     pub(crate) fn grow(
         &mut self,
         alloc: Global,

@@ -15,7 +15,7 @@ pub(crate) struct Level {
     pub given_up: bool,
 }
 
-/// What each of so many nodes gets of all work at a bound.
+/// What each of that many nodes gets of all work at a bound.
 pub(crate) fn share_of(nodes: u64) -> u64 {
     WHOLE_WORK / nodes.max(1)
 }

@@ -4,7 +4,7 @@ use shunt_ascent::Fixed;
 use shunt_blocks::Block;
 use std::alloc::{AllocError, Global};
 
-/// What the cases come to at a path, in thousandths of a cost unit. Where there is one case the first sum is the greatest number.
+/// What the cases come to at a path, in thousandths of a cost unit. If there is one case the first sum is the greatest number.
 #[derive(Clone, Copy, Drop)]
 pub(crate) struct Sums {
     pub first: i64,
@@ -139,7 +139,7 @@ impl Node {
 }
 
 impl Node {
-    /// Its next choices are found. The first ones, which no case of its own bounds yet, tell what the inherited cases bound.
+    /// Its next choices are found. The first ones, which no case of its own bounds yet, say what the inherited cases bound.
     pub(crate) fn open(&mut self, opened: Opened) {
         self.key = self.key.max(opened.least);
         if self.children.is_empty() {
@@ -150,7 +150,7 @@ impl Node {
         self.is_open = true;
     }
 
-    /// Choices that weren't listed are left. Where there are none, those beyond have to be found.
+    /// Choices that weren't listed are left. If there are none, those beyond have to be found.
     pub(crate) fn leave(&mut self, choices: Vec<Open>) {
         if let Some(open) = choices.last() {
             self.key = open.bound;

@@ -65,7 +65,7 @@ fn first_sums(
     }
 }
 
-// Whether a case speaks of so many unparked blocks.
+// Whether a case speaks of that many unparked blocks.
 fn is_open(cases: &Pair<'_>, unparked: i64) -> bool {
     match cases.first {
         Some(first) => unparked <= i64::from(first.to()),

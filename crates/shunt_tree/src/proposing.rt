@@ -186,7 +186,7 @@ fn proposed(
     })
 }
 
-/// A tree of partial plans from a path on, best first, of so many nodes at most: from the cases at its root, the proposal that these came
+/// A tree of partial plans from a path on, best first, of that many nodes at most: from the cases at its root, the proposal that these came
 /// from, and what the best plan that is known costs in cost units. Node 0 is the root, and the first of the stock are those cases. Nothing
 /// is said of what the tree is worth. Err is want of memory.
 pub fn propose(

@@ -99,7 +99,7 @@ module _ (files : Files) (s t : List ℕ) (most : ℕ) (p k : List ℕ) (night :
 
 -- ---- the audit of a plan that a certificate is accepted with
 
--- that a plan has no finding exactly where it is feasible and states its cost
+-- that a plan has no finding exactly when it is feasible and states its cost
 abbrev pub FoundNone : Type 0
 FoundNone = (night : Night) (plan : Plan) → IsInstance night → AreInRange night plan.blocks → (plan_findings night plan ≡ []) ↔ IsFeasible night plan.blocks × (plan.cost ≡ total_cost night plan.blocks)
 

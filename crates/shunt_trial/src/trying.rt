@@ -45,7 +45,7 @@ fn made_store(
     Ok((store, line))
 }
 
-/// The answer of `trial`: makes the night of a number with so many units, writes its files in memory, plans it there with at most so many
+/// The answer of `trial`: makes the night of a number with that many units, writes its files in memory, plans it there with at most that many
 /// nodes, audits and checks what was found, and writes all four files, in the order of the words.
 ///
 /// The number is at most 2,147,483,647, the units are at most 160, the nodes from 1 to 5,000. Whether the plan is optimal or the nodes were spent

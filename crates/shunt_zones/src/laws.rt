@@ -16,7 +16,7 @@ ghost use Rattle.shunt_zones.specs.defs.Moves.{moves_of};
 ghost use Rattle.shunt_zones.specs.defs.ZonesFormat.{zones_format, IsZones};
 ghost use Rattle.shunt_zones.specs.defs.ZonesRows.{rows_of, ReadsAsZones};
 
-/// Over each station, records state zones or have a first fault, and never both, and reading them tells which.
+/// Over each station, records state zones or have a first fault, and never both, and reading them says which.
 pub fn zones_or_first_fault()
     ensures { (station : Station) (rows : List (List (List ℕ))) → Tells (zones_format station) rows }
 {}
@@ -37,7 +37,7 @@ pub fn moves_rise()
     ensures { (night : Night) (blocks : List Block) → AllPairs (λ e f. e.key.minute ≤ f.key.minute) (moves_of night blocks) }
 {}
 
-/// Two moves of a plan are among its meets exactly where the first stands before the second in key order, both have one minute,
+/// Two moves of a plan are among its meets exactly when the first stands before the second in key order, both have one minute,
 /// they aren't both entries of one arriving train or both leaves of one departing train, and the zone is the least that both pass.
 pub fn meets_in_words()
     ensures { (night : Night) (zones : Zones) (plan : Plan) (m : Meet) → In m (meets_in night zones plan) ↔

@@ -37,7 +37,7 @@ pub struct Meet {
 pub struct ZoneLoad {
     /// At most 800.
     pub moves: u32,
-    /// The first minute in which most of them do; None exactly where there are none.
+    /// The first minute in which most of them do; None exactly when there are none.
     pub busiest: Option<Minute>,
     /// How many do in that minute, or 0.
     pub most: u32,

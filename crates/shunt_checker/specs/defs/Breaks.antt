@@ -1,4 +1,4 @@
--- Where cases break: a case, and a free shape with an option that weighs less in it than its duals.
+-- If cases break: a case, and a free shape with an option that weighs less in it than its duals.
 use Rattle.std.specs.Prelude.{◌≡◌, ◌⊎◌, ℕ, ◌<◌, length, List, Option, Some, None}
 use Rattle.shunt_base.specs.declared.duals.Case.{Case}
 use Rattle.shunt_instance.specs.defs.Instance.{Night}

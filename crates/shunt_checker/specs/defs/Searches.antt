@@ -21,7 +21,7 @@ pub record IsOneAt (night : Night) (covered : Masks) (Holds : PathChoice → Typ
   pub free : IsFreeOne night covered Holds c
   pub unit : unit_from night c.shape ≡ u
 
--- the same of those with so many units
+-- the same of those with that many units
 pub record IsOneOf (night : Night) (covered : Masks) (Holds : PathChoice → Type 0) (u n : ℕ) (c : PathChoice) : Type 0 where
   pub at : IsOneAt night covered Holds u c
   pub units : c.shape.n ≡ n
@@ -36,6 +36,6 @@ pub record IsOneFrom (night : Night) (covered : Masks) (Holds : PathChoice → T
   pub with : IsOneWith night covered Holds u n dep c
   pub place : c.shape.q ≡ q
 
--- the shape of so many units from a unit on that goes with a departing train from a place on
+-- the shape of that many units from a unit on that goes with a departing train from a place on
 abbrev pub shape_from : Night → ℕ → ℕ → ℕ → ℕ → Shape
 shape_from night u n dep q = record { arr = (unit_at night u).train; p = (unit_at night u).place; n = n; dep = record { 0 = dep }; q = q }

@@ -62,7 +62,7 @@ ChoiceBefore c d = ShapeBefore c.shape d.shape ⊎ ((c.shape ≡ d.shape) × Opt
 abbrev pub shape_at : Night → ℕ → ℕ → ℕ → Shape
 shape_at night u n v = record { arr = (unit_at night u).train; p = (unit_at night u).place; n = n; dep = (position_at night v).train; q = (position_at night v).place }
 
--- the shapes of so many units that begin at a unit among uncovered units and positions, by their first position
+-- the shapes of that many units that begin at a unit among uncovered units and positions, by their first position
 abbrev pub shapes_of_length : Night → Masks → ℕ → ℕ → List Shape
 shapes_of_length night covered u n = map (shape_at night u n) (filter (is_free_run night covered u n) (range_with_len 0 (position_total night)))
 
@@ -74,7 +74,7 @@ shapes_of night covered u = flat_map (shapes_of_length night covered u) (range_w
 abbrev pub parks_on : ℕ → List Park
 parks_on t = record { track = record { 0 = t }; side_in = A; side_out = A } ∷ record { track = record { 0 = t }; side_in = A; side_out = B } ∷ record { track = record { 0 = t }; side_in = B; side_out = A } ∷ record { track = record { 0 = t }; side_in = B; side_out = B } ∷ []
 
--- each track of so many with its pairs of sides
+-- each track of that many with its pairs of sides
 abbrev pub parks_below : ℕ → List Park
 parks_below tracks = flat_map parks_on (range_with_len 0 tracks)
 
@@ -119,7 +119,7 @@ longer_by blocks c = blocks ++ chosen (length blocks + 1) c ∷ []
 abbrev pub runs_placed : Night → List Block → Bool
 runs_placed night blocks = is_ok (run_of (track_lengths night.station) (stays_of night (placed blocks)))
 
--- how many partial plans begin with these blocks and add at most so many: these alone, and those that begin with one more block of a
+-- how many partial plans begin with these blocks and add at most that many: these alone, and those that begin with one more block of a
 -- choice whose run goes through
 unfoldable pub plans_from : ℕ → Night → List Block → ℕ
 plans_from zero night blocks = 1

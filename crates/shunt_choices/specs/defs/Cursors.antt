@@ -9,15 +9,15 @@ use Rattle.shunt_blocks.specs.declared.records.Park.{Park}
 use Rattle.shunt_choices.specs.defs.Choices.{shape_at, candidates}
 use Rattle.shunt_blocks.specs.defs.Blocks.{is_option}
 
--- of so many positions from v on, those from which at least n pairs are free, as shapes
+-- of that many positions from v on, those from which at least n pairs are free, as shapes
 abbrev pub row_left : Night → ℕ → List ℕ → ℕ → ℕ → ℕ → List Shape
 row_left night u reach n v many = map (shape_at night u n) (filter (λ w. nat_le n (slice_index_or reach w 0)) (range_with_len v many))
 
--- the same of all positions, for each of so many numbers of pairs from n on
+-- the same of all positions, for each of that many numbers of pairs from n on
 abbrev pub rows_left : Night → ℕ → List ℕ → ℕ → ℕ → List Shape
 rows_left night u reach n many = flat_map (λ m. row_left night u reach m 0 (position_total night)) (range_with_len n many)
 
--- the shapes of n units from position v on, and then those of more units, up to so many
+-- the shapes of n units from position v on, and then those of more units, up to that many
 unfoldable pub shapes_left : Night → ℕ → List ℕ → ℕ → ℕ → ℕ → List Shape
 shapes_left night u reach most n v = row_left night u reach n v (position_total night - v) ++ rows_left night u reach (n + 1) (most - n)
 

@@ -15,7 +15,7 @@ pub record Masks : Type 0 where
 abbrev pub masks_of : Night → List Block → Masks
 masks_of night blocks = record { units = units_taken night blocks; places = positions_taken night blocks }
 
--- a list of blocks that began with so many pins, and what it covers
+-- a list of blocks that began with that many pins, and what it covers
 pub record Trail : Type 0 where
   pub blocks : List Block
   pub covered : Masks

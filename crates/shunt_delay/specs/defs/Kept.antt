@@ -22,7 +22,7 @@ use Rattle.shunt_delay.specs.defs.Delays.{told, first, delay_findings, StaysFeas
 abbrev pub late_by : ℕ → ℕ → Block → ℕ
 late_by i d b = if b.arr.0 == i then d else 0
 
--- whether the departing train leaves before one of the units is ready, so many minutes late
+-- whether the departing train leaves before one of the units is ready, that many minutes late
 abbrev pub is_too_soon_by : Night → ℕ → Shape → Bool
 is_too_soon_by night d s = not (all_below s.n (λ k. nat_le (ready night (unit_from night s + k) + d) (leave_minute night s)))
 
@@ -30,7 +30,7 @@ is_too_soon_by night d s = not (all_below s.n (λ k. nat_le (ready night (unit_f
 abbrev pub AreInTime : Night → List Block → Type 0
 AreInTime night blocks = (b : Block) → In b blocks → is_too_soon night (shape_of b) ≡ false
 
--- a stay that begins so many minutes later
+-- a stay that begins that many minutes later
 abbrev pub later : ℕ → Stay → Stay
 later d s = record s { enter = record s.enter { minute = s.enter.minute + d } }
 
@@ -43,7 +43,7 @@ Stops night blocks (Some stop) = (told stop ≡ first (delay_findings night bloc
 abbrev pub IsApart : List Stay → Stay → Type 0
 IsApart own s = (t : Stay) → In t own → s.id ≢ t.id
 
--- these stays can come, so many minutes later
+-- these stays can come, that many minutes later
 pub record CanCome (own : List Stay) (minutes : ℕ) (held : Holding) : Type 0 where
   pub few : minutes ≤ 120
   pub begin : (s : Stay) → In s own → s.enter.minute < 2880

@@ -37,7 +37,7 @@ pub record IsSharingOf (night : Night) (crew : Crew) (moves : List Event) (dutie
 abbrev pub drivers_of : List Duty → List ℕ
 drivers_of duties = map (λ d. d.driver) duties
 
--- a sharing of these moves in their order among so many drivers, numbered from 1, each of whom has a move; as many run at the busy
+-- a sharing of these moves in their order among that many drivers, numbered from 1, each of whom has a move; as many run at the busy
 -- minute as there are drivers, and fewer at each before it; and no sharing uses fewer: a list that names all of its drivers is as long
 pub record IsFewest (night : Night) (crew : Crew) (moves : List Event) (duties : List Duty) (drivers : ℕ) (busy : Option ℕ) : Type 0 where
   pub in_order : map named_by duties ≡ map name_of moves

@@ -23,7 +23,7 @@ pub record IsSharing (spans : List Span) (drivers : List ℕ) : Type 0 where
   pub each : length drivers ≡ length spans
   pub apart : AllPairs AreApart (zip spans drivers)
 
--- the first minute at which so many of these moves run; there is none where there are no moves
+-- the first minute at which that many of these moves run; there is none where there are no moves
 abbrev pub IsBusy : List Span → ℕ → Option ℕ → Type 0
 IsBusy spans n None = (spans ≡ []) × (n ≡ 0)
 IsBusy spans n (Some b) = (0 < n) × (running spans b ≡ n) × ((t : ℕ) → t < b → running spans t < n)
@@ -40,7 +40,7 @@ pub record Adds (shares after : List Share) (free free_after : List ℕ) (span :
   pub shared : after ≡ shares ++ record { span = span; driver = driver } ∷ []
   pub took : Took free free_after span driver new
 
--- these moves are shared among so many drivers, numbered from 0, each of whom has a move; as many run at the busy minute as there
+-- these moves are shared among that many drivers, numbered from 0, each of whom has a move; as many run at the busy minute as there
 -- are drivers, and fewer at each before it; and no sharing uses fewer: a list that names all of its drivers is as long
 pub record IsLeast (spans : List Span) (shares : List Share) (drivers : ℕ) (busy : Option ℕ) : Type 0 where
   pub spans_are : map (λ s. s.span) shares ≡ spans

@@ -21,7 +21,7 @@ is_between (origin.Track k) track side t = false
 abbrev pub minutes_of : Night → Crew → Event → ℕ
 minutes_of night crew e = unwrap_or (option_map (λ t. t.minutes) (find (is_between (train_of night e.key).origin e.track e.side) crew.takes)) crew.other
 
--- a move runs from its minute on, up to the minute that is so many minutes later, which isn't counted
+-- a move runs from its minute on, up to the minute that is that many minutes later, which isn't counted
 abbrev pub span_of : Night → Crew → Event → Span
 span_of night crew e = record { start = e.key.minute; end = e.key.minute + minutes_of night crew e }
 

@@ -24,7 +24,7 @@ pub record AreBefore (night : Night) (u v n : ℕ) : Type 0 where
   pub positions : n ≤ (position_at night v).place
   pub pairs : (k : ℕ) → k < n → IsPair night (u - k) (v - k)
 
--- the shape of n pairs that begins so many places before a pair
+-- the shape of n pairs that begins that many places before a pair
 abbrev pub shape_around : Night → ℕ → ℕ → ℕ → ℕ → Shape
 shape_around night u v back n = record {
   arr = (unit_at night u).train;
@@ -49,14 +49,14 @@ pub record IsLeastPart (night : Night) (u v : ℕ) (asked : ℕ → ℕ → Type
   pub part : IsPart night (shape_around night u v back n) least
   pub lowest : (b m : ℕ) (o : Option Park) → asked b m → IsOption night (shape_around night u v b m) o → least ≤ part_with night (shape_around night u v b m) o
 
--- shapes that begin so many places before the pair, and end with one of so many pairs from it on
+-- shapes that begin that many places before the pair, and end with one of that many pairs from it on
 pub record FromBack (back reach : ℕ) (b m : ℕ) : Type 0 where
   pub same : b ≤ back
   pub no_less : back ≤ b
   pub holds : b < m
   pub ends : m ≤ b + reach
 
--- shapes that begin at one of so many pairs up to the pair, and end with one of so many pairs from it on
+-- shapes that begin at one of that many pairs up to the pair, and end with one of that many pairs from it on
 pub record FromSome (before after : ℕ) (b m : ℕ) : Type 0 where
   pub begins : b < before
   pub holds : b < m

@@ -82,7 +82,7 @@ pub record AreHigher (night : Night) (path : List Block) (old new : Duals) : Typ
   pub kept : Keeps old new
   pub higher : duals_sum night path old <ℤ duals_sum night path new
 
--- after so many pairs of track and train: the given duals, for which no step so far has a higher sum, or others with a higher sum
+-- after that many pairs of track and train: the given duals, for which no step so far has a higher sum, or others with a higher sum
 pub record AreSwept (night : Night) (path : List Block) (given : Duals) (k : ℕ) (now : Duals) : Type 0 where
   pub good : AreGood night path now
   pub kept : Keeps given now

@@ -12,7 +12,7 @@ run_of alpha a = sum_z_below a.n (λ k. slice_index_or alpha (a.first + k) (pos 
 pub record IsMet (alpha : List ℤ) (a : Ask) : Type 0 where
   pub met : run_of alpha a ≤ℤ a.most
 
--- an ask of at most 8 of so many units, and of a number that isn't too great
+-- an ask of at most 8 of that many units, and of a number that isn't too great
 pub record IsAsk (units : ℕ) (a : Ask) : Type 0 where
   pub within : a.first + a.n ≤ units
   pub few : a.n ≤ 8

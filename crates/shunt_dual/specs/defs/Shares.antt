@@ -29,7 +29,7 @@ pub record IsShare (night : Night) (u v share : ℕ) : Type 0 where
   pub is : share ≡ part_with night shape option
   pub least : (other : Shape) (o : Option Park) → Holds night other u v → IsOption night other o → share ≤ part_with night other o
 
--- entries for so many units and positions, unit by unit
+-- entries for that many units and positions, unit by unit
 pub record Table : Type 0 where
   pub units : ℕ
   pub positions : ℕ

@@ -28,7 +28,7 @@ pub record SideHolds (night : Night) (s : Shape) (sum : ℤ) (part : ℕ) (track
 pub record TrackHolds (night : Night) (s : Shape) (sum : ℤ) (part : ℕ) (track : TrackId) : Type 0 where
   pub holds : (k : Park) → k.track ≡ track → shape_length night s ≤ track_length night track.0 → ParkHolds night s sum part k
 
--- each way to park a shape on one of so many tracks that is long enough for it weighs at least a sum
+-- each way to park a shape on one of that many tracks that is long enough for it weighs at least a sum
 pub record TracksHold (night : Night) (prices : List Price) (s : Shape) (sum : ℤ) (tracks : ℕ) : Type 0 where
   pub holds : (k : Park) → k.track.0 < tracks → shape_length night s ≤ track_length night k.track.0 → ParkHolds night s sum (price_part_with night prices s (Some k)) k
 

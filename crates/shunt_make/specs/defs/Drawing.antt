@@ -5,7 +5,7 @@ use Rattle.std.specs.Prelude.{ℕ, zero, suc, ◌+◌, ◌*◌, ◌/◌, ◌%◌
 unfoldable pub next : ℕ → ℕ
 next x = (1103515245 * x + 12345) % 2147483648
 
--- the state that so many draws leave behind
+-- the state that that many draws leave behind
 abbrev pub after : ℕ → ℕ → ℕ
 after x zero = x
 after x (suc n) = next (after x n)

@@ -27,7 +27,7 @@ names_no_block blocks (edits.Unpark id) = lacks blocks id
 names_no_block blocks (edits.Cut id k) = lacks blocks id
 names_no_block blocks (edits.Join first second) = lacks blocks first || lacks blocks second
 
--- a cut of this block behind so many pairs leaves nothing on one of its sides
+-- a cut of this block behind that many pairs leaves nothing on one of its sides
 abbrev pub cuts_nothing : Option Block → ℕ → Bool
 cuts_nothing None k = false
 cuts_nothing (Some b) k = k == 0 || nat_le b.n k

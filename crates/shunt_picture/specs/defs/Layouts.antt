@@ -1,4 +1,4 @@
--- Where the parts of a picture stand.
+-- If the parts of a picture stand.
 use Rattle.std.specs.Prelude.{◌≡◌, All, ℕ, ◌+◌, ◌-◌, ◌*◌, ◌/◌, ◌<◌, ◌≤◌, min, max, List, [], ◌∷◌, length, fold, slice_index, slice_index_or}
 use Rattle.shunt_picture.specs.declared.records.TrainMark.{TrainMark}
 use Rattle.shunt_picture.specs.declared.records.Lane.{Lane}
@@ -10,7 +10,7 @@ use Rattle.shunt_picture.specs.defs.LaneTexts.{rows_high}
 abbrev pub columns_of : ℕ → ℕ → ℕ
 columns_of from to = max ((to - from) * 120 / 300) 1
 
--- how high so many entries are
+-- how high that many entries are
 abbrev pub lines_high : ℕ → ℕ → ℕ
 lines_high entries columns = 16 * (min entries 4096 / max columns 1 + 1)
 

@@ -28,7 +28,7 @@ tells kind number (StatedCost stated real) = false
 abbrev pub is_told : List Finding → ℕ → ℕ → Bool
 is_told findings kind number = list_any (tells kind number) findings
 
--- the places of a train with so many units, whose first one has a number, that findings of a kind are of
+-- the places of a train with that many units, whose first one has a number, that findings of a kind are of
 abbrev pub places_of : List Finding → ℕ → ℕ → ℕ → List ℕ
 places_of findings kind first count = filter (λ place. is_told findings kind (first + place)) (range_with_len 1 count)
 

@@ -35,7 +35,7 @@ fault_text fault = decimal fault ++ codes " "
 unfoldable pub faults_text : List ℕ → List ℕ
 faults_text faults = codes "<tspan class='mark'>" ++ flat_map fault_text faults ++ codes "</tspan>"
 
--- the long words where there is room for so many bytes, else the short ones, else none
+-- the long words where there is room for that many bytes, else the short ones, else none
 unfoldable pub fitting : List ℕ → List ℕ → ℕ → List ℕ
 fitting long short room = if nat_le (length long) room then long else if nat_le (length short) room then short else []
 

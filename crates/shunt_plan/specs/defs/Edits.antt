@@ -45,7 +45,7 @@ pub record AreTurns (night : Night) (all : List Turn) : Type 0 where
   pub few : length all ≤ 10000
   pub each : All (IsTurn night) all
 
--- there is room for one more turn behind so many; the 10,001st is Limit
+-- there is room for one more turn behind that many; the 10,001st is Limit
 abbrev pub room_in : ℕ → Judged (Unit {0})
 room_in before = must (nat_lt before 10000) 1 kinds.Limit
 
@@ -134,7 +134,7 @@ redo_of before row = do
   _ ← room_in before
   says turns.Redo
 
--- the turn of a record behind so many turns, by its word
+-- the turn of a record behind that many turns, by its word
 unfoldable pub turn_of : Night → ℕ → List (List ℕ) → Judged Turn
 turn_of night before row =
     if is_word row (codes "add") then add_of night before row

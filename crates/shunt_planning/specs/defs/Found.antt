@@ -20,7 +20,7 @@ pub record IsBounded (night : Night) (pins : List Block) (plan : Plan) (bound : 
 abbrev pub IsCheapest : Night → List Block → Plan → Type 0
 IsCheapest night pins plan = IsBounded night pins plan plan.cost
 
--- so many nodes, whose paths are partial plans over the pins that differ by more than their ids
+-- that many nodes, whose paths are partial plans over the pins that differ by more than their ids
 pub record AreDifferent (night : Night) (pins : List Block) (nodes : List Node) (many : ℕ) : Type 0 where
   pub many_nodes : length nodes ≡ many
   pub start : List Block

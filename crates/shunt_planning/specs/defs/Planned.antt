@@ -41,7 +41,7 @@ planned outcome p k night plan certificate = record {
   text = plan_of plan certificate.bound (length certificate.nodes);
 }
 
--- a plan and a certificate that files can state are written, which meet the eight conditions over these pins with at most so many nodes
+-- a plan and a certificate that files can state are written, which meet the eight conditions over these pins with at most that many nodes
 pub record IsPlanned (pins : List Block) (most : ℕ) (p k : List ℕ) (night : Night) (r : Reply) : Type 0 where
   pub plan : Plan
   pub certificate : Certificate
@@ -50,7 +50,7 @@ pub record IsPlanned (pins : List Block) (most : ℕ) (p k : List ℕ) (night : 
   pub meet : MeetConditions night pins most plan certificate
   pub reply : r ≡ planned (search_outcome certificate.cost certificate.bound) p k night plan certificate
 
--- the answer of a search on a night over these pins, with at most so many nodes: a plan where the units and positions that these masks
+-- the answer of a search on a night over these pins, with at most that many nodes: a plan where the units and positions that these masks
 -- don't leave out have a matching
 abbrev pub IsSoughtOver : List Block → List Bool → List Bool → ℕ → List ℕ → List ℕ → Night → Reply → Type 0
 IsSoughtOver pins units places most p k night r = (HasMatching night units places × IsPlanned pins most p k night r) ⊎ IsShortBeside units places night r

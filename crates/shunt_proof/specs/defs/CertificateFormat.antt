@@ -93,7 +93,7 @@ with_node d h = with_head (settled d) h h.duals
 
 -- ---- the record of a node
 
--- there is room for one more node behind so many; the 5,001st is Limit
+-- there is room for one more node behind that many; the 5,001st is Limit
 abbrev pub node_room : ℕ → Judged (Unit {0})
 node_room begun = must (nat_lt begun 5000) 1 kinds.Limit
 
@@ -173,7 +173,7 @@ child_of night d row = do
 
 -- ---- the records of a case
 
--- there is room for one more case behind so many; the 8,001st of the file is Limit
+-- there is room for one more case behind that many; the 8,001st of the file is Limit
 abbrev pub case_room : ℕ → Judged (Unit {0})
 case_room cases = must (nat_lt cases 8000) 1 kinds.Limit
 
@@ -188,7 +188,7 @@ value_in row k = do
   _ ← must (is_value z) k kinds.Limit
   says z
 
--- so many fields from one on are such numbers
+-- that many fields from one on are such numbers
 unfoldable pub values_in : List (List ℕ) → ℕ → ℕ → Judged (List ℤ)
 values_in row k zero = says []
 values_in row k (suc more) = do
@@ -200,7 +200,7 @@ values_in row k (suc more) = do
 abbrev pub is_lone : Limits → Bool
 is_lone l = l.to == 160 && int_eq l.multiplier (pos 0)
 
--- `case,TO,MULTIPLIER` of a first case, which isn't that one, behind so many cases of the file
+-- `case,TO,MULTIPLIER` of a first case, which isn't that one, behind that many cases of the file
 unfoldable pub first_limits_in : ℕ → List (List ℕ) → Judged Limits
 first_limits_in cases row = do
   _ ← fields_in row 3 3

@@ -25,7 +25,7 @@ use Rattle.shunt_proof.specs.defs.Recording.{Stage, Open, Stalled, Finished, Fai
 abbrev pub front_text : Night → List Node → List ℕ
 front_text night nodes = text_of_rows (head_row ∷ flat_map (node_rows night) nodes)
 
--- the text behind so many nodes: the last record, where a cost and a bound were stated
+-- the text behind that many nodes: the last record, where a cost and a bound were stated
 abbrev pub end_text : ℕ → Option (ℕ × ℕ) → List ℕ
 end_text n None = []
 end_text n (Some e) = text_of_row (end_row e.0 e.1 n)
@@ -43,23 +43,23 @@ abbrev pub nodes_of : Result Certificate RowFault → List Node
 nodes_of (Ok c) = c.nodes
 nodes_of (Err e) = []
 
--- so many nodes as they are read of bytes
+-- that many nodes as they are read of bytes
 abbrev pub nodes_read : Night → Option (ℕ × ℕ) → ℕ → List ℕ → List Node
 nodes_read night end zero bytes = []
 nodes_read night end (suc n) bytes = nodes_of (reading (certificate_format night) (records_of (bytes ++ rest_text (suc n) end)))
 
--- whether these are so many nodes with so many cases, and the bytes their text
+-- whether these are that many nodes with that many cases, and the bytes their text
 abbrev pub is_text : Night → Option (ℕ × ℕ) → ℕ → ℕ → List ℕ → List Node → Bool
 is_text night end count cases bytes nodes = length nodes == count && (case_total nodes == cases && bytes_eq bytes (file_text night end nodes))
 
 abbrev pub told_where : Bool → List Node → Option (List Node)
 told_where b nodes = if b then Some nodes else None
 
--- the one list of so many nodes with so many cases whose text the bytes are, if there is one
+-- the one list of that many nodes with that many cases whose text the bytes are, if there is one
 unfoldable pub nodes_told : Night → Option (ℕ × ℕ) → ℕ → ℕ → List ℕ → Option (List Node)
 nodes_told night end count cases bytes = told_where (is_text night end count cases bytes (nodes_read night end count bytes)) (nodes_read night end count bytes)
 
--- so many nodes with so many cases that a file can state, within its limits, and the bytes are their text
+-- that many nodes with that many cases that a file can state, within its limits, and the bytes are their text
 pub record IsTextOf (night : Night) (end : Option (ℕ × ℕ)) (count cases : ℕ) (bytes : List ℕ) (nodes : List Node) : Type 0 where
   pub are : AreNodes night nodes
   pub many : length nodes ≡ count

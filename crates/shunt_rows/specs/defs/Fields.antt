@@ -20,7 +20,7 @@ no_word s = record { checks = record { field = 1; kind = kinds.Kind; holds = fal
 unfoldable pub is_within : ℕ → ℕ → ℕ → Bool
 is_within least most x = nat_le least x && nat_le x most
 
--- the record has from so many to so many fields
+-- the record has from that many to that many fields
 abbrev pub fields_in : List (List ℕ) → ℕ → ℕ → Judged (Unit {0})
 fields_in row least most = must (is_within least most (length row)) 1 kinds.Fields
 

@@ -80,7 +80,7 @@ pub record IsInOrder {S V : Type 0} (f : Format S V) : Type 0 where
   pub first : (row : List (List ℕ)) → HasChecksInOrder (f.first row)
   pub later : (s : S) (row : List (List ℕ)) → HasChecksInOrder (f.later s row)
 
--- reading tells what records state: a value or a first fault, and never both
+-- reading says what records state: a value or a first fault, and never both
 pub record Tells {S V : Type 0} (f : Format S V) (rows : List (List (List ℕ))) : Type 0 where
   pub value : (v : V) → (reading f rows ≡ Ok v) ↔ States f rows v
   pub fault : (e : RowFault) → (reading f rows ≡ Err e) ↔ IsFirst f rows e

@@ -48,13 +48,13 @@ pub record IsAboveAssignment (night : Night) (bound : ℕ) : Type 0 where
   pub is : IsAssignmentBound night assignment
   pub above : assignment ≤ bound
 
--- 6, 7 and 8: at most so many nodes, and exactly so many where the bound is below the cost; it isn't where there are fewer partial plans
+-- 6, 7 and 8: at most that many nodes, and exactly that many where the bound is below the cost; it isn't where there are fewer partial plans
 pub record AreSpent (night : Night) (pins : List Block) (most nodes cost bound : ℕ) : Type 0 where
   pub few : nodes ≤ most
   pub all : bound < cost → nodes ≡ most
   pub optimal : partial_plans night pins < most → bound ≡ cost
 
--- the eight conditions on a plan and a certificate, with at most so many nodes
+-- the eight conditions on a plan and a certificate, with at most that many nodes
 pub record MeetConditions (night : Night) (pins : List Block) (most : ℕ) (plan : Plan) (c : Certificate) : Type 0 where
   pub plan_for : IsPlanFor night pins plan
   pub tidy : IsTidy night pins plan

@@ -18,7 +18,7 @@ pub record IsLeft (waiting : List Pending) (low bound : ℤ) : Type 0 where
   pub left : (t : Pending) → In t waiting → bound ≤ℤ t.child.bound
   pub least : (bound ≡ low) ⊎ ((t : Pending) × In t waiting × (bound ≡ t.child.bound))
 
--- a search is done: it has noted so many nodes, or no child is left and none was passed over
+-- a search is done: it has noted that many nodes, or no child is left and none was passed over
 abbrev pub IsDone : ℕ → ℕ → List Pending → ℕ → ℤ → Type 0
 IsDone number most waiting best low = (number ≡ most) ⊎ ((waiting ≡ []) × (low ≡ pos best))
 
@@ -26,7 +26,7 @@ IsDone number most waiting best low = (number ≡ most) ⊎ ((waiting ≡ []) ×
 abbrev pub certificate_of : Plan → ℕ → List Node → Certificate
 certificate_of plan bound nodes = record { cost = plan.cost; bound = bound; nodes = nodes }
 
--- some nodes, so many, and those that are told where any are told, are with the plan's cost and the bound a certificate that a file can
+-- some nodes, that many, and those that are told where any are told, are with the plan's cost and the bound a certificate that a file can
 -- state, and meet the conditions with the plan
 pub record IsShown (night : Night) (pins : List Block) (most : ℕ) (plan : Plan) (b number : ℕ) (told : Option (List Node)) : Type 0 where
   pub nodes : List Node

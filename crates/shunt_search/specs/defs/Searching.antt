@@ -25,7 +25,7 @@ pub record IsStock (night : Night) (stock : List (List Case)) : Type 0 where
   pub each : All (AreStatable night) stock
 
 -- some nodes are a walk from the pins to the yard's path, with these children left: they are the nodes that are told, where any are told,
--- and so many, with so many cases of their own; the floor is at least the assignment bound, and at most the bound of the pins by the first
+-- and that many, with that many cases of their own; the floor is at least the assignment bound, and at most the bound of the pins by the first
 -- cases of the stock; and the low bound is the best cost where the walk is plain
 pub record IsSearch (night : Night) (pins : List Block) (stock : List (List Case)) (told : Option (List Node)) (number owned : ℕ) (waiting : List Pending) (s : Search) : Type 0 where
   pub start : List Block
@@ -111,7 +111,7 @@ pub record IsFresh (night : Night) (pins : List Block) (stock : List (List Case)
   pub low : s.low ≡ pos s.known.cost
   pub empty : s.waiting.items ≡ []
 
--- its root was noted, with so many cases
+-- its root was noted, with that many cases
 pub record Begins (s z : Search) (cases : ℕ) : Type 0 where
   pub yard : z.yard ≡ s.yard
   pub known : z.known ≡ s.known

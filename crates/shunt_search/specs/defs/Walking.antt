@@ -110,7 +110,7 @@ pub record IsNodeOf (night : Night) (start path : List Block) (t : Child) (n : N
 abbrev pub stated : Block → Choice
 stated b = record { n = b.n; dep = b.dep; q = b.q; park = b.park }
 
--- the node of a next block, so many pins before the first node's, as it is noted: a whole path, or a branch with its parent's cases or
+-- the node of a next block, that many pins before the first node's, as it is noted: a whole path, or a branch with its parent's cases or
 -- with its own from a stock
 abbrev pub node_below : ℕ → Block → List (List Case) → Noted → Node
 node_below pins b stock noted.Whole = record { depth = b.id - pins; choice = Some (stated b); kind = Whole; duals = Bare }

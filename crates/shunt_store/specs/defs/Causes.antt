@@ -5,11 +5,11 @@ use Rattle.std.specs.Prelude.{◌≡◌, ◌⊎◌, ℕ, ◌+◌, ◌-◌, ◌^�
 abbrev pub one_more : ℕ → ℕ
 one_more count = min (count + 1) (2 ^ 64 - 1)
 
--- a count and so many more, but never past the last value that a count can have
+-- a count and that many more, but never past the last value that a count can have
 abbrev pub counted_on : ℕ → ℕ → ℕ
 counted_on count more = min (count + more) (2 ^ 64 - 1)
 
--- a count rose by so many at least, or stands at the last value that it can have
+-- a count rose by that many at least, or stands at the last value that it can have
 abbrev pub RoseBy : ℕ → ℕ → ℕ → Type 0
 RoseBy more before now = (before + more ≤ now) ⊎ (now ≡ 2 ^ 64 - 1)
 
@@ -26,7 +26,7 @@ pub record Counts {T E : Type 0} (fault : E) (before now : ℕ) (result : Result
   pub failed : IsErrOf result fault → IsOneMore before now
   pub other : (IsErrOf result fault → ⊥) → now ≡ before
 
--- the count doesn't fall, and this error is told only where it rose
+-- the count doesn't fall, and this error is told only if it rose
 pub record HasCause {T E : Type 0} (fault : E) (before now : ℕ) (result : Result T E) : Type 0 where
   pub later : before ≤ now
   pub failed : IsErrOf result fault → Rose before now

@@ -1,7 +1,7 @@
 -- How many bytes a call moves.
 use Rattle.std.specs.Prelude.{ℕ, ◌≤◌, min, Option, Some, None}
 
--- so many bytes, but no more than the bound where there is one
+-- that many bytes, but no more than the bound where there is one
 abbrev pub bounded : Option ℕ → ℕ → ℕ
 bounded None n = n
 bounded (Some most) n = min n most

@@ -47,7 +47,7 @@ pub record IsSmall (e : Event) : Type 0 where
   pub standing : e.standing ≤ 65536
   pub load : e.load ≤ 65536 * 2 ^ 32
 
--- so many events come before a key
+-- that many events come before a key
 pub record IsPlace (events : List Event) (k : EventKey) (n : ℕ) : Type 0 where
   pub bound : n ≤ length events
   pub before : (e : Event) → In e (take n events) → at e < rank k

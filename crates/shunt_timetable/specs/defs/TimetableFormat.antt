@@ -47,20 +47,20 @@ platform_in platforms row k = do
 abbrev pub has_train : List Train → List ℕ → Bool
 has_train trains name = list_any (λ t. bytes_eq t.name name) trains
 
--- the field is the type of one more unit, behind so many units of trains of its word; the 161st is Limit
+-- the field is the type of one more unit, behind that many units of trains of its word; the 161st is Limit
 abbrev pub kind_of : List UnitType → ℕ → List (List ℕ) → ℕ → Judged TypeId
 kind_of types before row k = do
   kind ← named_in (λ x. x.name) types row k
   _ ← must (nat_lt before 160) k kinds.Limit
   says (record { 0 = kind })
 
--- a train with one more unit, whose type is this field; the trains before it have so many units
+-- a train with one more unit, whose type is this field; the trains before it have that many units
 unfoldable pub unit_of : Station → ℕ → Train → List (List ℕ) → ℕ → Judged Train
 unit_of station before t row k = do
   kind ← kind_of station.types (before + length t.units) row k
   says record t { units = t.units ++ kind ∷ [] }
 
--- so many such fields, from this one on
+-- that many such fields, from this one on
 unfoldable pub units_from : Station → ℕ → Train → List (List ℕ) → ℕ → ℕ → Judged Train
 units_from station before t row k zero = says t
 units_from station before t row k (suc more) = do

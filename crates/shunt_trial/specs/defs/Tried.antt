@@ -64,7 +64,7 @@ tried number units s t p k plan certificate = record {
   text = made_line number units ++ rehearsal_of (made_night number units) plan certificate;
 }
 
--- the answer of `trial`, with at most so many nodes: of a plan and a certificate that files can state, which meet the eight conditions
+-- the answer of `trial`, with at most that many nodes: of a plan and a certificate that files can state, which meet the eight conditions
 -- over the made night
 pub record IsTried (number units most : ℕ) (s t p k : List ℕ) (r : Reply) : Type 0 where
   pub plan : Plan

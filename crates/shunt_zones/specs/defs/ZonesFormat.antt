@@ -87,7 +87,7 @@ later_of s z row =
 abbrev pub zones_format : Station → Format Zones Zones
 zones_format s = record { first = first_of; later = later_of s; has_ended = λ z. false; is_whole = λ z. true; value = λ z. z }
 
--- a zone with so many names lies over a way of the station
+-- a zone with that many names lies over a way of the station
 pub record IsOver (s : Station) (zones : ℕ) (o : Over) : Type 0 where
   pub platform : o.platform.0 < length s.platforms
   pub track : o.track.0 < length s.tracks

@@ -9,7 +9,8 @@
 //! `plain duals STATION TIMETABLE RUNS` sees whether two cases of 64 prices hold and what they bound;
 //! `plain certificate write STATION TIMETABLE FILE` writes the largest certificate of a night, and `read` in the place of `write`
 //! reads it;
-//! `plain night NUMBER UNITS STATION TIMETABLE` writes the night that the generator makes of a number;
+//! `plain night NUMBER UNITS STATION TIMETABLE` writes the night that the generator makes of a number, and
+//! `plain night FAMILY NUMBER UNITS FOLDER` one of the families `day`, `stand`, `money`, `mixed` and `yard`;
 //! `plain tree NUMBER UNITS NODES same STATION TIMETABLE PLAN CERT` writes such a night with a plan and a certificate of so many nodes,
 //! each with its parent's duals, or with new ones for `new` in the place of `same`; `plain check STATION TIMETABLE PLAN CERT` checks it;
 //! `plain plan STATION TIMETABLE NODES PLAN CERT` plans a night, and writes the plan with a certificate of at most so many nodes.
@@ -19,6 +20,7 @@ mod certificates;
 mod checker;
 mod choices;
 mod duals;
+mod families;
 mod nights;
 mod plan;
 mod trees;
@@ -38,7 +40,10 @@ fn main() {
         ["assign", station, timetable, runs] => assign::measure(station, timetable, runs.parse().expect("a number")),
         ["duals", station, timetable, runs] => duals::measure(station, timetable, runs.parse().expect("a number")),
         ["certificate", doing, station, timetable, file] => certificates::measure(doing, station, timetable, file),
-        ["night", number, units, station, timetable] => write_night(number, units, station, timetable),
+        ["night", first, second, third, last] => match families::Family::named(first) {
+            Some(family) => write_family(family, second, third, last),
+            None => write_night(first, second, third, last),
+        },
         ["tree", number, units, nodes, duals, station, timetable, plan, certificate] => {
             trees::write_all(number, units, nodes, duals, [station, timetable, plan, certificate]);
         }
@@ -54,6 +59,13 @@ fn write_night(number: &str, units: &str, station: &str, timetable: &str) {
     let (stations, trains) = nights::made(number.parse().expect("a number"), units.parse().expect("a number"));
     std::fs::write(station, stations).expect("a folder");
     std::fs::write(timetable, trains).expect("a folder");
+}
+
+fn write_family(family: families::Family, number: &str, units: &str, folder: &str) {
+    let (stations, trains) = families::made(family, number.parse().expect("a number"), units.parse().expect("a number"));
+    std::fs::create_dir_all(folder).expect("a place for a folder");
+    std::fs::write(format!("{folder}/station.csv"), stations).expect("a folder");
+    std::fs::write(format!("{folder}/timetable.csv"), trains).expect("a folder");
 }
 
 fn make(kind: &str, size: usize) {

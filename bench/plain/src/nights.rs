@@ -3,18 +3,29 @@
 use crate::choices::{Night, Train, way};
 use std::fmt::Write;
 
-struct Draws(u64);
+/// Numbers that look random.
+pub(crate) struct Draws(u64);
 
 impl Draws {
-    fn below(&mut self, n: u64) -> u64 {
+    pub(crate) fn new(start: u64) -> Draws {
+        Draws(start)
+    }
+
+    /// A number below one of at most 2^15.
+    pub(crate) fn below(&mut self, n: u64) -> u64 {
         self.0 = (1_103_515_245 * self.0 + 12_345) % (1 << 31);
         self.0 / 65_536 % n
+    }
+
+    /// A number from one to another.
+    pub(crate) fn between(&mut self, least: u64, most: u64) -> u64 {
+        least + self.below(most - least + 1)
     }
 }
 
 /// The texts of the station and the timetable of a night made from a number, with so many units.
 pub(crate) fn made(number: u64, units: usize) -> (String, String) {
-    let mut draws = Draws(number);
+    let mut draws = Draws::new(number);
     let mut station = String::from("station,2,G\ntype,K,250,10\ntype,L,500,20\ntype,M,750,30\nplatform,P1\nplatform,P2\n");
     let tracks = 2 + units / 4;
     let sides = |track: usize| if track % 3 == 0 { "AB" } else { "A" };

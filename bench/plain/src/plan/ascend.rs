@@ -6,7 +6,14 @@ use super::model::ONE;
 const FINE: u32 = 24;
 const UNIT: u32 = 20;
 const LARGEST: i64 = 1 << 34;
-const FARTHEST: i64 = 999_999_999 * ONE;
+// The greatest value of a price, and that of any number of a case.
+const DEAREST: i64 = 999_999_999;
+const LIMIT: i64 = 470_000_000_000;
+
+// How far the numbers of an ascent go at most.
+fn farthest(scene: &Scene) -> i64 {
+    (DEAREST * scene.model.grain).min(LIMIT) * ONE
+}
 
 /// Where an ascent goes: which numbers it changes, how far it goes at first, and when it ends.
 #[derive(Clone, Copy)]
@@ -51,7 +58,7 @@ impl Numbers {
     fn put(&self, scene: &Scene, ascent: Ascent, at: &[i64], point: &mut Point) {
         scene.free.iter().zip(at).for_each(|(v, value)| point.beta[*v] = *value);
         for (slot, value) in self.slots.iter().zip(&at[scene.free.len()..]) {
-            point.prices[*slot] = (value / scale(scene, *slot)).max(0);
+            point.prices[*slot] = (value / scale(scene, *slot)).clamp(0, DEAREST * ONE);
         }
         if ascent.multiplier {
             point.multiplier = at[at.len() - 1];
@@ -198,8 +205,9 @@ impl Climb<'_, '_> {
 
     // One step in the direction of the metric, and the sum and the slopes there.
     fn step_on(&mut self, work: &mut Work) {
+        let farthest = farthest(self.scene);
         for (at, to) in self.numbers.at.iter_mut().zip(&self.metric.direction) {
-            *at = (*at + ((i128::from(self.step) * i128::from(*to)) >> FINE) as i64).clamp(-FARTHEST, FARTHEST);
+            *at = (*at + ((i128::from(self.step) * i128::from(*to)) >> FINE) as i64).clamp(-farthest, farthest);
         }
         self.numbers.put(self.scene, self.ascent, &self.numbers.at, &mut self.point);
         let sum = work.evaluate(self.scene, self.span, &self.point);
@@ -222,7 +230,7 @@ impl Climb<'_, '_> {
                 break;
             }
             if steps >= 3 {
-                self.step = (self.step / 5 * 6).min(1 << 30);
+                self.step = (self.step / 5 * 6).min(self.scene.model.grain << 30);
             }
         }
         if steps == 1 {

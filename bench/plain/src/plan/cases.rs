@@ -4,7 +4,7 @@ use super::ascend::{Ascent, ascend};
 use super::evaluate::{Point, Scene, Span, Work};
 use super::fit::whole_prices;
 use super::model::ONE;
-use super::prices::{EVERY, FIRST, TENTHS, betas_alone};
+use super::prices::{EVERY, TENTHS, betas_alone, first};
 
 /// A case of the path without blocks while it is searched for: what it speaks of, its numbers and its sum there.
 #[derive(Clone)]
@@ -26,9 +26,10 @@ fn least(cases: &[Found]) -> i64 {
 // A case of some numbers of unparked blocks, from the one that speaks of all, with a multiplier to begin with.
 fn part(scene: &Scene, span: Span, one: &Point, multiplier: i64, goal: i64, work: &mut Work) -> Found {
     let start = Point { multiplier, ..one.clone() };
-    let ascent = Ascent { multiplier: true, goal, ..FIRST };
+    let grain = scene.model.grain;
+    let ascent = Ascent { multiplier: true, goal, ..first(grain) };
     let (point, _) = ascend(scene, span, ascent, &start, work);
-    let ascent = Ascent { multiplier: true, goal, ..betas_alone(scene.covered.len()) };
+    let ascent = Ascent { multiplier: true, goal, ..betas_alone(scene.covered.len(), grain) };
     let (point, sum) = whole_prices(scene, span, ascent, &TENTHS, &point, work);
     Found { span, point, sum }
 }
@@ -42,7 +43,7 @@ fn two(scene: &Scene, one: &Point, many: i64, goal: i64, work: &mut Work) -> Vec
 
 /// The cases at the path without blocks, parted near the number of unparked blocks of a plan of this cost.
 pub(crate) fn cases_at_root(scene: &Scene, one: Found, unparked: i64, cost: i64, work: &mut Work) -> Vec<Found> {
-    let (goal, close) = (goal_for(cost), 500 * ONE);
+    let (goal, close) = (goal_for(cost), 500 * ONE * scene.model.grain);
     let (point, alone) = (one.point.clone(), one.sum);
     let mut best = vec![one];
     let mut seen = vec![];

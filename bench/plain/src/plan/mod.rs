@@ -22,7 +22,7 @@ use fit::{alphas, case_of};
 use guide::Guide;
 use model::Model;
 use prices::{EVERY, root_point};
-use ruin::{Search, opening, polish};
+use ruin::{COOL, Fall, HOT, MANY, MILD, Search, WARM, opening, polish};
 use tree::{Fixed, Tree};
 
 fn cost_of(tables: &Tables, plan: &[Choice]) -> i64 {
@@ -34,25 +34,33 @@ fn unparked_in(plan: &[Choice]) -> i64 {
 }
 
 // The cheapest of a plan and what a search that a case guides finds.
-fn better(model: &Model, case: &Fixed, plan: Vec<Choice>, steps: i64) -> Vec<Choice> {
+fn better(model: &Model, case: &Fixed, plan: Vec<Choice>, steps: i64, falls: &[Fall]) -> Vec<Choice> {
     let guide = Guide::new(model, &case_of(model, case));
-    let mut other = Search::new(model, &guide, &plan).run(steps);
+    let mut other = Search::new(model, &guide, &plan).run(steps, falls);
     polish(model.tables, &mut other);
     if cost_of(model.tables, &other) < cost_of(model.tables, &plan) { other } else { plan }
 }
 
 // How often blocks are ruined before the cases of the root are parted.
-fn first_rounds(units: i64) -> i64 {
-    if units > 12 { 60_000 } else { 5_000 * units }
+fn first_rounds(units: usize) -> i64 {
+    if units > 12 { 60_000 } else { 5_000 * units as i64 }
+}
+
+fn first_falls(units: usize) -> &'static [Fall] {
+    if units > MANY { &[COOL] } else { &[HOT] }
 }
 
 // How often they are ruined once those are known.
-fn last_rounds(units: i64) -> i64 {
+fn last_rounds(units: usize) -> i64 {
     match units {
-        101.. => 75_000,
+        101.. => 150_000,
         31.. => 300_000,
-        _ => 10_000 * units,
+        _ => 10_000 * units as i64,
     }
+}
+
+fn last_falls(units: usize) -> &'static [Fall] {
+    if units > MANY { &[COOL, COOL] } else { &[WARM, MILD] }
 }
 
 /// Writes a plan and a certificate of at most so many nodes, and prints what they come to.
@@ -66,11 +74,12 @@ pub fn plan(files: [&str; 2], nodes: &str, plan_file: &str, certificate_file: &s
     let (fixed, _) = alphas(&scene, one.span, &one.point, &mut work);
     let mut opening = opening(&tables);
     polish(&tables, &mut opening);
-    let units = tables.units.len() as i64;
-    let plan = better(&model, &fixed, opening, first_rounds(units));
+    let units = tables.units.len();
+    let plan = better(&model, &fixed, opening, first_rounds(units), first_falls(units));
     let found = cases_at_root(&scene, one, unparked_in(&plan), cost_of(&tables, &plan), &mut work);
     let (cases, sums): (Vec<_>, Vec<_>) = found.iter().map(|found| alphas(&scene, found.span, &found.point, &mut work)).unzip();
-    let plan = better(&model, &cases[cases.len() - 1], plan, last_rounds(units));
+    let lowest = (0..cases.len()).min_by_key(|k| sums[*k]).unwrap_or(0);
+    let plan = better(&model, &cases[lowest], plan, last_rounds(units), last_falls(units));
     let cost = cost_of(&tables, &plan);
     let mut tree = Tree::new(&model, cases, sums, plan, cost);
     let bound = tree.grow(nodes.parse().expect("a number"));

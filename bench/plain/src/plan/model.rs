@@ -60,6 +60,16 @@ pub(crate) struct Model<'t> {
     /// For each unit and position, where their shapes begin among the rows.
     pub(crate) starts: Vec<usize>,
     pub(crate) unparked: i64,
+    pub(crate) grain: i64,
+}
+
+/// What the steps, levels and temperatures of the search count in, so that they fit nights of any costs: a tenth of the middle one of the
+/// costs of ways, splits and couplings that aren't 0, at least 1.
+fn grain(tables: &Tables) -> i64 {
+    let night = &tables.night;
+    let mut costs: Vec<u64> = night.routes.values().copied().chain([night.split, night.couple]).filter(|cost| *cost > 0).collect();
+    costs.sort_unstable();
+    costs.get(costs.len() / 2).map_or(1, |middle| (middle / 10).max(1) as i64)
 }
 
 type Likeness = (Option<usize>, Option<usize>, Option<usize>, u64, usize, usize, Vec<usize>);
@@ -116,7 +126,7 @@ impl Model<'_> {
             }
         }
         starts.push(rows.len());
-        Model { tables, slots, rows, groups, starts, unparked: 1000 * ONE * tables.night.unparked as i64 }
+        Model { tables, slots, rows, groups, starts, unparked: 1000 * ONE * tables.night.unparked as i64, grain: grain(tables) }
     }
 
     /// The shapes that begin at a unit and a position, the shortest first.

@@ -11,37 +11,42 @@ pub(crate) const EVERY: Span = Span { from: 0, to: 160 };
 pub(crate) const MOST: usize = 64;
 pub(crate) const TENTHS: [i64; 1] = [5];
 
+// The most evaluations of an ascent at the path without blocks.
+const LONGEST: usize = 6_000;
+
 /// An ascent at the path without blocks.
-pub(crate) const FIRST: Ascent = Ascent { lengths: true, multiplier: false, step: 20_000, most: 6_000, goal: i64::MAX };
+pub(crate) fn first(grain: i64) -> Ascent {
+    Ascent { lengths: true, multiplier: false, step: 20_000 * grain, most: LONGEST, goal: i64::MAX }
+}
 
 /// An ascent of the betas alone.
-pub(crate) fn betas_alone(units: usize) -> Ascent {
-    Ascent { lengths: false, multiplier: false, step: 300, most: 60 + 2 * units, goal: i64::MAX }
+pub(crate) fn betas_alone(units: usize, grain: i64) -> Ascent {
+    Ascent { lengths: false, multiplier: false, step: 300 * grain, most: 60 + 2 * units, goal: i64::MAX }
 }
 
 // The best point with these prices at the path without blocks.
 fn ascended(model: &Model, point: &Point, most: usize) -> Point {
     let scene = Scene::new(model, &Path::new(model.tables));
-    ascend(&scene, EVERY, Ascent { most, ..FIRST }, point, &mut Work::new(model)).0
+    ascend(&scene, EVERY, Ascent { most, ..first(model.grain) }, point, &mut Work::new(model)).0
 }
 
 /// The prices that are worth a place, the best case at the path without blocks with these, and its sum.
 pub(crate) fn root_point(tables: &Tables) -> (Vec<Slot>, Point, i64) {
     let (slots, point) = length_prices(tables);
     let model = Model::new(tables, slots);
-    let point = ascended(&model, &point, FIRST.most);
+    let point = ascended(&model, &point, LONGEST);
     let (slots, point) = with_parts(&model, &point);
     let model = Model::new(tables, slots);
-    let point = ascended(&model, &point, FIRST.most);
+    let point = ascended(&model, &point, LONGEST);
     let (slots, point) = best_slots(&model, &point);
     let model = Model::new(tables, slots);
-    let point = ascended(&model, &point, FIRST.most);
+    let point = ascended(&model, &point, LONGEST);
     let scene = Scene::new(&model, &Path::new(tables));
-    let (point, sum) = whole_prices(&scene, EVERY, betas_alone(tables.units.len()), &TENTHS, &point, &mut Work::new(&model));
+    let (point, sum) = whole_prices(&scene, EVERY, betas_alone(tables.units.len(), model.grain), &TENTHS, &point, &mut Work::new(&model));
     (model.slots, point, sum)
 }
 
-// The prices of length to begin with: all, or where these are too many those that ten rounds find.
+// The prices of length to begin with: all, or where these are too many those that ten rounds find, fewer where they find the same again.
 fn length_prices(tables: &Tables) -> (Vec<Slot>, Point) {
     let all = moments(tables).into_iter().flat_map(|train| (0..tables.night.tracks).map(move |track| Slot { parts: None, track, train }));
     let full = Model::new(tables, all.collect());
@@ -52,6 +57,7 @@ fn length_prices(tables: &Tables) -> (Vec<Slot>, Point) {
     let mut places = fullest(&full, &none, &[]);
     let mut point = none;
     for _ in 0..10 {
+        let before = places.clone();
         let model = Model::new(tables, places.iter().map(|place| full.slots[*place]).collect());
         let start = Point { prices: places.iter().map(|place| point.prices[*place]).collect(), ..point.clone() };
         let found = ascended(&model, &start, 1_500);
@@ -61,6 +67,9 @@ fn length_prices(tables: &Tables) -> (Vec<Slot>, Point) {
         let more = fullest(&full, &point, &places);
         places.extend(more);
         places.sort_unstable();
+        if places == before {
+            break;
+        }
     }
     (places.iter().map(|place| full.slots[*place]).collect(), Point { prices: places.iter().map(|place| point.prices[*place]).collect(), ..point })
 }

@@ -2,11 +2,26 @@
 
 use super::draws::{Cooling, Draws};
 use super::guide::Guide;
-use super::model::{Model, ONE};
+use super::model::{Model, NO_WAY, ONE};
 use super::yard::{Stay, Yard};
 use crate::nights::{Choice, Park, Shape, Tables};
 
 const NO_BLOCK: usize = usize::MAX;
+
+/// Above so many units a search begins cool and goes on longer.
+pub(crate) const MANY: usize = 100;
+
+/// A temperature in thousandths, and by what it falls 256 times, in millionths, so that it ends at 300.
+#[derive(Clone, Copy)]
+pub(crate) struct Fall {
+    first: i64,
+    factor: i64,
+}
+
+pub(crate) const HOT: Fall = Fall { first: 60_000, factor: 979_516 };
+pub(crate) const WARM: Fall = Fall { first: 30_000, factor: 982_172 };
+pub(crate) const MILD: Fall = Fall { first: 10_000, factor: 986_396 };
+pub(crate) const COOL: Fall = Fall { first: 8_000, factor: 987_256 };
 
 /// A plan under change. A block's number is its first unit.
 pub(crate) struct Search<'m> {
@@ -22,6 +37,11 @@ pub(crate) struct Search<'m> {
     yard: Yard,
     cost: i64,
     parts: i64,
+    /// For each unit the least of a block's cost that falls on it, and their sum over the units without a block.
+    shares: Vec<i64>,
+    bare: i64,
+    /// What the noises are divided by.
+    quiet: i64,
     gone: Vec<Choice>,
     come: Vec<usize>,
 }
@@ -29,6 +49,7 @@ pub(crate) struct Search<'m> {
 impl Search<'_> {
     pub(crate) fn new<'m>(model: &'m Model<'m>, guide: &'m Guide, plan: &[Choice]) -> Search<'m> {
         let tables = model.tables;
+        let shares = shares(model);
         let (units, positions) = (tables.units.len(), tables.positions.len());
         let mut search = Search {
             model,
@@ -42,6 +63,9 @@ impl Search<'_> {
             yard: Yard::new(tables),
             cost: 0,
             parts: 0,
+            bare: shares.iter().sum(),
+            shares,
+            quiet: if units > MANY { 2 } else { 1 },
             gone: vec![],
             come: vec![],
         };
@@ -60,6 +84,8 @@ impl Search<'_> {
     fn weigh(&mut self, choice: Choice, sign: i64) {
         self.cost += sign * 1000 * self.tables().cost(choice).unwrap_or(0) as i64;
         self.parts += sign * self.guide.part(self.group(choice.shape), choice);
+        let Shape { u, n, .. } = choice.shape;
+        self.bare -= sign * self.shares[u..u + n].iter().sum::<i64>();
     }
 
     fn put(&mut self, choice: Choice) {
@@ -243,9 +269,14 @@ impl Search<'_> {
         Some(least?.1)
     }
 
-    // Covers what is free, train by train in some order; whether it can.
-    fn recreate(&mut self) -> bool {
-        let noise = [1, 4_000, 16_000, 60_000, 130_000, 260_000][self.draws.below(6)];
+    // What the plan comes to, with so much of the prices.
+    fn weighed(&self, kappa: i64) -> i64 {
+        self.cost + kappa * self.parts / 1024
+    }
+
+    // Covers what is free, train by train in some order; whether it can, and nothing shows earlier that the plan comes to more than the most.
+    fn recreate(&mut self, kappa: i64, most: i64) -> bool {
+        let noise = [1, 4_000, 16_000, 60_000, 130_000, 260_000][self.draws.below(6)] / self.quiet * self.model.grain;
         let units = &self.model.tables.units;
         let mut trains: Vec<usize> = self.gone.iter().map(|choice| units[choice.shape.u].train).collect();
         trains.sort_unstable();
@@ -266,6 +297,9 @@ impl Search<'_> {
                 let Some(choice) = self.best_at(u, noise) else { return false };
                 self.put(choice);
                 self.come.push(choice.shape.u);
+                if self.weighed(kappa) + self.bare > most {
+                    return false;
+                }
             }
         }
         true
@@ -289,7 +323,7 @@ impl Search<'_> {
         for _ in 0..24 {
             let before = self.cost;
             (0..self.units.len()).for_each(|u| self.ruin(u));
-            if !self.recreate() || self.cost >= before {
+            if !self.recreate(0, i64::MAX) || self.cost >= before {
                 self.undo();
             }
             self.gone.clear();
@@ -297,34 +331,62 @@ impl Search<'_> {
         }
     }
 
-    /// The cheapest plan that so many steps of ruin and recreation find.
-    pub(crate) fn run(&mut self, steps: i64) -> Vec<Choice> {
+    // Takes a plan in the place of the one under change.
+    fn return_to(&mut self, plan: &[Choice]) {
+        (0..self.units.len()).for_each(|u| self.ruin(u));
+        plan.iter().for_each(|choice| self.put(*choice));
+        self.gone.clear();
+    }
+
+    // So many steps while the temperature falls once, which note a plan that is cheaper than the best one.
+    fn cool(&mut self, cooling: &Cooling, fall: Fall, steps: i64, best: &mut (Vec<Choice>, i64)) {
+        let mut temperature = fall.first * ONE * self.model.grain;
+        for step in 0..steps {
+            if step % (steps / 256).max(1) == 0 {
+                temperature = temperature * fall.factor / 1_000_000;
+            }
+            let kappa = 512 * (steps - step) / steps;
+            let before = self.weighed(kappa);
+            self.ruin_some();
+            let most = before + cooling.rise(temperature / ONE, &mut self.draws);
+            if !self.recreate(kappa, most) || self.weighed(kappa) > most {
+                self.undo();
+            }
+            self.gone.clear();
+            self.come.clear();
+            if self.cost < best.1 {
+                *best = (self.plan(), self.cost);
+            }
+        }
+    }
+
+    /// The cheapest plan that so many steps of ruin and recreation find, as many for each fall of the temperature; each begins with the best.
+    pub(crate) fn run(&mut self, steps: i64, falls: &[Fall]) -> Vec<Choice> {
         if self.units.is_empty() {
             return vec![];
         }
         self.begin();
         let cooling = Cooling::new();
-        let (mut best, mut best_cost) = (self.plan(), self.cost);
-        let mut temperature = 60_000 * ONE;
-        for step in 0..steps {
-            if step % (steps / 256).max(1) == 0 {
-                temperature = temperature * 979_516 / 1_000_000;
-            }
-            let kappa = 512 * (steps - step) / steps;
-            let before = self.cost + kappa * self.parts / 1024;
-            self.ruin_some();
-            let rise = cooling.rise(temperature / ONE, &mut self.draws);
-            if !self.recreate() || self.cost + kappa * self.parts / 1024 - before > rise {
-                self.undo();
-            }
-            self.gone.clear();
-            self.come.clear();
-            if self.cost < best_cost {
-                (best, best_cost) = (self.plan(), self.cost);
-            }
+        let mut best = (self.plan(), self.cost);
+        for fall in falls {
+            self.return_to(&best.0);
+            self.cool(&cooling, *fall, steps / falls.len() as i64, &mut best);
         }
-        best
+        best.0
     }
+}
+
+// For each unit the least cost of a block with it over its units, in thousandths.
+fn shares(model: &Model) -> Vec<i64> {
+    let mut shares = vec![i64::MAX; model.tables.units.len()];
+    let least = |group: &super::model::Group| group.ways.iter().copied().min().unwrap_or(NO_WAY).min(model.unparked) / ONE;
+    let least: Vec<i64> = model.groups.iter().map(least).collect();
+    for row in &model.rows {
+        let Shape { u, n, .. } = row.shape;
+        let share = (row.ends / ONE + least[row.group]) / n as i64;
+        shares[u..u + n].iter_mut().for_each(|old| *old = share.min(*old));
+    }
+    shares
 }
 
 /// A plan of unparked blocks of one unit, each type's units with its positions in their order.

@@ -58,7 +58,7 @@ pub(crate) struct Tree<'m> {
     level: Level,
 }
 
-/// The work at one bound: how many nodes it took, what share of it is done, and whether its nodes aren't lifted any more.
+/// The work at some bounds, the last of which it has: how many nodes it took, what share of it is done, and whether its nodes aren't lifted any more.
 struct Level {
     bound: i64,
     nodes: i64,
@@ -179,11 +179,12 @@ impl Tree<'_> {
 
     // A case of a node whose scene has its choices, lifted to a level.
     fn lifted(&mut self, scene: &Scene, case: &Fixed, level: i64, many: bool, depth: usize) -> (Rc<Fixed>, i64) {
-        let goal = 1000 * (level + 4).min(self.cost - 1) + 1;
+        let grain = self.model.grain;
+        let goal = 1000 * (level + 4 * grain).min(self.cost - 1) + 1;
         let most = if depth < 2 { 240 } else { 60 };
-        let ascent = Ascent { lengths: true, multiplier: many, step: 6_000, most, goal: (goal + 3000) * ONE };
+        let ascent = Ascent { lengths: true, multiplier: many, step: 6_000 * grain, most, goal: (goal + 3000 * grain) * ONE };
         let (point, _) = ascend(scene, case.span, ascent, &case.point, &mut self.work);
-        let ascent = Ascent { step: 300, most: 20, goal: goal * ONE, ..ascent };
+        let ascent = Ascent { step: 300 * grain, most: 20, goal: goal * ONE, ..ascent };
         let (point, _) = whole_prices(scene, case.span, ascent, &[5], &point, &mut self.work);
         let (fixed, sum) = alphas(scene, case.span, &point, &mut self.work);
         (Rc::new(fixed), sum)
@@ -191,7 +192,7 @@ impl Tree<'_> {
 
     // Looks for cases of a node that bound all its choices above the level, and takes them where its least bound rises.
     fn lift(&mut self, place: usize, level: i64) {
-        self.nodes[place].tried = level;
+        self.nodes[place].tried = self.last_of(level);
         let path = self.path(place);
         let Some(next) = path.next() else { return };
         let mut scene = Scene::new(self.model, &path);
@@ -201,7 +202,7 @@ impl Tree<'_> {
         for k in 0..many {
             let open = |entry: &Entry| k + 1 == many || scene.unparked + i64::from(entry.track.is_none()) <= cases[k].span.to;
             let some: Vec<Entry> = found.iter().map(|found| found.0).filter(open).collect();
-            if !some.is_empty() && up(sums[k]) <= level + 4 {
+            if !some.is_empty() && up(sums[k]) <= level + 4 * self.model.grain {
                 scene.entries = some;
                 (cases[k], sums[k]) = self.lifted(&scene, &cases[k].clone(), level, many > 1, path.blocks.len());
             }
@@ -260,10 +261,16 @@ impl Tree<'_> {
         }
     }
 
+    // The last of the bounds that are worked at together from one on.
+    fn last_of(&self, key: i64) -> i64 {
+        key + self.model.grain - 1
+    }
+
     // Begins a new level with a node: those that wait at it share its work.
     fn begin_level(&mut self, key: i64, place: usize) {
-        self.level = Level { bound: key, nodes: 0, done: 0, given_up: false };
-        let waiting = self.queue.iter().filter(|node| node.0.0 <= key).map(|node| node.2.0);
+        let last = self.last_of(key);
+        self.level = Level { bound: last, nodes: 0, done: 0, given_up: false };
+        let waiting = self.queue.iter().filter(|node| node.0.0 <= last).map(|node| node.2.0);
         let waiting: Vec<usize> = waiting.chain([place]).collect();
         let share = WHOLE_WORK / waiting.len() as i64;
         waiting.into_iter().for_each(|node| self.nodes[node].share = share);

@@ -2,6 +2,7 @@
 
 use crate::choices::read;
 use crate::nights::{Choice, Park, Shape, Tables};
+use crate::stacks::{Bringing, Order, Stack};
 
 pub(crate) struct Price {
     pub(crate) parts: Option<u64>,
@@ -71,7 +72,7 @@ pub(crate) fn parts(tables: &Tables, case: &Case, shape: Shape, long: u64) -> Ve
     parts
 }
 
-fn duals(case: &Case, shape: Shape) -> i64 {
+pub(crate) fn duals(case: &Case, shape: Shape) -> i64 {
     case.alpha[shape.u..shape.u + shape.n].iter().sum::<i64>() + case.beta[shape.v..shape.v + shape.n].iter().sum::<i64>()
 }
 
@@ -83,8 +84,8 @@ fn weight(tables: &Tables, case: &Case, choice: Choice, parts: &[u64]) -> Option
     })
 }
 
-/// Whether no free shape weighs less in a case than its duals.
-pub(crate) fn holds(tables: &Tables, path: &Path, case: &Case) -> bool {
+/// Whether no free shape weighs less in a case than its duals; with stacks, no such option of it that isn't of a stack.
+pub(crate) fn holds(tables: &Tables, path: &Path, case: &Case, with_stacks: bool) -> bool {
     for u in 0..tables.units.len() {
         if path.units[u] {
             continue;
@@ -98,7 +99,8 @@ pub(crate) fn holds(tables: &Tables, path: &Path, case: &Case) -> bool {
             let long = tables.length(shape);
             let parts = parts(tables, case, shape, long);
             for track in 0..tables.night.tracks {
-                let Some(ways) = tables.least_ways(shape, long, track) else { continue };
+                let least = if with_stacks { tables.least_through(shape, long, track) } else { tables.least_ways(shape, long, track) };
+                let Some(ways) = least else { continue };
                 if sum > (ends + 1000 * ways + parts[track]) as i64 {
                     return false;
                 }
@@ -168,6 +170,7 @@ struct Node {
 }
 
 struct Certificate {
+    with_stacks: bool,
     nodes: Vec<Node>,
     cost: u64,
     bound: i64,
@@ -193,7 +196,7 @@ fn said(tables: &Tables, row: &[&str]) -> (usize, usize, usize, Option<Park>) {
 }
 
 fn certificate(tables: &Tables, text: &str) -> Certificate {
-    let mut certificate = Certificate { nodes: vec![], cost: 0, bound: 0 };
+    let mut certificate = Certificate { with_stacks: false, nodes: vec![], cost: 0, bound: 0 };
     let mut limits = None;
     for line in text.lines() {
         let row: Vec<&str> = line.split(',').collect();
@@ -223,6 +226,7 @@ fn certificate(tables: &Tables, text: &str) -> Certificate {
                 let (track, train) = place(row[1], row[2]);
                 cases.last_mut().expect("a case").prices.push(Price { parts: Some(number(row[3])), track, train, value: number(row[4]) });
             }
+            ("certificate", _) => certificate.with_stacks = row[1] == "2",
             ("end", _) => (certificate.cost, certificate.bound) = (number(row[1]), number(row[2])),
             _ => {}
         }
@@ -281,27 +285,91 @@ fn all_parts(tables: &Tables, cases: &[Case], shape: Shape) -> Vec<Vec<u64>> {
     cases.iter().map(|case| parts(tables, case, shape, long)).collect()
 }
 
-// The first choice that a branch would have to list and doesn't.
-fn is_missed(tables: &Tables, path: &mut Path, cases: &[Case], bound: i64, listed: &[Choice]) -> bool {
-    let Some(u) = path.next() else { return false };
-    let sums = sums(tables, path, cases);
-    for shape in tables.shapes_at(u, &path.units, &path.positions) {
-        let parts = all_parts(tables, cases, shape);
-        for park in options(tables) {
-            let choice = Choice { shape, park };
-            let Some(longer) = bound_with(tables, path, cases, &sums, &parts, choice) else { continue };
-            if longer >= bound || listed.contains(&choice) {
-                continue;
-            }
-            path.push(choice);
-            let through = tables.goes_through(&path.blocks);
-            path.pop();
-            if through {
-                return true;
+/// What judges certificates of either version: those of version 2 take off what each stack brings at most, in place of asking its blocks.
+struct Judge<'t> {
+    tables: &'t Tables,
+    stacks: Option<Order>,
+}
+
+/// What is known of a path by some cases: their sums, and for each what the blocks of each stack bring, each and together.
+struct Known {
+    sums: Vec<i64>,
+    bringing: Vec<Vec<Vec<Bringing>>>,
+    gains: Vec<Vec<i64>>,
+}
+
+impl Judge<'_> {
+    fn known(&self, path: &Path, cases: &[Case]) -> Known {
+        let mut known = Known { sums: sums(self.tables, path, cases), bringing: vec![], gains: vec![] };
+        let Some(order) = &self.stacks else { return known };
+        for (case, sum) in cases.iter().zip(&mut known.sums) {
+            let bringing = order.bringing_at(self.tables, path, case);
+            let greatest = |(stack, blocks): (usize, &Vec<Bringing>)| order.greatest(self.tables, stack, &path.blocks, blocks);
+            let gains: Vec<i64> = bringing.iter().enumerate().map(|it| greatest(it).expect("a path that goes through")).collect();
+            *sum -= gains.iter().sum::<i64>();
+            known.bringing.push(bringing);
+            known.gains.push(gains);
+        }
+        known
+    }
+
+    // How much the sum of a case grows since the stack of a choice brings less once its block stands there; none where it can't.
+    fn less_brought(&self, path: &Path, known: &Known, k: usize, choice: Choice) -> Option<i64> {
+        let (Some(order), Some(stack)) = (&self.stacks, Stack::place_of(choice)) else { return Some(0) };
+        let before = known.gains[k][stack];
+        if before == 0 {
+            return Some(0);
+        }
+        let free: Vec<Bringing> = known.bringing[k][stack].iter().filter(|block| block.is_apart_from(choice.shape)).copied().collect();
+        let longer: Vec<Choice> = path.blocks.iter().copied().chain([choice]).collect();
+        Some(before - order.greatest(self.tables, stack, &longer, &free)?)
+    }
+
+    /// The bound of a choice at a path, or one that is enough; none where it isn't a choice that goes through.
+    fn bound_with(&self, path: &Path, cases: &[Case], known: &Known, parts: &[Vec<u64>], choice: Choice, enough: i64) -> Option<i64> {
+        let low = bound_with(self.tables, path, cases, &known.sums, parts, choice)?;
+        if low >= enough || self.stacks.is_none() || Stack::place_of(choice).is_none() {
+            return Some(low);
+        }
+        let mut grown = known.sums.clone();
+        for (k, sum) in grown.iter_mut().enumerate() {
+            *sum += self.less_brought(path, known, k, choice)?;
+        }
+        bound_with(self.tables, path, cases, &grown, parts, choice)
+    }
+
+    // The first choice that a branch would have to list and doesn't.
+    fn is_missed(&self, path: &mut Path, cases: &[Case], known: &Known, bound: i64, listed: &[Choice]) -> bool {
+        let Some(u) = path.next() else { return false };
+        for shape in self.tables.shapes_at(u, &path.units, &path.positions) {
+            let parts = all_parts(self.tables, cases, shape);
+            for park in options(self.tables) {
+                let choice = Choice { shape, park };
+                let Some(longer) = self.bound_with(path, cases, known, &parts, choice, bound) else { continue };
+                if longer >= bound || listed.contains(&choice) {
+                    continue;
+                }
+                path.push(choice);
+                let through = self.tables.goes_through(&path.blocks);
+                path.pop();
+                if through {
+                    return true;
+                }
             }
         }
+        false
     }
-    false
+
+    // Whether a node's choice is one at its parent's path, with a bound below the best cost there; the path is then the node's.
+    fn is_child(&self, path: &mut Path, cases: &[Case], known: &Known, choice: Choice, best: u64, earlier: &[Choice]) -> bool {
+        if !self.tables.shapes_at(choice.shape.u, &path.units, &path.positions).contains(&choice.shape) || earlier.contains(&choice) {
+            return false;
+        }
+        let parts = all_parts(self.tables, cases, choice.shape);
+        let Some(bound) = self.bound_with(path, cases, known, &parts, choice, best as i64) else { return false };
+        path.push(choice);
+        bound < best as i64 && self.tables.goes_through(&path.blocks)
+    }
 }
 
 // The choices that a node lists.
@@ -319,35 +387,25 @@ fn is_known(case: &Case, known: &[Case]) -> bool {
     })
 }
 
-// Whether a node's choice is one at its parent's path, with a bound below the best cost there; the path is then the node's.
-fn is_child(tables: &Tables, path: &mut Path, cases: &[Case], choice: Choice, best: u64, earlier: &[Choice]) -> bool {
-    if !tables.shapes_at(choice.shape.u, &path.units, &path.positions).contains(&choice.shape) || earlier.contains(&choice) {
-        return false;
-    }
-    let (sums, parts) = (sums(tables, path, cases), all_parts(tables, cases, choice.shape));
-    let Some(bound) = bound_with(tables, path, cases, &sums, &parts, choice) else { return false };
-    path.push(choice);
-    bound < best as i64 && tables.goes_through(&path.blocks)
-}
-
 /// The verdict on a certificate with a plan, or the number of the node with which something is wrong.
 fn verdict(tables: &Tables, blocks: &[Choice], cost: u64, certificate: &Certificate) -> Result<(), usize> {
     if !is_plan(tables, blocks, cost) || certificate.cost != cost {
         return Err(0);
     }
+    let judge = Judge { tables, stacks: certificate.with_stacks.then(|| Order::new(tables)) };
     let mut path = Path::new(tables);
     let mut best = opening(tables);
-    let mut above: Vec<(usize, Vec<Choice>)> = vec![];
+    let mut above: Vec<(usize, Vec<Choice>, Known)> = vec![];
     for (k, node) in certificate.nodes.iter().enumerate() {
         above.truncate(node.depth);
         while path.blocks.len() + 1 > node.depth.max(1) {
             path.pop();
         }
-        let known = above.last().map(|(owner, _)| certificate.nodes[*owner].cases.as_ref().expect("cases"));
+        let known = above.last().map(|(owner, ..)| certificate.nodes[*owner].cases.as_ref().expect("cases"));
         if let (Some(known), Some(said)) = (known, node.said) {
             let choice = choice(tables, path.next().expect("a unit"), said);
-            let (_, earlier) = above.last_mut().expect("a parent");
-            if !is_child(tables, &mut path, known, choice, best, earlier) {
+            let (_, earlier, at_parent) = above.last_mut().expect("a parent");
+            if !judge.is_child(&mut path, known, at_parent, choice, best, earlier) {
                 return Err(k + 1);
             }
             earlier.push(choice);
@@ -366,16 +424,17 @@ fn verdict(tables: &Tables, blocks: &[Choice], cost: u64, certificate: &Certific
         let owner = if node.cases.is_some() { k } else { above.last().expect("a parent").0 };
         let cases = certificate.nodes[owner].cases.as_ref().expect("cases");
         let tried = cases.iter().filter(|case| owner == k && !known.is_some_and(|known| is_known(case, known)));
-        if !tried.into_iter().all(|case| holds(tables, &path, case)) {
+        if !tried.into_iter().all(|case| holds(tables, &path, case, certificate.with_stacks)) {
             return Err(k + 1);
         }
-        if node.kind == "leaf" && bound_of(&path, cases, &sums(tables, &path, cases)) < certificate.bound {
+        let at = judge.known(&path, cases);
+        if node.kind == "leaf" && bound_of(&path, cases, &at.sums) < certificate.bound {
             return Err(k + 1);
         }
-        if node.kind == "branch" && is_missed(tables, &mut path, cases, certificate.bound, &listed(tables, &certificate.nodes, k, u)) {
+        if node.kind == "branch" && judge.is_missed(&mut path, cases, &at, certificate.bound, &listed(tables, &certificate.nodes, k, u)) {
             return Err(k + 1);
         }
-        above.push((owner, vec![]));
+        above.push((owner, vec![], at));
     }
     Ok(())
 }

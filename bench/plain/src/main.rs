@@ -23,6 +23,7 @@ mod duals;
 mod families;
 mod nights;
 mod plan;
+mod stacks;
 mod trees;
 
 use std::io::Write;

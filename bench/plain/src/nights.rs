@@ -178,6 +178,14 @@ impl Tables {
         (0..4).filter_map(|k| self.ways(shape, Park { track, sides: [k / 2, k % 2] })).min()
     }
 
+    /// What the cheapest ways of a shape cost that comes to a track by one end and goes by the other, where it may stand there.
+    pub(crate) fn least_through(&self, shape: Shape, long: u64, track: usize) -> Option<u64> {
+        if long > self.night.rooms[track] || !self.permits(shape, track) {
+            return None;
+        }
+        [[0, 1], [1, 0]].into_iter().filter_map(|sides| self.ways(shape, Park { track, sides })).min()
+    }
+
     /// What a choice costs, where it is one.
     pub(crate) fn cost(&self, choice: Choice) -> Option<u64> {
         let way = match choice.park {

@@ -49,7 +49,12 @@ fn main() {
             trees::write_all(number, units, nodes, duals, [station, timetable, plan, certificate]);
         }
         ["check", station, timetable, plan, certificate] => checker::check(station, timetable, plan, certificate),
-        ["plan", station, timetable, nodes, plan, certificate] => plan::plan([station, timetable], nodes, plan, certificate),
+        ["plan", station, timetable, nodes, plan, certificate] => {
+            plan::plan(plan::Version::First, [station, timetable], nodes, plan, certificate);
+        }
+        ["stacks", station, timetable, nodes, plan, certificate] => {
+            plan::plan(plan::Version::Second, [station, timetable], nodes, plan, certificate);
+        }
         ["split", ref names @ ..] if !names.is_empty() => names.iter().for_each(|name| split(name)),
         ["choices", station, timetable, walks] => choices::measure(station, timetable, walks.parse().expect("a number")),
         _ => std::process::exit(2),

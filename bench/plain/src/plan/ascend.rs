@@ -3,15 +3,15 @@
 use super::evaluate::{Point, Scene, Span, Work};
 use super::model::ONE;
 
-const FINE: u32 = 24;
+pub(crate) const FINE: u32 = 24;
 const UNIT: u32 = 20;
 const LARGEST: i64 = 1 << 34;
 // The greatest value of a price, and that of any number of a case.
-const DEAREST: i64 = 999_999_999;
+pub(crate) const DEAREST: i64 = 999_999_999;
 const LIMIT: i64 = 470_000_000_000;
 
 // How far the numbers of an ascent go at most.
-fn farthest(scene: &Scene) -> i64 {
+pub(crate) fn farthest(scene: &Scene) -> i64 {
     (DEAREST * scene.model.grain).min(LIMIT) * ONE
 }
 
@@ -105,18 +105,18 @@ fn unit(vector: &[i64], into: &mut [i64]) -> bool {
 }
 
 /// The matrix in which an ascent measures lengths, 2^24 to one, with the vectors that it is used with.
-struct Metric {
+pub(crate) struct Metric {
     size: usize,
     matrix: Vec<i64>,
-    gathered: Vec<i64>,
+    pub(crate) gathered: Vec<i64>,
     along: Vec<i64>,
     across: Vec<i64>,
     /// Where the next step goes, 2^24 to one.
-    direction: Vec<i64>,
+    pub(crate) direction: Vec<i64>,
 }
 
 impl Metric {
-    fn new(size: usize) -> Metric {
+    pub(crate) fn new(size: usize) -> Metric {
         let mut matrix = vec![0; size * size];
         (0..size).for_each(|k| matrix[k * size + k] = 1 << FINE);
         let none = || vec![0; size];
@@ -133,7 +133,7 @@ impl Metric {
     }
 
     // The first direction, from the first slopes.
-    fn begin(&mut self, slope: &[i64]) -> bool {
+    pub(crate) fn begin(&mut self, slope: &[i64]) -> bool {
         self.gather(slope);
         if !unit(&self.gathered, &mut self.along) {
             return false;
@@ -144,7 +144,7 @@ impl Metric {
     }
 
     // Shrinks the metric along the change of the slopes to a third, and turns to the new slopes.
-    fn dilate(&mut self, slope: &[i64], before: &mut Vec<i64>) -> bool {
+    pub(crate) fn dilate(&mut self, slope: &[i64], before: &mut Vec<i64>) -> bool {
         self.gather(slope);
         let change: Vec<i64> = self.gathered.iter().zip(before.iter()).map(|(now, then)| now - then).collect();
         if !unit(&change, &mut self.across) {
@@ -167,7 +167,7 @@ impl Metric {
         true
     }
 
-    fn double(&mut self) {
+    pub(crate) fn double(&mut self) {
         self.matrix.iter_mut().for_each(|value| *value = (*value * 2).clamp(-LARGEST, LARGEST));
     }
 }
@@ -177,7 +177,7 @@ fn dot(row: &[i64], vector: &[i64]) -> i64 {
     row.iter().zip(vector).map(|(value, other)| (value * other) >> 8).sum::<i64>() >> (UNIT - 8)
 }
 
-fn moves_on(slope: &[i64], direction: &[i64]) -> bool {
+pub(crate) fn moves_on(slope: &[i64], direction: &[i64]) -> bool {
     slope.iter().zip(direction).map(|(slope, to)| slope * (to >> 8)).sum::<i64>() > 0
 }
 

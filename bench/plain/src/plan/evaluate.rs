@@ -34,6 +34,7 @@ pub(crate) struct Entry {
 }
 
 /// What a path leaves free, and what its own blocks come to.
+#[derive(Clone)]
 pub(crate) struct Scene<'m> {
     pub(crate) model: &'m Model<'m>,
     pub(crate) rows: Vec<Row>,

@@ -2,13 +2,18 @@
 
 mod ascend;
 mod cases;
+mod climb;
 mod draws;
 mod evaluate;
+mod filling;
 mod fit;
+mod gains;
 mod guide;
 mod model;
 mod prices;
 mod ruin;
+mod stacked;
+mod stacks;
 mod tree;
 mod writing;
 mod yard;
@@ -23,7 +28,10 @@ use guide::Guide;
 use model::Model;
 use prices::{EVERY, root_point};
 use ruin::{COOL, Fall, HOT, MANY, MILD, Search, WARM, opening, polish};
-use tree::{Fixed, Tree};
+use stacked::{ByStacks, cases_with_stacks};
+use stacks::Stacks;
+use std::rc::Rc;
+use tree::{ByPrices, Fixed, Tree};
 
 fn cost_of(tables: &Tables, plan: &[Choice]) -> i64 {
     plan.iter().map(|choice| tables.cost(*choice).unwrap_or(0) as i64).sum()
@@ -63,8 +71,18 @@ fn last_falls(units: usize) -> &'static [Fall] {
     if units > MANY { &[COOL, COOL] } else { &[WARM, MILD] }
 }
 
+/// Up to so many nodes a certificate has version 1.
+const FEW: usize = 16;
+
+/// Which certificates are written: those with prices alone, or with stacks too where prices leave a gap.
+#[derive(Clone, Copy, PartialEq, Eq)]
+pub enum Version {
+    First,
+    Second,
+}
+
 /// Writes a plan and a certificate of at most so many nodes, and prints what they come to.
-pub fn plan(files: [&str; 2], nodes: &str, plan_file: &str, certificate_file: &str) {
+pub fn plan(version: Version, files: [&str; 2], nodes: &str, plan_file: &str, certificate_file: &str) {
     let tables = Tables::new(read(files[0], files[1]));
     let (slots, point, sum) = root_point(&tables);
     let model = Model::new(&tables, slots);
@@ -77,15 +95,35 @@ pub fn plan(files: [&str; 2], nodes: &str, plan_file: &str, certificate_file: &s
     let units = tables.units.len();
     let plan = better(&model, &fixed, opening, first_rounds(units), first_falls(units));
     let found = cases_at_root(&scene, one, unparked_in(&plan), cost_of(&tables, &plan), &mut work);
-    let (cases, sums): (Vec<_>, Vec<_>) = found.iter().map(|found| alphas(&scene, found.span, &found.point, &mut work)).unzip();
+    let fixed = |found: &Found| {
+        let (fixed, sum) = alphas(&scene, found.span, &found.point, &mut Work::new(&model));
+        (Rc::new(fixed), sum)
+    };
+    let (cases, sums): (Vec<_>, Vec<_>) = found.iter().map(fixed).unzip();
     let lowest = (0..cases.len()).min_by_key(|k| sums[*k]).unwrap_or(0);
     let plan = better(&model, &cases[lowest], plan, last_rounds(units), last_falls(units));
     let cost = cost_of(&tables, &plan);
-    let mut tree = Tree::new(&model, cases, sums, plan, cost);
-    let bound = tree.grow(nodes.parse().expect("a number"));
-    std::fs::write(plan_file, writing::plan_text(&tables, &tree.plan)).expect("a folder");
-    let (text, count) = writing::certificate_text(&model, &tree, bound);
-    std::fs::write(certificate_file, text).expect("a folder");
-    let end = if bound == tree.cost { "optimal" } else { "unfinished" };
-    println!("{end} cost {} bound {bound} nodes {count}", tree.cost);
+    let most: usize = nodes.parse().expect("a number");
+    let first = if version == Version::Second { most.min(FEW) } else { most };
+    let mut tree = Tree::new(&model, ByPrices::new(&model), cases.clone(), sums, plan, cost);
+    let bound = tree.grow(first);
+    if bound == tree.cost || first == most {
+        let (text, count) = writing::certificate_text(&model, &tree, bound, 1);
+        return write(&tables, &tree.plan, [plan_file, certificate_file], &text, (tree.cost, bound, count));
+    }
+    let (slots, cases, sums) = cases_with_stacks(&model, &cases, unparked_in(&tree.plan), tree.cost);
+    let (plan, cost) = (tree.plan, tree.cost);
+    let model = Model::new(&tables, slots);
+    let stacks = Stacks::new(&model);
+    let mut tree = Tree::new(&model, ByStacks::new(&stacks), cases, sums, plan, cost);
+    let bound = tree.grow(most);
+    let (text, count) = writing::certificate_text(&model, &tree, bound, 2);
+    write(&tables, &tree.plan, [plan_file, certificate_file], &text, (tree.cost, bound, count));
+}
+
+fn write(tables: &Tables, plan: &[Choice], files: [&str; 2], certificate: &str, (cost, bound, count): (i64, i64, usize)) {
+    std::fs::write(files[0], writing::plan_text(tables, plan)).expect("a folder");
+    std::fs::write(files[1], certificate).expect("a folder");
+    let end = if bound == cost { "optimal" } else { "unfinished" };
+    println!("{end} cost {cost} bound {bound} nodes {count}");
 }

@@ -88,7 +88,7 @@ fn fullest(full: &Model, point: &Point, known: &[usize]) -> Vec<usize> {
 }
 
 // The numbers of parts for which some length counts more for its most than its length does.
-fn useful_parts(tables: &Tables, track: usize, lengths: &[u64]) -> Vec<u64> {
+pub(crate) fn useful_parts(tables: &Tables, track: usize, lengths: &[u64]) -> Vec<u64> {
     let room = tables.night.rooms[track];
     let lengths: Vec<u64> = lengths.iter().copied().filter(|long| *long <= room).collect();
     let count = |parts: u64, long: u64| ((parts + 1) * long - 1) / room;

@@ -11,6 +11,35 @@ use std::cmp::Reverse;
 use std::collections::BinaryHeap;
 use std::rc::Rc;
 
+/// How the cases of a path are judged and lifted: by prices alone, or with stacks.
+pub(crate) trait Rating {
+    /// What is known of a path.
+    type Place;
+
+    fn place(&mut self, path: &Path, next: usize) -> Self::Place;
+
+    /// The choices there that go through.
+    fn choices(&self, place: &Self::Place) -> Vec<Choice>;
+
+    /// The sums of cases there, where those of the parent's path with the last choice are these.
+    fn sums(&mut self, place: &Self::Place, cases: &[Rc<Fixed>], handed: &[i64]) -> Vec<i64>;
+
+    /// The sums of a case with each of the choices.
+    fn steps(&mut self, place: &Self::Place, case: &Fixed, sum: i64) -> Vec<i64>;
+
+    /// A case that is lifted so that each choice for which it is open bounds more than a level, if that can be.
+    fn lifted(&mut self, place: &Self::Place, case: &Fixed, aim: Aim) -> (Rc<Fixed>, i64);
+}
+
+/// What a lift is for: the level and the cost of the best plan, whether there are more cases, and how deep the path is.
+#[derive(Clone, Copy)]
+pub(crate) struct Aim {
+    pub(crate) level: i64,
+    pub(crate) cost: i64,
+    pub(crate) many: bool,
+    pub(crate) depth: usize,
+}
+
 /// A case with whole numbers, 1024 to one, and its alphas.
 pub(crate) struct Fixed {
     pub(crate) span: Span,
@@ -48,11 +77,11 @@ pub(crate) struct Node {
 }
 
 /// A tree while it grows, with the best plan known.
-pub(crate) struct Tree<'m> {
+pub(crate) struct Tree<'m, R> {
     model: &'m Model<'m>,
+    rating: R,
     pub(crate) nodes: Vec<Node>,
     queue: BinaryHeap<(Reverse<i64>, usize, Reverse<usize>)>,
-    work: Work,
     pub(crate) cost: i64,
     pub(crate) plan: Vec<Choice>,
     level: Level,
@@ -73,7 +102,7 @@ fn up(sum: i64) -> i64 {
 }
 
 // The choices at a path that go through: by shape and track, with the ways.
-fn entries(model: &Model, path: &Path, scene: &Scene, next: usize) -> Vec<(Entry, Choice)> {
+pub(crate) fn entries(model: &Model, path: &Path, scene: &Scene, next: usize) -> Vec<(Entry, Choice)> {
     let yard = Yard::of(model.tables, &path.blocks);
     let mut entries = vec![];
     for row in &scene.rows[scene.starts[next]..scene.starts[next + 1]] {
@@ -91,8 +120,68 @@ fn entries(model: &Model, path: &Path, scene: &Scene, next: usize) -> Vec<(Entry
     entries
 }
 
-impl Tree<'_> {
-    pub(crate) fn new<'m>(model: &'m Model<'m>, cases: Vec<Fixed>, sums: Vec<i64>, plan: Vec<Choice>, cost: i64) -> Tree<'m> {
+/// Paths rated by prices alone.
+pub(crate) struct ByPrices<'m> {
+    model: &'m Model<'m>,
+    work: Work,
+}
+
+impl ByPrices<'_> {
+    pub(crate) fn new<'m>(model: &'m Model<'m>) -> ByPrices<'m> {
+        ByPrices { model, work: Work::new(model) }
+    }
+}
+
+impl<'m> Rating for ByPrices<'m> {
+    type Place = (Scene<'m>, Vec<(Entry, Choice)>);
+
+    fn place(&mut self, path: &Path, next: usize) -> Self::Place {
+        let scene = Scene::new(self.model, path);
+        let found = entries(self.model, path, &scene, next);
+        (scene, found)
+    }
+
+    fn choices(&self, place: &Self::Place) -> Vec<Choice> {
+        place.1.iter().map(|found| found.1).collect()
+    }
+
+    fn sums(&mut self, _: &Self::Place, _: &[Rc<Fixed>], handed: &[i64]) -> Vec<i64> {
+        handed.to_vec()
+    }
+
+    fn steps(&mut self, place: &Self::Place, case: &Fixed, sum: i64) -> Vec<i64> {
+        let tracks = self.model.tables.night.tracks;
+        self.work.weigh(self.model, &case.point);
+        let step = |(entry, _): &(Entry, Choice)| {
+            let (shape, group) = (entry.row.shape, entry.row.group);
+            let option = match entry.track {
+                None => case.point.multiplier,
+                Some(track) => self.work.parked[group * tracks + track] - self.model.groups[group].ways[track],
+            };
+            let alphas: i64 = case.alpha[shape.u..shape.u + shape.n].iter().sum();
+            sum + (entry.cost + option - self.work.betas(&entry.row)) / ONE - alphas
+        };
+        place.1.iter().map(step).collect()
+    }
+
+    fn lifted(&mut self, place: &Self::Place, case: &Fixed, aim: Aim) -> (Rc<Fixed>, i64) {
+        let open = |entry: &Entry| place.0.unparked + i64::from(entry.track.is_none()) <= case.span.to;
+        let entries = place.1.iter().map(|found| found.0).filter(open).collect();
+        let scene = &Scene { entries, ..place.0.clone() };
+        let grain = self.model.grain;
+        let goal = 1000 * (aim.level + 4 * grain).min(aim.cost - 1) + 1;
+        let most = if aim.depth < 2 { 240 } else { 60 };
+        let ascent = Ascent { lengths: true, multiplier: aim.many, step: 6_000 * grain, most, goal: (goal + 3000 * grain) * ONE };
+        let (point, _) = ascend(scene, case.span, ascent, &case.point, &mut self.work);
+        let ascent = Ascent { step: 300 * grain, most: 20, goal: goal * ONE, ..ascent };
+        let (point, _) = whole_prices(scene, case.span, ascent, &[5], &point, &mut self.work);
+        let (fixed, sum) = alphas(scene, case.span, &point, &mut self.work);
+        (Rc::new(fixed), sum)
+    }
+}
+
+impl<'m, R: Rating> Tree<'m, R> {
+    pub(crate) fn new(model: &'m Model<'m>, rating: R, cases: Vec<Rc<Fixed>>, sums: Vec<i64>, plan: Vec<Choice>, cost: i64) -> Tree<'m, R> {
         let key = sums.iter().map(|sum| up(*sum)).min().unwrap_or(0);
         let root = Node {
             above: 0,
@@ -100,7 +189,7 @@ impl Tree<'_> {
             choice: None,
             bound: i64::MIN,
             whole: model.tables.units.is_empty(),
-            cases: cases.into_iter().map(Rc::new).collect(),
+            cases,
             own: true,
             sums,
             key,
@@ -112,7 +201,7 @@ impl Tree<'_> {
         };
         let level = Level { bound: i64::MIN, nodes: 0, done: 0, given_up: false };
         let queue = BinaryHeap::from([(Reverse(key), 0, Reverse(0))]);
-        Tree { model, nodes: vec![root], queue, work: Work::new(model), cost, plan, level }
+        Tree { model, rating, nodes: vec![root], queue, cost, plan, level }
     }
 
     fn path(&self, place: usize) -> Path {
@@ -128,30 +217,23 @@ impl Tree<'_> {
     }
 
     // The choices with these cases that bound less than the best plan costs, the least first, and the least bound.
-    fn opened(&mut self, scene: &Scene, found: &[(Entry, Choice)], cases: &[Rc<Fixed>], sums: &[i64]) -> (Vec<Open>, i64) {
-        let tracks = self.model.tables.night.tracks;
+    fn opened(&mut self, path: &Path, place: &R::Place, cases: &[Rc<Fixed>], sums: &[i64]) -> (Vec<Open>, i64) {
+        let found = self.rating.choices(place);
         let mut all: Vec<Vec<i64>> = vec![vec![]; found.len()];
         for (case, sum) in cases.iter().zip(sums) {
-            self.work.weigh(self.model, &case.point);
-            for (all, (entry, _)) in all.iter_mut().zip(found) {
-                let (shape, group) = (entry.row.shape, entry.row.group);
-                let option = match entry.track {
-                    None => case.point.multiplier,
-                    Some(track) => self.work.parked[group * tracks + track] - self.model.groups[group].ways[track],
-                };
-                let alphas: i64 = case.alpha[shape.u..shape.u + shape.n].iter().sum();
-                all.push(sum + (entry.cost + option - self.work.betas(&entry.row)) / ONE - alphas);
-            }
+            let steps = self.rating.steps(place, case, *sum);
+            all.iter_mut().zip(steps).for_each(|(all, step)| all.push(step));
         }
+        let before = path.blocks.iter().filter(|block| block.park.is_none()).count() as i64;
         let mut choices = vec![];
         let mut least = self.cost;
-        for (sums, (_, choice)) in all.into_iter().zip(found) {
-            let unparked = scene.unparked + i64::from(choice.park.is_none());
+        for (sums, choice) in all.into_iter().zip(found) {
+            let unparked = before + i64::from(choice.park.is_none());
             let open = |k: usize| k + 1 == cases.len() || unparked <= cases[k].span.to;
             let bound = (0..cases.len()).filter(|k| open(*k)).map(|k| up(sums[k])).min().unwrap_or(i64::MAX);
             least = least.min(bound);
             if bound < self.cost {
-                choices.push(Open { bound, choice: *choice, sums });
+                choices.push(Open { bound, choice, sums });
             }
         }
         choices.sort_by_key(|open| Reverse(open.bound));
@@ -169,25 +251,13 @@ impl Tree<'_> {
     fn open(&mut self, place: usize) {
         let path = self.path(place);
         let Some(next) = path.next() else { return };
-        let scene = Scene::new(self.model, &path);
-        let found = entries(self.model, &path, &scene, next);
-        let (cases, sums) = (self.nodes[place].cases.clone(), self.nodes[place].sums.clone());
-        let (choices, key) = self.opened(&scene, &found, &cases, &sums);
+        let there = self.rating.place(&path, next);
+        let (cases, handed) = (self.nodes[place].cases.clone(), self.nodes[place].sums.clone());
+        let sums = self.rating.sums(&there, &cases, &handed);
+        let (choices, key) = self.opened(&path, &there, &cases, &sums);
         let node = &mut self.nodes[place];
+        node.sums = sums;
         (node.choices, node.key, node.inherited) = (Some(choices), key.max(node.key), key.max(node.key));
-    }
-
-    // A case of a node whose scene has its choices, lifted to a level.
-    fn lifted(&mut self, scene: &Scene, case: &Fixed, level: i64, many: bool, depth: usize) -> (Rc<Fixed>, i64) {
-        let grain = self.model.grain;
-        let goal = 1000 * (level + 4 * grain).min(self.cost - 1) + 1;
-        let most = if depth < 2 { 240 } else { 60 };
-        let ascent = Ascent { lengths: true, multiplier: many, step: 6_000 * grain, most, goal: (goal + 3000 * grain) * ONE };
-        let (point, _) = ascend(scene, case.span, ascent, &case.point, &mut self.work);
-        let ascent = Ascent { step: 300 * grain, most: 20, goal: goal * ONE, ..ascent };
-        let (point, _) = whole_prices(scene, case.span, ascent, &[5], &point, &mut self.work);
-        let (fixed, sum) = alphas(scene, case.span, &point, &mut self.work);
-        (Rc::new(fixed), sum)
     }
 
     // Looks for cases of a node that bound all its choices above the level, and takes them where its least bound rises.
@@ -195,19 +265,17 @@ impl Tree<'_> {
         self.nodes[place].tried = self.last_of(level);
         let path = self.path(place);
         let Some(next) = path.next() else { return };
-        let mut scene = Scene::new(self.model, &path);
-        let found = entries(self.model, &path, &scene, next);
+        let there = self.rating.place(&path, next);
         let (mut cases, mut sums) = (self.nodes[place].cases.clone(), self.nodes[place].sums.clone());
-        let many = cases.len();
-        for k in 0..many {
-            let open = |entry: &Entry| k + 1 == many || scene.unparked + i64::from(entry.track.is_none()) <= cases[k].span.to;
-            let some: Vec<Entry> = found.iter().map(|found| found.0).filter(open).collect();
-            if !some.is_empty() && up(sums[k]) <= level + 4 * self.model.grain {
-                scene.entries = some;
-                (cases[k], sums[k]) = self.lifted(&scene, &cases[k].clone(), level, many > 1, path.blocks.len());
+        let before = path.blocks.iter().filter(|block| block.park.is_none()).count() as i64;
+        let aim = Aim { level, cost: self.cost, many: cases.len() > 1, depth: path.blocks.len() };
+        for k in 0..cases.len() {
+            let is_open = k + 1 == cases.len() || before <= cases[k].span.to;
+            if is_open && up(sums[k]) <= level + 4 * self.model.grain {
+                (cases[k], sums[k]) = self.rating.lifted(&there, &cases[k].clone(), aim);
             }
         }
-        let (choices, key) = self.opened(&scene, &found, &cases, &sums);
+        let (choices, key) = self.opened(&path, &there, &cases, &sums);
         if key > self.nodes[place].key {
             let node = &mut self.nodes[place];
             (node.choices, node.key, node.cases, node.sums, node.own) = (Some(choices), key, cases, sums, true);

@@ -23,12 +23,12 @@ pub(crate) fn plan_text(tables: &Tables, plan: &[Choice]) -> String {
 }
 
 /// Whether a node's own cases are needed for the bound, or those that it would inherit do.
-fn needs_own(tree: &Tree, place: usize, bound: i64) -> bool {
+fn needs_own<R>(tree: &Tree<R>, place: usize, bound: i64) -> bool {
     let node = &tree.nodes[place];
     node.own && (place == 0 || !node.children.is_empty() || node.inherited < bound)
 }
 
-fn write_nodes(model: &Model, text: &mut String, tree: &Tree, place: usize, depth: usize, bound: i64) -> usize {
+fn write_nodes<R>(model: &Model, text: &mut String, tree: &Tree<R>, place: usize, depth: usize, bound: i64) -> usize {
     let node = &tree.nodes[place];
     let own = needs_own(tree, place, bound);
     let duals = if node.whole { "whole,none" } else if own { "branch,new" } else { "branch,same" };
@@ -52,8 +52,8 @@ fn write_nodes(model: &Model, text: &mut String, tree: &Tree, place: usize, dept
 }
 
 /// The text of a tree's certificate, and how many nodes it has.
-pub(crate) fn certificate_text(model: &Model, tree: &Tree, bound: i64) -> (String, usize) {
-    let mut text = String::from("certificate,1\n");
+pub(crate) fn certificate_text<R>(model: &Model, tree: &Tree<R>, bound: i64, version: usize) -> (String, usize) {
+    let mut text = format!("certificate,{version}\n");
     let nodes = write_nodes(model, &mut text, tree, 0, 0, bound);
     writeln!(text, "end,{},{bound},{nodes}", tree.cost).expect("a string");
     (text, nodes)

@@ -13,7 +13,8 @@
 //! `plain night FAMILY NUMBER UNITS FOLDER` one of the families `day`, `stand`, `money`, `mixed` and `yard`;
 //! `plain tree NUMBER UNITS NODES same STATION TIMETABLE PLAN CERT` writes such a night with a plan and a certificate of so many nodes,
 //! each with its parent's duals, or with new ones for `new` in the place of `same`; `plain check STATION TIMETABLE PLAN CERT` checks it;
-//! `plain plan STATION TIMETABLE NODES PLAN CERT` plans a night, and writes the plan with a certificate of at most so many nodes.
+//! `plain plan STATION TIMETABLE NODES PLAN CERT` plans a night, and writes the plan with a certificate of at most so many nodes;
+//! `plain stacks` with the same words does so with stacks, and writes a certificate of version 2.
 
 mod assign;
 mod certificates;

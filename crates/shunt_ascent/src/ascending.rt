@@ -8,10 +8,13 @@ use crate::slots::Slot;
 use std::alloc::{AllocError, Global};
 use std::num::Wrapping;
 
-/// How far a number goes from 0 at most.
-const FARTHEST: i64 = 999_999_999 * ONE;
+/// The greatest value of a price.
+const DEAREST: Number = Wrapping(999_999_999 * ONE);
 
-/// If an ascent goes: which numbers it changes, how far it goes at first, and when it ends.
+/// How far any number of a case goes from 0 at most.
+const LIMIT: Number = Wrapping(470_000_000_000 * ONE);
+
+/// Where an ascent goes: which numbers it changes, how far it goes at first, which counts in grains, and when it ends.
 #[derive(Clone, Copy, Drop)]
 pub(crate) struct Ascent {
     /// Whether the prices of length change too, which are coarse once they are whole.
@@ -110,7 +113,8 @@ impl Numbers {
         }
         for slot in &self.slots {
             if let (Some(old), Some(new)) = (point.prices.get_mut(*slot), left.next()) {
-                *old = (*new >> shift_at(scene, *slot)).max(NOTHING);
+                let value = *new >> shift_at(scene, *slot);
+                *old = value.max(NOTHING).min(DEAREST);
             }
         }
         if self.multiplier {
@@ -139,11 +143,16 @@ impl Numbers {
     }
 }
 
-// How far a number goes in a step.
-fn moved(number: Number, step: i64, to: Number) -> Number {
+// How far the numbers of an ascent go from 0 at most.
+fn farthest(scene: &Scene) -> Number {
+    (DEAREST * Wrapping(scene.grain)).min(LIMIT)
+}
+
+// How far a number goes in a step, within a distance from 0.
+fn moved(number: Number, step: i64, to: Number, farthest: Number) -> Number {
     let by = i128::from(step).wrapping_mul(i128::from(to.0)) >> 24;
     let more = number + Wrapping(i64::try_from(by).unwrap_or(0));
-    Wrapping(more.0.clamp(-FARTHEST, FARTHEST))
+    more.min(farthest).max(-farthest)
 }
 
 /// An ascent under way.
@@ -170,8 +179,9 @@ impl Climb {
 
     // One step in the direction of the metric, and the sum and the slopes there.
     fn step_on(&mut self, scene: &Scene, work: &mut Work) {
+        let farthest = farthest(scene);
         for (number, to) in self.numbers.at.iter_mut().zip(&self.metric.direction) {
-            *number = moved(*number, self.step, *to);
+            *number = moved(*number, self.step, *to, farthest);
         }
         self.numbers.write(scene, &mut self.point);
         let sum = work.evaluate(scene, self.span, &self.point);
@@ -199,7 +209,8 @@ impl Climb {
                 return;
             }
             if steps >= 2 {
-                self.step = (self.step / 5).saturating_mul(6).min(1 << 30);
+                let longest = scene.grain.saturating_mul(1 << 30);
+                self.step = (self.step / 5).saturating_mul(6).min(longest);
             }
         }
     }
@@ -246,7 +257,7 @@ pub(crate) fn ascend(
         best_at: Vec::from_slice(alloc, &numbers.at)?,
         numbers,
         metric,
-        step: ascent.step.saturating_mul(ONE),
+        step: ascent.step.saturating_mul(ONE).saturating_mul(scene.grain),
         best,
         spent: 1,
         idle: 0,

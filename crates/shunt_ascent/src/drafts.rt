@@ -35,14 +35,14 @@ struct Priced {
 
 /// Values of positions, and prices with theirs.
 #[derive(Drop)]
-pub(crate) struct Draft {
+struct Draft {
     beta: Vec<Number>,
     prices: Vec<Priced>,
 }
 
 impl Draft {
-    /// The prices without their values.
-    pub(crate) fn slots(&self, alloc: Global) -> Result<Vec<Slot>, AllocError> {
+    // The prices without their values.
+    fn slots(&self, alloc: Global) -> Result<Vec<Slot>, AllocError> {
         let mut slots = Vec::with_capacity(alloc, self.prices.len())?;
         for price in &self.prices {
             slots.push(price.slot)?;
@@ -50,8 +50,8 @@ impl Draft {
         Ok(slots)
     }
 
-    /// The point with these values, for a scene whose prices are these.
-    pub(crate) fn point(&self, alloc: Global) -> Result<Point, AllocError> {
+    // The point with these values, for a scene whose prices are these.
+    fn point(&self, alloc: Global) -> Result<Point, AllocError> {
         let mut prices = Vec::with_capacity(alloc, self.prices.len())?;
         for price in &self.prices {
             prices.push(price.value)?;
@@ -82,6 +82,16 @@ impl Draft {
         false
     }
 
+    // Whether these are among its prices.
+    fn has_all(&self, slots: &[Slot]) -> bool {
+        for slot in slots {
+            if !self.has(slot) {
+                return false;
+            }
+        }
+        true
+    }
+
     fn add(&mut self, slot: Slot) -> Result<(), AllocError> {
         self.prices.push(Priced {
             slot,
@@ -106,22 +116,21 @@ fn draft_of(alloc: Global, scene: &Scene, point: Point) -> Result<Draft, AllocEr
     })
 }
 
-// The best draft with the same prices that an ascent finds.
+// The best point with a draft's prices that an ascent finds, in a scene that has these prices then.
 fn ascended(
     alloc: Global,
     instance: &Instance,
     path: &Path,
     draft: &Draft,
     most: usize,
-) -> Result<Draft, AllocError>
-    requires { IsTrailOf instance.now path.now }
-{
-    let scene = Scene::new(alloc, instance, path, draft.slots(alloc)?)?;
-    let mut work = Work::new(alloc, &scene)?;
+    scene: &mut Scene,
+) -> Result<Point, AllocError> {
+    scene.price(alloc, instance, path.blocks(), draft.slots(alloc)?)?;
+    let mut work = Work::new(alloc, scene)?;
     let ascent = Ascent { most, ..FIRST };
     let start = draft.point(alloc)?;
-    let (point, _) = ascend(alloc, &scene, EVERY, ascent, &start, &mut work)?;
-    draft_of(alloc, &scene, point)
+    let (point, _) = ascend(alloc, scene, EVERY, ascent, &start, &mut work)?;
+    Ok(point)
 }
 
 // The minute of the arriving train with a number, and none behind the last.
@@ -227,34 +236,47 @@ fn drop_free(draft: &mut Draft) {
     draft.prices.retain(|price| price.value > NOTHING);
 }
 
-// The prices of length that ten rounds find, each of which begins with those that cost anything and the fullest of the others.
+// The prices of length that ten rounds find, each of which begins with those that cost anything and the fullest of the others; fewer rounds where
+// one ends with those that it began with.
 fn chosen_lengths(
     alloc: Global,
     instance: &Instance,
     path: &Path,
     slots: Vec<Slot>,
+    scene: &mut Scene,
 ) -> Result<Draft, AllocError>
     requires { IsTrailOf instance.now path.now }
 {
-    let full = Scene::new(alloc, instance, path, slots)?;
+    let mut full = Scene::new(alloc, instance, path)?;
+    full.price(alloc, instance, path.blocks(), slots)?;
     let mut work = Work::new(alloc, &full)?;
     let mut draft = empty_draft(alloc, instance, &[])?;
     add_fullest(alloc, &full, &mut work, &mut draft)?;
-    for _ in 0..10 {
-        draft = ascended(alloc, instance, path, &draft, 1_500)?;
+    'rounds: for _ in 0..10 {
+        let before = draft.slots(alloc)?;
+        let point = ascended(alloc, instance, path, &draft, 1_500, scene)?;
+        draft = draft_of(alloc, scene, point)?;
         drop_free(&mut draft);
         add_fullest(alloc, &full, &mut work, &mut draft)?;
+        if draft.prices.len() == before.len() && draft.has_all(&before) {
+            return Ok(draft);
+        }
     }
     Ok(draft)
 }
 
 // The prices of length to begin with: all, or where these are too many those that rounds find.
-fn length_prices(alloc: Global, instance: &Instance, path: &Path) -> Result<Draft, AllocError>
+fn length_prices(
+    alloc: Global,
+    instance: &Instance,
+    path: &Path,
+    scene: &mut Scene,
+) -> Result<Draft, AllocError>
     requires { IsTrailOf instance.now path.now }
 {
     let slots = all_slots(alloc, instance)?;
     if slots.len() > MOST {
-        return chosen_lengths(alloc, instance, path, slots);
+        return chosen_lengths(alloc, instance, path, slots, scene);
     }
     empty_draft(alloc, instance, &slots)
 }
@@ -264,16 +286,26 @@ fn counts(kind: PriceKind, room: u32, long: u32, times: u64) -> u64 {
     count_of(kind, room, long).saturating_mul(times)
 }
 
-// The lengths of the shapes of a scene that a track has room for.
-fn lengths_within(alloc: Global, scene: &Scene, room: u32) -> Result<Vec<u32>, AllocError> {
-    let mut lengths = Vec::new(alloc);
-    for group in &scene.groups {
-        let long = group.long();
-        if long <= room {
-            lengths.push(long)?;
+// The lengths of the shapes of a scene, each once.
+fn lengths_of(alloc: Global, scene: &Scene) -> Result<Vec<u32>, AllocError> {
+    let mut lengths = Vec::with_capacity(alloc, scene.kinds.len())?;
+    for kind in &scene.kinds {
+        lengths.push(kind.long)?;
+    }
+    lengths.sort_unstable();
+    lengths.dedup();
+    Ok(lengths)
+}
+
+// Those of these lengths that a track has room for.
+fn lengths_within(alloc: Global, lengths: &[u32], room: u32) -> Result<Vec<u32>, AllocError> {
+    let mut within = Vec::new(alloc);
+    for long in lengths {
+        if *long <= room {
+            within.push(*long)?;
         }
     }
-    Ok(lengths)
+    Ok(within)
 }
 
 // Whether some length counts more of that many parts than of the track's length.
@@ -314,14 +346,14 @@ fn is_ruled(parts: u8, room: u32, lengths: &[u32]) -> bool {
     false
 }
 
-// Adds the prices of parts for a price's track and moment that may be worth more than that of length.
+// Adds the prices of parts for a price's track and moment that may be worth more than that of length, where shapes have these lengths.
 fn add_parts(
     alloc: Global,
-    scene: &Scene,
+    lengths: &[u32],
     slot: &Slot,
     draft: &mut Draft,
 ) -> Result<(), AllocError> {
-    let lengths = lengths_within(alloc, scene, slot.room)?;
+    let lengths = lengths_within(alloc, lengths, slot.room)?;
     for parts in 1..=PARTS {
         if are_useful(parts, slot.room, &lengths) && !is_ruled(parts, slot.room, &lengths) {
             draft.add(Slot {
@@ -336,21 +368,14 @@ fn add_parts(
 // Above that many prices only those that cost anything get prices of parts beside them.
 const MANY: usize = 64;
 
-// Adds prices of parts at the moments of a draft.
-fn with_parts(
-    alloc: Global,
-    instance: &Instance,
-    path: &Path,
-    draft: Draft,
-) -> Result<Draft, AllocError>
-    requires { IsTrailOf instance.now path.now }
-{
-    let scene = Scene::new(alloc, instance, path, draft.slots(alloc)?)?;
-    let mut all = draft_of(alloc, &scene, draft.point(alloc)?)?;
-    let many = draft.prices.len() >= MANY;
-    for price in &draft.prices {
-        if !many || price.value > NOTHING {
-            add_parts(alloc, &scene, &price.slot, &mut all)?;
+// The draft of a point of a scene, with prices of parts at its moments.
+fn with_parts(alloc: Global, scene: &Scene, point: &Point) -> Result<Draft, AllocError> {
+    let mut all = draft_of(alloc, scene, point.copied(alloc)?)?;
+    let lengths = lengths_of(alloc, scene)?;
+    let many = scene.slots.len() >= MANY;
+    for (slot, value) in scene.slots.iter().zip(&point.prices) {
+        if !many || *value > NOTHING {
+            add_parts(alloc, &lengths, slot, &mut all)?;
         }
     }
     Ok(all)
@@ -365,18 +390,21 @@ fn keep_dearest(draft: &mut Draft) {
     draft.prices.truncate(MOST);
 }
 
-/// The prices that are worth a place in the cases at a path, with the best values for one case. Err is want of memory.
-pub(crate) fn first_draft(
+/// The scene of the prices that are worth a place in the cases at a path, with the best point for one case. Err is want of memory.
+pub(crate) fn first_point(
     alloc: Global,
     instance: &Instance,
     path: &Path,
-) -> Result<Draft, AllocError>
+) -> Result<(Scene, Point), AllocError>
     requires { IsTrailOf instance.now path.now }
 {
-    let lengths = length_prices(alloc, instance, path)?;
-    let lengths = ascended(alloc, instance, path, &lengths, FIRST.most)?;
-    let all = with_parts(alloc, instance, path, lengths)?;
-    let mut all = ascended(alloc, instance, path, &all, FIRST.most)?;
-    keep_dearest(&mut all);
-    ascended(alloc, instance, path, &all, FIRST.most)
+    let mut scene = Scene::new(alloc, instance, path)?;
+    let lengths = length_prices(alloc, instance, path, &mut scene)?;
+    let point = ascended(alloc, instance, path, &lengths, FIRST.most, &mut scene)?;
+    let all = with_parts(alloc, &scene, &point)?;
+    let point = ascended(alloc, instance, path, &all, FIRST.most, &mut scene)?;
+    let mut dearest = draft_of(alloc, &scene, point)?;
+    keep_dearest(&mut dearest);
+    let point = ascended(alloc, instance, path, &dearest, FIRST.most, &mut scene)?;
+    Ok((scene, point))
 }

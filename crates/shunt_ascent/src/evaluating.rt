@@ -1,7 +1,8 @@
 // What a case comes to at a path, with the slopes of its numbers.
+use crate::groups::Group;
 use crate::numbers::{NOTHING, Number, ONE, add_at, at, fill, put};
 use crate::points::{Point, Span};
-use crate::scenes::{Entry, Group, Row, Scene, Stand};
+use crate::scenes::{Entry, Row, Scene, Stand};
 use std::alloc::{AllocError, Global};
 use std::num::Wrapping;
 
@@ -55,12 +56,13 @@ pub(crate) struct Work {
 
 // The least that a shape of a group weighs but for its ends.
 fn lightest_of(
+    ways: &[Number],
     group: &Group,
     prices: &[Number],
     unparked: Number,
     parked: &mut [Number],
 ) -> Lightest {
-    put(parked, &group.ways);
+    put(parked, ways);
     for count in &group.counts {
         add_at(parked, count.track, at(prices, count.slot) * count.count);
     }
@@ -116,7 +118,13 @@ impl Work {
     fn weigh(&mut self, scene: &Scene, point: &Point) {
         let unparked = scene.unparked + point.multiplier;
         for (weights, group) in self.weights.iter_mut().zip(&scene.groups) {
-            weights.lightest = lightest_of(group, &point.prices, unparked, &mut weights.parked);
+            weights.lightest = lightest_of(
+                scene.ways(group),
+                group,
+                &point.prices,
+                unparked,
+                &mut weights.parked,
+            );
         }
     }
 
@@ -141,7 +149,8 @@ impl Work {
     // What the prices take of a shape of a group on a track.
     fn part(&self, scene: &Scene, group: usize, track: usize) -> Number {
         match (self.weights.get(group), scene.groups.get(group)) {
-            (Some(weights), Some(group)) => at(&weights.parked, track) - at(&group.ways, track),
+            (Some(weights), Some(group)) => at(&weights.parked, track)
+                - at(scene.ways(group), track),
             _ => NOTHING,
         }
     }

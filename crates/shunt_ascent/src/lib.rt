@@ -5,11 +5,13 @@
 mod ascending;
 mod drafts;
 mod evaluating;
+mod groups;
 mod metric;
 mod numbers;
 mod parting;
 mod points;
 mod proposing;
+mod scales;
 mod scenes;
 mod settling;
 mod sites;
@@ -17,4 +19,5 @@ mod slots;
 mod stating;
 
 pub use proposing::Proposal;
+pub use scales::grain;
 pub use sites::{Choice, Fixed, Raise, Raised, Site};

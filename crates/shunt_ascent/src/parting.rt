@@ -9,7 +9,7 @@ use crate::settling::{Found, settle};
 use std::alloc::{AllocError, Global};
 use std::num::Wrapping;
 
-/// By how much two cases have to bound more than one, in thousandths.
+/// By how much two cases have to bound more than one, in thousandths of a grain.
 const CLOSE: Number = Wrapping(500 * ONE);
 
 /// One case, or two of which the first speaks of fewer unparked blocks.
@@ -85,11 +85,11 @@ fn two(
     Ok((first, last))
 }
 
-// The number at which to part next, where one of the cases bounds no more than one case does.
-fn next_number(many: u8, first: Number, last: Number, alone: Number) -> u8 {
-    if first <= alone + CLOSE {
+// The number at which to part next, where one of the cases bounds too little to be worth it.
+fn next_number(many: u8, first: Number, last: Number, little: Number) -> u8 {
+    if first <= little {
         many.saturating_sub(1)
-    } else if last <= alone + CLOSE {
+    } else if last <= little {
         many.saturating_add(1)
     } else {
         many
@@ -108,7 +108,8 @@ pub(crate) fn part_cases(
 ) -> Result<Parted, AllocError> {
     let point = one.point.copied(alloc)?;
     let alone = one.sum;
-    let mut least = alone + CLOSE;
+    let little = alone + CLOSE * Wrapping(scene.grain);
+    let mut least = little;
     let mut many = unparked.max(1);
     let mut best = Parted {
         first: None,
@@ -121,7 +122,7 @@ pub(crate) fn part_cases(
         }
         mark(&mut seen, many);
         let (first, last) = two(alloc, scene, &point, many, goal, work)?;
-        many = next_number(many, first.sum, last.sum, alone);
+        many = next_number(many, first.sum, last.sum, little);
         if first.sum.min(last.sum) > least {
             least = first.sum.min(last.sum);
             best = Parted {

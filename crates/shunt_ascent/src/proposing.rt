@@ -3,7 +3,7 @@ ghost use Rattle.std.specs.Prelude.{All, IfOk};
 ghost use Rattle.shunt_choices.specs.defs.Paths.{IsTrailOf};
 ghost use Rattle.shunt_prices.specs.defs.Limits.{AreApart, IsCase, AreCases};
 
-use crate::drafts::first_draft;
+use crate::drafts::first_point;
 use crate::evaluating::Work;
 use crate::parting::{goal_for, part_cases, values_alone};
 use crate::points::EVERY;
@@ -28,11 +28,9 @@ impl Proposal {
     pub fn new(alloc: Global, instance: &Instance, path: &Path) -> Result<Proposal, AllocError>
         requires { IsTrailOf instance.now path.now }
     {
-        let draft = first_draft(alloc, instance, path)?;
-        let scene = Scene::new(alloc, instance, path, draft.slots(alloc)?)?;
+        let (scene, point) = first_point(alloc, instance, path)?;
         let mut work = Work::new(alloc, &scene)?;
         let ascent = values_alone(instance.units());
-        let point = draft.point(alloc)?;
         let one = settle(alloc, &scene, EVERY, ascent, point, &mut work)?;
         Ok(Proposal { scene, one })
     }

@@ -1,58 +1,18 @@
 // What a path leaves free: shapes, in groups that weigh alike by the same prices, and what the path's own blocks come to.
-ghost use Rattle.std.specs.Prelude.{◌≡◌, ◌<◌};
+ghost use Rattle.std.specs.Prelude.{◌<◌};
 ghost use Rattle.shunt_instance.specs.defs.Instance.{Night, unit_total};
-ghost use Rattle.shunt_blocks.specs.defs.Shapes.{AreRunsWithin};
 ghost use Rattle.shunt_choices.specs.defs.Free.{AreMasksOf};
 ghost use Rattle.shunt_choices.specs.defs.Paths.{IsTrailOf};
 
+use crate::groups::{Group, Groups, Kind, Kinds, ends, weight, without_prices};
 use crate::numbers::{NOTHING, Number, add_at, in_thousandths};
-use crate::slots::{Slot, room_of};
-use shunt_blocks::{
-    Block, Park, Shape, are_runs_within, block_cost, block_length, in_range, position_from,
-    unit_from,
-};
-use shunt_choices::{Covered, Path, options, shapes_from};
-use shunt_instance::{Instance, Origin};
+use crate::scales::grain;
+use crate::slots::Slot;
+use shunt_blocks::{Block, Shape, are_runs_within, block_length, in_range, position_from};
+use shunt_choices::{Covered, Path, shapes_from};
+use shunt_instance::Instance;
 use std::alloc::{AllocError, Global};
-use std::num::Wrapping;
-
-/// Stands for a way that isn't there.
-pub(crate) const NO_WAY: Number = Wrapping(1 << 56);
-
-/// What shapes of one group have in common: where they come from and go to, their length, at how many prices' moments they have come and
-/// have not gone yet, and the types of their units, a bit for each, where any track asks for them.
-#[derive(Clone, Copy, PartialEq, Eq, Drop)]
-struct Likeness {
-    from: Origin,
-    to: Origin,
-    long: u32,
-    early: usize,
-    late: usize,
-    types: u64,
-}
-
-/// What a price counts of the shapes of a group that are parked on its track.
-#[derive(Clone, Copy)]
-pub(crate) struct Count {
-    pub slot: usize,
-    pub track: usize,
-    pub count: Number,
-}
-
-/// Shapes that weigh alike but for their ends: their least ways for each track, and what they count for each price.
-#[derive(Drop)]
-pub(crate) struct Group {
-    likeness: Likeness,
-    pub ways: Vec<Number>,
-    pub counts: Vec<Count>,
-}
-
-impl Group {
-    /// The length of its shapes in dm.
-    pub(crate) fn long(&self) -> u32 {
-        self.likeness.long
-    }
-}
+use std::mem;
 
 /// A free shape: its first position, its number of units, its group, and what its ends weigh.
 #[derive(Clone, Copy)]
@@ -86,11 +46,14 @@ pub(crate) struct Entry {
 #[derive(Drop)]
 pub(crate) struct Scene {
     pub slots: Vec<Slot>,
+    pub kinds: Vec<Kind>,
     pub groups: Vec<Group>,
     pub stands: Vec<Stand>,
     /// For each position whether it is free.
     pub free: Vec<bool>,
     pub tracks: usize,
+    /// What the constants of a search count in, in cost units.
+    pub grain: i64,
     /// What an unparked block weighs but for its ends.
     pub unparked: Number,
     /// What the path's blocks weigh, and how many of them are unparked.
@@ -102,174 +65,23 @@ pub(crate) struct Scene {
     pub entries: Vec<Entry>,
 }
 
-// A shape with an option as a block.
-pub(crate) fn block_with(shape: Shape, park: Option<Park>) -> Block
-    ensures { result ≡ record { id = 1; arr = shape.arr; p = shape.p; n = shape.n; dep = shape.dep; q = shape.q; park = park } }
-{
-    Block {
-        id: 1,
-        arr: shape.arr,
-        p: shape.p,
-        n: shape.n,
-        dep: shape.dep,
-        q: shape.q,
-        park,
-    }
-}
-
-// What the ends of a shape cost.
-fn ends(instance: &Instance, p: u8, q: u8) -> Number {
-    let station = instance.station();
-    let split = if p == 1 { 0 } else { station.split };
-    let couple = if q == 1 { 0 } else { station.couple };
-    in_thousandths(split) + in_thousandths(couple)
-}
-
-// What a block weighs by its cost alone, and nothing where it isn't in range.
-pub(crate) fn weight(instance: &Instance, block: &Block) -> Number {
-    if !in_range(instance, block) {
-        return NOTHING;
-    }
-    in_thousandths(u32::try_from(block_cost(instance, block)).unwrap_or(0))
-}
-
-// The length of a shape in dm.
-fn length_of(instance: &Instance, shape: Shape) -> u32
-    requires { AreRunsWithin instance.now shape }
-{
-    block_length(instance, &block_with(shape, None))
-}
-
-// The types of a shape's units, a bit for each, where any track asks for them.
-fn types_of(instance: &Instance, shape: Shape) -> u64
-    requires { AreRunsWithin instance.now shape }
-{
-    if instance.station().permits.is_empty() {
-        return 0;
-    }
-    let first = unit_from(instance, shape);
-    let mut types = 0;
-    for k in 0..shape.n as usize {
-        types |= 1u64.wrapping_shl(u32::from(instance.unit(first + k).kind.0));
-    }
-    types
-}
-
-fn likeness_of(instance: &Instance, slots: &[Slot], shape: Shape) -> Likeness
-    requires { AreRunsWithin instance.now shape }
-{
-    let leaves = instance.depart(shape.dep).minute.number();
-    Likeness {
-        from: instance.arrive(shape.arr).origin,
-        to: instance.depart(shape.dep).origin,
-        long: length_of(instance, shape),
-        early: slots
-            .iter()
-            .filter(|slot| slot.train.0 < shape.arr.0)
-            .count(),
-        late: slots.iter().filter(|slot| slot.minute < leaves).count(),
-        types: types_of(instance, shape),
-    }
-}
-
-// Takes one more option into the least ways by track, where its track is long enough.
-fn take_way(instance: &Instance, shape: Shape, long: u32, park: Park, ways: &mut [Number]) {
-    if long > room_of(instance, park.track) {
-        return;
-    }
-    let way = weight(instance, &block_with(shape, Some(park))) - ends(instance, shape.p, shape.q);
-    if let Some(least) = ways.get_mut(park.track.0 as usize) {
-        if way < *least {
-            *least = way;
-        }
-    }
-}
-
-fn ways_of(
-    alloc: Global,
-    instance: &Instance,
-    shape: Shape,
-    long: u32,
-) -> Result<Vec<Number>, AllocError>
-    requires { AreRunsWithin instance.now shape }
-{
-    let mut ways = vec![in alloc; NO_WAY; instance.station().tracks.len()]?;
-    for option in options(instance, shape) {
-        if let Some(park) = option {
-            take_way(instance, shape, long, park, &mut ways);
-        }
-    }
-    Ok(ways)
-}
-
-// What the prices count of a shape, those that count anything.
-fn counts_of(
-    alloc: Global,
-    instance: &Instance,
-    slots: &[Slot],
-    shape: Shape,
-    long: u32,
-) -> Result<Vec<Count>, AllocError>
-    requires { AreRunsWithin instance.now shape }
-{
-    let leaves = instance.depart(shape.dep).minute.number();
-    let mut counts = Vec::new(alloc);
-    for (place, slot) in slots.iter().enumerate() {
-        let count = slot.count(long);
-        if long <= slot.room && slot.stands(shape.arr, leaves) && count > NOTHING {
-            counts.push(Count {
-                slot: place,
-                track: slot.track.0 as usize,
-                count,
-            })?;
-        }
-    }
-    Ok(counts)
-}
-
-// The place of the group of a shape, which is made where it is the first of its group.
-fn group_for(
-    alloc: Global,
-    instance: &Instance,
-    slots: &[Slot],
-    shape: Shape,
-    groups: &mut Vec<Group>,
-) -> Result<usize, AllocError>
-    requires { AreRunsWithin instance.now shape }
-{
-    let likeness = likeness_of(instance, slots, shape);
-    for (place, group) in groups.iter().enumerate() {
-        if group.likeness == likeness {
-            return Ok(place);
-        }
-    }
-    let place = groups.len();
-    groups.push(Group {
-        likeness,
-        ways: ways_of(alloc, instance, shape, likeness.long)?,
-        counts: counts_of(alloc, instance, slots, shape, likeness.long)?,
-    })?;
-    Ok(place)
-}
-
-// Adds a shape to those that begin at its unit.
+// Adds a shape to those that begin at its unit, in the group of its kind.
 fn add_row(
     alloc: Global,
     instance: &Instance,
-    slots: &[Slot],
     shape: Shape,
-    groups: &mut Vec<Group>,
+    kinds: &mut Kinds,
     rows: &mut Vec<Row>,
 ) -> Result<(), AllocError> {
     if !are_runs_within(instance, shape) {
         return Ok(());
     }
-    let group = group_for(alloc, instance, slots, shape, groups)?;
+    let kind = kinds.number(alloc, instance, shape)?;
     rows.push(Row {
         shape,
         v: position_from(instance, shape),
         n: shape.n as usize,
-        group,
+        group: kind,
         ends: ends(instance, shape.p, shape.q),
     })?;
     Ok(())
@@ -287,16 +99,15 @@ fn stand_of(
     alloc: Global,
     instance: &Instance,
     path: &Path,
-    slots: &[Slot],
     u: usize,
-    groups: &mut Vec<Group>,
+    kinds: &mut Kinds,
 ) -> Result<Stand, AllocError>
     requires path { IsTrailOf instance.now path.now }
     requires unit { u < unit_total instance.now }
 {
     let mut rows = Vec::new(alloc);
     for shape in shapes_from(instance, u, covered_by(path)) {
-        add_row(alloc, instance, slots, shape, groups, &mut rows)?;
+        add_row(alloc, instance, shape, kinds, &mut rows)?;
     }
     Ok(Stand {
         covered: path.covered().units().get(u).copied().unwrap_or(true),
@@ -359,35 +170,89 @@ fn paid_for(instance: &Instance, blocks: &[Block]) -> Number {
     paid
 }
 
+// Puts shapes of some groups into the groups by these prices.
+fn regroup(
+    alloc: Global,
+    instance: &Instance,
+    slots: &[Slot],
+    kinds: &[Kind],
+    old: &[Group],
+    rows: &mut [Row],
+    groups: &mut Groups,
+) -> Result<(), AllocError> {
+    for row in rows.iter_mut() {
+        if let Some(group) = old.get(row.group) {
+            let kind = group.kind;
+            let long = kinds.get(kind).map_or(0, |kind| kind.long);
+            row.group = groups.number(alloc, instance, slots, row.shape, kind, long)?;
+        }
+    }
+    Ok(())
+}
+
 impl Scene {
-    /// What a path leaves free, for some prices. Err is want of memory.
-    pub(crate) fn new(
-        alloc: Global,
-        instance: &Instance,
-        path: &Path,
-        slots: Vec<Slot>,
-    ) -> Result<Scene, AllocError>
+    /// What a path leaves free, without prices. Err is want of memory.
+    pub(crate) fn new(alloc: Global, instance: &Instance, path: &Path) -> Result<Scene, AllocError>
         requires { IsTrailOf instance.now path.now }
     {
-        let mut groups = Vec::new(alloc);
+        let mut kinds = Kinds::new(alloc);
         let mut stands = Vec::new(alloc);
         for u in 0..instance.units() {
-            stands.push(stand_of(alloc, instance, path, &slots, u, &mut groups)?)?;
+            stands.push(stand_of(alloc, instance, path, u, &mut kinds)?)?;
         }
         let mut scene = Scene {
-            counts: vec![in alloc; NOTHING; slots.len()]?,
-            slots,
-            groups,
+            slots: Vec::new(alloc),
+            groups: without_prices(alloc, &kinds)?,
+            kinds: kinds.all,
             stands,
             free: free_positions(alloc, path)?,
             tracks: instance.station().tracks.len(),
+            grain: i64::from(grain(alloc, instance)?),
             unparked: in_thousandths(instance.station().unparked),
             paid: NOTHING,
             left: NOTHING,
+            counts: Vec::new(alloc),
             entries: Vec::new(alloc),
         };
         scene.count(instance, path.blocks());
         Ok(scene)
+    }
+
+    /// Takes these prices in the place of others, for the path of these blocks. Err is want of memory.
+    pub(crate) fn price(
+        &mut self,
+        alloc: Global,
+        instance: &Instance,
+        blocks: &[Block],
+        slots: Vec<Slot>,
+    ) -> Result<(), AllocError> {
+        let old = mem::replace(&mut self.groups, Vec::new(alloc));
+        let mut groups = Groups::new(alloc, instance, &slots)?;
+        for stand in &mut self.stands {
+            let rows = &mut stand.rows;
+            regroup(
+                alloc,
+                instance,
+                &slots,
+                &self.kinds,
+                &old,
+                rows,
+                &mut groups,
+            )?;
+        }
+        self.groups = groups.all;
+        self.counts = vec![in alloc; NOTHING; slots.len()]?;
+        self.slots = slots;
+        self.count(instance, blocks);
+        Ok(())
+    }
+
+    /// The least ways for each track of the shapes of a group.
+    pub(crate) fn ways(&self, group: &Group) -> &[Number] {
+        match self.kinds.get(group.kind) {
+            Some(kind) => &kind.ways,
+            None => &[],
+        }
     }
 
     /// Finds what a path's blocks come to.

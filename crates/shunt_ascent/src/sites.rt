@@ -5,10 +5,11 @@ ghost use Rattle.shunt_prices.specs.defs.Limits.{IsCase, AreApart, AreCases};
 
 use crate::ascending::{Ascent, ascend};
 use crate::evaluating::Work;
+use crate::groups::{NO_WAY, block_with, weight};
 use crate::numbers::{NOTHING, Number, ONE, at, whole};
 use crate::points::{Point, Span};
 use crate::proposing::Proposal;
-use crate::scenes::{Entry, NO_WAY, Row, Scene, Stand, block_with, weight};
+use crate::scenes::{Entry, Row, Scene, Stand};
 use crate::settling::{round, settle};
 use crate::slots::{Slot, slot_of};
 use crate::stating::{case_of, two_cases};
@@ -195,7 +196,8 @@ impl Site {
         requires { IsTrailOf instance.now path.now }
     {
         let slots = slots_with(alloc, instance, proposal, cases)?;
-        let scene = Scene::new(alloc, instance, path, slots)?;
+        let mut scene = Scene::new(alloc, instance, path)?;
+        scene.price(alloc, instance, path.blocks(), slots)?;
         let work = Work::new(alloc, &scene)?;
         let shapes = shapes_of(alloc, &scene)?;
         let units = scene.stands.len();
@@ -265,7 +267,7 @@ impl Site {
         let Some(group) = self.scene.groups.get(group) else {
             return false;
         };
-        match group.ways.get(park.track.0 as usize) {
+        match self.scene.ways(group).get(park.track.0 as usize) {
             Some(way) => *way < NO_WAY,
             None => false,
         }
@@ -399,7 +401,7 @@ impl Site {
             multiplier: raise.multiplier,
             step: 6_000,
             most: raise.most,
-            goal: goal + scaled(3_000),
+            goal: goal + scaled(3_000) * Wrapping(self.scene.grain),
         };
         let scene = &self.scene;
         let (point, _) = ascend(alloc, scene, case.span, ascent, &case.point, &mut self.work)?;

@@ -1,7 +1,7 @@
 -- What the prices on each track take, from fewer prices to one more.
 use lib.Signed.{lt_z}
-use Rattle.std.specs.Prelude.{◌==◌, ◌&&◌, cond, sum_by, All, Some, true, false, ◌≤ℤ◌, ◌<ℤ◌}
-use Rattle.std.proofs.Common.{◌≡◌, ◌≢◌, ⊎_elim, ℕ, zero, suc, ◌+◌, ◌*◌, ◌<◌, ◌≤◌, Bool, List, length, get_or, take, set, ℤ, pos, ◌+ℤ◌, refl, sym, ap, subst, ◌∙◌, arith, add-one, replicate, get_or-set_same, get_or-set_other}
+use Rattle.std.specs.Prelude.{◌==◌, ◌&&◌, cond, Some, true, false, ◌≤ℤ◌, ◌<ℤ◌}
+use Rattle.std.proofs.Common.{◌≡◌, ◌≢◌, ⊎_elim, ℕ, zero, suc, ◌+◌, ◌*◌, ◌<◌, ◌≤◌, Bool, List, length, get_or, take, set, ℤ, ◌+ℤ◌, refl, sym, ap, subst, ◌∙◌, arith, add-one, replicate, get_or-set_same, get_or-set_other}
 use Rattle.std.proofs.lemmas.Int.{ints}
 use Rattle.std.proofs.lemmas.Bool.{cases_eq}
 use Rattle.std.proofs.lemmas.Bool.Decides.{nat_tests}

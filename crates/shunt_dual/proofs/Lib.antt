@@ -11,6 +11,7 @@ pub mod Entries
 pub mod Paying
 pub mod Charged
 pub mod Holds
+pub mod Dear
 pub mod Summed
 pub mod Opening
 pub mod Lengthened

@@ -1,6 +1,6 @@
 -- The least bound of cases, from those before a number to one more.
-use Rattle.std.specs.Prelude.{true, false, ◌==◌, ◌||◌, nat_le, Some, slice_get, ◌≤ℤ◌, ◌<ℤ◌}
-use Rattle.std.proofs.Common.{◌≡◌, ◌⊎◌, inl, inr, ⊎_elim, ℕ, ◌+◌, ◌<◌, ◌≤◌, List, length, ℤ, pos, refl, sym, ap, subst, ◌∙◌, arith}
+use Rattle.std.specs.Prelude.{true, ◌==◌, ◌||◌, nat_le, Some, slice_get, ◌≤ℤ◌}
+use Rattle.std.proofs.Common.{◌≡◌, ◌⊎◌, inl, inr, ⊎_elim, ℕ, ◌+◌, ◌<◌, ◌≤◌, List, length, ℤ, pos, refl, sym, subst, arith}
 use Rattle.std.proofs.lemmas.Int.{ints}
 use Rattle.std.proofs.lemmas.Bool.{cases_lt, cases_eq}
 use Rattle.std.proofs.lemmas.Bool.Decides.{nat_tests}
@@ -9,7 +9,7 @@ use Rattle.shunt_base.specs.declared.duals.Case.{Case}
 use Rattle.shunt_instance.specs.defs.Instance.{Night}
 use Rattle.shunt_blocks.specs.declared.records.Block.{Block}
 use Rattle.shunt_prices.specs.defs.Limits.{case_at, from_of, plain}
-use Rattle.shunt_prices.specs.defs.Bounds.{IsBoundOf, IsOpenAt, IsCasesBound, IsDualsBound, case_sum, duals_sum, sum_at, is_open, unparked_in}
+use Rattle.shunt_prices.specs.defs.Bounds.{IsBoundOf, IsOpenAt, IsCasesBound, IsDualsBound, case_sum, duals_sum, sum_at, unparked_in}
 use Rattle.shunt_prices.proofs.Signed.{bound_rises}
 use Rattle.shunt_dual.specs.defs.Opened.{IsLeastBelow}
 use Rattle.shunt_dual.specs.defs.Weighed.{case_of}

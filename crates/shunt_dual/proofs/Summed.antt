@@ -1,26 +1,24 @@
 -- Sums of signed numbers as code has them, and the sum of a case from its parts.
-use lib.Signed.{lt_z}
 use mir.Syntax.{w64}
 use mir.Val.{to_z, of_z}
-use Rattle.std.specs.Prelude.{cond, true, false, Option, None, ◌-ℤ◌, ◌*ℤ◌, slice_index_or}
+use Rattle.std.specs.Prelude.{cond, true, false, None, ◌-ℤ◌, ◌*ℤ◌}
 use Rattle.std.specs.Int.{int_max}
-use Rattle.std.proofs.Common.{◌≡◌, ℕ, ◌+◌, ◌*◌, ◌<◌, ◌≤◌, Bool, List, length, get_or, ℤ, pos, ◌+ℤ◌, refl, sym, ap, subst, ◌∙◌, arith}
+use Rattle.std.proofs.Common.{◌≡◌, ℕ, ◌*◌, ◌≤◌, Bool, List, length, get_or, ℤ, pos, ◌+ℤ◌, sym, ap, subst, ◌∙◌, arith}
 use Rattle.std.proofs.lemmas.Int.{ints}
 use Rattle.shunt_base.specs.declared.duals.Price.{Price}
 use Rattle.shunt_base.specs.declared.duals.Duals.{Duals}
 use Rattle.shunt_base.specs.declared.duals.Case.{Case}
 use Rattle.shunt_instance.specs.defs.Instance.{Night, unit_total, position_total}
 use Rattle.shunt_blocks.specs.declared.records.Block.{Block}
-use Rattle.shunt_blocks.specs.declared.records.Park.{Park}
 use Rattle.shunt_blocks.specs.defs.Shapes.{shape_of}
 use Rattle.shunt_choices.specs.defs.Paths.{Masks, Trail, IsTrailOf, masks_of}
 use Rattle.shunt_choices.proofs.Trails.{length_units, length_places}
 use Rattle.shunt_prices.specs.defs.Sums.{sum_z, sum_z_below, IsWithin}
 use Rattle.shunt_prices.specs.defs.Prices.{price_part, price_part_with, paid_at_most}
-use Rattle.shunt_prices.specs.defs.Limits.{IsValue, AreDuals}
+use Rattle.shunt_prices.specs.defs.Limits.{IsValue}
 use Rattle.shunt_prices.specs.defs.Cases.{weight}
 use Rattle.shunt_prices.specs.defs.Bounds.{most_surcharge, uncovered_alphas, uncovered_betas, sum_at}
-use Rattle.shunt_prices.proofs.Sizes.{wider, times_within, most_within}
+use Rattle.shunt_prices.proofs.Sizes.{wider, times_within}
 use Rattle.shunt_dual.specs.defs.Weighed.{case_of}
 use Rattle.shunt_dual.proofs.Holds.{no_part}
 

@@ -6,6 +6,7 @@ pub mod Tables
 pub mod Pairing
 pub mod Tree
 pub mod Weighed
+pub mod Ways
 pub mod Opened
 pub mod Longer
 pub mod Refits

@@ -10,8 +10,10 @@ ghost use Rattle.shunt_choices.specs.defs.Paths.{IsTrailOf};
 ghost use Rattle.shunt_prices.specs.defs.Sums.{IsWithin};
 ghost use Rattle.shunt_prices.specs.defs.Limits.{ArePrices, AreDuals, AreCases, IsValue};
 ghost use Rattle.shunt_prices.specs.defs.Cases.{duals_over, HoldsInCase, CasesHold, DualsHold};
+ghost use Rattle.shunt_dual.specs.defs.Ways.{AreLeastWays};
 ghost use Rattle.shunt_dual.specs.defs.Weighed.{case_of, ParkHolds, SideHolds, TrackHolds, TracksHold, ShapeHolds, UnitHolds};
 
+use crate::ways::{LeastWays, least_parked, least_ways};
 use crate::weighing::{charges, cost_with, room, run_sum, shape_length};
 use shunt_base::{Cases, Duals, Price, Side, TrackId};
 use shunt_blocks::{Park, Shape, is_option, position_from, unit_from};
@@ -102,12 +104,23 @@ fn track_holds(
     side_holds(instance, shape, track, Side::B, sum, part)
 }
 
-/// Whether each way to park a shape on a track that is long enough for it weighs at least a sum.
-fn tracks_hold(instance: &Instance, prices: &[Price], shape: Shape, sum: i64) -> bool
+/// Whether each way to park a shape on a track that is long enough for it weighs at least a sum. Prices only add to a weight, so where
+/// the least ways of the shape's trains cost as much already, neither prices nor tracks are looked at.
+fn tracks_hold(
+    instance: &Instance,
+    ways: &LeastWays,
+    prices: &[Price],
+    shape: Shape,
+    sum: i64,
+) -> bool
+    requires ways { AreLeastWays instance.now ways.now }
     requires prices { ArePrices instance.now prices.now }
     requires within { AreRunsWithin instance.now shape }
     ensures { IsTrue result ↔ TracksHold instance.now prices.now shape sum (length instance.now.station.tracks) }
 {
+    if sum <= least_parked(instance, ways, shape) as i64 {
+        return true;
+    }
     let long = shape_length(instance, shape);
     let charges = charges(instance, prices, shape, long);
     for t in 0..instance.station().tracks.len() {
@@ -120,7 +133,14 @@ fn tracks_hold(instance: &Instance, prices: &[Price], shape: Shape, sum: i64) ->
 }
 
 /// Whether no option of a shape that has room weighs less than the shape's duals.
-fn shape_holds(instance: &Instance, multiplier: i64, duals: &Duals, shape: Shape) -> bool
+fn shape_holds(
+    instance: &Instance,
+    ways: &LeastWays,
+    multiplier: i64,
+    duals: &Duals,
+    shape: Shape,
+) -> bool
+    requires ways { AreLeastWays instance.now ways.now }
     requires multiplier { IsValue multiplier }
     requires duals { AreDuals instance.now duals.now }
     requires within { AreRunsWithin instance.now shape }
@@ -131,7 +151,7 @@ fn shape_holds(instance: &Instance, multiplier: i64, duals: &Duals, shape: Shape
     if sum > unparked as i64 + multiplier {
         return false;
     }
-    tracks_hold(instance, duals.prices.as_slice(), shape, sum)
+    tracks_hold(instance, ways, duals.prices.as_slice(), shape, sum)
 }
 
 /// The shapes that begin at a unit.
@@ -150,11 +170,13 @@ fn shapes_at<'a>(instance: &'a Instance, covered: &Covered, u: usize) -> Shapes<
 /// The same of each free shape that begins at a unit. A covered unit has none, and costs one test.
 fn unit_holds(
     instance: &Instance,
+    ways: &LeastWays,
     covered: &Covered,
     multiplier: i64,
     duals: &Duals,
     u: usize,
 ) -> bool
+    requires ways { AreLeastWays instance.now ways.now }
     requires covered { AreMasksOf instance.now covered.now }
     requires multiplier { IsValue multiplier }
     requires duals { AreDuals instance.now duals.now }
@@ -169,7 +191,7 @@ fn unit_holds(
     free_shapes();
     let mut shapes = shapes_at(instance, covered, u);
     'shapes: while let Some(shape) = shapes.next() {
-        if !shape_holds(instance, multiplier, duals, shape) {
+        if !shape_holds(instance, ways, multiplier, duals, shape) {
             return false;
         }
     }
@@ -185,8 +207,9 @@ fn holds_in_case(instance: &Instance, covered: &Covered, multiplier: i64, duals:
 {
     // Each shape of the night begins at one of its units.
     rooms_of_trains();
+    let ways = least_ways(instance);
     for u in 0..instance.units() {
-        if !unit_holds(instance, covered, multiplier, duals, u) {
+        if !unit_holds(instance, &ways, covered, multiplier, duals, u) {
             return false;
         }
     }

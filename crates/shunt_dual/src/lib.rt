@@ -15,6 +15,7 @@ mod steps;
 mod table;
 mod tree;
 pub mod types;
+mod ways;
 mod weighing;
 
 pub use assigning::{Assigned, assign};

@@ -24,7 +24,7 @@ pub(crate) fn room(instance: &Instance, track: TrackId) -> u32
 }
 
 /// A shape with an option as a block.
-fn block_with(shape: Shape, park: Option<Park>) -> Block
+pub(crate) fn block_with(shape: Shape, park: Option<Park>) -> Block
     ensures { result ≡ record { id = 1; arr = shape.arr; p = shape.p; n = shape.n; dep = shape.dep; q = shape.q; park = park } }
 {
     Block {

@@ -106,6 +106,8 @@ pub(crate) struct Covers {
     pub(crate) cost: i64,
     /// What the prices take of them.
     pub(crate) part: i64,
+    /// What blocks of the units that no block has cost at least.
+    bare: i64,
 }
 
 impl Covers {
@@ -119,7 +121,19 @@ impl Covers {
             yard: Yard::new(alloc, tables.rooms.len())?,
             cost: 0,
             part: 0,
+            bare: tables.all_shares(),
         })
+    }
+
+    /// What the blocks are held for where the prices count that much, 1,024 to one.
+    pub(crate) fn held(&self, prices: i64) -> i64 {
+        self.cost
+            .wrapping_add(prices.wrapping_mul(self.part) / 1024)
+    }
+
+    /// What a whole plan with these blocks is held for at least.
+    pub(crate) fn held_at_least(&self, prices: i64) -> i64 {
+        self.held(prices).wrapping_add(self.bare)
     }
 
     /// The block whose first unit this is.
@@ -176,6 +190,7 @@ impl Covers {
         self.set_block(place, Some(placed));
         self.cost = self.cost.wrapping_add(placed.cost(tables));
         self.part = self.part.wrapping_add(placed.part());
+        self.bare = self.bare.wrapping_sub(tables.share(place, row.shape.n));
         Ok(())
     }
 
@@ -199,6 +214,7 @@ impl Covers {
         self.set_block(place, None);
         self.cost = self.cost.wrapping_sub(placed.cost(tables));
         self.part = self.part.wrapping_sub(placed.part());
+        self.bare = self.bare.wrapping_add(tables.share(place, row.shape.n));
         Ok(Some(placed))
     }
 }

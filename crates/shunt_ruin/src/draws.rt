@@ -3,7 +3,7 @@ ghost use Rattle.std.specs.Prelude.{◌<◌};
 
 use std::alloc::{AllocError, Global};
 
-/// If the numbers stand. Two runs draw the same.
+/// Where the numbers stand. Two runs draw the same.
 #[derive(Debug, Drop)]
 pub(crate) struct Draws {
     state: u32,

@@ -111,33 +111,50 @@ impl Covers {
     }
 }
 
+/// How what has gone is covered anew.
+#[derive(Clone, Copy, Debug, Drop)]
+struct Attempt {
+    /// How much chance may add to weights.
+    noise: i64,
+    /// How much the prices count, 1,024 to one.
+    prices: i64,
+    /// What a plan may be held for at most.
+    most: i64,
+}
+
 impl Search {
-    /// A unit that no block has is covered; whether it can be. Err is want of memory.
-    fn cover(&mut self, tables: &Tables, unit: usize, noise: i64) -> Result<bool, AllocError> {
+    /// A unit that no block has is covered; whether it can be, and the plan may still be held for no more than the most. Err is want of
+    /// memory.
+    fn cover(
+        &mut self,
+        tables: &Tables,
+        unit: usize,
+        attempt: &Attempt,
+    ) -> Result<bool, AllocError> {
         if block_of(&self.covers.units, unit) != NO_BLOCK {
             return Ok(true);
         }
         let Some(placed) = self
             .covers
-            .lightest_at(tables, unit, &mut self.draws, noise)
+            .lightest_at(tables, unit, &mut self.draws, attempt.noise)
         else {
             return Ok(false);
         };
         self.covers.put(tables, placed)?;
         self.come.push(placed.row.unit)?;
-        Ok(true)
+        Ok(self.covers.held_at_least(attempt.prices) <= attempt.most)
     }
 
-    /// The units of a train that no block has are covered; whether they can be. Err is want of memory.
+    /// The units of a train that no block has are covered; whether they can be, likewise. Err is want of memory.
     fn cover_train(
         &mut self,
         tables: &Tables,
         unit: usize,
-        noise: i64,
+        attempt: &Attempt,
     ) -> Result<bool, AllocError> {
         let (from, to) = tables.train_of(unit);
         for other in from..to {
-            if !self.cover(tables, other, noise)? {
+            if !self.cover(tables, other, attempt)? {
                 return Ok(false);
             }
         }
@@ -166,16 +183,29 @@ impl Search {
 
     /// How much chance may add to weights.
     fn some_noise(&mut self) -> i64 {
-        NOISES[self.draws.below(6)]
+        let noise = NOISES[self.draws.below(6)];
+        let heard = if self.is_loud { noise } else { noise / 2 };
+        heard.wrapping_mul(self.grain)
     }
 
-    /// What has gone is covered anew, train by train; whether it can be. Err is want of memory.
-    pub(crate) fn recreate(&mut self, alloc: Global, tables: &Tables) -> Result<bool, AllocError> {
-        let noise = self.some_noise();
+    /// What has gone is covered anew, train by train; whether it can be by a plan that is held for no more than the most, where the prices
+    /// count that much, 1,024 to one. Err is want of memory.
+    pub(crate) fn recreate(
+        &mut self,
+        alloc: Global,
+        tables: &Tables,
+        prices: i64,
+        most: i64,
+    ) -> Result<bool, AllocError> {
+        let attempt = Attempt {
+            noise: self.some_noise(),
+            prices,
+            most,
+        };
         let mut trains = self.trains_gone(alloc, tables)?;
         self.shuffle(&mut trains);
         for train in trains {
-            if !self.cover_train(tables, train, noise)? {
+            if !self.cover_train(tables, train, &attempt)? {
                 return Ok(false);
             }
         }

@@ -4,6 +4,7 @@ ghost use Rattle.shunt_blocks.specs.defs.Lists.{IsFeasible, total_cost};
 ghost use Rattle.shunt_blocks.specs.defs.Pins.{Keeps};
 ghost use Rattle.shunt_ruin.specs.defs.Judging.{AreNumbered};
 
+use crate::courses::{Course, Fall};
 use crate::covers::{Placed, no_blocks};
 use crate::draws::Cooling;
 use crate::judging::is_better;
@@ -51,15 +52,17 @@ struct Stage {
 }
 
 impl Stage {
-    /// What a plan of some cost, of which the prices take some, is held for.
-    fn held(&self, search: &Search) -> i64 {
-        let part = self.prices.wrapping_mul(search.covers.part) / 1024;
-        search.covers.cost.wrapping_add(part)
+    /// Where a fall of the temperature begins.
+    fn first(fall: &Fall, grain: i64) -> Stage {
+        Stage {
+            temperature: fall.first.wrapping_mul(1024).wrapping_mul(grain),
+            prices: 512,
+        }
     }
 
     /// One stage later.
-    fn cool(&mut self) {
-        self.temperature = self.temperature.wrapping_mul(979516) / 1000000;
+    fn cool(&mut self, fall: &Fall) {
+        self.temperature = self.temperature.wrapping_mul(fall.factor) / 1000000;
         self.prices = self.prices.saturating_sub(2);
     }
 }
@@ -132,7 +135,7 @@ fn begin(alloc: Global, tables: &Tables, search: &mut Search) -> Result<(), Allo
     for _try in 0..24 {
         let before = search.covers.cost;
         search.ruin_all(tables)?;
-        let whole = search.recreate(alloc, tables)?;
+        let whole = search.recreate(alloc, tables, 0, i64::MAX)?;
         if !whole || search.covers.cost >= before {
             search.undo(tables)?;
         }
@@ -149,11 +152,12 @@ fn go_round(
     stage: &Stage,
     search: &mut Search,
 ) -> Result<(), AllocError> {
-    let before = stage.held(search);
+    let before = search.covers.held(stage.prices);
     search.ruin_some(tables)?;
     let rise = cooling.rise(stage.temperature / 1024, &mut search.draws);
-    let whole = search.recreate(alloc, tables)?;
-    if !whole || stage.held(search).wrapping_sub(before) > rise {
+    let most = before.saturating_add(rise);
+    let whole = search.recreate(alloc, tables, stage.prices, most)?;
+    if !whole || search.covers.held(stage.prices) > most {
         search.undo(tables)?;
     }
     search.keep();
@@ -164,22 +168,48 @@ fn go_round(
 fn go_rounds(
     alloc: Global,
     tables: &Tables,
+    cooling: &Cooling,
+    fall: &Fall,
     rounds: u32,
     search: &mut Search,
     best: &mut Best,
 ) -> Result<(), AllocError> {
-    let cooling = Cooling::new(alloc)?;
     let every = (rounds / 256).max(1);
-    let mut stage = Stage {
-        temperature: 60_000 * 1024,
-        prices: 512,
-    };
+    let mut stage = Stage::first(fall, search.grain);
     for round in 0..rounds {
         if round % every == 0 {
-            stage.cool();
+            stage.cool(fall);
         }
-        go_round(alloc, tables, &cooling, &stage, search)?;
+        go_round(alloc, tables, cooling, &stage, search)?;
         best.take_over(search);
+    }
+    Ok(())
+}
+
+/// A search that has the blocks of the best plan instead of its own, but for those that are pinned. Err is want of memory.
+fn return_to(best: &Best, tables: &Tables, search: &mut Search) -> Result<(), AllocError> {
+    search.ruin_all(tables)?;
+    for block in &best.blocks {
+        if let Some(placed) = block {
+            search.put_anew(tables, *placed)?;
+        }
+    }
+    search.keep();
+    Ok(())
+}
+
+/// All rounds of a course, of which each fall of the temperature begins with the best plan. Err is want of memory.
+fn go_course(
+    alloc: Global,
+    tables: &Tables,
+    course: &Course<'_>,
+    search: &mut Search,
+    best: &mut Best,
+) -> Result<(), AllocError> {
+    let cooling = Cooling::new(alloc)?;
+    for fall in course.falls {
+        return_to(best, tables, search)?;
+        go_rounds(alloc, tables, &cooling, fall, course.rounds, search, best)?;
     }
     Ok(())
 }
@@ -206,13 +236,13 @@ fn propose(
     pins: &[Block],
     case: &Case,
     plan: &[Block],
-    rounds: u32,
+    course: &Course<'_>,
 ) -> Result<Vec<Block>, AllocError>
     ensures { IfOk result (λ v. AreNumbered v.items) }
 {
     let tables = Tables::new(alloc, instance, case)?;
     let pinned = pinned_units(alloc, instance, pins)?;
-    let mut search = Search::new(alloc, &tables, pinned)?;
+    let mut search = Search::new(alloc, &tables, pinned, course)?;
     let mut best = Best {
         blocks: no_blocks(alloc, instance.units())?,
         cost: i64::MAX,
@@ -220,13 +250,13 @@ fn propose(
     if put_all(instance, &tables, &mut search, plan)? {
         begin(alloc, &tables, &mut search)?;
         best.take_over(&search);
-        go_rounds(alloc, &tables, rounds, &mut search, &mut best)?;
+        go_course(alloc, &tables, course, &mut search, &mut best)?;
     }
     numbered(alloc, &best.blocks)
 }
 
 /// A plan that keeps the pins and costs no more than one that does: blocks of it are taken away by chance and others are put in their
-/// place, that many times, guided by what a case makes of them.
+/// place, again and again as a course says, guided by what a case makes of them.
 ///
 /// Any case will do; a better one leads to a cheaper plan. The ids of a plan that is found are its blocks' places, in the order of first
 /// units. Err is want of memory.
@@ -236,7 +266,7 @@ pub fn ruin_and_recreate(
     pins: &[Block],
     case: &Case,
     plan: &[Block],
-    rounds: u32,
+    course: &Course<'_>,
 ) -> Result<Vec<Block>, AllocError>
     requires feasible { IsFeasible instance.now plan.now }
     requires keeps { Keeps plan.now pins.now }
@@ -244,7 +274,7 @@ pub fn ruin_and_recreate(
     ensures keeps { IfOk result (λ v. Keeps v.items pins.now) }
     ensures cheaper { IfOk result (λ v. total_cost instance.now v.items ≤ total_cost instance.now plan.now) }
 {
-    let found = propose(alloc, instance, pins, case, plan, rounds)?;
+    let found = propose(alloc, instance, pins, case, plan, course)?;
     if is_better(alloc, instance, pins, plan, &found)? {
         return Ok(found);
     }

@@ -1,5 +1,6 @@
 // Blocks are ruined and made anew, and what was done is undone where it isn't worth it.
 
+use crate::courses::Course;
 use crate::covers::{Covers, Placed, block_of};
 use crate::draws::Draws;
 use crate::tables::{Row, Spot, Tables};
@@ -13,6 +14,9 @@ pub(crate) struct Search {
     pub(crate) draws: Draws,
     /// For each unit whether its block is a pin.
     pinned: Vec<bool>,
+    /// What noises count in, and whether they are whole or halved.
+    pub(crate) grain: i64,
+    pub(crate) is_loud: bool,
     pub(crate) gone: Vec<Placed>,
     pub(crate) come: Vec<u16>,
 }
@@ -42,11 +46,14 @@ impl Search {
         alloc: Global,
         tables: &Tables,
         pinned: Vec<bool>,
+        course: &Course<'_>,
     ) -> Result<Search, AllocError> {
         Ok(Search {
             covers: Covers::new(alloc, tables)?,
             draws: Draws::new(),
             pinned,
+            grain: i64::from(course.grain),
+            is_loud: course.is_loud,
             gone: Vec::new(alloc),
             come: Vec::new(alloc),
         })
@@ -311,6 +318,14 @@ impl Search {
             self.ruin_one(tables)?;
         }
         Ok(())
+    }
+
+    /// A block comes, where its first unit has none. Err is want of memory.
+    pub(crate) fn put_anew(&mut self, tables: &Tables, placed: Placed) -> Result<(), AllocError> {
+        if self.covers.block(usize::from(placed.row.unit)).is_some() {
+            return Ok(());
+        }
+        self.covers.put(tables, placed)
     }
 
     /// What has gone and come is kept.

@@ -4,6 +4,7 @@ ghost use Rattle.shunt_instance.specs.defs.Instance.{unit_total, position_total}
 ghost use Rattle.shunt_blocks.specs.defs.Shapes.{AreRunsWithin};
 
 use crate::judging::track_lengths;
+use indexmap::IndexSet;
 use shunt_base::{Case, Duals, Price, PriceKind};
 use shunt_blocks::{
     Block, Park, Shape, are_runs_within, block_cost, block_length, in_range, is_pair,
@@ -43,10 +44,10 @@ pub(crate) struct Spot {
 }
 
 /// What shapes have in common that can be parked alike and of which prices take the same.
-#[derive(Clone, Copy, Debug, PartialEq, Eq, Drop)]
+#[derive(Clone, Copy, PartialEq, Eq, Hash, Drop)]
 struct Likeness {
-    comes: Origin,
-    goes: Origin,
+    comes: u16,
+    goes: u16,
     long: u32,
     /// Which types its units have, where tracks permit some alone.
     kinds: u64,
@@ -55,12 +56,13 @@ struct Likeness {
     late: usize,
 }
 
-/// Shapes that can be parked alike, and the places of their ways among all.
+/// Shapes that can be parked alike: the places of their ways among all, and what the cheapest of their options costs but for their ends, in
+/// thousandths of a cost unit.
 #[derive(Clone, Copy, Debug, Drop)]
 struct Group {
-    likeness: Likeness,
     from: usize,
     to: usize,
+    least: i64,
 }
 
 /// The first unit of a unit's train, and the one behind its last.
@@ -71,16 +73,20 @@ struct Train {
 }
 
 /// All shapes of a night, by units, positions and lengths, with what a case makes of them.
-#[derive(Debug, Drop)]
+#[derive(Drop)]
 pub(crate) struct Tables {
     rows: Vec<Row>,
     /// For each unit and position, where their shapes begin among the rows, and where the last end.
     starts: Vec<usize>,
     groups: Vec<Group>,
+    /// What the shapes of each group have in common.
+    likenesses: IndexSet<Likeness>,
     /// The ways of each group, the lightest first.
     spots: Vec<Spot>,
     /// For each unit its train.
     trains: Vec<Train>,
+    /// For each unit the least part of a block's cost that falls on it, in thousandths of a cost unit.
+    shares: Vec<i64>,
     /// The lengths of the tracks in dm.
     pub(crate) rooms: Vec<u32>,
     pub(crate) units: usize,
@@ -89,9 +95,6 @@ pub(crate) struct Tables {
     pub(crate) unparked: i64,
     pub(crate) unparked_weight: i64,
 }
-
-/// That many groups get ways; a shape of another isn't parked.
-const MOST_GROUPS: usize = 2048;
 
 /// Those from one place to before another, or none.
 fn part_of<T>(all: &[T], from: usize, to: usize) -> &[T] {
@@ -151,13 +154,18 @@ impl Row {
     }
 }
 
-/// What the prices take of a shape on a track.
-fn part(instance: &Instance, prices: &[Price], row: &Row, park: Park) -> i64 {
+/// The length of an option's track in dm.
+fn room_of(instance: &Instance, park: Park) -> u32 {
     let tracks = instance.station().tracks.as_slice();
-    let room = match tracks.get(usize::from(park.track.0)) {
+    match tracks.get(usize::from(park.track.0)) {
         Some(track) => track.length,
         None => 0,
-    };
+    }
+}
+
+/// What the prices take of a shape on a track.
+fn part(instance: &Instance, prices: &[Price], row: &Row, park: Park) -> i64 {
+    let room = room_of(instance, park);
     let mut part: i64 = 0;
     for price in prices {
         if price.track.0 == park.track.0 && row.is_there(instance, price) {
@@ -182,6 +190,15 @@ fn sort_in(spots: &mut [Spot], from: usize) {
     }
 }
 
+/// An option, where its track is long enough.
+fn long_enough(instance: &Instance, row: &Row, option: Option<Park>) -> Option<Park> {
+    let park = option?;
+    if row.long > room_of(instance, park) {
+        return None;
+    }
+    Some(park)
+}
+
 /// Adds the ways to park the shapes of a group, the lightest first.
 fn add_spots(
     instance: &Instance,
@@ -194,7 +211,7 @@ fn add_spots(
     let from = spots.len();
     let mut options = options(instance, row.shape);
     'options: while let Some(option) = options.next() {
-        if let Some(park) = option {
+        if let Some(park) = long_enough(instance, row, option) {
             let cost = cost_with(instance, row.shape, option).wrapping_sub(row.ends);
             let part = part(instance, prices, row, park);
             spots.push(Spot {
@@ -289,6 +306,14 @@ fn late(instance: &Instance, prices: &[Price], departs: u16) -> usize {
     many
 }
 
+/// Another number for each place that a train comes from or goes to.
+fn number_of(origin: Origin) -> u16 {
+    match origin {
+        Origin::Platform(platform) => u16::from(platform.0),
+        Origin::Track(track) => 256 + u16::from(track.0),
+    }
+}
+
 /// What a shape has in common with others.
 fn likeness_of(instance: &Instance, prices: &[Price], row: &Row) -> Likeness
     requires { AreRunsWithin instance.now row.now.shape }
@@ -299,8 +324,8 @@ fn likeness_of(instance: &Instance, prices: &[Price], row: &Row) -> Likeness
         kinds_of(instance, usize::from(row.unit), row.shape.n)
     };
     Likeness {
-        comes: instance.arrive(row.shape.arr).origin,
-        goes: instance.depart(row.shape.dep).origin,
+        comes: number_of(instance.arrive(row.shape.arr).origin),
+        goes: number_of(instance.depart(row.shape.dep).origin),
         long: row.long,
         kinds,
         early: early(prices, row.shape),
@@ -308,16 +333,22 @@ fn likeness_of(instance: &Instance, prices: &[Price], row: &Row) -> Likeness
     }
 }
 
-/// The group of a likeness, or how many there are.
-fn group_of(groups: &[Group], likeness: &Likeness) -> usize {
-    let mut place: usize = 0;
-    for group in groups {
-        if group.likeness == *likeness {
-            return place;
-        }
-        place = place.saturating_add(1);
+/// The least cost of these ways, and of no way.
+fn least_of(spots: &[Spot], unparked: i64) -> i64 {
+    let mut least = unparked;
+    for spot in spots {
+        least = least.min(spot.cost);
     }
-    place
+    least
+}
+
+/// Lowers that many numbers from one on to another, where they are greater.
+fn lower(numbers: &mut [i64], from: usize, many: u8, most: i64) {
+    for k in 0..usize::from(many) {
+        if let Some(number) = numbers.get_mut(from.wrapping_add(k)) {
+            *number = most.min(*number);
+        }
+    }
 }
 
 /// The leave of a shape among all leaves.
@@ -383,17 +414,49 @@ impl Tables {
         requires { AreRunsWithin instance.now row.shape }
     {
         let likeness = likeness_of(instance, prices, &row);
-        let group = group_of(&self.groups, &likeness);
-        if group == self.groups.len() && group < MOST_GROUPS {
-            let from = self.spots.len();
-            add_spots(instance, prices, &row, &mut self.spots)?;
-            self.groups.push(Group {
-                likeness,
-                from,
-                to: self.spots.len(),
-            })?;
+        let (group, is_new) = self.likenesses.insert_full(likeness)?;
+        if is_new {
+            self.add_group(instance, prices, &row)?;
         }
         self.rows.push(Row { group, ..row })?;
+        Ok(())
+    }
+
+    /// Adds the group of a shape, with its ways.
+    fn add_group(
+        &mut self,
+        instance: &Instance,
+        prices: &[Price],
+        row: &Row,
+    ) -> Result<(), AllocError>
+        requires { AreRunsWithin instance.now row.now.shape }
+    {
+        let from = self.spots.len();
+        add_spots(instance, prices, row, &mut self.spots)?;
+        let to = self.spots.len();
+        let least = least_of(part_of(&self.spots, from, to), self.unparked);
+        self.groups.push(Group { from, to, least })?;
+        Ok(())
+    }
+
+    /// The least that a shape costs for each of its units.
+    fn share_of(&self, row: &Row) -> i64 {
+        let least = match self.groups.get(row.group) {
+            Some(group) => group.least,
+            None => 0,
+        };
+        let cost = row.ends.wrapping_add(least);
+        cost.checked_div(i64::from(row.shape.n)).unwrap_or(0)
+    }
+
+    /// Finds for each unit the least part of a block's cost that falls on it. Err is want of memory.
+    fn find_shares(&mut self, alloc: Global) -> Result<(), AllocError> {
+        let mut shares = vec![in alloc; i64::MAX; self.units]?;
+        for row in &self.rows {
+            let share = self.share_of(row);
+            lower(&mut shares, usize::from(row.unit), row.shape.n, share);
+        }
+        self.shares = shares;
         Ok(())
     }
 
@@ -448,8 +511,10 @@ impl Tables {
             rows: Vec::new(alloc),
             starts: Vec::new(alloc),
             groups: Vec::new(alloc),
+            likenesses: IndexSet::new(alloc),
             spots: Vec::new(alloc),
             trains: trains(alloc, instance)?,
+            shares: Vec::new(alloc),
             rooms: track_lengths(alloc, instance)?,
             units: instance.units(),
             positions: instance.positions(),
@@ -460,6 +525,7 @@ impl Tables {
             tables.add_rows_from(instance, &case.duals, unit)?;
         }
         tables.starts.push(tables.rows.len())?;
+        tables.find_shares(alloc)?;
         Ok(tables)
     }
 
@@ -469,6 +535,20 @@ impl Tables {
             Some(train) => (usize::from(train.from), usize::from(train.to)),
             None => (0, 0),
         }
+    }
+
+    /// What blocks cost at least that have that many units from one on, in thousandths of a cost unit.
+    pub(crate) fn share(&self, unit: usize, many: u8) -> i64 {
+        run_sum(&self.shares, unit, many)
+    }
+
+    /// What a whole plan costs at least, in thousandths of a cost unit.
+    pub(crate) fn all_shares(&self) -> i64 {
+        let mut sum: i64 = 0;
+        for share in &self.shares {
+            sum = sum.wrapping_add(*share);
+        }
+        sum
     }
 
     /// The length of a track in dm.
@@ -486,7 +566,7 @@ impl Tables {
         self.rows.get(place).copied()
     }
 
-    /// If the shapes of a unit and a position begin.
+    /// Where the shapes of a unit and a position begin.
     fn start(&self, unit: usize, position: usize) -> usize {
         let place = unit.wrapping_mul(self.positions).wrapping_add(position);
         self.starts.get(place).copied().unwrap_or(0)

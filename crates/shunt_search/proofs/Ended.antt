@@ -1,6 +1,6 @@
 -- What a search has found when it ends.
 use Rattle.std.specs.Prelude.{◌≤ℤ◌, Option, Some, None, IfSome}
-use Rattle.std.proofs.Common.{◌≡◌, ◌⊎◌, ◌↔◌, ⊎_elim, ℕ, ◌<◌, ◌≤◌, List, [], length, ℤ, pos, negsuc, refl, sym, subst, arith, IsPermutation}
+use Rattle.std.proofs.Common.{◌≡◌, ◌↔◌, ⊎_elim, ℕ, ◌<◌, ◌≤◌, List, [], length, ℤ, pos, negsuc, refl, sym, subst, arith, IsPermutation}
 use Rattle.std.proofs.lemmas.Int.{ints}
 use Rattle.shunt_lists.specs.defs.Members.{In}
 use Rattle.shunt_base.specs.declared.duals.Case.{Case}
@@ -23,7 +23,7 @@ use Rattle.shunt_search.specs.declared.searching.Search.{Search}
 use Rattle.shunt_search.specs.defs.Conditions.{IsPlanFor, IsTidy, IsCheap, IsAboveAssignment, AreSpent, MeetConditions, IsBoundForPlans}
 use Rattle.shunt_search.specs.defs.Walking.{IsWalk}
 use Rattle.shunt_search.specs.defs.Searching.{IsSearch}
-use Rattle.shunt_search.specs.defs.Endings.{IsLeft, IsDone, IsEnd, IsShown, certificate_of}
+use Rattle.shunt_search.specs.defs.Endings.{IsLeft, IsDone, IsEnd, certificate_of}
 
 -- what the laws of the walk and of the crates below say
 pub record EndLaws : Type 0 where

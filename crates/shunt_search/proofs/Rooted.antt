@@ -1,5 +1,5 @@
 -- Duals as the cases of a root, and their bound.
-use Rattle.std.specs.Prelude.{◌≤ℤ◌, All, map}
+use Rattle.std.specs.Prelude.{◌≤ℤ◌, map}
 use Rattle.std.proofs.Common.{◌≡◌, ℕ, ◌<◌, List, [], length, ℤ, pos, negsuc, refl, sym, subst, arith}
 use Rattle.std.proofs.lemmas.Int.{ints}
 use Rattle.std.proofs.lemmas.List.Elements.{All-cons, All-nil}
@@ -9,8 +9,8 @@ use Rattle.shunt_base.specs.declared.duals.Price.{Price}
 use Rattle.shunt_instance.specs.defs.Instance.{Night}
 use Rattle.shunt_blocks.specs.declared.records.Block.{Block}
 use Rattle.shunt_prices.specs.defs.Limits.{AreDuals, AreApart, AreCases, place_of_price, plain}
-use Rattle.shunt_prices.specs.defs.Cases.{CasesHold, DualsHold}
-use Rattle.shunt_prices.specs.defs.Bounds.{IsBoundOf, IsCasesBound, case_sum, duals_sum}
+use Rattle.shunt_prices.specs.defs.Cases.{DualsHold}
+use Rattle.shunt_prices.specs.defs.Bounds.{IsBoundOf, case_sum, duals_sum}
 use Rattle.shunt_dual.specs.defs.Assignments.{IsAssignmentBound}
 use Rattle.shunt_proof.specs.defs.Nodes.{AreStatable}
 use Rattle.shunt_search.specs.defs.Roots.{IsAbove, AreRooted}

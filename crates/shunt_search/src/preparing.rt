@@ -111,7 +111,7 @@ fn prepared(
     let proposal = Proposal::new(alloc, instance, &yard.path)?;
     let first = first_plan(alloc, instance, pins, &proposal, opening)?;
     let root = root_cases(alloc, instance, &yard.path, &proposal, &first)?;
-    let mut known = last_plan(alloc, instance, pins, &root.cases, &first)?;
+    let mut known = last_plan(alloc, instance, pins, &yard.path, &root.cases, &first)?;
     let floor = root.floor();
     let tree = proposed_tree(
         alloc, instance, &yard.path, &proposal, root.cases, known.cost, nodes,

@@ -121,7 +121,7 @@ fn root_of(instance: &Instance, path: &Path, cases: Cases) -> Root
     }
 }
 
-/// What is proposed, as cases for a root, where it holds at a path and bounds it more than the floor of others there, which stays.
+/// What is proposed, as cases for a root, where it holds at a path and bounds it no less than the floor of others there, which stays.
 fn if_better(instance: &Instance, path: &Path, mut known: Root, proposed: Cases) -> Option<Root>
     requires path { IsTrailOf instance.now path.now }
     requires known { IsRoot instance.now path.now.blocks known }
@@ -135,7 +135,7 @@ fn if_better(instance: &Instance, path: &Path, mut known: Root, proposed: Cases)
         return None;
     }
     let more = cases_bound(instance, path, &proposed);
-    if more <= known.floor {
+    if more < known.floor {
         return None;
     }
     known.cases = proposed;
@@ -154,7 +154,7 @@ fn unparked_in(blocks: &[Block]) -> u8 {
 }
 
 /// Cases for the root of a tree: those that are proposed, parted near the number of unparked blocks of a good plan, over the bound of the
-/// assignment's duals as the floor; or others where these don't bound more. It needs that there is a matching. Err is want of memory.
+/// assignment's duals as the floor; or others where these bound less. It needs that there is a matching. Err is want of memory.
 pub(crate) fn root_cases(
     alloc: Global,
     instance: &Instance,

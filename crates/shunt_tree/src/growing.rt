@@ -3,7 +3,7 @@ use crate::levels::{Level, share_of};
 use crate::lifting::{Aim, Lifted, lift};
 use crate::nodes::{Node, Open, Pair, Sums, first_at, last_at, path_to};
 use crate::opening::{Opened, Range, choices_at, count_up_to, open_by};
-use shunt_ascent::{Fixed, Raised, Site};
+use shunt_ascent::{Fixed, Raised, Site, grain};
 use shunt_blocks::{Block, block_cost, in_range};
 use shunt_instance::Instance;
 use std::alloc::{AllocError, Global};
@@ -36,6 +36,8 @@ pub(crate) struct Tree {
     // How many nodes bound less than that.
     lean: usize,
     level: Level,
+    // How many bounds a level has, in cost units.
+    grain: i64,
     // How many nodes have cases of their own, and may have.
     owners: usize,
     most_owners: usize,
@@ -110,7 +112,8 @@ impl Tree {
             cost,
             best: None,
             lean: 1,
-            level: Level::at(i64::MIN),
+            level: Level::up_to(i64::MIN),
+            grain: i64::from(grain(alloc, instance)?),
             owners: 0,
             most_owners,
         };
@@ -157,6 +160,7 @@ impl Tree {
         let range = Range {
             from: node.beyond,
             cost: self.cost,
+            grain: self.grain,
         };
         let opened = open_by(alloc, &mut self.site, &found, &cases, node.sums, range)?;
         if let Some(node) = self.nodes.get_mut(place) {
@@ -165,13 +169,13 @@ impl Tree {
         Ok(())
     }
 
-    // Cases of a node that are to bound all its choices above a level, and what they open, where the least bound rises.
+    // Cases of a node that are to bound all its choices above its key, and what they open, where the least bound rises.
     fn lifted(
         &mut self,
         alloc: Global,
         instance: &Instance,
         place: usize,
-        level: i64,
+        key: i64,
     ) -> Result<Option<(Lifted, Opened)>, AllocError> {
         let blocks = path_to(alloc, &self.start, &self.nodes, place)?;
         let found = choices_at(alloc, instance, &mut self.site, &blocks)?;
@@ -186,9 +190,10 @@ impl Tree {
             last,
         };
         let aim = Aim {
-            level,
+            key,
             cost: self.cost,
             depth: node.depth,
+            grain: self.grain,
         };
         let lifted = lift(alloc, &mut self.site, &found, &cases, node.sums, &aim)?;
         let sums = lifted.sums(node.sums);
@@ -201,6 +206,7 @@ impl Tree {
             Range {
                 from: i64::MIN,
                 cost: self.cost,
+                grain: self.grain,
             },
         )?;
         if opened.least > node.key {
@@ -217,21 +223,22 @@ impl Tree {
         }
     }
 
-    // Looks for cases of a node that bound all its choices above the level, and takes them where its least bound rises.
+    // Looks for cases of a node that bound all its choices above its key, and takes them where its least bound rises.
     fn lift(
         &mut self,
         alloc: Global,
         instance: &Instance,
         place: usize,
-        level: i64,
+        key: i64,
     ) -> Result<(), AllocError> {
+        let last = self.last_of(key);
         if let Some(node) = self.nodes.get_mut(place) {
-            node.tried = level;
+            node.tried = last;
         }
         if !self.may_own(place) {
             return Ok(());
         }
-        let Some((lifted, opened)) = self.lifted(alloc, instance, place, level)? else {
+        let Some((lifted, opened)) = self.lifted(alloc, instance, place, key)? else {
             return Ok(());
         };
         if let Some(node) = self.nodes.get_mut(place) {
@@ -285,17 +292,17 @@ impl Tree {
         self.arrive(alloc, child)
     }
 
-    // Lists those of a node's choices that bound no more than a level, while there are nodes left.
+    // Lists those of a node's choices that bound no more than its key, while there are nodes left.
     fn list_some(
         &mut self,
         alloc: Global,
         instance: &Instance,
         place: usize,
-        level: i64,
+        key: i64,
         choices: &mut Vec<Open>,
         most: usize,
     ) -> Result<(), AllocError> {
-        let count = count_up_to(choices, level);
+        let count = count_up_to(choices, key);
         let share = match self.nodes.get(place) {
             Some(node) => node.share / (count.max(1) as u64),
             None => 0,
@@ -316,39 +323,45 @@ impl Tree {
         alloc: Global,
         instance: &Instance,
         place: usize,
-        level: i64,
+        key: i64,
         most: usize,
     ) -> Result<(), AllocError> {
         let Some(node) = self.nodes.get_mut(place) else {
             return Ok(());
         };
         let mut choices = mem::replace(&mut node.choices, Vec::new(alloc));
-        self.list_some(alloc, instance, place, level, &mut choices, most)?;
+        self.list_some(alloc, instance, place, key, &mut choices, most)?;
         if let Some(node) = self.nodes.get_mut(place) {
             node.leave(choices);
         }
         Ok(())
     }
 
-    // Begins a new level with a node: those that wait at it share its work.
+    // The last of the bounds of a level that begins with one.
+    fn last_of(&self, key: i64) -> i64 {
+        key.saturating_add(self.grain.saturating_sub(1))
+    }
+
+    // Begins a new level with a node: those that wait at its bounds share its work.
     fn begin_level(&mut self, key: i64, place: usize) {
-        self.level = Level::at(key);
-        let share = share_of(waiting_at(&self.queue, key).saturating_add(1));
+        let last = self.last_of(key);
+        self.level = Level::up_to(last);
+        let share = share_of(waiting_at(&self.queue, last).saturating_add(1));
         for waiting in &self.queue {
-            if waiting.key.0 <= key {
+            if waiting.key.0 <= last {
                 give(&mut self.nodes, waiting.place.0, share);
             }
         }
         give(&mut self.nodes, place, share);
     }
 
-    // A node whose key is the level is opened, lifted, or its choices are listed.
+    // A node with a key of the level is opened, lifted, or its choices are listed.
     fn step(
         &mut self,
         alloc: Global,
         instance: &Instance,
         place: usize,
-        level: i64,
+        key: i64,
         most: usize,
     ) -> Result<(), AllocError> {
         let Some(node) = self.nodes.get(place) else {
@@ -356,19 +369,19 @@ impl Tree {
         };
         if !node.is_open {
             self.open(alloc, instance, place)?;
-        } else if node.children.is_empty() && node.tried < level && !self.level.given_up {
-            self.lift(alloc, instance, place, level)?;
+        } else if node.children.is_empty() && node.tried < key && !self.level.given_up {
+            self.lift(alloc, instance, place, key)?;
         } else {
-            return self.list(alloc, instance, place, level, most);
+            return self.list(alloc, instance, place, key, most);
         }
-        self.count_done(place, level);
+        self.count_done(place, key);
         Ok(())
     }
 
-    // Counts a node's share as done, where it bounds more than the level.
-    fn count_done(&mut self, place: usize, level: i64) {
+    // Counts a node's share as done, where its key is greater than it was.
+    fn count_done(&mut self, place: usize, key: i64) {
         if let Some(node) = self.nodes.get(place) {
-            if node.key > level {
+            if node.key > key {
                 self.level.finish(node.share);
             }
         }
@@ -397,7 +410,7 @@ impl Tree {
             if key >= self.cost || self.lean >= most && self.is_open(place) {
                 return Ok(key.min(self.cost));
             }
-            if key > self.level.bound {
+            if key > self.level.last {
                 self.begin_level(key, place);
             }
             self.level.judge(most.saturating_sub(self.lean));

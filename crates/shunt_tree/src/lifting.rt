@@ -1,10 +1,10 @@
-// Cases of a node that are to bound all its choices above a level.
+// Cases of a node that are to bound all its choices above its key.
 use crate::nodes::{Pair, Sums, up};
 use crate::opening::unparked_with;
 use shunt_ascent::{Choice, Fixed, Raise, Raised, Site};
 use std::alloc::{AllocError, Global};
 
-/// How far above a level cases are lifted.
+/// How far above a node's key its cases are lifted, in grains.
 const ABOVE: i64 = 4;
 
 /// Cases of a node after they were tried to lift; None where one wasn't.
@@ -17,18 +17,23 @@ pub(crate) struct Lifted {
 /// What cases are lifted to.
 #[derive(Clone, Copy)]
 pub(crate) struct Aim {
-    pub level: i64,
+    /// The key of the node.
+    pub key: i64,
     /// What the best plan that is known costs.
     pub cost: i64,
     pub depth: usize,
+    /// What the constants of a search count in, in cost units.
+    pub grain: i64,
 }
 
 impl Aim {
+    // The greatest bound that cases are lifted to.
+    fn highest(&self) -> i64 {
+        self.key.saturating_add(ABOVE.saturating_mul(self.grain))
+    }
+
     fn raise(&self, two: bool) -> Raise {
-        let bound = self
-            .level
-            .saturating_add(ABOVE)
-            .min(self.cost.saturating_sub(1));
+        let bound = self.highest().min(self.cost.saturating_sub(1));
         Raise {
             goal: bound.saturating_mul(1000).saturating_add(1),
             most: if self.depth < 2 { 240 } else { 60 },
@@ -38,7 +43,7 @@ impl Aim {
 
     // Whether a sum is so low that its case is lifted.
     fn reaches(&self, sum: i64) -> bool {
-        up(sum) <= self.level.saturating_add(ABOVE)
+        up(sum) <= self.highest()
     }
 }
 

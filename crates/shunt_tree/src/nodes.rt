@@ -53,7 +53,7 @@ pub(crate) struct Node {
     pub choices: Vec<Open>,
     pub beyond: i64,
     pub children: Vec<usize>,
-    /// The bound up to which its cases were tried to lift.
+    /// The last bound of the level at which its cases were tried to lift.
     pub tried: i64,
     /// Its part of the work that is left at the level.
     pub share: u64,

@@ -7,7 +7,7 @@ use shunt_instance::Instance;
 use std::alloc::{AllocError, Global};
 use std::cmp::Reverse;
 
-/// How far above the least bound choices are kept: the others would fill the memory, and few of them are ever listed.
+/// How far above the least bound choices are kept, in grains: the others would fill the memory, and few of them are ever listed.
 const KEPT: i64 = 2;
 
 /// What choices at a path have to bound: no less than those that aren't listed yet, and less than a plan costs.
@@ -15,6 +15,8 @@ const KEPT: i64 = 2;
 pub(crate) struct Range {
     pub from: i64,
     pub cost: i64,
+    /// What the constants of a search count in, in cost units.
+    pub grain: i64,
 }
 
 /// Choices of a range that bound little, the least last, with the least bound of all, which is at most the cost, and that of those that weren't
@@ -73,11 +75,11 @@ fn is_open(cases: &Pair<'_>, unparked: i64) -> bool {
     }
 }
 
-/// How many of these bound no more than a level.
-pub(crate) fn count_up_to(choices: &[Open], level: i64) -> usize {
+/// How many of these have no greater bound.
+pub(crate) fn count_up_to(choices: &[Open], bound: i64) -> usize {
     let mut count = 0usize;
     for open in choices {
-        if open.bound <= level {
+        if open.bound <= bound {
             count = count.saturating_add(1);
         }
     }
@@ -116,7 +118,7 @@ pub(crate) fn open_by(
             range,
         )?;
     }
-    opened.keep(alloc)?;
+    opened.keep(alloc, range.grain)?;
     Ok(opened)
 }
 
@@ -130,8 +132,8 @@ impl Opened {
     }
 
     // Keeps those that bound little, in their order.
-    fn keep(&mut self, alloc: Global) -> Result<(), AllocError> {
-        let most = self.least.saturating_add(KEPT);
+    fn keep(&mut self, alloc: Global, grain: i64) -> Result<(), AllocError> {
+        let most = self.least.saturating_add(KEPT.saturating_mul(grain));
         let mut kept = Vec::with_capacity(alloc, count_up_to(&self.choices, most))?;
         for open in &self.choices {
             if open.bound <= most {

@@ -1,6 +1,5 @@
 use mir.Syntax.{w64}
-use mir.Val.{to_z, of_z}
-use Rattle.std.proofs.Common.{ℤ, sym, subst, ◌∙◌}
+use Rattle.std.proofs.Common.{sym, subst, ◌∙◌}
 use Rattle.std.proofs.lemmas.Int.{to_z-of_z}
 use Rattle.shunt_prices.specs.defs.Bounds.{IsDualsBound}
 use Rattle.shunt_dual.proofs.Opening.{plain_bound}

@@ -1,11 +1,8 @@
 use mir.Syntax.{w64}
 use mir.Val.{to_z, of_z}
-use Rattle.std.specs.Prelude.{◌≤ℤ◌}
-use Rattle.std.proofs.Common.{◌≡◌, ◌<◌, ◌≤◌, ◌+◌, ap, sym, subst, arith}
+use Rattle.std.proofs.Common.{◌+◌, ap, sym, subst, arith}
 use Rattle.std.proofs.lemmas.Int.{ints, to_z-of_z}
 use Rattle.shunt_base.specs.declared.duals.Case.{Case}
-use Rattle.shunt_prices.specs.defs.Limits.{case_at}
-use Rattle.shunt_prices.specs.defs.Bounds.{unparked_in}
 use Rattle.shunt_dual.specs.defs.Opened.{IsLeastBelow}
 use Rattle.shunt_dual.proofs.Holds.{got}
 use Rattle.shunt_dual.proofs.Charged.{below, not_below}

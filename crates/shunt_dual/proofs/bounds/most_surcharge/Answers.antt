@@ -1,9 +1,5 @@
-use mir.Syntax.{w64}
-use mir.Val.{to_z, of_z}
-use Rattle.std.specs.Prelude.{◌*ℤ◌}
-use Rattle.std.proofs.Common.{◌≡◌, ◌∙◌, sym, subst}
+use Rattle.std.proofs.Common.{◌∙◌, sym, subst}
 use Rattle.shunt_prices.specs.defs.Sums.{IsWithin}
-use Rattle.shunt_prices.specs.defs.Bounds.{most_surcharge}
 use Rattle.shunt_prices.proofs.Sizes.{most_within}
 use Rattle.shunt_dual.proofs.Summed.{small_seen, product_seen, most_seen}
 use Rattle.shunt_dual.proofs.bounds.most_surcharge.Goals as goal

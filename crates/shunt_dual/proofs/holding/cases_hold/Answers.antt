@@ -1,12 +1,11 @@
 use mir.Syntax.{w64}
-use mir.Val.{to_z, of_z, SFits}
+use mir.Val.{to_z, of_z}
 use borrow.Author.Count.{below_more}
-use Rattle.std.specs.Prelude.{IsTrue, ◌↔◌, false, pos, All}
-use Rattle.std.proofs.Common.{ℕ, ◌≡◌, ◌<◌, subst, ◌∙◌, refl, length, arith, sym}
-use Rattle.std.proofs.lemmas.Int.{ints, to_z-of_z}
+use Rattle.std.proofs.Common.{subst, ◌∙◌, refl, arith, sym}
+use Rattle.std.proofs.lemmas.Int.{ints}
 use Rattle.std.proofs.lemmas.List.Elements.{All-from_get_or}
 use Rattle.shunt_choices.specs.defs.Paths.{Masks, masks_of}
-use Rattle.shunt_prices.specs.defs.Limits.{IsValue, case_at}
+use Rattle.shunt_prices.specs.defs.Limits.{case_at}
 use Rattle.shunt_prices.specs.defs.Cases.{HoldsInCase, CasesHold}
 use Rattle.shunt_dual.specs.defs.Weighed.{case_of}
 use Rattle.shunt_dual.proofs.Holds.{failed, masks_fit, got_is, case_back, case_on}

@@ -4,7 +4,6 @@ use Rattle.std.specs.Prelude.{IsTrue, ◌↔◌, List}
 use Rattle.std.proofs.Common.{◌*◌, ◌+ℤ◌, ◌≡◌, length, subst, refl, ◌∙◌, arith}
 use Rattle.std.proofs.lemmas.Int.{ints}
 use Rattle.shunt_base.specs.declared.duals.Price.{Price}
-use Rattle.shunt_prices.specs.defs.Cases.{duals_over}
 use Rattle.shunt_dual.specs.defs.Weighed.{case_of, TracksHold}
 use Rattle.shunt_dual.proofs.Charged.{below, not_below}
 use Rattle.shunt_dual.proofs.Holds.{shape_is, too_light}

@@ -1,7 +1,7 @@
 use mir.Syntax.{w64}
 use mir.Val.{to_z, of_z}
 use Rattle.std.specs.Prelude.{IsTrue, ◌↔◌, false}
-use Rattle.std.proofs.Common.{ℕ, ℤ, ◌≡◌, ◌<◌, length, get_or, subst, ap, ◌∙◌, refl, arith}
+use Rattle.std.proofs.Common.{ℕ, ℤ, ◌≡◌, length, get_or, subst, ap, ◌∙◌, refl, arith}
 use Rattle.std.proofs.lemmas.Int.{to_z-of_z}
 use Rattle.shunt_instance.specs.declared.records.Station.{Station}
 use Rattle.shunt_dual.specs.defs.Weighed.{TrackHolds, TracksHold}

@@ -1,10 +1,9 @@
 use mir.Syntax.{w64}
 use mir.Val.{to_z, of_z}
-use Rattle.std.specs.Prelude.{IsTrue, ◌↔◌, false, List, [], ◌∷◌}
+use Rattle.std.specs.Prelude.{IsTrue, ◌↔◌, false}
 use Rattle.std.specs.List.{AllByRecursion}
 use Rattle.std.proofs.Common.{ℤ, subst, sym, refl}
 use Rattle.std.proofs.lemmas.Int.{to_z-of_z}
-use Rattle.shunt_blocks.specs.declared.records.Shape.{Shape}
 use Rattle.shunt_choices.specs.defs.Choices.{shapes_of}
 use Rattle.shunt_dual.specs.defs.Weighed.{case_of, ShapeHolds, UnitHolds}
 use Rattle.shunt_dual.proofs.Holds.{failed, unit_is, unit_each}

@@ -1,5 +1,5 @@
 use Rattle.std.specs.Prelude.{pos}
-use Rattle.std.proofs.Common.{◌≡◌, ◌+◌, ◌*◌, ℕ, get_or}
+use Rattle.std.proofs.Common.{◌≡◌, ◌+◌, ◌*◌, get_or}
 use Rattle.shunt_prices.specs.defs.Sums.{sum_z_below, IsWithin}
 use Rattle.shunt_dual.proofs.weighing.run_sum.Given as goal
 

@@ -1,0 +1,11 @@
+use Rattle.std.proofs.Common.{◌≡◌, ◌<◌, ◌≤◌, ℕ, get_or, length}
+use Rattle.shunt_blocks.specs.declared.records.Park.{Park}
+use Rattle.shunt_dual.specs.defs.Ways.{IsUnderIn}
+use Rattle.shunt_dual.proofs.ways.least_ins.Given as goal
+
+abbrev pub invariant-loop-a : goal.invariant-loop-a
+invariant-loop-a l = record {
+  least : (a : ℕ) → a < l.a → (k : Park) → k.track.0 < length l.instance.station.tracks → IsUnderIn l.instance (record { 0 = a }) k (get_or l.least a 0);
+  long : length l.least ≡ 100;
+  small : (a : ℕ) → get_or l.least a 0 ≤ 1000000;
+}

@@ -1,12 +1,13 @@
 -- When each status comes, and what then stands, of every command.
-use Rattle.std.proofs.Common.{◌≡◌, Some, None, sym, subst, ap, inl, inr, refl, Result, Ok, Err, List, [], ◌∷◌, ◌∙◌, Option, ℕ, arith, append-nil, Bool, true, false}
+use Rattle.std.proofs.Common.{◌≡◌, Some, None, sym, subst, ap, inl, inr, refl, Result, Ok, Err, List, [], ◌∷◌, ◌++◌, ◌∙◌, Option, ℕ, arith, length, take, take_all, Bool, true, false}
 use Rattle.std.specs.Prelude.{IfSome, ◌⊎◌, ◌==◌, if◌then◌else◌}
 use Rattle.std.specs.Result.{result_err}
 use Rattle.std.specs.FinMap as map
 use Rattle.shunt_lists.specs.defs.Members.{In}
 use Rattle.shunt_store.specs.defs.Files.{Files, BothTold}
 use Rattle.shunt_store.specs.defs.Causes.{Rose}
-use Rattle.shunt_store.proofs.Texts.{both_map}
+use Rattle.shunt_store.specs.defs.Noting.{Entries}
+use Rattle.shunt_store.proofs.Texts.{both_map, both_same}
 use Rattle.shunt_store.proofs.TableLaws.{same_elsewhere}
 use Rattle.shunt_audit.specs.declared.types.Finding.{Finding}
 use Rattle.shunt_instance.specs.defs.Instance.{Night}
@@ -24,7 +25,7 @@ use Rattle.shunt_inputs.specs.defs.Pins.{IsUnusable}
 use Rattle.shunt.specs.declared.running.Status.{Status}
 use Rattle.shunt.specs.declared.running.Status.TheVariants as status
 use Rattle.shunt.specs.defs.Words.{Call, Match, Follow, Audit, Delay, Report, Check, Zones, Sheet, Draw, Upgrade, Trial, Drivers, Roster, CheckPinned, Replay, MakePlan, MakePinned, outputs_of}
-use Rattle.shunt.proofs.Writes.{holds_one, whole_may}
+use Rattle.shunt.proofs.Writes.{in_some}
 use Rattle.shunt_inputs.specs.defs.Inputs.{Agrees}
 use Rattle.shunt.specs.defs.Inputs.{Value, stated_in, refused}
 use Rattle.shunt_inputs.specs.defs.Replies.{Reply, Decided, refusal}
@@ -43,10 +44,9 @@ use Rattle.shunt_sheet.specs.defs.Following.{followed}
 use Rattle.shunt_exchange.specs.defs.Reported.{HasReport}
 use Rattle.shunt_throat.specs.defs.Passed.{meets_outcome}
 use Rattle.shunt_throat.specs.defs.Rostered.{roster_outcome}
-use Rattle.shunt_inputs.specs.defs.Writes.{MayHold, MayWrite, written}
-use Rattle.shunt_planning.specs.defs.Begun.{MaySearch, MaySearchFor}
-use Rattle.shunt_planning.specs.defs.Planned.{IsSoughtOver, search_outcome, certificate_file}
-use Rattle.shunt.specs.defs.Ends.{Seen, Begins, CutInText, Delivers, StopsEarly, Ends, IsWhole, MayBegin, Yields, the_status}
+use Rattle.shunt_inputs.specs.defs.Writes.{written, Stays, WritesSome}
+use Rattle.shunt_planning.specs.defs.Planned.{IsSoughtOver, search_outcome}
+use Rattle.shunt.specs.defs.Ends.{Seen, known_of, CutInFiles, CutInText, Delivers, StopsEarly, Ends, IsWhole, Yields, the_status}
 
 -- ---- the status of a delivery
 
@@ -80,7 +80,7 @@ its_own r old new status.NoMatching h = inl h
 its_own r old new status.Unfinished h = inl h
 its_own r old new status.Sink h = inr (inr (inr refl))
 
-pub early : (c : Call) (old new : Seen) (s : Status) → StopsEarly c old new s → Yields s
+pub early : (c : Call) (old new : Seen) (s : Status) → StopsEarly old new s → Yields s
 early c old new status.Done h = absurd h
 early c old new status.Findings h = absurd h
 early c old new status.Words h = absurd h
@@ -302,30 +302,6 @@ own_writes (Report s t p) x r name text (inr d) w = subst (λ (q : Reply). In (n
 own_writes (Trial n u m s t p k) x r name text is w = in_four s t p k _ _ _ _ name text (subst (λ (q : Reply). In {X = List ℕ × List ℕ} (name, text) q.writes) is.reply w)
 own_writes (Upgrade s t n m) x r name text is w = in_both n m _ _ name text (subst (λ (q : Reply). In {X = List ℕ × List ℕ} (name, text) q.writes) is w)
 
--- a search writes no file but its certificate before its reply is known
-search_begins : (night : Night) (k : List ℕ) (a b : Files) (name : List ℕ) → (In name (k ∷ []) → ⊥) → MaySearch night k a b → map.get b name ≡ map.get a name
-search_begins night k a b name other (inl e) = ap (λ f. map.get f name) e
-search_begins night k a b name other (inr s) = at (s.2 name)
-  where
-    at : MayHold ((k, certificate_file night s.0) ∷ []) a b name → map.get b name ≡ map.get a name
-    at (inl e) = e
-    at (inr w) = absurd (other (one_write k (certificate_file night s.0) name w.0 w.1))
-
-for_begins : (night : Night) (units places : List Bool) (k : List ℕ) (a b : Files) (name : List ℕ) → (In name (k ∷ []) → ⊥) → MaySearchFor night units places k a b → map.get b name ≡ map.get a name
-for_begins night units places k a b name other (inl e) = ap (λ f. map.get f name) e
-for_begins night units places k a b name other (inr h) = search_begins night k a b name other h.1
-
--- so a command writes none but its own
-value_begins : (c : Call) (v : Value c) (a b : Files) (name : List ℕ) → (In name (outputs_of c) → ⊥) → Begins c v a b → map.get b name ≡ map.get a name
-value_begins (MakePlan s t m p k) night a b name other h = for_begins night [] [] k a b name (λ w. other (inr w)) h
-value_begins (MakePinned s t i m p k) x a b name other (inl e) = ap (λ f. map.get f name) e
-value_begins (MakePinned s t i m p k) x a b name other (inr h) = for_begins x.instance (units_taken x.instance x.pins) (positions_taken x.instance x.pins) k a b name (λ w. other (inr w)) h.1
-value_begins c v a b name other h = absurd h
-
-own_begins : (c : Call) (a b : Files) (name : List ℕ) → (In name (outputs_of c) → ⊥) → MayBegin c a b → map.get b name ≡ map.get a name
-own_begins c a b name other (inl e) = ap (λ f. map.get f name) e
-own_begins c a b name other (inr h) = value_begins c h.value a b name other h.begun
-
 -- ---- the first input that isn't accepted
 
 refused_reply : {X : Type 0} (x : Result X (List ℕ)) (P : X → Reply → Type 0) (text : List ℕ) (r : Reply) → result_err x ≡ Some text → Decided x P r → r ≡ refusal text
@@ -380,16 +356,12 @@ module _ (c : Call) (old new : Seen) (r : Reply) (name : List ℕ) (is : IsReply
   after_whole : BothTold old.files new.files (λ a b. b ≡ written r.writes a) → BothTold old.files new.files Kept
   after_whole h = both_map _ Kept old.files new.files h (λ a b e. ap (λ f. map.get f name) e ∙ written_same r.writes a name not_written)
 
-  after_cut : BothTold old.files new.files (MayWrite r.writes) → BothTold old.files new.files Kept
-  after_cut h = both_map _ Kept old.files new.files h (λ a b may. at a b (may name))
-    where
-      at : (a b : Files) → MayHold r.writes a b name → Kept a b
-      at a b (inl e) = e
-      at a b (inr w) = absurd (not_written w.0 w.1)
+  after_cut : CutInFiles r old new → BothTold old.files new.files Kept
+  after_cut h = both_map _ Kept old.files new.files h.some.files (λ a b e. ap (λ f. map.get f name) e ∙ written_same (take h.some.many r.writes) a name (λ text is. not_written text (in_some h.some.many r.writes (name, text) is)))
 
   after_delivery : (s : Status) → Delivers r old new s → BothTold old.files new.files Kept
-  after_delivery status.Store h = after_cut h.1.files
-  after_delivery status.Memory (inl h) = after_cut h.files
+  after_delivery status.Store h = after_cut h.1
+  after_delivery status.Memory (inl h) = after_cut h
   after_delivery status.Memory (inr h) = after_whole h.files
   after_delivery status.Sink h = after_whole h.1.files
   after_delivery status.Done h = after_whole h.1.files
@@ -399,19 +371,19 @@ module _ (c : Call) (old new : Seen) (r : Reply) (name : List ℕ) (is : IsReply
   after_delivery status.NoMatching h = after_whole h.1.files
   after_delivery status.Unfinished h = after_whole h.1.files
 
-after_early : (c : Call) (old new : Seen) (s : Status) (name : List ℕ) → (In name (outputs_of c) → ⊥) → StopsEarly c old new s → BothTold old.files new.files (λ a b. map.get b name ≡ map.get a name)
-after_early c old new status.Store name other h = both_map _ _ old.files new.files h.2 (λ a b begun. own_begins c a b name other begun)
-after_early c old new status.Memory name other h = both_map _ _ old.files new.files h.1 (λ a b begun. own_begins c a b name other begun)
-after_early c old new status.Done name other h = absurd h
-after_early c old new status.Findings name other h = absurd h
-after_early c old new status.Words name other h = absurd h
-after_early c old new status.Input name other h = absurd h
-after_early c old new status.NoMatching name other h = absurd h
-after_early c old new status.Unfinished name other h = absurd h
-after_early c old new status.Sink name other h = absurd h
+after_early : (c : Call) (old new : Seen) (s : Status) (name : List ℕ) → StopsEarly old new s → BothTold old.files new.files (λ a b. map.get b name ≡ map.get a name)
+after_early c old new status.Store name h = both_same _ old.files new.files h.2 (λ a. refl)
+after_early c old new status.Memory name h = both_same _ old.files new.files h.1 (λ a. refl)
+after_early c old new status.Done name h = absurd h
+after_early c old new status.Findings name h = absurd h
+after_early c old new status.Words name h = absurd h
+after_early c old new status.Input name h = absurd h
+after_early c old new status.NoMatching name h = absurd h
+after_early c old new status.Unfinished name h = absurd h
+after_early c old new status.Sink name h = absurd h
 
 pub others : (c : Call) (old new : Seen) (s : Status) (name : List ℕ) → (In name (outputs_of c) → ⊥) → Ends c old new s → BothTold old.files new.files (λ a b. map.get b name ≡ map.get a name)
-others c old new s name other (inl h) = after_early c old new s name other h
+others c old new s name other (inl h) = after_early c old new s name h
 others c old new s name other (inr h) = after_delivery c old new h.0 name h.1 other s h.2
 
 pub after_store : (c : Call) (old new : Seen) → Ends c old new status.Store → new.output ≡ old.output
@@ -423,25 +395,32 @@ after_memory c old new (inl h) = inl h.0
 after_memory c old new (inr (r, is, inl h)) = inl h.output
 after_memory c old new (inr (r, is, inr h)) = inr (r, is, h)
 
-may_whole : (ws : List (List ℕ × List ℕ)) (a b : Files) → b ≡ written ws a → MayWrite ws a b
-may_whole ws a b e = subst (MayWrite ws a) (sym e) (λ name. subst (λ vs. MayHold vs a (written ws a) name) (append-nil ws) (whole_may ws [] a (written ws a) name (holds_one ws a name)))
+-- all of the files were written, so some of them were
+whole_some : (ws : Entries) (old new : Seen) → BothTold old.files new.files (λ a b. b ≡ written ws a) → BothTold old.stored new.stored (λ a b. b ≡ a ++ ws) → WritesSome ws (known_of old) (known_of new)
+whole_some ws old new files stored =
+    let all : ws ≡ take (length ws) ws = sym (take_all (length ws) ws (omega arith)) in
+    record {
+      many = length ws;
+      files = subst (λ (vs : Entries). BothTold old.files new.files (λ a b. b ≡ written vs a)) all files;
+      stored = subst (λ (vs : Entries). BothTold old.stored new.stored (λ a b. b ≡ a ++ vs)) all stored;
+    }
 
--- nothing was written, or the writing of a defined reply was cut short
-abbrev Begun : Call → Seen → Files → Files → Type 0
-Begun c old a b = MayBegin c a b ⊎ ((r : Reply) × IsReplyOver c old.files r × MayWrite r.writes a b)
+-- nothing was written, or some files of a defined reply were
+abbrev Broken : Call → Seen → Seen → Type 0
+Broken c old new = Stays (known_of old) (known_of new) ⊎ ((r : Reply) × IsReplyOver c old.files r × WritesSome r.writes (known_of old) (known_of new))
 
-pub after_failure : (c : Call) (old new : Seen) (s : Status) → (s ≡ status.Store) ⊎ (s ≡ status.Memory) → Ends c old new s → BothTold old.files new.files (λ a b. MayBegin c a b ⊎ ((r : Reply) × IsReplyOver c old.files r × MayWrite r.writes a b))
+pub after_failure : (c : Call) (old new : Seen) (s : Status) → (s ≡ status.Store) ⊎ (s ≡ status.Memory) → Ends c old new s → Stays (known_of old) (known_of new) ⊎ ((r : Reply) × IsReplyOver c old.files r × WritesSome r.writes (known_of old) (known_of new))
 after_failure c old new s (inl is) ends = at (subst (Ends c old new) is ends)
   where
-    at : Ends c old new status.Store → BothTold old.files new.files (Begun c old)
-    at (inl h) = both_map _ (Begun c old) old.files new.files h.2 (λ a b e. inl e)
-    at (inr (r, over, h)) = both_map _ (Begun c old) old.files new.files h.1.files (λ a b may. inr (r, over, may))
+    at : Ends c old new status.Store → Broken c old new
+    at (inl h) = inl (h.2, h.3)
+    at (inr (r, over, h)) = inr (r, over, h.1.some)
 after_failure c old new s (inr is) ends = at (subst (Ends c old new) is ends)
   where
-    at : Ends c old new status.Memory → BothTold old.files new.files (Begun c old)
-    at (inl h) = both_map _ (Begun c old) old.files new.files h.1 (λ a b e. inl e)
-    at (inr (r, over, inl h)) = both_map _ (Begun c old) old.files new.files h.files (λ a b may. inr (r, over, may))
-    at (inr (r, over, inr h)) = both_map _ (Begun c old) old.files new.files h.files (λ a b e. inr (r, over, may_whole r.writes a b e))
+    at : Ends c old new status.Memory → Broken c old new
+    at (inl h) = inl (h.1, h.2)
+    at (inr (r, over, inl h)) = inr (r, over, h.some)
+    at (inr (r, over, inr h)) = inr (r, over, whole_some r.writes old new h.files h.stored)
 
 pub after_sink : (c : Call) (old new : Seen) → Ends c old new status.Sink → (r : Reply) × IsReplyOver c old.files r × CutInText r old new
 after_sink c old new (inl h) = absurd h

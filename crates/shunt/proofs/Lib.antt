@@ -11,6 +11,7 @@ mod Shared
 mod Rostered
 mod RosterAccepted
 mod Firsts
+mod Knowing
 mod Searched
 mod Planned
 mod OwnPlans

@@ -1,9 +1,9 @@
 // Writing the files of an answer, and printing its text.
-ghost use Rattle.std.specs.Prelude.{◌≡◌, OnOk, OnErr, IsErrOf, map};
+ghost use Rattle.std.specs.Prelude.{◌≡◌, ◌++◌, OnOk, OnErr, map};
 ghost use Rattle.shunt_store.specs.defs.Files.{Closed, BothTold};
 ghost use Rattle.shunt_store.specs.defs.Causes.{HasCause};
 ghost use Rattle.shunt_inputs.specs.defs.Replies.{pair_of, reply_of};
-ghost use Rattle.shunt_inputs.specs.defs.Writes.{written, MayWrite};
+ghost use Rattle.shunt_inputs.specs.defs.Writes.{written, known, WritesSome};
 ghost use Rattle.shunt.specs.defs.Ends.{Delivers, the_status, seen};
 
 use crate::running::Status;
@@ -14,8 +14,10 @@ use shunt_store::{Sink, SinkError, Store, StoreError, print, write_all_to};
 fn write_files<S: Store>(store: &mut S, writes: &[FileText]) -> Result<(), StoreError>
     requires { S.stage store.old ≡ Closed }
     ensures ok { OnOk result (BothTold (S.told store.old) (S.told store.new) (λ a b. b ≡ written (map pair_of writes.now) a)) }
-    ensures err { OnErr result (BothTold (S.told store.old) (S.told store.new) (MayWrite (map pair_of writes.now))) }
-    ensures closed { (IsErrOf result StoreError.Fault → ⊥) → S.stage store.new ≡ Closed }
+    ensures stored { OnOk result (BothTold (S.stored store.old) (S.stored store.new) (λ a b. b ≡ a ++ map pair_of writes.now)) }
+    ensures err { OnErr result (WritesSome (map pair_of writes.now) (known (S.told store.old) (S.stored store.old)) (known (S.told store.new) (S.stored store.new))) }
+    ensures heard { S.heard store.new ≡ S.heard store.old }
+    ensures closed { S.stage store.new ≡ Closed }
     ensures cause { HasCause StoreError.Fault (S.faults store.old) (S.faults store.new) result }
 {
     'files: for write in writes {
@@ -28,9 +30,10 @@ fn write_files<S: Store>(store: &mut S, writes: &[FileText]) -> Result<(), Store
 pub fn deliver<S: Store, O: Sink>(store: &mut S, out: &mut O, answer: &Answer) -> Status
     requires { S.stage store.old ≡ Closed }
     ensures ends { Delivers (reply_of answer.now)
-        (seen S.told S.faults O.told O.faults store.old out.old)
-        (seen S.told S.faults O.told O.faults store.new out.new) result }
-    ensures closed { (result ≡ Status.Store → ⊥) → S.stage store.new ≡ Closed }
+        (seen (S.told store.old) S.stored S.faults O.told O.faults store.old out.old)
+        (seen (S.told store.new) S.stored S.faults O.told O.faults store.new out.new) result }
+    ensures heard { S.heard store.new ≡ S.heard store.old }
+    ensures closed { S.stage store.new ≡ Closed }
 {
     match write_files(store, &answer.writes) {
         Ok(()) => {}

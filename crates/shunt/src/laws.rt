@@ -1,4 +1,6 @@
 //! What follows from the contract of `run` on when each status comes and what then stands: of every command, and then of each.
+//! The files of a `Seen` are those that can be known, as the definition `AreKnown` has it: they are told by the store; or before a run they are
+//! any that hold what was read in it, and after it these with what was stored. So each law holds of the real folder too, over what was read.
 ghost use Rattle.std.specs.Prelude.{◌≡◌, ◌⊎◌, List, [], ◌<◌, ℕ, Some, Ok};
 ghost use Rattle.std.specs.FinMap as map;
 ghost use Rattle.shunt_lists.specs.defs.Members.{In};
@@ -37,8 +39,8 @@ ghost use Rattle.shunt.specs.defs.Inputs.{refused};
 ghost use Rattle.shunt_inputs.specs.defs.Replies.{Reply, refusal, says};
 ghost use Rattle.shunt.specs.defs.Replies.{IsReply, IsReplyOver};
 ghost use Rattle.shunt_judging.specs.defs.Audited.{IsClean};
-ghost use Rattle.shunt_inputs.specs.defs.Writes.{MayWrite};
-ghost use Rattle.shunt.specs.defs.Ends.{Ends, Seen, CutInText, IsWhole, MayBegin, Yields, the_status};
+ghost use Rattle.shunt_inputs.specs.defs.Writes.{Stays, WritesSome};
+ghost use Rattle.shunt.specs.defs.Ends.{Ends, Seen, known_of, CutInText, IsWhole, Yields, the_status};
 
 use shunt_audit::laws;
 use shunt_checker::laws::reasons;
@@ -76,12 +78,13 @@ pub fn statuses_are_of_replies()
 
 /// No file but those that the command writes is changed, whatever the status. After `Store` nothing was printed. After
 /// `Memory` nothing was, or the files of a defined reply were written and a front of its text was printed, as after `Sink`.
-/// After `Store` and `Memory` no file was touched, but that the certificate of `plan` or `pinned` may be absent or hold a front of the text
-/// of one; or each file that a defined reply writes holds what it held, nothing, or a front of its text.
+/// After `Store` and `Memory` no file was changed, or the first of the files that a defined reply writes, in their order, hold their whole
+/// texts and all others what they held: so it is of the certificate of `plan` and `pinned` too, and then of their plan. A store that
+/// doesn't tell its files tells that exactly these were stored.
 pub fn what_stands_after()
     ensures others { (c : Call) (old new : Seen) (status : Status) (name : List ℕ) → (In name (outputs_of c) → ⊥) → Ends c old new status → BothTold old.files new.files (λ a b. map.get b name ≡ map.get a name) }
     ensures store { (c : Call) (old new : Seen) → Ends c old new Status.Store → new.output ≡ old.output }
-    ensures files { (c : Call) (old new : Seen) (status : Status) → (status ≡ Status.Store) ⊎ (status ≡ Status.Memory) → Ends c old new status → BothTold old.files new.files (λ a b. MayBegin c a b ⊎ ((r : Reply) × IsReplyOver c old.files r × MayWrite r.writes a b)) }
+    ensures some { (c : Call) (old new : Seen) (status : Status) → (status ≡ Status.Store) ⊎ (status ≡ Status.Memory) → Ends c old new status → Stays (known_of old) (known_of new) ⊎ ((r : Reply) × IsReplyOver c old.files r × WritesSome r.writes (known_of old) (known_of new)) }
     ensures memory { (c : Call) (old new : Seen) → Ends c old new Status.Memory → (new.output ≡ old.output) ⊎ ((r : Reply) × IsReplyOver c old.files r × CutInText r old new) }
     ensures sink { (c : Call) (old new : Seen) → Ends c old new Status.Sink → (r : Reply) × IsReplyOver c old.files r × CutInText r old new }
 {}

@@ -1,11 +1,11 @@
 // From the command to its answer.
-ghost use Rattle.std.specs.Prelude.{◌≡◌, IsErrOf};
-ghost use Rattle.shunt_store.specs.defs.Files.{Closed};
+ghost use Rattle.std.specs.Prelude.{◌≡◌, Option};
+ghost use Rattle.shunt_store.specs.defs.Files.{Closed, Files};
 ghost use Rattle.shunt_store.specs.defs.Causes.{HasCause};
-ghost use Rattle.shunt_inputs.specs.defs.Writes.{Leads};
-ghost use Rattle.shunt.specs.defs.Words.{call_of, IsUsable};
+ghost use Rattle.shunt_inputs.specs.defs.Writes.{Leads, known};
+ghost use Rattle.shunt_inputs.specs.defs.Views.{HearsFirst, IsView};
+ghost use Rattle.shunt.specs.defs.Words.{call_of, inputs_of, IsUsable};
 ghost use Rattle.shunt.specs.defs.Replies.{IsReplyOver};
-ghost use Rattle.shunt.specs.defs.Ends.{MayBegin};
 
 use crate::words::Command;
 use shunt_dispatch::{reply_to_delay, reply_to_follow, reply_to_sheet};
@@ -20,7 +20,7 @@ use shunt_trial::reply_to_trial;
 use std::alloc::Global;
 
 /// What is to be delivered of the answer of a command, after its input files were read and judged: all of it, but that a certificate is
-/// written while it is found.
+/// stored before. If there is no answer, no file is changed.
 pub fn answer_to<S: Store>(
     alloc: Global,
     store: &mut S,
@@ -28,8 +28,9 @@ pub fn answer_to<S: Store>(
 ) -> Result<Answer, Halt>
     requires closed { S.stage store.old ≡ Closed }
     requires names { IsUsable (call_of command) }
-    ensures leads { Leads (IsReplyOver (call_of command.entry) (S.told store.old)) (MayBegin (call_of command.entry)) (S.told store.old) (S.told store.new) result }
-    ensures closed { (IsErrOf result Halt.Fault → ⊥) → S.stage store.new ≡ Closed }
+    ensures leads { (view : Option Files) → IsView (S.told store.old) (S.heard store.old) (S.heard store.new) view → Leads (IsReplyOver (call_of command.entry) view) (known (S.told store.old) (S.stored store.old)) (known (S.told store.new) (S.stored store.new)) result }
+    ensures first { HearsFirst (inputs_of (call_of command.entry)) (S.heard store.old) (S.heard store.new) }
+    ensures closed { S.stage store.new ≡ Closed }
     ensures cause { HasCause Halt.Fault (S.faults store.old) (S.faults store.new) result }
 {
     match command {

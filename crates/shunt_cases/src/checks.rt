@@ -96,16 +96,9 @@ fn leaves_same(case: &Case, first: &Ended, second: &Ended) -> bool {
         .all(|name| first.store.file(name) == second.store.file(name))
 }
 
-// Whether a file that held and would hold so may hold this after a failure: all of either, a front of the new text, or nothing at all.
-fn is_cut(before: Option<&[u8]>, whole: Option<&[u8]>, now: Option<&[u8]>) -> bool {
-    if now == before {
-        return true;
-    }
-    match (now, whole) {
-        (None, Some(_)) => whole != before,
-        (Some(now), Some(whole)) => whole.starts_with(now),
-        (_, None) => false,
-    }
+// Whether a file that held and would hold so may hold this after a failure: all of either.
+fn is_whole(before: Option<&[u8]>, whole: Option<&[u8]>, now: Option<&[u8]>) -> bool {
+    now == before || now == whole
 }
 
 // What must not be where a call of the store failed.
@@ -118,7 +111,7 @@ fn wrong_of_store(case: &Case, plain: &Ended, ended: &Ended) -> Option<&'static 
     }
     for name in &case.names {
         let (whole, now) = (plain.store.file(name), ended.store.file(name));
-        if !is_cut(case.before(name), whole, now) {
+        if !is_whole(case.before(name), whole, now) {
             return Some("a file holds what it may not");
         }
     }

@@ -40,7 +40,7 @@ impl fmt::Display for Way {
 }
 
 /// How a run ended, what it printed, and the files that it left.
-#[derive(Debug, Drop)]
+#[derive(Drop)]
 pub(crate) struct Ended {
     pub(crate) status: u32,
     pub(crate) out: MemSink,

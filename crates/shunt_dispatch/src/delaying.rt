@@ -1,7 +1,8 @@
 // The answer of `delay`.
-ghost use Rattle.std.specs.Prelude.{◌≡◌, [], IfOk, IsErrOf};
-ghost use Rattle.shunt_store.specs.defs.Files.{Closed};
+ghost use Rattle.std.specs.Prelude.{◌≡◌, [], IfOk, ◌∷◌, Option};
+ghost use Rattle.shunt_store.specs.defs.Files.{Closed, Files};
 ghost use Rattle.shunt_store.specs.defs.Causes.{HasCause};
+ghost use Rattle.shunt_inputs.specs.defs.Views.{HearsFirst, IsView};
 ghost use Rattle.shunt_audit.specs.defs.Plans.{ArePlanFindings};
 ghost use Rattle.shunt_blocks.specs.defs.Lists.{IsFeasible};
 ghost use Rattle.shunt_plan.specs.defs.Plans.{IsPlanInRange};
@@ -28,9 +29,11 @@ pub fn reply_to_delay<S: Store>(
     plan: &str,
 ) -> Result<Answer, Halt>
     requires { S.stage store.old ≡ Closed }
-    ensures told { Holding (S.told store.old) station.now (λ s. Holding (S.told store.old) timetable.now (λ t. Holding (S.told store.old) plan.now (λ p. Replies reply_of result (Decided (stated_plans s t p) IsDelayed)))) }
+    ensures told { (view : Option Files) → IsView (S.told store.old) (S.heard store.old) (S.heard store.new) view → Holding view station.now (λ s. Holding view timetable.now (λ t. Holding view plan.now (λ p. Replies reply_of result (Decided (stated_plans s t p) IsDelayed)))) }
+    ensures first { HearsFirst (station.now ∷ timetable.now ∷ plan.now ∷ []) (S.heard store.old) (S.heard store.new) }
     ensures files { S.told store.new ≡ S.told store.old }
-    ensures closed { (IsErrOf result Halt.Fault → ⊥) → S.stage store.new ≡ Closed }
+    ensures stored { S.stored store.new ≡ S.stored store.old }
+    ensures closed { S.stage store.new ≡ Closed }
     ensures cause { HasCause Halt.Fault (S.faults store.old) (S.faults store.new) result }
 {
     let instance = load_instance(alloc, store, station, timetable)?;

@@ -1,7 +1,8 @@
 // The answer of `follow`.
-ghost use Rattle.std.specs.Prelude.{◌≡◌, IfOk, IsErrOf};
-ghost use Rattle.shunt_store.specs.defs.Files.{Closed};
+ghost use Rattle.std.specs.Prelude.{◌≡◌, IfOk, [], ◌∷◌, Option};
+ghost use Rattle.shunt_store.specs.defs.Files.{Closed, Files};
 ghost use Rattle.shunt_store.specs.defs.Causes.{HasCause};
+ghost use Rattle.shunt_inputs.specs.defs.Views.{HearsFirst, IsView};
 ghost use Rattle.shunt_sheet.specs.defs.SheetFormat.{AreOrders};
 ghost use Rattle.shunt_inputs.specs.defs.Inputs.{Holding};
 ghost use Rattle.shunt_inputs.specs.defs.Replies.{Decided, reply_of};
@@ -23,9 +24,11 @@ pub fn reply_to_follow<S: Store>(
     sheet: &str,
 ) -> Result<Answer, Halt>
     requires { S.stage store.old ≡ Closed }
-    ensures told { Holding (S.told store.old) station.now (λ s. Holding (S.told store.old) sheet.now (λ o. Replies reply_of result (Decided (stated_following s o) IsFollowed))) }
+    ensures told { (view : Option Files) → IsView (S.told store.old) (S.heard store.old) (S.heard store.new) view → Holding view station.now (λ s. Holding view sheet.now (λ o. Replies reply_of result (Decided (stated_following s o) IsFollowed))) }
+    ensures first { HearsFirst (station.now ∷ sheet.now ∷ []) (S.heard store.old) (S.heard store.new) }
     ensures files { S.told store.new ≡ S.told store.old }
-    ensures closed { (IsErrOf result Halt.Fault → ⊥) → S.stage store.new ≡ Closed }
+    ensures stored { S.stored store.new ≡ S.stored store.old }
+    ensures closed { S.stage store.new ≡ Closed }
     ensures cause { HasCause Halt.Fault (S.faults store.old) (S.faults store.new) result }
 {
     let station = load_station(alloc, store, station)?;

@@ -1,7 +1,8 @@
 // The answer of `upgrade`.
-ghost use Rattle.std.specs.Prelude.{◌≡◌, [], ◌∷◌, map, IfOk, IsErrOf};
-ghost use Rattle.shunt_store.specs.defs.Files.{Closed};
+ghost use Rattle.std.specs.Prelude.{◌≡◌, [], ◌∷◌, map, IfOk, Option};
+ghost use Rattle.shunt_store.specs.defs.Files.{Closed, Files};
 ghost use Rattle.shunt_store.specs.defs.Causes.{HasCause};
+ghost use Rattle.shunt_inputs.specs.defs.Views.{HearsFirst, IsView};
 ghost use Rattle.shunt_instance.specs.defs.Wellformed.{IsStation, IsTimetable};
 ghost use Rattle.shunt_inputs.specs.defs.Inputs.{Holding};
 ghost use Rattle.shunt_inputs.specs.defs.Replies.{Decided, pair_of, reply_of};
@@ -25,9 +26,11 @@ pub fn reply_to_upgrade<S: Store>(
     new_timetable: &str,
 ) -> Result<Answer, Halt>
     requires { S.stage store.old ≡ Closed }
-    ensures told { Holding (S.told store.old) station.now (λ s. Holding (S.told store.old) timetable.now (λ t. Replies reply_of result (Decided (stated_upgrade s t) (IsUpgraded new_station.now new_timetable.now)))) }
+    ensures told { (view : Option Files) → IsView (S.told store.old) (S.heard store.old) (S.heard store.new) view → Holding view station.now (λ s. Holding view timetable.now (λ t. Replies reply_of result (Decided (stated_upgrade s t) (IsUpgraded new_station.now new_timetable.now)))) }
+    ensures first { HearsFirst (station.now ∷ timetable.now ∷ []) (S.heard store.old) (S.heard store.new) }
     ensures files { S.told store.new ≡ S.told store.old }
-    ensures closed { (IsErrOf result Halt.Fault → ⊥) → S.stage store.new ≡ Closed }
+    ensures stored { S.stored store.new ≡ S.stored store.old }
+    ensures closed { S.stage store.new ≡ Closed }
     ensures cause { HasCause Halt.Fault (S.faults store.old) (S.faults store.new) result }
 {
     let station = load_station(alloc, store, station)?;

@@ -1,3 +1,4 @@
 pub mod Seeing
+pub mod Viewing
 pub mod Stated
 pub mod Leading

@@ -85,9 +85,6 @@ replies_failed view r e P h l = subst (λ q. Replies view q P) (sym (fails r e h
 abbrev pub err_of : (B : Type 0) → Halt → Result B Halt
 err_of B e = Err e
 
-pub closed_failed : {A B : Type 0} (r : Result A Halt) (e : Halt) (P : Type 0) → FailsWith r e → ((IsErrOf (err_of B e) halt.Fault → ⊥) → P) → (IsErrOf r halt.Fault → ⊥) → P
-closed_failed {A = A} {B = B} r e P h closed other = closed (λ is. other (fails r e h ∙ ap Err (let h : err_of B e ≡ err_of B halt.Fault = is in cc)))
-
 -- a later step's cause is one of the whole
 pub cause_failed : {A B : Type 0} (before mid now : ℕ) (r : Result A Halt) (e : Halt) → FailsWith r e → before ≤ mid → HasCause halt.Fault mid now (err_of B e) → HasCause halt.Fault before now r
 cause_failed {A = A} {B = B} before mid now r e h le cause = record {

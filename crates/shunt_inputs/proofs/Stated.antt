@@ -1,5 +1,5 @@
 -- What is stated is well formed, and one step's answer after another's.
-use Rattle.std.proofs.Common.{◌≡◌, ◌≤◌, ℕ, List, length, Some, subst, ap, ◌∙◌, Ok, Err, arith, inl, inr, refl, ⊎_elim, Bool, true, false, Result}
+use Rattle.std.proofs.Common.{◌≡◌, ◌≤◌, ℕ, List, length, Some, subst, sym, ap, ◌∙◌, Ok, Err, arith, inl, inr, refl, ⊎_elim, Bool, true, false, Result}
 use Rattle.std.proofs.lemmas.Bool.{le-leb}
 use Rattle.std.specs.Prelude.{◌⊎◌, None, if◌then◌else◌, nat_le}
 use Rattle.shunt_rows.specs.defs.Formats.{Format, reading}
@@ -11,6 +11,8 @@ use Rattle.shunt_inputs.specs.defs.Inputs.{most_bytes_of, value_or, stated, then
 use Rattle.shunt_inputs.specs.defs.Replies.{Reply, Decided, refusal}
 use Rattle.shunt_rows.specs.declared.fault.RowFault.{RowFault}
 use Rattle.shunt_instance.specs.defs.Instance.{Night, night_of, IsInstance}
+use Rattle.shunt_instance.specs.declared.records.Station.{Station}
+use Rattle.shunt_instance.specs.declared.records.Timetable.{Timetable}
 use Rattle.shunt_instance.proofs.Orders.{night_is, closed}
 use Rattle.shunt_blocks.specs.declared.records.Block.{Block}
 use Rattle.shunt_blocks.specs.defs.Lists.{AreInRange}
@@ -61,6 +63,12 @@ plan_stated s t p y e =
     let second = parted (stated_plan first.0 p) _ y first.2 in
     let made : (first.0, second.0) ≡ y = cc (second.2) in
     subst (λ (z : Night × Plan). IsInstance z.0 × IsPlanInRange z.0 z.1) made (night_stated s t first.0 first.1, plan_formed first.0 (records_of p) second.0 (stated_value word.Plan (plan_format first.0) p second.0 second.1))
+
+pub night_read : (s t : List ℕ) (station : Station) (timetable : Timetable) (night : Night) → stated_station s ≡ Ok station → stated_timetable station t ≡ Ok timetable → night ≡ night_of station timetable → stated_night s t ≡ Ok night
+night_read s t station timetable night a b is =
+    ap (λ r. then_stated r (λ x. then_stated (stated_timetable x t) (λ y. Ok (night_of x y)))) a
+    ∙ ap (λ r. then_stated r (λ y. Ok (night_of station y))) b
+    ∙ ap Ok (sym is)
 
 pub plans_are : (s t p : List ℕ) (night : Night) (plan : Plan) → stated_night s t ≡ Ok night → stated_plan night p ≡ Ok plan → stated_plans s t p ≡ Ok (night, plan)
 plans_are s t p night plan a b =

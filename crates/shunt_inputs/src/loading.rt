@@ -1,7 +1,8 @@
 // Reading an input file and judging it.
-ghost use Rattle.std.specs.Prelude.{◌≡◌, ◌-◌, ◌^◌, ◌<◌, ◌≤◌, length, IfOk, IsErrOf, option_map};
-ghost use Rattle.shunt_store.specs.defs.Files.{Closed};
+ghost use Rattle.std.specs.Prelude.{◌≡◌, ◌-◌, ◌^◌, ◌<◌, ◌≤◌, length, IfOk, IsErrOf, option_map, [], ◌∷◌, Option, OnOk};
+ghost use Rattle.shunt_store.specs.defs.Files.{Closed, Files};
 ghost use Rattle.shunt_store.specs.defs.Causes.{HasCause};
+ghost use Rattle.shunt_inputs.specs.defs.Views.{Hears, HearsFirst, IsView};
 ghost use Rattle.shunt_plan.specs.defs.Edits.{AreTurns};
 ghost use Rattle.shunt_blocks.specs.defs.Lists.{AreInRange};
 ghost use Rattle.shunt_plan.specs.defs.Plans.{IsPlanInRange};
@@ -83,10 +84,13 @@ fn refuse(alloc: Global, file: FileWord, fault: Option<&RowFault>) -> Halt
 // Reads a file whole.
 fn load<S: Store>(alloc: Global, store: &mut S, name: &str, file: FileWord) -> Result<Vec<u8>, Halt>
     requires { S.stage store.old ≡ Closed }
-    ensures told { Holding (S.told store.old) name.now (λ bytes. LoadsBytes file bytes result) }
+    ensures told { (view : Option Files) → IsView (S.told store.old) (S.heard store.old) (S.heard store.new) view → Holding view name.now (λ bytes. LoadsBytes file bytes result) }
+    ensures heard { OnOk result (Hears (name.now ∷ []) (S.heard store.old) (S.heard store.new)) }
+    ensures first { HearsFirst (name.now ∷ []) (S.heard store.old) (S.heard store.new) }
     ensures short { IfOk result (λ bytes. length bytes.items ≤ most_bytes_of file) }
     ensures files { S.told store.new ≡ S.told store.old }
-    ensures closed { (IsErrOf result Halt.Fault → ⊥) → S.stage store.new ≡ Closed }
+    ensures stored { S.stored store.new ≡ S.stored store.old }
+    ensures closed { S.stage store.new ≡ Closed }
     ensures cause { HasCause Halt.Fault (S.faults store.old) (S.faults store.new) result }
 {
     match read_all(alloc, store, name, most_bytes(file)) {
@@ -122,10 +126,13 @@ pub fn load_input<S: Store, I: InputFile>(
 ) -> Result<I::Value, Halt>
     requires closed { S.stage store.old ≡ Closed }
     requires ready { I.ready input.now }
-    ensures told { Holding (S.told store.old) name.now (λ bytes. Loads result (stated_by I.word (I.states input.now) bytes)) }
+    ensures told { (view : Option Files) → IsView (S.told store.old) (S.heard store.old) (S.heard store.new) view → Holding view name.now (λ bytes. Loads result (stated_by I.word (I.states input.now) bytes)) }
+    ensures heard { OnOk result (Hears (name.now ∷ []) (S.heard store.old) (S.heard store.new)) }
+    ensures first { HearsFirst (name.now ∷ []) (S.heard store.old) (S.heard store.new) }
     ensures formed { IfOk result (I.formed input.now) }
     ensures files { S.told store.new ≡ S.told store.old }
-    ensures closed { (IsErrOf result Halt.Fault → ⊥) → S.stage store.new ≡ Closed }
+    ensures stored { S.stored store.new ≡ S.stored store.old }
+    ensures closed { S.stage store.new ≡ Closed }
     ensures cause { HasCause Halt.Fault (S.faults store.old) (S.faults store.new) result }
 {
     let bytes = load(alloc, store, name, input.word())?;
@@ -140,9 +147,12 @@ pub fn load_instance<S: Store>(
     timetable: &str,
 ) -> Result<Instance, Halt>
     requires { S.stage store.old ≡ Closed }
-    ensures told { Holding (S.told store.old) station.now (λ s. Holding (S.told store.old) timetable.now (λ t. Loads result (stated_night s t))) }
+    ensures told { (view : Option Files) → IsView (S.told store.old) (S.heard store.old) (S.heard store.new) view → Holding view station.now (λ s. Holding view timetable.now (λ t. Loads result (stated_night s t))) }
+    ensures heard { OnOk result (Hears (station.now ∷ timetable.now ∷ []) (S.heard store.old) (S.heard store.new)) }
+    ensures first { HearsFirst (station.now ∷ timetable.now ∷ []) (S.heard store.old) (S.heard store.new) }
     ensures files { S.told store.new ≡ S.told store.old }
-    ensures closed { (IsErrOf result Halt.Fault → ⊥) → S.stage store.new ≡ Closed }
+    ensures stored { S.stored store.new ≡ S.stored store.old }
+    ensures closed { S.stage store.new ≡ Closed }
     ensures cause { HasCause Halt.Fault (S.faults store.old) (S.faults store.new) result }
 {
     let station = load_input(alloc, store, station, &StationFile)?;
@@ -159,10 +169,13 @@ pub fn load_plan<S: Store>(
     name: &str,
 ) -> Result<Plan, Halt>
     requires { S.stage store.old ≡ Closed }
-    ensures told { Holding (S.told store.old) name.now (λ p. Loads result (stated_plan instance.now p)) }
+    ensures told { (view : Option Files) → IsView (S.told store.old) (S.heard store.old) (S.heard store.new) view → Holding view name.now (λ p. Loads result (stated_plan instance.now p)) }
+    ensures heard { OnOk result (Hears (name.now ∷ []) (S.heard store.old) (S.heard store.new)) }
+    ensures first { HearsFirst (name.now ∷ []) (S.heard store.old) (S.heard store.new) }
     ensures in_range { IfOk result (IsPlanInRange instance.now) }
     ensures files { S.told store.new ≡ S.told store.old }
-    ensures closed { (IsErrOf result Halt.Fault → ⊥) → S.stage store.new ≡ Closed }
+    ensures stored { S.stored store.new ≡ S.stored store.old }
+    ensures closed { S.stage store.new ≡ Closed }
     ensures cause { HasCause Halt.Fault (S.faults store.old) (S.faults store.new) result }
 {
     load_input(alloc, store, name, &PlanFile { instance })
@@ -176,10 +189,13 @@ pub fn load_pins<S: Store>(
     name: &str,
 ) -> Result<Items<Block>, Halt>
     requires { S.stage store.old ≡ Closed }
-    ensures told { Holding (S.told store.old) name.now (λ p. Loads result (stated_pins instance.now p)) }
+    ensures told { (view : Option Files) → IsView (S.told store.old) (S.heard store.old) (S.heard store.new) view → Holding view name.now (λ p. Loads result (stated_pins instance.now p)) }
+    ensures heard { OnOk result (Hears (name.now ∷ []) (S.heard store.old) (S.heard store.new)) }
+    ensures first { HearsFirst (name.now ∷ []) (S.heard store.old) (S.heard store.new) }
     ensures in_range { IfOk result (AreInRange instance.now) }
     ensures files { S.told store.new ≡ S.told store.old }
-    ensures closed { (IsErrOf result Halt.Fault → ⊥) → S.stage store.new ≡ Closed }
+    ensures stored { S.stored store.new ≡ S.stored store.old }
+    ensures closed { S.stage store.new ≡ Closed }
     ensures cause { HasCause Halt.Fault (S.faults store.old) (S.faults store.new) result }
 {
     load_input(alloc, store, name, &PinsFile { instance })
@@ -193,10 +209,13 @@ pub fn load_certificate<S: Store>(
     name: &str,
 ) -> Result<Certificate, Halt>
     requires { S.stage store.old ≡ Closed }
-    ensures told { Holding (S.told store.old) name.now (λ k. Loads result (stated_certificate instance.now k)) }
+    ensures told { (view : Option Files) → IsView (S.told store.old) (S.heard store.old) (S.heard store.new) view → Holding view name.now (λ k. Loads result (stated_certificate instance.now k)) }
+    ensures heard { OnOk result (Hears (name.now ∷ []) (S.heard store.old) (S.heard store.new)) }
+    ensures first { HearsFirst (name.now ∷ []) (S.heard store.old) (S.heard store.new) }
     ensures statable { IfOk result (IsCertificate instance.now) }
     ensures files { S.told store.new ≡ S.told store.old }
-    ensures closed { (IsErrOf result Halt.Fault → ⊥) → S.stage store.new ≡ Closed }
+    ensures stored { S.stored store.new ≡ S.stored store.old }
+    ensures closed { S.stage store.new ≡ Closed }
     ensures cause { HasCause Halt.Fault (S.faults store.old) (S.faults store.new) result }
 {
     load_input(alloc, store, name, &CertificateFile { instance })
@@ -210,10 +229,13 @@ pub fn load_zones<S: Store>(
     name: &str,
 ) -> Result<Zones, Halt>
     requires { S.stage store.old ≡ Closed }
-    ensures told { Holding (S.told store.old) name.now (λ z. Loads result (stated_zones instance.now z)) }
+    ensures told { (view : Option Files) → IsView (S.told store.old) (S.heard store.old) (S.heard store.new) view → Holding view name.now (λ z. Loads result (stated_zones instance.now z)) }
+    ensures heard { OnOk result (Hears (name.now ∷ []) (S.heard store.old) (S.heard store.new)) }
+    ensures first { HearsFirst (name.now ∷ []) (S.heard store.old) (S.heard store.new) }
     ensures formed { IfOk result (IsZones instance.now.station) }
     ensures files { S.told store.new ≡ S.told store.old }
-    ensures closed { (IsErrOf result Halt.Fault → ⊥) → S.stage store.new ≡ Closed }
+    ensures stored { S.stored store.new ≡ S.stored store.old }
+    ensures closed { S.stage store.new ≡ Closed }
     ensures cause { HasCause Halt.Fault (S.faults store.old) (S.faults store.new) result }
 {
     let station = instance.station();
@@ -223,10 +245,13 @@ pub fn load_zones<S: Store>(
 /// Reads and judges the station file alone.
 pub fn load_station<S: Store>(alloc: Global, store: &mut S, name: &str) -> Result<Station, Halt>
     requires { S.stage store.old ≡ Closed }
-    ensures told { Holding (S.told store.old) name.now (λ s. Loads result (stated_station s)) }
+    ensures told { (view : Option Files) → IsView (S.told store.old) (S.heard store.old) (S.heard store.new) view → Holding view name.now (λ s. Loads result (stated_station s)) }
+    ensures heard { OnOk result (Hears (name.now ∷ []) (S.heard store.old) (S.heard store.new)) }
+    ensures first { HearsFirst (name.now ∷ []) (S.heard store.old) (S.heard store.new) }
     ensures formed { IfOk result IsStation }
     ensures files { S.told store.new ≡ S.told store.old }
-    ensures closed { (IsErrOf result Halt.Fault → ⊥) → S.stage store.new ≡ Closed }
+    ensures stored { S.stored store.new ≡ S.stored store.old }
+    ensures closed { S.stage store.new ≡ Closed }
     ensures cause { HasCause Halt.Fault (S.faults store.old) (S.faults store.new) result }
 {
     load_input(alloc, store, name, &StationFile)
@@ -241,10 +266,13 @@ pub fn load_timetable<S: Store>(
 ) -> Result<Timetable, Halt>
     requires closed { S.stage store.old ≡ Closed }
     requires formed { IsStation station.now }
-    ensures told { Holding (S.told store.old) name.now (λ t. Loads result (stated_timetable station.now t)) }
+    ensures told { (view : Option Files) → IsView (S.told store.old) (S.heard store.old) (S.heard store.new) view → Holding view name.now (λ t. Loads result (stated_timetable station.now t)) }
+    ensures heard { OnOk result (Hears (name.now ∷ []) (S.heard store.old) (S.heard store.new)) }
+    ensures first { HearsFirst (name.now ∷ []) (S.heard store.old) (S.heard store.new) }
     ensures timetable { IfOk result (IsTimetable station.now) }
     ensures files { S.told store.new ≡ S.told store.old }
-    ensures closed { (IsErrOf result Halt.Fault → ⊥) → S.stage store.new ≡ Closed }
+    ensures stored { S.stored store.new ≡ S.stored store.old }
+    ensures closed { S.stage store.new ≡ Closed }
     ensures cause { HasCause Halt.Fault (S.faults store.old) (S.faults store.new) result }
 {
     load_input(alloc, store, name, &TimetableFile { station })
@@ -259,10 +287,13 @@ pub fn load_sheet<S: Store>(
 ) -> Result<Items<Order>, Halt>
     requires closed { S.stage store.old ≡ Closed }
     requires formed { IsStation station.now }
-    ensures told { Holding (S.told store.old) name.now (λ o. Loads result (stated_sheet station.now o)) }
+    ensures told { (view : Option Files) → IsView (S.told store.old) (S.heard store.old) (S.heard store.new) view → Holding view name.now (λ o. Loads result (stated_sheet station.now o)) }
+    ensures heard { OnOk result (Hears (name.now ∷ []) (S.heard store.old) (S.heard store.new)) }
+    ensures first { HearsFirst (name.now ∷ []) (S.heard store.old) (S.heard store.new) }
     ensures orders { IfOk result (AreOrders station.now) }
     ensures files { S.told store.new ≡ S.told store.old }
-    ensures closed { (IsErrOf result Halt.Fault → ⊥) → S.stage store.new ≡ Closed }
+    ensures stored { S.stored store.new ≡ S.stored store.old }
+    ensures closed { S.stage store.new ≡ Closed }
     ensures cause { HasCause Halt.Fault (S.faults store.old) (S.faults store.new) result }
 {
     load_input(alloc, store, name, &SheetFile { station })
@@ -276,10 +307,13 @@ pub fn load_crew<S: Store>(
     name: &str,
 ) -> Result<Crew, Halt>
     requires { S.stage store.old ≡ Closed }
-    ensures told { Holding (S.told store.old) name.now (λ c. Loads result (stated_crew instance.now c)) }
+    ensures told { (view : Option Files) → IsView (S.told store.old) (S.heard store.old) (S.heard store.new) view → Holding view name.now (λ c. Loads result (stated_crew instance.now c)) }
+    ensures heard { OnOk result (Hears (name.now ∷ []) (S.heard store.old) (S.heard store.new)) }
+    ensures first { HearsFirst (name.now ∷ []) (S.heard store.old) (S.heard store.new) }
     ensures formed { IfOk result (IsCrew instance.now.station) }
     ensures files { S.told store.new ≡ S.told store.old }
-    ensures closed { (IsErrOf result Halt.Fault → ⊥) → S.stage store.new ≡ Closed }
+    ensures stored { S.stored store.new ≡ S.stored store.old }
+    ensures closed { S.stage store.new ≡ Closed }
     ensures cause { HasCause Halt.Fault (S.faults store.old) (S.faults store.new) result }
 {
     let station = instance.station();
@@ -296,10 +330,13 @@ pub fn load_roster<S: Store>(
 ) -> Result<Items<Duty>, Halt>
     requires closed { S.stage store.old ≡ Closed }
     requires plan { IsPlanInRange instance.now plan.now }
-    ensures told { Holding (S.told store.old) name.now (λ d. Loads result (stated_roster instance.now plan.now d)) }
+    ensures told { (view : Option Files) → IsView (S.told store.old) (S.heard store.old) (S.heard store.new) view → Holding view name.now (λ d. Loads result (stated_roster instance.now plan.now d)) }
+    ensures heard { OnOk result (Hears (name.now ∷ []) (S.heard store.old) (S.heard store.new)) }
+    ensures first { HearsFirst (name.now ∷ []) (S.heard store.old) (S.heard store.new) }
     ensures formed { IfOk result (IsRoster (moves_of instance.now plan.now.blocks)) }
     ensures files { S.told store.new ≡ S.told store.old }
-    ensures closed { (IsErrOf result Halt.Fault → ⊥) → S.stage store.new ≡ Closed }
+    ensures stored { S.stored store.new ≡ S.stored store.old }
+    ensures closed { S.stage store.new ≡ Closed }
     ensures cause { HasCause Halt.Fault (S.faults store.old) (S.faults store.new) result }
 {
     load_input(alloc, store, name, &RosterFile { instance, plan })
@@ -313,10 +350,13 @@ pub fn load_edits<S: Store>(
     name: &str,
 ) -> Result<Items<Turn>, Halt>
     requires { S.stage store.old ≡ Closed }
-    ensures told { Holding (S.told store.old) name.now (λ e. Loads result (stated_edits instance.now e)) }
+    ensures told { (view : Option Files) → IsView (S.told store.old) (S.heard store.old) (S.heard store.new) view → Holding view name.now (λ e. Loads result (stated_edits instance.now e)) }
+    ensures heard { OnOk result (Hears (name.now ∷ []) (S.heard store.old) (S.heard store.new)) }
+    ensures first { HearsFirst (name.now ∷ []) (S.heard store.old) (S.heard store.new) }
     ensures in_range { IfOk result (AreTurns instance.now) }
     ensures files { S.told store.new ≡ S.told store.old }
-    ensures closed { (IsErrOf result Halt.Fault → ⊥) → S.stage store.new ≡ Closed }
+    ensures stored { S.stored store.new ≡ S.stored store.old }
+    ensures closed { S.stage store.new ≡ Closed }
     ensures cause { HasCause Halt.Fault (S.faults store.old) (S.faults store.new) result }
 {
     load_input(alloc, store, name, &EditsFile { instance })

@@ -1,7 +1,8 @@
 // The pins of a night, and what is told of pins that aren't usable.
-ghost use Rattle.std.specs.Prelude.{◌≡◌, All, filter, not, IfOk, IsErrOf};
-ghost use Rattle.shunt_store.specs.defs.Files.{Closed};
+ghost use Rattle.std.specs.Prelude.{◌≡◌, All, filter, not, IfOk, [], ◌∷◌, Option, OnOk};
+ghost use Rattle.shunt_store.specs.defs.Files.{Closed, Files};
 ghost use Rattle.shunt_store.specs.defs.Causes.{HasCause};
+ghost use Rattle.shunt_inputs.specs.defs.Views.{Hears, HearsFirst, IsView};
 ghost use Rattle.shunt_blocks.specs.defs.Lists.{AreInRange};
 ghost use Rattle.shunt_audit.specs.defs.Findings.{IsOfNight};
 ghost use Rattle.shunt_audit.specs.defs.Pins.{is_bare, pin_findings};
@@ -38,10 +39,13 @@ pub fn load_pinned<S: Store>(
     pins: &str,
 ) -> Result<Pinned, Halt>
     requires { S.stage store.old ≡ Closed }
-    ensures told { Holding (S.told store.old) station.now (λ s. Holding (S.told store.old) timetable.now (λ t. Holding (S.told store.old) pins.now (λ p. Loads result (stated_pinned s t p)))) }
+    ensures told { (view : Option Files) → IsView (S.told store.old) (S.heard store.old) (S.heard store.new) view → Holding view station.now (λ s. Holding view timetable.now (λ t. Holding view pins.now (λ p. Loads result (stated_pinned s t p)))) }
+    ensures heard { OnOk result (Hears (station.now ∷ timetable.now ∷ pins.now ∷ []) (S.heard store.old) (S.heard store.new)) }
+    ensures first { HearsFirst (station.now ∷ timetable.now ∷ pins.now ∷ []) (S.heard store.old) (S.heard store.new) }
     ensures in_range { IfOk result (λ x. AreInRange x.instance x.pins) }
     ensures files { S.told store.new ≡ S.told store.old }
-    ensures closed { (IsErrOf result Halt.Fault → ⊥) → S.stage store.new ≡ Closed }
+    ensures stored { S.stored store.new ≡ S.stored store.old }
+    ensures closed { S.stage store.new ≡ Closed }
     ensures cause { HasCause Halt.Fault (S.faults store.old) (S.faults store.new) result }
 {
     let instance = load_instance(alloc, store, station, timetable)?;

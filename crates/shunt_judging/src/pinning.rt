@@ -1,7 +1,8 @@
 // The answer of `check-pinned`.
-ghost use Rattle.std.specs.Prelude.{◌≡◌, IfOk, IsErrOf};
-ghost use Rattle.shunt_store.specs.defs.Files.{Closed};
+ghost use Rattle.std.specs.Prelude.{◌≡◌, IfOk, [], ◌∷◌, Option};
+ghost use Rattle.shunt_store.specs.defs.Files.{Closed, Files};
 ghost use Rattle.shunt_store.specs.defs.Causes.{HasCause};
+ghost use Rattle.shunt_inputs.specs.defs.Views.{HearsFirst, IsView};
 ghost use Rattle.shunt_blocks.specs.defs.Lists.{AreInRange};
 ghost use Rattle.shunt_blocks.specs.defs.Pins.{AreUsable, Keeps};
 ghost use Rattle.shunt_plan.specs.defs.Plans.{IsPlanInRange};
@@ -92,9 +93,11 @@ fn reply_over_pins<S: Store>(
 ) -> Result<Answer, Halt>
     requires closed { S.stage store.old ≡ Closed }
     requires pins { AreInRange instance.now pins.now }
-    ensures told { Holding (S.told store.old) plan.now (λ p. Holding (S.told store.old) certificate.now (λ k. Replies reply_of result (Decided (stated_over_pins instance.now pins.now p k) IsPinChecked))) }
+    ensures told { (view : Option Files) → IsView (S.told store.old) (S.heard store.old) (S.heard store.new) view → Holding view plan.now (λ p. Holding view certificate.now (λ k. Replies reply_of result (Decided (stated_over_pins instance.now pins.now p k) IsPinChecked))) }
+    ensures first { HearsFirst (plan.now ∷ certificate.now ∷ []) (S.heard store.old) (S.heard store.new) }
     ensures files { S.told store.new ≡ S.told store.old }
-    ensures closed { (IsErrOf result Halt.Fault → ⊥) → S.stage store.new ≡ Closed }
+    ensures stored { S.stored store.new ≡ S.stored store.old }
+    ensures closed { S.stage store.new ≡ Closed }
     ensures cause { HasCause Halt.Fault (S.faults store.old) (S.faults store.new) result }
 {
     let plan = load_plan(alloc, store, instance, plan)?;
@@ -114,9 +117,11 @@ pub fn reply_to_check_pinned<S: Store>(
     certificate: &str,
 ) -> Result<Answer, Halt>
     requires { S.stage store.old ≡ Closed }
-    ensures told { Holding (S.told store.old) station.now (λ s. Holding (S.told store.old) timetable.now (λ t. Holding (S.told store.old) pins.now (λ i. Holding (S.told store.old) plan.now (λ p. Holding (S.told store.old) certificate.now (λ k. Replies reply_of result (Decided (stated_pin_check s t i p k) IsPinChecked)))))) }
+    ensures told { (view : Option Files) → IsView (S.told store.old) (S.heard store.old) (S.heard store.new) view → Holding view station.now (λ s. Holding view timetable.now (λ t. Holding view pins.now (λ i. Holding view plan.now (λ p. Holding view certificate.now (λ k. Replies reply_of result (Decided (stated_pin_check s t i p k) IsPinChecked)))))) }
+    ensures first { HearsFirst (station.now ∷ timetable.now ∷ pins.now ∷ plan.now ∷ certificate.now ∷ []) (S.heard store.old) (S.heard store.new) }
     ensures files { S.told store.new ≡ S.told store.old }
-    ensures closed { (IsErrOf result Halt.Fault → ⊥) → S.stage store.new ≡ Closed }
+    ensures stored { S.stored store.new ≡ S.stored store.old }
+    ensures closed { S.stage store.new ≡ Closed }
     ensures cause { HasCause Halt.Fault (S.faults store.old) (S.faults store.new) result }
 {
     let pinned = load_pinned(alloc, store, station, timetable, pins)?;

@@ -59,7 +59,7 @@ fn to_number(status: Status) -> u8
 fn main(rt: HostRuntime) -> ExitCode {
     let status = match words_of(&rt, rt.alloc()) {
         Ok(words) => {
-            let mut store = DiskStore::new(&rt);
+            let mut store = DiskStore::for_words(&rt, &words);
             let mut out = ConsoleSink::new(&rt);
             run(rt.alloc(), &words, &mut store, &mut out)
         }

@@ -1,6 +1,6 @@
 // The answers of `plan` and of `pinned`.
-ghost use Rattle.std.specs.Prelude.{◌≡◌, ◌≤◌, [], ◌∷◌, length, IfOk, IsErrOf};
-ghost use Rattle.shunt_store.specs.defs.Files.{Closed};
+ghost use Rattle.std.specs.Prelude.{◌≡◌, ◌≤◌, [], ◌∷◌, length, IfOk, Option};
+ghost use Rattle.shunt_store.specs.defs.Files.{Closed, Files};
 ghost use Rattle.shunt_store.specs.defs.Causes.{HasCause};
 ghost use Rattle.shunt_instance.specs.defs.Instance.{unit_total, position_total};
 ghost use Rattle.shunt_blocks.specs.defs.Lists.{AreInRange, units_taken, positions_taken};
@@ -10,9 +10,10 @@ ghost use Rattle.shunt_report.specs.defs.Texts.{shortage_of};
 ghost use Rattle.shunt_inputs.specs.declared.answers.Outcome.TheVariants as outcome;
 ghost use Rattle.shunt_inputs.specs.defs.Names.{AreNames};
 ghost use Rattle.shunt_inputs.specs.defs.Replies.{reply_of, says};
-ghost use Rattle.shunt_inputs.specs.defs.Writes.{Leads};
+ghost use Rattle.shunt_inputs.specs.defs.Writes.{Leads, known};
+ghost use Rattle.shunt_inputs.specs.defs.Views.{HearsFirst, IsView};
 ghost use Rattle.shunt_planning.specs.defs.Planned.{IsPinned, IsSought, IsSoughtBeside, Lacks};
-ghost use Rattle.shunt_planning.specs.defs.Begun.{IsPinnedOver, IsPlannedOver, MayPin, MayPlan, MaySearchBeside, MaySearchFor};
+ghost use Rattle.shunt_planning.specs.defs.Begun.{IsPinnedOver, IsPlannedOver};
 
 use crate::searching::search_answer;
 use shunt_blocks::Block;
@@ -58,8 +59,9 @@ fn sought_answer<S: Store>(
     requires lacks { Lacks instance.now (units_taken instance.now pins.now) (positions_taken instance.now pins.now) short }
     requires some { 1 ≤ nodes }
     requires few { nodes ≤ 5000 }
-    ensures leads { Leads (IsSoughtBeside pins.now nodes plan.now certificate.now instance.now) (MaySearchFor instance.now (units_taken instance.now pins.now) (positions_taken instance.now pins.now) certificate.now) (S.told store.old) (S.told store.new) result }
-    ensures closed { (IsErrOf result Halt.Fault → ⊥) → S.stage store.new ≡ Closed }
+    ensures leads { Leads (IsSoughtBeside pins.now nodes plan.now certificate.now instance.now) (known (S.told store.old) (S.stored store.old)) (known (S.told store.new) (S.stored store.new)) result }
+    ensures heard { S.heard store.new ≡ S.heard store.old }
+    ensures closed { S.stage store.new ≡ Closed }
     ensures cause { HasCause Halt.Fault (S.faults store.old) (S.faults store.new) result }
 {
     match short {
@@ -87,8 +89,9 @@ fn night_answer<S: Store>(
     requires closed { S.stage store.old ≡ Closed }
     requires some { 1 ≤ nodes }
     requires few { nodes ≤ 5000 }
-    ensures leads { Leads (IsSought nodes plan.now certificate.now instance.now) (MaySearchFor instance.now [] [] certificate.now) (S.told store.old) (S.told store.new) result }
-    ensures closed { (IsErrOf result Halt.Fault → ⊥) → S.stage store.new ≡ Closed }
+    ensures leads { Leads (IsSought nodes plan.now certificate.now instance.now) (known (S.told store.old) (S.stored store.old)) (known (S.told store.new) (S.stored store.new)) result }
+    ensures heard { S.heard store.new ≡ S.heard store.old }
+    ensures closed { S.stage store.new ≡ Closed }
     ensures cause { HasCause Halt.Fault (S.faults store.old) (S.faults store.new) result }
 {
     // The call tells that masks of no pins leave out nothing.
@@ -142,8 +145,9 @@ fn usable_answer<S: Store>(
     requires usable { AreUsable instance.now pins.now }
     requires some { 1 ≤ nodes }
     requires few { nodes ≤ 5000 }
-    ensures leads { Leads (IsSoughtBeside pins.now nodes plan.now certificate.now instance.now) (MaySearchFor instance.now (units_taken instance.now pins.now) (positions_taken instance.now pins.now) certificate.now) (S.told store.old) (S.told store.new) result }
-    ensures closed { (IsErrOf result Halt.Fault → ⊥) → S.stage store.new ≡ Closed }
+    ensures leads { Leads (IsSoughtBeside pins.now nodes plan.now certificate.now instance.now) (known (S.told store.old) (S.stored store.old)) (known (S.told store.new) (S.stored store.new)) result }
+    ensures heard { S.heard store.new ≡ S.heard store.old }
+    ensures closed { S.stage store.new ≡ Closed }
     ensures cause { HasCause Halt.Fault (S.faults store.old) (S.faults store.new) result }
 {
     match lacking_beside(alloc, instance, pins) {
@@ -175,8 +179,9 @@ fn pinned_answer<S: Store>(
     requires in_range { AreInRange instance.now pins.now }
     requires some { 1 ≤ nodes }
     requires few { nodes ≤ 5000 }
-    ensures leads { Leads (IsPinned nodes plan.now certificate.now (record { instance = instance.now; pins = pins.now })) (MaySearchBeside (record { instance = instance.now; pins = pins.now }) certificate.now) (S.told store.old) (S.told store.new) result }
-    ensures closed { (IsErrOf result Halt.Fault → ⊥) → S.stage store.new ≡ Closed }
+    ensures leads { Leads (IsPinned nodes plan.now certificate.now (record { instance = instance.now; pins = pins.now })) (known (S.told store.old) (S.stored store.old)) (known (S.told store.new) (S.stored store.new)) result }
+    ensures heard { S.heard store.new ≡ S.heard store.old }
+    ensures closed { S.stage store.new ≡ Closed }
     ensures cause { HasCause Halt.Fault (S.faults store.old) (S.faults store.new) result }
 {
     match pins_answer(alloc, instance, pins) {
@@ -186,7 +191,8 @@ fn pinned_answer<S: Store>(
     }
 }
 
-/// What is left to be delivered of the answer of `plan`, behind its certificate, which is written where one is found.
+/// What is left to be delivered of the answer of `plan`, behind its certificate, which is stored where one is found. Where there is no
+/// answer no file is changed.
 pub fn reply_to_plan<S: Store>(
     alloc: Global,
     store: &mut S,
@@ -200,16 +206,17 @@ pub fn reply_to_plan<S: Store>(
     requires some { 1 ≤ nodes }
     requires few { nodes ≤ 5000 }
     requires names { AreNames (station.now ∷ timetable.now ∷ plan.now ∷ certificate.now ∷ []) }
-    ensures leads { Leads (IsPlannedOver (S.told store.old) station.now timetable.now nodes plan.now certificate.now) (MayPlan station.now timetable.now certificate.now) (S.told store.old) (S.told store.new) result }
-    ensures closed { (IsErrOf result Halt.Fault → ⊥) → S.stage store.new ≡ Closed }
+    ensures leads { (view : Option Files) → IsView (S.told store.old) (S.heard store.old) (S.heard store.new) view → Leads (IsPlannedOver view station.now timetable.now nodes plan.now certificate.now) (known (S.told store.old) (S.stored store.old)) (known (S.told store.new) (S.stored store.new)) result }
+    ensures first { HearsFirst (station.now ∷ timetable.now ∷ []) (S.heard store.old) (S.heard store.new) }
+    ensures closed { S.stage store.new ≡ Closed }
     ensures cause { HasCause Halt.Fault (S.faults store.old) (S.faults store.new) result }
 {
     let instance = load_instance(alloc, store, station, timetable)?;
     night_answer(alloc, store, &instance, nodes, plan, certificate)
 }
 
-/// What is left to be delivered of the answer of `pinned`, behind its certificate, which is written where the pins are usable and one is
-/// found.
+/// What is left to be delivered of the answer of `pinned`, behind its certificate, which is stored where the pins are usable and one is
+/// found. Where there is no answer no file is changed.
 pub fn reply_to_pinned<S: Store>(
     alloc: Global,
     store: &mut S,
@@ -224,8 +231,9 @@ pub fn reply_to_pinned<S: Store>(
     requires some { 1 ≤ nodes }
     requires few { nodes ≤ 5000 }
     requires names { AreNames (station.now ∷ timetable.now ∷ pins.now ∷ plan.now ∷ certificate.now ∷ []) }
-    ensures leads { Leads (IsPinnedOver (S.told store.old) station.now timetable.now pins.now nodes plan.now certificate.now) (MayPin station.now timetable.now pins.now certificate.now) (S.told store.old) (S.told store.new) result }
-    ensures closed { (IsErrOf result Halt.Fault → ⊥) → S.stage store.new ≡ Closed }
+    ensures leads { (view : Option Files) → IsView (S.told store.old) (S.heard store.old) (S.heard store.new) view → Leads (IsPinnedOver view station.now timetable.now pins.now nodes plan.now certificate.now) (known (S.told store.old) (S.stored store.old)) (known (S.told store.new) (S.stored store.new)) result }
+    ensures first { HearsFirst (station.now ∷ timetable.now ∷ pins.now ∷ []) (S.heard store.old) (S.heard store.new) }
+    ensures closed { S.stage store.new ≡ Closed }
     ensures cause { HasCause Halt.Fault (S.faults store.old) (S.faults store.new) result }
 {
     let pinned = load_pinned(alloc, store, station, timetable, pins)?;

@@ -1,6 +1,6 @@
 // The search for a plan that keeps pins.
-ghost use Rattle.std.specs.Prelude.{◌≡◌, ◌≢◌, ◌≤◌, [], ◌∷◌, ℕ, IfOk, IfSome, IsErrOf};
-ghost use Rattle.shunt_store.specs.defs.Files.{Closed, Writing, content};
+ghost use Rattle.std.specs.Prelude.{◌≡◌, ◌≤◌, [], ◌∷◌, ℕ, IfOk, IfSome, OnErr, IsErrOf};
+ghost use Rattle.shunt_store.specs.defs.Files.{Closed, Writing};
 ghost use Rattle.shunt_store.specs.defs.Causes.{HasCause};
 ghost use Rattle.shunt_rows.specs.defs.Records.{text_of_row};
 ghost use Rattle.shunt_blocks.specs.defs.Lists.{units_taken, positions_taken};
@@ -9,15 +9,15 @@ ghost use Rattle.shunt_matching.specs.declared.types.Shortage.{Shortage as OneSh
 ghost use Rattle.shunt_matching.specs.defs.Nights.{IsShortageOf};
 ghost use Rattle.shunt_plan.specs.defs.Plans.{IsPlanInRange};
 ghost use Rattle.shunt_proof.specs.defs.CertificateRows.{head_row};
-ghost use Rattle.shunt_proof.specs.defs.Recording.{Open, Finished, Failed};
+ghost use Rattle.shunt_proof.specs.defs.Recording.{Open, Finished};
 ghost use Rattle.shunt_proof.specs.defs.Streaming.{Keeps, seen, stage_of, told_of};
 ghost use Rattle.shunt_report.specs.defs.PlanTexts.{plan_of};
 ghost use Rattle.shunt_search.specs.defs.Conditions.{MeetsConditions};
 ghost use Rattle.shunt_search.specs.defs.Endings.{IsShown};
 ghost use Rattle.shunt_inputs.specs.defs.Replies.{reply_of};
-ghost use Rattle.shunt_inputs.specs.defs.Writes.{Leads};
+ghost use Rattle.shunt_inputs.specs.defs.Writes.{Leads, known};
 ghost use Rattle.shunt_planning.specs.defs.Planned.{IsPlanned, plan_file, search_outcome};
-ghost use Rattle.shunt_planning.specs.defs.Begun.{MaySearch, Searches, Puts, HoldsText, HoldsSome};
+ghost use Rattle.shunt_planning.specs.defs.Begun.{IsFound};
 
 use shunt_blocks::Block;
 use shunt_inputs::{Answer, Halt, Outcome, one_file};
@@ -40,25 +40,27 @@ fn solve_into<S: Store>(
     requires usable { AreUsable instance.now pins.now }
     requires some { 1 ≤ nodes }
     requires few { nodes ≤ 5000 }
-    requires stage { stage_of (seen recorder.old.instance.now recorder.old.name.now (S.told recorder.old.store.now) (S.stage recorder.old.store.now) recorder.old.doing recorder.old.nodes recorder.old.cases) ≡ Open }
+    requires stage { stage_of (seen recorder.old.instance.now recorder.old.name.now (S.stage recorder.old.store.now) recorder.old.doing recorder.old.nodes recorder.old.cases) ≡ Open }
     requires own { instance.now ≡ recorder.old.instance.now }
     requires none { recorder.old.nodes ≡ 0 }
     requires no_cases { recorder.old.cases ≡ 0 }
-    requires told { IfSome (told_of (seen recorder.old.instance.now recorder.old.name.now (S.told recorder.old.store.now) (S.stage recorder.old.store.now) recorder.old.doing recorder.old.nodes recorder.old.cases)) (λ told. told ≡ []) }
+    requires told { IfSome (told_of (seen recorder.old.instance.now recorder.old.name.now (S.stage recorder.old.store.now) recorder.old.doing recorder.old.nodes recorder.old.cases)) (λ told. told ≡ []) }
     ensures same_reference { recorder.new.store.ghost_name ≡ recorder.old.store.ghost_name }
     ensures meets { IfOk result (MeetsConditions instance.now pins.now nodes) }
     ensures in_range { IfOk result (λ s. IsPlanInRange instance.now s.plan) }
-    ensures shown { IfOk result (λ s. IsShown instance.now pins.now nodes s.plan s.bound s.nodes (told_of (seen recorder.new.instance.now recorder.new.name.now (S.told recorder.new.store.now) (S.stage recorder.new.store.now) recorder.new.doing recorder.new.nodes recorder.new.cases))) }
-    ensures finished { IfOk result (λ s. stage_of (seen recorder.new.instance.now recorder.new.name.now (S.told recorder.new.store.now) (S.stage recorder.new.store.now) recorder.new.doing recorder.new.nodes recorder.new.cases) ≡ Finished s.cost s.bound) }
+    ensures shown { IfOk result (λ s. IsShown instance.now pins.now nodes s.plan s.bound s.nodes (told_of (seen recorder.new.instance.now recorder.new.name.now (S.stage recorder.new.store.now) recorder.new.doing recorder.new.nodes recorder.new.cases))) }
+    ensures finished { IfOk result (λ s. stage_of (seen recorder.new.instance.now recorder.new.name.now (S.stage recorder.new.store.now) recorder.new.doing recorder.new.nodes recorder.new.cases) ≡ Finished s.cost s.bound) }
     ensures exact { (s : OneShortage) → IsErrOf result (SolveError.NoMatching s) → IsShortageOf instance.now (units_taken instance.now pins.now) (positions_taken instance.now pins.now) s }
-    ensures sound { IsErrOf result SolveError.Memory → stage_of (seen recorder.new.instance.now recorder.new.name.now (S.told recorder.new.store.now) (S.stage recorder.new.store.now) recorder.new.doing recorder.new.nodes recorder.new.cases) ≢ Failed }
     ensures cause { HasCause SolveError.Recorder (S.faults recorder.old.store.now) (S.faults recorder.new.store.now) result }
-    ensures keeps { Keeps (seen recorder.old.instance.now recorder.old.name.now (S.told recorder.old.store.now) (S.stage recorder.old.store.now) recorder.old.doing recorder.old.nodes recorder.old.cases) (seen recorder.new.instance.now recorder.new.name.now (S.told recorder.new.store.now) (S.stage recorder.new.store.now) recorder.new.doing recorder.new.nodes recorder.new.cases) }
+    ensures keeps { Keeps (seen recorder.old.instance.now recorder.old.name.now (S.stage recorder.old.store.now) recorder.old.doing recorder.old.nodes recorder.old.cases) (seen recorder.new.instance.now recorder.new.name.now (S.stage recorder.new.store.now) recorder.new.doing recorder.new.nodes recorder.new.cases) }
+    ensures files { S.told recorder.new.store.now ≡ S.told recorder.old.store.now }
+    ensures heard { S.heard recorder.new.store.now ≡ S.heard recorder.old.store.now }
+    ensures stored { S.stored recorder.new.store.now ≡ S.stored recorder.old.store.now }
 {
     solve_pinned(alloc, instance, pins, nodes, recorder)
 }
 
-// Searches, and writes the nodes into the file that was begun.
+// Searches, and writes on in the certificate that was begun. What was written of it is given up where nothing is found.
 fn stream<S: Store>(
     alloc: Global,
     store: &mut S,
@@ -66,33 +68,37 @@ fn stream<S: Store>(
     pins: &[Block],
     nodes: u32,
     certificate: &str,
-) -> Result<Solved, Halt>
-    requires writing { S.stage store.old ≡ Writing certificate.now }
-    requires first { IfSome (S.told store.old) (λ files. content files certificate.now ≡ text_of_row head_row) }
+) -> Result<Solved, StoreError>
+    requires writing { S.stage store.old ≡ Writing certificate.now (text_of_row head_row) }
     requires usable { AreUsable instance.now pins.now }
     requires some { 1 ≤ nodes }
     requires few { nodes ≤ 5000 }
     requires matching { (s : OneShortage) → IsShortageOf instance.now (units_taken instance.now pins.now) (positions_taken instance.now pins.now) s → ⊥ }
-    ensures found { Searches instance.now pins.now nodes (HoldsText certificate.now) (HoldsSome instance.now certificate.now) (S.told store.old) (S.told store.new) result }
+    ensures found { IfOk result (IsFound instance.now pins.now nodes certificate.now (S.stage store.new)) }
     ensures in_range { IfOk result (λ s. IsPlanInRange instance.now s.plan) }
     ensures cost { IfOk result (λ s. s.cost ≡ s.plan.cost) }
-    ensures closed { (IsErrOf result Halt.Fault → ⊥) → S.stage store.new ≡ Closed }
-    ensures cause { HasCause Halt.Fault (S.faults store.old) (S.faults store.new) result }
+    ensures closed { OnErr result (S.stage store.new ≡ Closed) }
+    ensures files { S.told store.new ≡ S.told store.old }
+    ensures heard { S.heard store.new ≡ S.heard store.old }
+    ensures stored { S.stored store.new ≡ S.stored store.old }
+    ensures cause { HasCause StoreError.Fault (S.faults store.old) (S.faults store.new) result }
 {
     let mut recorder = TextRecorder::over(alloc, instance, store, certificate);
     match solve_into(alloc, instance, pins, nodes, &mut recorder) {
         Ok(solved) => Ok(solved),
         Err(SolveError::NoMatching(_)) => unreachable!(),
-        Err(SolveError::Recorder) => Err(Halt::Fault),
-        Err(SolveError::Memory) => match recorder.abandon() {
-            Ok(()) => Err(Halt::Memory),
-            Err(StoreError::Fault) => Err(Halt::Fault),
-            Err(StoreError::Memory) => unreachable!(),
-        },
+        Err(SolveError::Recorder) => {
+            recorder.abandon();
+            Err(StoreError::Fault)
+        }
+        Err(SolveError::Memory) => {
+            recorder.abandon();
+            Err(StoreError::Memory)
+        }
     }
 }
 
-// Searches with at most that many nodes, and writes the certificate node by node.
+// Searches with at most so many nodes, and writes the certificate node by node. It isn't stored yet.
 fn search<S: Store>(
     alloc: Global,
     store: &mut S,
@@ -100,22 +106,24 @@ fn search<S: Store>(
     pins: &[Block],
     nodes: u32,
     certificate: &str,
-) -> Result<Solved, Halt>
+) -> Result<Solved, StoreError>
     requires closed { S.stage store.old ≡ Closed }
     requires usable { AreUsable instance.now pins.now }
     requires some { 1 ≤ nodes }
     requires few { nodes ≤ 5000 }
     requires matching { (s : OneShortage) → IsShortageOf instance.now (units_taken instance.now pins.now) (positions_taken instance.now pins.now) s → ⊥ }
-    ensures found { Searches instance.now pins.now nodes (Puts certificate.now) (MaySearch instance.now certificate.now) (S.told store.old) (S.told store.new) result }
+    ensures found { IfOk result (IsFound instance.now pins.now nodes certificate.now (S.stage store.new)) }
     ensures in_range { IfOk result (λ s. IsPlanInRange instance.now s.plan) }
     ensures cost { IfOk result (λ s. s.cost ≡ s.plan.cost) }
-    ensures closed { (IsErrOf result Halt.Fault → ⊥) → S.stage store.new ≡ Closed }
-    ensures cause { HasCause Halt.Fault (S.faults store.old) (S.faults store.new) result }
+    ensures closed { OnErr result (S.stage store.new ≡ Closed) }
+    ensures files { S.told store.new ≡ S.told store.old }
+    ensures heard { S.heard store.new ≡ S.heard store.old }
+    ensures stored { S.stored store.new ≡ S.stored store.old }
+    ensures cause { HasCause StoreError.Fault (S.faults store.old) (S.faults store.new) result }
 {
     match begin_certificate(alloc, store, certificate) {
         Ok(()) => stream(alloc, store, instance, pins, nodes, certificate),
-        Err(StoreError::Fault) => Err(Halt::Fault),
-        Err(StoreError::Memory) => Err(Halt::Memory),
+        Err(e) => Err(e),
     }
 }
 
@@ -147,7 +155,8 @@ fn found_answer(
     })
 }
 
-/// What is left to be delivered of the plan that a search finds which keeps the pins, behind its certificate, which is written.
+/// What is left to be delivered of the plan that a search finds which keeps the pins. Its certificate is stored when all else is at
+/// hand; where there is no answer no file is changed.
 pub fn search_answer<S: Store>(
     alloc: Global,
     store: &mut S,
@@ -162,13 +171,25 @@ pub fn search_answer<S: Store>(
     requires some { 1 ≤ nodes }
     requires few { nodes ≤ 5000 }
     requires matching { (s : OneShortage) → IsShortageOf instance.now (units_taken instance.now pins.now) (positions_taken instance.now pins.now) s → ⊥ }
-    ensures leads { Leads (IsPlanned pins.now nodes plan.now certificate.now instance.now) (MaySearch instance.now certificate.now) (S.told store.old) (S.told store.new) result }
-    ensures closed { (IsErrOf result Halt.Fault → ⊥) → S.stage store.new ≡ Closed }
+    ensures leads { Leads (IsPlanned pins.now nodes plan.now certificate.now instance.now) (known (S.told store.old) (S.stored store.old)) (known (S.told store.new) (S.stored store.new)) result }
+    ensures heard { S.heard store.new ≡ S.heard store.old }
+    ensures closed { S.stage store.new ≡ Closed }
     ensures cause { HasCause Halt.Fault (S.faults store.old) (S.faults store.new) result }
 {
-    let solved = search(alloc, store, instance, pins, nodes, certificate)?;
+    let solved = match search(alloc, store, instance, pins, nodes, certificate) {
+        Ok(solved) => solved,
+        Err(StoreError::Fault) => return Err(Halt::Fault),
+        Err(StoreError::Memory) => return Err(Halt::Memory),
+    };
     match found_answer(alloc, instance, &solved, plan) {
-        Ok(answer) => Ok(answer),
-        Err(_) => Err(Halt::Memory),
+        Ok(answer) => match store.close_file() {
+            Ok(()) => Ok(answer),
+            Err(StoreError::Fault) => Err(Halt::Fault),
+            Err(StoreError::Memory) => Err(Halt::Memory),
+        },
+        Err(_) => {
+            store.drop_file();
+            Err(Halt::Memory)
+        }
     }
 }

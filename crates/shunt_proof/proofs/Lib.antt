@@ -24,10 +24,7 @@ pub mod Formed
 pub mod RowNumbers
 pub mod Copied
 pub mod Lengths
-pub mod Streams
 pub mod Told
-pub mod Beginnings
 pub mod Stages
 pub mod Steps
-pub mod Held
 pub mod Calls

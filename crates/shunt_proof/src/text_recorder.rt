@@ -1,12 +1,12 @@
 // A recorder over a store.
-ghost use Rattle.std.specs.Prelude.{◌≡◌, ◌≢◌, ◌++◌, ◌∷◌, [], ◌+◌, ◌<◌, ◌≤◌, option_map, IfOk, IfSome, OnOk, OnErr, IsErrOf};
+ghost use Rattle.std.specs.Prelude.{◌≡◌, ◌++◌, ◌∷◌, [], ◌+◌, ◌<◌, ◌≤◌, Some, IfOk, OnOk, OnErr};
 ghost use Rattle.shunt_store.specs.defs.Causes.{HasCause};
-ghost use Rattle.shunt_store.specs.defs.Files.{Closed, Writing, IsWriting, name_of, content, BothTold, Leaves};
+ghost use Rattle.shunt_store.specs.defs.Files.{Closed, Writing, IsWriting, name_of, text_of};
 ghost use Rattle.shunt_rows.specs.defs.Records.{text_of_row, text_of_rows};
 ghost use Rattle.shunt_proof.specs.defs.Nodes.{FitsNode};
 ghost use Rattle.shunt_proof.specs.defs.CertificateRows.{head_row, end_row, node_rows};
-ghost use Rattle.shunt_proof.specs.defs.Recording.{Open, Failed};
-ghost use Rattle.shunt_proof.specs.defs.Streaming.{Grows, GrowsSome, Begins, Spoils, IsHeld, seen, told_of, stage_of};
+ghost use Rattle.shunt_proof.specs.defs.Recording.{Open};
+ghost use Rattle.shunt_proof.specs.defs.Streaming.{Rests, seen, told_of, stage_of};
 
 use crate::list_recorder::own_cases;
 use crate::recorder::{RecordError, Recorder};
@@ -14,15 +14,14 @@ use crate::records::Node;
 use crate::writing::{write_end, write_first, write_node};
 use shunt_instance::Instance;
 use shunt_rows::RowWriter;
-use shunt_store::{Store, StoreError};
+use shunt_store::{Store, StoreError, append_all};
 use std::alloc::{AllocError, Global};
 
-// What it can do. If it is shut, it is stalled and its file is closed.
+// What it can do. Where it was refused, what was written is given up.
 #[derive(Clone, Copy, Debug, PartialEq, Eq, Drop)]
 pub enum Doing {
     Open,
     Stalled,
-    Shut,
     Finished(u64, u64),
     Failed,
 }
@@ -55,22 +54,26 @@ fn last_text(alloc: Global, cost: u64, bound: u64, nodes: u64) -> Result<Vec<u8>
     writer.finish()
 }
 
-// Appends the bytes to the file that is being written.
+// Appends the bytes to what is written, or gives it up.
 fn append<S: Store>(store: &mut S, bytes: &[u8]) -> Result<(), StoreError>
     requires { IsWriting (S.stage store.old) }
-    ensures ok { OnOk result (BothTold (S.told store.old) (S.told store.new) (Grows (name_of (S.stage store.old)) bytes.now)) }
-    ensures err { OnErr result (BothTold (S.told store.old) (S.told store.new) (GrowsSome (name_of (S.stage store.old)) bytes.now)) }
-    ensures stage { S.stage store.new ≡ S.stage store.old }
+    ensures ok { OnOk result (S.stage store.new ≡ Writing (name_of (S.stage store.old)) (text_of (S.stage store.old) ++ bytes.now)) }
+    ensures err { OnErr result (S.stage store.new ≡ Closed) }
+    ensures files { S.told store.new ≡ S.told store.old }
+    ensures heard { S.heard store.new ≡ S.heard store.old }
+    ensures stored { S.stored store.new ≡ S.stored store.old }
     ensures cause { HasCause StoreError.Fault (S.faults store.old) (S.faults store.new) result }
 {
-    let mut at = 0;
-    'pieces: while at < bytes.len() {
-        at += store.write(&bytes[at..])?;
+    match append_all(store, bytes) {
+        Ok(()) => Ok(()),
+        Err(e) => {
+            store.drop_file();
+            Err(e)
+        }
     }
-    Ok(())
 }
 
-// Appends the text of a node to the file that is being written.
+// Appends the text of a node to what is written, or gives it up.
 fn append_node<S: Store>(
     alloc: Global,
     store: &mut S,
@@ -79,16 +82,23 @@ fn append_node<S: Store>(
 ) -> Result<(), StoreError>
     requires writing { IsWriting (S.stage store.old) }
     requires node { FitsNode instance.now node.now }
-    ensures ok { OnOk result (BothTold (S.told store.old) (S.told store.new) (Grows (name_of (S.stage store.old)) (text_of_rows (node_rows instance.now node.now)))) }
-    ensures err { OnErr result (BothTold (S.told store.old) (S.told store.new) (GrowsSome (name_of (S.stage store.old)) (text_of_rows (node_rows instance.now node.now)))) }
-    ensures stage { S.stage store.new ≡ S.stage store.old }
+    ensures ok { OnOk result (S.stage store.new ≡ Writing (name_of (S.stage store.old)) (text_of (S.stage store.old) ++ text_of_rows (node_rows instance.now node.now))) }
+    ensures err { OnErr result (S.stage store.new ≡ Closed) }
+    ensures files { S.told store.new ≡ S.told store.old }
+    ensures heard { S.heard store.new ≡ S.heard store.old }
+    ensures stored { S.stored store.new ≡ S.stored store.old }
     ensures cause { HasCause StoreError.Fault (S.faults store.old) (S.faults store.new) result }
 {
-    let text = node_text(alloc, instance, node)?;
-    append(store, text.as_slice())
+    match node_text(alloc, instance, node) {
+        Ok(text) => append(store, text.as_slice()),
+        Err(_) => {
+            store.drop_file();
+            Err(StoreError::Memory)
+        }
+    }
 }
 
-// Appends the text of the last record to the file that is being written, and closes it.
+// Appends the text of the last record to what is written, or gives it up.
 fn append_last<S: Store>(
     alloc: Global,
     store: &mut S,
@@ -97,62 +107,60 @@ fn append_last<S: Store>(
     nodes: u64,
 ) -> Result<(), StoreError>
     requires { IsWriting (S.stage store.old) }
-    ensures ok { OnOk result (BothTold (S.told store.old) (S.told store.new) (Grows (name_of (S.stage store.old)) (text_of_row (end_row cost bound nodes)))) }
-    ensures err { OnErr result (BothTold (S.told store.old) (S.told store.new) (GrowsSome (name_of (S.stage store.old)) (text_of_row (end_row cost bound nodes)))) }
-    ensures closed { OnOk result (S.stage store.new ≡ Closed) }
-    ensures stage { IsErrOf result StoreError.Memory → S.stage store.new ≡ S.stage store.old }
+    ensures ok { OnOk result (S.stage store.new ≡ Writing (name_of (S.stage store.old)) (text_of (S.stage store.old) ++ text_of_row (end_row cost bound nodes))) }
+    ensures err { OnErr result (S.stage store.new ≡ Closed) }
+    ensures files { S.told store.new ≡ S.told store.old }
+    ensures heard { S.heard store.new ≡ S.heard store.old }
+    ensures stored { S.stored store.new ≡ S.stored store.old }
     ensures cause { HasCause StoreError.Fault (S.faults store.old) (S.faults store.new) result }
 {
-    let text = last_text(alloc, cost, bound, nodes)?;
-    append(store, text.as_slice())?;
-    store.close_file()
+    match last_text(alloc, cost, bound, nodes) {
+        Ok(text) => append(store, text.as_slice()),
+        Err(_) => {
+            store.drop_file();
+            Err(StoreError::Memory)
+        }
+    }
 }
 
-/// Makes the file that a recorder is to write, with its first record. Its file is then open, to be written on.
-///
-/// After a refusal the file is as it was, or absent, or holds a front of the first record; all others are as they were. After
-/// Memory it is closed.
+/// Begins the file that a recorder is to write, with its first record. It is then being written. No file is changed.
 pub fn begin_certificate<S: Store>(
     alloc: Global,
     store: &mut S,
     name: &str,
 ) -> Result<(), StoreError>
     requires { S.stage store.old ≡ Closed }
-    ensures ok { OnOk result (BothTold (S.told store.old) (S.told store.new) (Begins name.now)) }
-    ensures err { OnErr result (BothTold (S.told store.old) (S.told store.new) (Spoils name.now)) }
-    ensures open { OnOk result (S.stage store.new ≡ Writing name.now) }
-    ensures closed { IsErrOf result StoreError.Memory → S.stage store.new ≡ Closed }
+    ensures ok { OnOk result (S.stage store.new ≡ Writing name.now (text_of_row head_row)) }
+    ensures err { OnErr result (S.stage store.new ≡ Closed) }
+    ensures files { S.told store.new ≡ S.told store.old }
+    ensures heard { S.heard store.new ≡ S.heard store.old }
+    ensures stored { S.stored store.new ≡ S.stored store.old }
     ensures cause { HasCause StoreError.Fault (S.faults store.old) (S.faults store.new) result }
 {
     let text = first_text(alloc)?;
     store.create_file(name)?;
-    match append(store, text.as_slice()) {
-        Ok(()) => Ok(()),
-        Err(e) => {
-            store.close_file()?;
-            Err(e)
-        }
-    }
+    append(store, text.as_slice())
 }
 
-// Closes the file that is being written, and begins it again.
+// Gives up what was written, and begins it again.
 fn begin_again<S: Store>(alloc: Global, store: &mut S, name: &str) -> Result<(), StoreError>
-    requires { S.stage store.old ≡ Writing name.now }
-    ensures ok { OnOk result (BothTold (S.told store.old) (S.told store.new) (Begins name.now)) }
-    ensures err { OnErr result (BothTold (S.told store.old) (S.told store.new) (Spoils name.now)) }
-    ensures open { OnOk result (S.stage store.new ≡ Writing name.now) }
-    ensures closed { IsErrOf result StoreError.Memory → S.stage store.new ≡ Closed }
+    requires { IsWriting (S.stage store.old) }
+    ensures ok { OnOk result (S.stage store.new ≡ Writing name.now (text_of_row head_row)) }
+    ensures err { OnErr result (S.stage store.new ≡ Closed) }
+    ensures files { S.told store.new ≡ S.told store.old }
+    ensures heard { S.heard store.new ≡ S.heard store.old }
+    ensures stored { S.stored store.new ≡ S.stored store.old }
     ensures cause { HasCause StoreError.Fault (S.faults store.old) (S.faults store.new) result }
 {
-    store.close_file()?;
+    store.drop_file();
     begin_certificate(alloc, store, name)
 }
 
-/// Writes nodes into a file of a store that it borrows, one at a time: it owns none of them. Only the instance that it was made
-/// with is its own.
+/// Writes nodes with a store that it borrows, one at a time: it owns none of them. Only the instance that it was made with is its own.
 ///
-/// While it is open its store writes its file, which holds the first record and the text of the nodes that were noted. If its
-/// store tells its files, and it is open or finished, it tells these nodes.
+/// While it is open or finished its store writes its file, and what was written is the first record, the text of the nodes that were
+/// noted, and, where it is finished, the last record: it tells these nodes. A call that is refused gives up what was written. No call
+/// changes any file: who began the file closes it, and then it holds what was written.
 #[derive(Drop)]
 pub struct TextRecorder<'s, S: Store> {
     store: &'s mut S,
@@ -165,26 +173,26 @@ pub struct TextRecorder<'s, S: Store> {
 }
 
 impl<'s, S: Store> TextRecorder<'s, S> {
-    /// An open recorder, without nodes, of the file with this name that [`begin_certificate`] made. It takes no memory.
+    /// An open recorder, without nodes, of the file with this name that [`begin_certificate`] began. It takes no memory.
     pub fn over(
         alloc: Global,
         instance: &'s Instance,
         store: &'s mut S,
         name: &'s str,
     ) -> TextRecorder<'s, S>
-        requires writing { S.stage store.old ≡ Writing name.now }
-        requires first { IfSome (S.told store.old) (λ files. content files name.now ≡ text_of_row head_row) }
+        requires { S.stage store.old ≡ Writing name.now (text_of_row head_row) }
         ensures same_reference { result.store.ghost_name ≡ store.entry.ghost_name }
         ensures own { result.instance.now ≡ instance.now }
         ensures name { result.name.now ≡ name.now }
         ensures files { S.told result.store.now ≡ S.told store.old }
-        ensures place { S.stage result.store.now ≡ S.stage store.old }
+        ensures heard { S.heard result.store.now ≡ S.heard store.old }
+        ensures stored { S.stored result.store.now ≡ S.stored store.old }
         ensures faults { S.faults result.store.now ≡ S.faults store.old }
         ensures number { result.nodes ≡ 0 }
         ensures cases { result.cases ≡ 0 }
-        ensures open { stage_of (seen result.instance.now result.name.now (S.told result.store.now) (S.stage result.store.now) result.doing result.nodes result.cases) ≡ Open }
-        ensures told { told_of (seen result.instance.now result.name.now (S.told result.store.now) (S.stage result.store.now) result.doing result.nodes result.cases) ≡ option_map (λ files. []) (S.told store.old) }
-        ensures held { IsHeld (seen result.instance.now result.name.now (S.told result.store.now) (S.stage result.store.now) result.doing result.nodes result.cases) }
+        ensures open { stage_of (seen result.instance.now result.name.now (S.stage result.store.now) result.doing result.nodes result.cases) ≡ Open }
+        ensures told { told_of (seen result.instance.now result.name.now (S.stage result.store.now) result.doing result.nodes result.cases) ≡ Some [] }
+        ensures rests { Rests result.doing (S.stage result.store.now) }
     {
         // The call tells that the night is well formed, so that what is written can be read.
         instance.station();
@@ -199,13 +207,14 @@ impl<'s, S: Store> TextRecorder<'s, S> {
         }
     }
 
-    /// Closes the file of a recorder that hasn't failed. A finished one has closed it, and no file is changed.
-    pub fn abandon(self) -> Result<(), StoreError>
-        requires { stage_of (seen self.instance.now self.name.now (S.told self.store.now) (S.stage self.store.now) self.doing self.nodes self.cases) ≢ Failed }
-        ensures closed { OnOk result (S.stage self.exit.0.now ≡ Closed) }
+    /// Gives up what was written. A recorder that was refused has done so. It takes no memory, and no file is changed.
+    pub fn abandon(self)
+        requires { Rests self.doing (S.stage self.store.now) }
+        ensures closed { S.stage self.exit.0.now ≡ Closed }
         ensures files { S.told self.exit.0.now ≡ S.told self.entry.store.now }
-        ensures no_memory { IsErrOf result StoreError.Memory → ⊥ }
-        ensures cause { HasCause StoreError.Fault (S.faults self.entry.store.now) (S.faults self.exit.0.now) result }
+        ensures heard { S.heard self.exit.0.now ≡ S.heard self.entry.store.now }
+        ensures stored { S.stored self.exit.0.now ≡ S.stored self.entry.store.now }
+        ensures faults { S.faults self.exit.0.now ≡ S.faults self.entry.store.now }
     {
         let TextRecorder {
             store,
@@ -217,11 +226,10 @@ impl<'s, S: Store> TextRecorder<'s, S> {
             cases: _,
         } = self;
         match doing {
-            Doing::Open => store.close_file(),
-            Doing::Stalled => store.close_file(),
-            Doing::Shut => Ok(()),
-            Doing::Finished(_, _) => Ok(()),
-            Doing::Failed => unreachable!(),
+            Doing::Open => store.drop_file(),
+            Doing::Stalled => {}
+            Doing::Finished(_, _) => store.drop_file(),
+            Doing::Failed => {}
         }
     }
 }
@@ -233,21 +241,21 @@ impl<'s, S: Store> Recorder for TextRecorder<'s, S> {
 
     ghost owns = { λ r night. night ≡ r.instance.now };
 
-    ghost told = { λ r. told_of (seen r.instance.now r.name.now (S.told r.store.now) (S.stage r.store.now) r.doing r.nodes r.cases) };
+    ghost told = { λ r. told_of (seen r.instance.now r.name.now (S.stage r.store.now) r.doing r.nodes r.cases) };
 
     ghost number = { λ r. r.nodes };
 
     ghost cases = { λ r. r.cases };
 
-    ghost stage = { λ r. stage_of (seen r.instance.now r.name.now (S.told r.store.now) (S.stage r.store.now) r.doing r.nodes r.cases) };
+    ghost stage = { λ r. stage_of (seen r.instance.now r.name.now (S.stage r.store.now) r.doing r.nodes r.cases) };
 
     ghost faults = { λ r. S.faults r.store.now };
 
-    ghost keeps = { λ a b. (a.store.ghost_name ≡ b.store.ghost_name) × Keeps (seen a.instance.now a.name.now (S.told a.store.now) (S.stage a.store.now) a.doing a.nodes a.cases) (seen b.instance.now b.name.now (S.told b.store.now) (S.stage b.store.now) b.doing b.nodes b.cases) };
+    ghost keeps = { λ a b. (a.store.ghost_name ≡ b.store.ghost_name) × (Keeps (seen a.instance.now a.name.now (S.stage a.store.now) a.doing a.nodes a.cases) (seen b.instance.now b.name.now (S.stage b.store.now) b.doing b.nodes b.cases) × ((S.told b.store.now ≡ S.told a.store.now) × ((S.heard b.store.now ≡ S.heard a.store.now) × (S.stored b.store.now ≡ S.stored a.store.now)))) };
 
-    ghost keeps_same = { λ a. (refl, keeps_same _) };
+    ghost keeps_same = { λ a. (refl, (keeps_same _, (refl, (refl, refl)))) };
 
-    ghost keeps_on = { λ a b c h k. (h.0 ∙ k.0, keeps_on _ _ _ h.1 k.1) };
+    ghost keeps_on = { λ a b c h k. (h.0 ∙ k.0, (keeps_on _ _ _ h.1.0 k.1.0, (k.1.1.0 ∙ h.1.1.0, (k.1.1.1.0 ∙ h.1.1.1.0, k.1.1.1.1 ∙ h.1.1.1.1)))) };
 
     fn note(&mut self, _: &Instance, node: &Node) -> Result<(), RecordError> {
         // The call tells that the night is well formed, so that what is written can be read.
@@ -278,7 +286,7 @@ impl<'s, S: Store> Recorder for TextRecorder<'s, S> {
                 Ok(())
             }
             Err(StoreError::Memory) => {
-                self.doing = Doing::Shut;
+                self.doing = Doing::Stalled;
                 Err(RecordError::Memory)
             }
             Err(StoreError::Fault) => {

@@ -1,5 +1,6 @@
 -- The definitions of this crate.
 pub mod Files
+pub mod Noting
 pub mod Causes
 pub mod Errors
 pub mod Table

@@ -1,55 +1,89 @@
 // A store over the files of the current folder.
-ghost use Rattle.std.specs.Prelude.{◌≡◌, ◌<◌, ◌≤◌, ◌++◌, None, IfOk, OnErr, IsErrOf, length, take};
-ghost use Rattle.std.specs.FinMap as map;
+ghost use Rattle.std.specs.Prelude.{◌≡◌, ◌<◌, ◌≤◌, ◌++◌, None, Some, [], IfOk, OnErr, IsErrOf, length, take};
 ghost use Rattle.shunt_store.specs.defs.Causes.{Counts, HasCause};
-ghost use Rattle.shunt_store.specs.defs.Files.{Files, Closed, IsWriting, name_of, content, BothTold, AppendsSome};
+ghost use Rattle.shunt_store.specs.defs.Files.{Closed, Writing, IsWriting, name_of, text_of};
 ghost use Rattle.shunt_store.specs.defs.Disk.{stage_of_file};
 
 use crate::counting::one_fault_more;
+use crate::drafts::{Draft, begin, discard, free_number, settle, write_on};
 use crate::errors::StoreError;
+use crate::noted::NotedFiles;
 use crate::traits::Store;
 use std::alloc::Allocator;
-use std::fs;
-use std::io::{Read, Write};
+use std::io::Read;
 use std::rt::Files as FileSystem;
+use std::{fs, mem};
 
 #[derive(Drop)]
 pub enum Doing<F, A: Allocator> {
     Closed,
     Reading(F, Vec<u8, A>),
-    Writing(F, Vec<u8, A>),
+    Writing(Vec<u8, A>, Draft<F, A>),
 }
 
-/// The files of the current folder. It tells nothing of what they hold.
+/// The files of the current folder. It doesn't tell what they hold, but what was read of them, and
+/// what they were made to hold.
+///
+/// A file is written beside the one that it is to replace, under its name with `.part` behind it; what
+/// a run that was killed left there is overwritten. A device, a pipe, a folder, and any name under /dev
+/// or /proc is written in place. A link is followed.
 #[derive(Drop)]
 pub struct DiskStore<'r, R: FileSystem + Alloc> {
     rt: &'r R,
+    // Which number stands behind `.part`; none for 0.
+    part: u64,
     doing: Doing<R::File, R::A>,
+    heard: NotedFiles,
+    stored: NotedFiles,
     taken: u64,
     handed: u64,
     faults: u64,
 }
 
 impl<'r, R: FileSystem + Alloc> DiskStore<'r, R> {
-    /// Nothing is open, and there are no faults so far.
+    /// Nothing is open, nothing was moved, and there are no faults so far.
     pub fn new(rt: &'r R) -> DiskStore<'r, R>
         ensures stage { stage_of_file result.doing ≡ Closed }
+        ensures heard { result.heard.entries ≡ [] }
+        ensures stored { result.stored.entries ≡ [] }
         ensures taken { result.taken ≡ 0 }
         ensures handed { result.handed ≡ 0 }
         ensures faults { result.faults ≡ 0 }
     {
         DiskStore {
             rt,
+            part: 0,
             doing: Doing::Closed,
+            heard: NotedFiles::new(),
+            stored: NotedFiles::new(),
             taken: 0,
             handed: 0,
             faults: 0,
+        }
+    }
+
+    /// The same for a command with these words: a number behind `.part` keeps parts from having the name of a word.
+    pub fn for_words(rt: &'r R, words: &[String]) -> DiskStore<'r, R>
+        ensures stage { stage_of_file result.doing ≡ Closed }
+        ensures heard { result.heard.entries ≡ [] }
+        ensures stored { result.stored.entries ≡ [] }
+        ensures taken { result.taken ≡ 0 }
+        ensures handed { result.handed ≡ 0 }
+        ensures faults { result.faults ≡ 0 }
+    {
+        DiskStore {
+            part: free_number(words),
+            ..DiskStore::new(rt)
         }
     }
 }
 
 impl<R: FileSystem + Alloc> Store for DiskStore<'_, R> {
     ghost told = { λ s. None };
+
+    ghost heard = { λ s. Some s.heard.entries };
+
+    ghost stored = { λ s. Some s.stored.entries };
 
     ghost stage = { λ s. stage_of_file s.doing };
 
@@ -63,6 +97,7 @@ impl<R: FileSystem + Alloc> Store for DiskStore<'_, R> {
         let owned = Vec::from_slice(self.rt.alloc(), name.as_bytes())?;
         match fs::open(self.rt, name) {
             Ok(file) => {
+                self.heard.begin(name.as_bytes());
                 self.doing = Doing::Reading(file, owned);
                 self.taken = 0;
                 Ok(())
@@ -82,6 +117,7 @@ impl<R: FileSystem + Alloc> Store for DiskStore<'_, R> {
         let room = u64::MAX - self.taken;
         if buf.len() as u64 <= room {
             if let Ok(n) = file.read(buf) {
+                self.heard.add(&buf[..n]);
                 self.taken += n as u64;
                 self.handed = self.handed.saturating_add(n as u64);
                 return Ok(n);
@@ -93,12 +129,12 @@ impl<R: FileSystem + Alloc> Store for DiskStore<'_, R> {
 
     fn create_file(&mut self, name: &str) -> Result<(), StoreError> {
         let owned = Vec::from_slice(self.rt.alloc(), name.as_bytes())?;
-        match fs::create(self.rt, name) {
-            Ok(file) => {
-                self.doing = Doing::Writing(file, owned);
+        match begin(self.rt, name, self.part)? {
+            Some(draft) => {
+                self.doing = Doing::Writing(owned, draft);
                 Ok(())
             }
-            Err(_) => {
+            None => {
                 self.faults = one_fault_more(self.faults);
                 Err(StoreError::Fault)
             }
@@ -110,29 +146,40 @@ impl<R: FileSystem + Alloc> Store for DiskStore<'_, R> {
         requires { IsWriting (stage_of_file self.old.doing) }
         ensures bound { IfOk result (λ n. n ≤ length piece.now) }
         ensures some { IfOk result (λ n. 0 < length piece.now → 0 < n) }
-        ensures bytes { IfOk result (λ n. BothTold None None (λ (old new : Files). new ≡ map.insert old (name_of (stage_of_file self.old.doing)) (content old (name_of (stage_of_file self.old.doing)) ++ take n piece.now))) }
-        ensures err { OnErr result (BothTold None None (AppendsSome (name_of (stage_of_file self.old.doing)) piece.now)) }
+        ensures bytes { IfOk result (λ n. stage_of_file self.new.doing ≡ Writing (name_of (stage_of_file self.old.doing)) (text_of (stage_of_file self.old.doing) ++ take n piece.now)) }
+        ensures err { OnErr result (stage_of_file self.new.doing ≡ stage_of_file self.old.doing) }
         ensures no_memory { IsErrOf result StoreError.Memory → ⊥ }
-        ensures stage { stage_of_file self.new.doing ≡ stage_of_file self.old.doing }
+        ensures heard { self.new.heard.entries ≡ self.old.heard.entries }
+        ensures stored { self.new.stored.entries ≡ self.old.stored.entries }
         ensures taken { self.new.taken ≡ self.old.taken }
         ensures handed { self.new.handed ≡ self.old.handed }
         ensures counts { Counts StoreError.Fault self.old.faults self.new.faults result }
         ensures cause { HasCause StoreError.Fault self.old.faults self.new.faults result }
     {
-        let Doing::Writing(file, _) = &mut self.doing else {
+        let Doing::Writing(_, draft) = &mut self.doing else {
             unreachable!();
         };
-        if let Ok(n) = file.write(piece) {
-            if n > 0 || piece.is_empty() {
-                return Ok(n);
-            }
+        if let Some(n) = write_on(draft, piece) {
+            return Ok(n);
         }
         self.faults = one_fault_more(self.faults);
         Err(StoreError::Fault)
     }
 
     fn close_file(&mut self) -> Result<(), StoreError> {
-        self.doing = Doing::Closed;
+        if let Doing::Writing(name, draft) = mem::replace(&mut self.doing, Doing::Closed) {
+            if !settle(self.rt, &draft) {
+                self.faults = one_fault_more(self.faults);
+                return Err(StoreError::Fault);
+            }
+            self.stored.keep(&name, &draft.text);
+        }
         Ok(())
+    }
+
+    fn drop_file(&mut self) {
+        if let Doing::Writing(_, draft) = mem::replace(&mut self.doing, Doing::Closed) {
+            discard(self.rt, &draft);
+        }
     }
 }

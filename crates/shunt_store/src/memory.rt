@@ -3,32 +3,37 @@ ghost use Rattle.std.specs.Prelude.{◌≡◌, ◌≢◌, ◌⊎◌, ◌+◌, �
 ghost use Rattle.std.specs.Bool.{OnTrue};
 ghost use Rattle.std.specs.FinMap as map;
 ghost use Rattle.shunt_store.specs.defs.Causes.{one_more, counted_on, IsOneMore, Rose, Counts, HasCause};
-ghost use Rattle.shunt_store.specs.defs.Files.{Closed, Reading, Writing, IsReading, IsWriting, name_of, content, HandsOut};
+ghost use Rattle.shunt_store.specs.defs.Files.{Closed, Reading, Writing, IsReading, IsWriting, name_of, text_of, content, files_after, HandsOut};
 ghost use Rattle.shunt_store.specs.defs.Held.{Held, IsToFail, called, refused};
+ghost use Rattle.shunt_store.specs.defs.Noting.{add_last, stored_after};
 ghost use Rattle.shunt_store.specs.defs.Pieces.{bounded};
 
 use crate::counting::one_fault_more;
 use crate::errors::StoreError;
 use crate::moving::{hand_out, in_one_call};
-use crate::table::{File, append, bytes_at, bytes_of, place_of, put};
+use crate::noted::NotedFiles;
+use crate::table::{File, bytes_at, bytes_of, place_of, put};
 use crate::traits::Store;
 use std::alloc::{AllocError, Global};
 use std::marker::Model;
+use std::mem;
 
-// The file that is open, by its place in the list.
-#[derive(Debug, Drop)]
+// What is read, by its place in the list, or what is written, by its name and its bytes so far.
+#[derive(Drop)]
 pub enum Doing {
     Closed,
     Reading(usize),
-    Writing(usize),
+    Writing(Vec<u8>, Vec<u8>),
 }
 
 /// Files in memory, with the numbers of the calls that are to fail. The calls of the trait's
 /// methods are counted from 1, the refused ones too, and never past 2^64 - 1.
-#[derive(Debug, Drop)]
+#[derive(Drop)]
 pub struct MemStore {
     alloc: Global,
     files: Vec<File>,
+    heard: NotedFiles,
+    stored: NotedFiles,
     failing: Vec<u64>,
     calls: u64,
     faults: u64,
@@ -55,11 +60,13 @@ impl Model for MemStore {
 impl MemStore {
     /// No files, no calls that are to fail, and no bound on what a call moves.
     pub fn new(alloc: Global) -> MemStore
-        ensures { result ≡ record { files = map.empty; failing = []; calls = 0; faults = 0; stage = Closed; taken = 0; handed = 0; piece = None } }
+        ensures { result ≡ record { files = map.empty; heard = []; stored = []; failing = []; calls = 0; faults = 0; stage = Closed; taken = 0; handed = 0; piece = None } }
     {
         MemStore {
             alloc,
             files: Vec::new(alloc),
+            heard: NotedFiles::new(),
+            stored: NotedFiles::new(),
             failing: Vec::new(alloc),
             calls: 0,
             faults: 0,
@@ -127,6 +134,10 @@ impl MemStore {
 impl Store for MemStore {
     ghost told = { λ s. Some s.files };
 
+    ghost heard = { λ s. Some s.heard };
+
+    ghost stored = { λ s. Some s.stored };
+
     ghost stage = { λ s. s.stage };
 
     ghost taken = { λ s. s.taken };
@@ -138,7 +149,7 @@ impl Store for MemStore {
     /// A Fault also where there is no file of the name.
     fn open_file(&mut self, name: &str) -> Result<(), StoreError>
         requires { self.old.stage ≡ Closed }
-        ensures ok { OnOk result (self.new ≡ record (called self.old) { stage = Reading name.now; taken = 0 }) }
+        ensures ok { OnOk result (self.new ≡ record (called self.old) { stage = Reading name.now; taken = 0; heard = self.old.heard ++ (name.now, []) ∷ [] }) }
         ensures err { IfErr result (λ e. self.new ≡ refused e self.old) }
         ensures handed { self.new.handed ≡ self.old.handed }
         ensures exact { IsErrOf result StoreError.Fault ↔ (IsToFail self.old ⊎ (map.get self.old.files name.now ≡ None)) }
@@ -155,6 +166,7 @@ impl Store for MemStore {
             return Err(StoreError::Fault);
         };
         self.doing = Doing::Reading(place);
+        self.heard.begin(name.as_bytes());
         self.taken = 0;
         Ok(())
     }
@@ -164,7 +176,7 @@ impl Store for MemStore {
         ensures bytes { IfOk result (λ n. HandsOut (content self.old.files (name_of self.old.stage)) self.old.taken n buf.new) }
         ensures amount { IfOk result (λ n. n ≡ bounded self.old.piece (min (length (content self.old.files (name_of self.old.stage)) - self.old.taken) (length buf.new))) }
         ensures bound { IfOk result (λ n. n ≤ length buf.new) }
-        ensures ok { IfOk result (λ n. self.new ≡ record (called self.old) { taken = self.old.taken + n; handed = counted_on self.old.handed n }) }
+        ensures ok { IfOk result (λ n. self.new ≡ record (called self.old) { taken = self.old.taken + n; handed = counted_on self.old.handed n; heard = add_last (take n buf.new) self.old.heard }) }
         ensures err { IfErr result (λ e. self.new ≡ refused e self.old) }
         ensures exact { IsErrOf result StoreError.Fault ↔ IsToFail self.old }
         ensures no_memory { IsErrOf result StoreError.Memory → ⊥ }
@@ -180,6 +192,7 @@ impl Store for MemStore {
             unreachable!();
         };
         let n = hand_out(bytes_of(&self.files, place), self.taken, self.piece, buf);
+        self.heard.add(&buf[..n]);
         self.taken += n;
         self.handed = self.handed.saturating_add(n as u64);
         Ok(n)
@@ -187,55 +200,9 @@ impl Store for MemStore {
 
     fn create_file(&mut self, name: &str) -> Result<(), StoreError>
         requires { self.old.stage ≡ Closed }
-        ensures ok { OnOk result (self.new ≡ record (called self.old) { files = map.insert self.old.files name.now []; stage = Writing name.now }) }
+        ensures ok { OnOk result (self.new ≡ record (called self.old) { stage = Writing name.now [] }) }
         ensures err { IfErr result (λ e. self.new ≡ refused e self.old) }
         ensures exact { IsErrOf result StoreError.Fault ↔ IsToFail self.old }
-        ensures taken { self.new.taken ≡ self.old.taken }
-        ensures handed { self.new.handed ≡ self.old.handed }
-        ensures counts { Counts StoreError.Fault self.old.faults self.new.faults result }
-        ensures cause { HasCause StoreError.Fault self.old.faults self.new.faults result }
-    {
-        if self.call_fails() {
-            return Err(StoreError::Fault);
-        }
-        let place = put(self.alloc, &mut self.files, name.as_bytes(), &[])?;
-        self.doing = Doing::Writing(place);
-        Ok(())
-    }
-
-    fn write(&mut self, piece: &[u8]) -> Result<usize, StoreError>
-        requires { IsWriting self.old.stage }
-        ensures amount { IfOk result (λ n. n ≡ bounded self.old.piece (length piece.now)) }
-        ensures bound { IfOk result (λ n. n ≤ length piece.now) }
-        ensures some { IfOk result (λ n. 0 < length piece.now → 0 < n) }
-        ensures ok { IfOk result (λ n. self.new ≡ record (called self.old) {
-          files = map.insert self.old.files (name_of self.old.stage) (content self.old.files (name_of self.old.stage) ++ take n piece.now);
-        }) }
-        ensures err { IfErr result (λ e. self.new ≡ refused e self.old) }
-        ensures exact { IsErrOf result StoreError.Fault ↔ IsToFail self.old }
-        ensures stage { self.new.stage ≡ self.old.stage }
-        ensures taken { self.new.taken ≡ self.old.taken }
-        ensures handed { self.new.handed ≡ self.old.handed }
-        ensures counts { Counts StoreError.Fault self.old.faults self.new.faults result }
-        ensures cause { HasCause StoreError.Fault self.old.faults self.new.faults result }
-    {
-        if self.call_fails() {
-            return Err(StoreError::Fault);
-        }
-        let Doing::Writing(place) = self.doing else {
-            unreachable!();
-        };
-        let n = in_one_call(self.piece, piece.len());
-        append(&mut self.files, place, &piece[..n])?;
-        Ok(n)
-    }
-
-    fn close_file(&mut self) -> Result<(), StoreError>
-        requires { self.old.stage ≢ Closed }
-        ensures ok { OnOk result (self.new ≡ record (called self.old) { stage = Closed }) }
-        ensures err { IfErr result (λ e. self.new ≡ refused e self.old) }
-        ensures exact { IsErrOf result StoreError.Fault ↔ IsToFail self.old }
-        ensures no_memory { IsErrOf result StoreError.Memory → ⊥ }
         ensures files { self.new.files ≡ self.old.files }
         ensures taken { self.new.taken ≡ self.old.taken }
         ensures handed { self.new.handed ≡ self.old.handed }
@@ -245,7 +212,65 @@ impl Store for MemStore {
         if self.call_fails() {
             return Err(StoreError::Fault);
         }
-        self.doing = Doing::Closed;
+        let name = Vec::from_slice(self.alloc, name.as_bytes())?;
+        self.doing = Doing::Writing(name, Vec::new(self.alloc));
         Ok(())
+    }
+
+    fn write(&mut self, piece: &[u8]) -> Result<usize, StoreError>
+        requires { IsWriting self.old.stage }
+        ensures amount { IfOk result (λ n. n ≡ bounded self.old.piece (length piece.now)) }
+        ensures bound { IfOk result (λ n. n ≤ length piece.now) }
+        ensures some { IfOk result (λ n. 0 < length piece.now → 0 < n) }
+        ensures ok { IfOk result (λ n. self.new ≡ record (called self.old) {
+          stage = Writing (name_of self.old.stage) (text_of self.old.stage ++ take n piece.now);
+        }) }
+        ensures err { IfErr result (λ e. self.new ≡ refused e self.old) }
+        ensures exact { IsErrOf result StoreError.Fault ↔ IsToFail self.old }
+        ensures files { self.new.files ≡ self.old.files }
+        ensures taken { self.new.taken ≡ self.old.taken }
+        ensures handed { self.new.handed ≡ self.old.handed }
+        ensures counts { Counts StoreError.Fault self.old.faults self.new.faults result }
+        ensures cause { HasCause StoreError.Fault self.old.faults self.new.faults result }
+    {
+        if self.call_fails() {
+            return Err(StoreError::Fault);
+        }
+        let n = in_one_call(self.piece, piece.len());
+        let Doing::Writing(_, text) = &mut self.doing else {
+            unreachable!();
+        };
+        text.extend_from_slice(&piece[..n])?;
+        Ok(n)
+    }
+
+    fn close_file(&mut self) -> Result<(), StoreError>
+        requires { self.old.stage ≢ Closed }
+        ensures ok { OnOk result (self.new ≡ record (called self.old) { files = files_after self.old.stage self.old.files; stage = Closed; stored = stored_after self.old.stage self.old.stored }) }
+        ensures err { IfErr result (λ e. self.new ≡ record (refused e self.old) { stage = Closed }) }
+        ensures exact { IsErrOf result StoreError.Fault ↔ IsToFail self.old }
+        ensures closed { self.new.stage ≡ Closed }
+        ensures taken { self.new.taken ≡ self.old.taken }
+        ensures handed { self.new.handed ≡ self.old.handed }
+        ensures counts { Counts StoreError.Fault self.old.faults self.new.faults result }
+        ensures cause { HasCause StoreError.Fault self.old.faults self.new.faults result }
+    {
+        let doing = mem::replace(&mut self.doing, Doing::Closed);
+        if self.call_fails() {
+            return Err(StoreError::Fault);
+        }
+        if let Doing::Writing(name, text) = doing {
+            put(self.alloc, &mut self.files, &name, &text)?;
+            self.stored.keep_bytes(&name, &text);
+        }
+        Ok(())
+    }
+
+    /// It counts no call.
+    fn drop_file(&mut self)
+        requires { IsWriting self.old.stage }
+        ensures { self.new ≡ record self.old { stage = Closed } }
+    {
+        self.doing = Doing::Closed;
     }
 }

@@ -1,6 +1,7 @@
 // Reading a file whole.
-ghost use Rattle.std.specs.Prelude.{◌≡◌, ◌≢◌, ◌⊎◌, ◌+◌, ◌-◌, ◌^◌, ◌<◌, ◌≤◌, [], length, take, IfOk, OnOk, OnErr, IfSome, IsErrOf, Err};
-ghost use Rattle.shunt_store.specs.defs.Files.{Files, Closed, Reading, IsReading, content, name_of};
+ghost use Rattle.std.specs.Prelude.{◌≡◌, ◌≢◌, ◌⊎◌, ◌+◌, ◌-◌, ◌^◌, ◌<◌, ◌≤◌, [], ◌∷◌, ◌++◌, length, take, IfOk, OnOk, OnErr, IfSome, IsErrOf, Err};
+ghost use Rattle.shunt_store.specs.defs.Files.{Files, Closed, Reading, IsReading, content, name_of, AreFirst, BothTold};
+ghost use Rattle.shunt_store.specs.defs.Noting.{add_last, AddsLast, Adds, AddsSome};
 ghost use Rattle.shunt_store.specs.defs.Causes.{Rose, RoseBy};
 
 use crate::errors::{ReadAllError, StoreError};
@@ -24,6 +25,10 @@ fn read_open<S: Store>(alloc: Global, store: &mut S, limit: u64) -> Result<Vec<u
     ensures most_here { S.handed store.new ≤ S.handed store.old + (limit + 1) }
     ensures stage { S.stage store.new ≡ S.stage store.old }
     ensures files { S.told store.new ≡ S.told store.old }
+    ensures heard { IfOk result (λ v. BothTold (S.heard store.old) (S.heard store.new) (λ old new. new ≡ add_last v.items old)) }
+    ensures long_heard { IsErrOf result ReadAllError.TooLong → BothTold (S.heard store.old) (S.heard store.new) (AddsLast (AreFirst (S.told store.old) (name_of (S.stage store.old)) (limit + 1))) }
+    ensures some_heard { BothTold (S.heard store.old) (S.heard store.new) (AddsLast (λ _. Unit {0})) }
+    ensures stored { S.stored store.new ≡ S.stored store.old }
     ensures later { S.faults store.old ≤ S.faults store.new }
     ensures fault { IsErrOf result ReadAllError.Fault → Rose (S.faults store.old) (S.faults store.new) }
 {
@@ -67,15 +72,19 @@ pub fn read_all<S: Store>(
     // where the second holds, the file may not have been opened
     ensures most { (S.taken store.new ≤ limit + 1) ⊎ ((S.stage store.new ≡ Closed) × (S.taken store.new ≡ S.taken store.old)) }
 
-    ensures closed { (IsErrOf result ReadAllError.Fault → ⊥) → S.stage store.new ≡ Closed }
+    // what was read of the file in this call
+    ensures heard { IfOk result (λ v. BothTold (S.heard store.old) (S.heard store.new) (λ old new. new ≡ old ++ (name.now, v.items) ∷ [])) }
+    ensures long_heard { IsErrOf result ReadAllError.TooLong → BothTold (S.heard store.old) (S.heard store.new) (Adds name.now (AreFirst (S.told store.old) name.now (limit + 1))) }
+    ensures some_heard { BothTold (S.heard store.old) (S.heard store.new) (AddsSome name.now) }
+
+    ensures closed { S.stage store.new ≡ Closed }
     ensures files { S.told store.new ≡ S.told store.old }
+    ensures stored { S.stored store.new ≡ S.stored store.old }
     ensures later { S.faults store.old ≤ S.faults store.new }
     ensures fault { IsErrOf result ReadAllError.Fault → Rose (S.faults store.old) (S.faults store.new) }
 {
     store.open_file(name)?;
     let read = read_open(alloc, store, limit);
-    match store.close_file() {
-        Ok(()) => read,
-        Err(_) => Err(ReadAllError::Fault),
-    }
+    store.close_file()?;
+    read
 }

@@ -1,29 +1,34 @@
 // A store and a sink in memory that never fault.
-ghost use Rattle.std.specs.Prelude.{◌≡◌, ◌≢◌, ◌+◌, ◌<◌, ◌≤◌, [], ◌++◌, length, take, IfOk, IsOk, OnOk, OnErr, IsErrOf, Some, option_map};
+ghost use Rattle.std.specs.Prelude.{◌≡◌, ◌≢◌, ◌+◌, ◌<◌, ◌≤◌, [], ◌∷◌, ◌++◌, length, take, IfOk, IsOk, OnOk, OnErr, IsErrOf, Some, option_map};
 ghost use Rattle.std.specs.FinMap as map;
 ghost use Rattle.shunt_store.specs.defs.Causes.{counted_on};
-ghost use Rattle.shunt_store.specs.defs.Files.{Closed, Reading, Writing, IsReading, IsWriting, name_of, content, HandsOut};
+ghost use Rattle.shunt_store.specs.defs.Noting.{add_last, stored_after};
+ghost use Rattle.shunt_store.specs.defs.Files.{Closed, Reading, Writing, IsReading, IsWriting, name_of, text_of, content, files_after, HandsOut};
 
 use crate::errors::{SinkError, StoreError};
 use crate::moving::hand_out;
-use crate::table::{File, append, bytes_at, put};
+use crate::noted::NotedFiles;
+use crate::table::{File, bytes_at, put};
 use crate::traits::{Sink, Store};
 use std::alloc::{AllocError, Global};
 use std::marker::Model;
+use std::mem;
 
-// What is read, by its name, or the file that is written, by its place in the list.
-#[derive(Debug, Drop)]
+// What is read, by its name, or what is written, by its name and its bytes so far.
+#[derive(Drop)]
 pub enum Doing {
     Closed,
     Reading(Vec<u8>),
-    Writing(usize),
+    Writing(Vec<u8>, Vec<u8>),
 }
 
 /// Files in memory. It never faults: only memory can run out. A name that is absent reads as no bytes.
-#[derive(Debug, Drop)]
+#[derive(Drop)]
 pub struct SureStore {
     alloc: Global,
     files: Vec<File>,
+    heard: NotedFiles,
+    stored: NotedFiles,
     doing: Doing,
     taken: usize,
     handed: u64,
@@ -46,11 +51,13 @@ impl Model for SureStore {
 impl SureStore {
     /// No files.
     pub fn new(alloc: Global) -> SureStore
-        ensures { result ≡ record { files = map.empty; stage = Closed; taken = 0; handed = 0 } }
+        ensures { result ≡ record { files = map.empty; heard = []; stored = []; stage = Closed; taken = 0; handed = 0 } }
     {
         SureStore {
             alloc,
             files: Vec::new(alloc),
+            heard: NotedFiles::new(),
+            stored: NotedFiles::new(),
             doing: Doing::Closed,
             taken: 0,
             handed: 0,
@@ -81,6 +88,10 @@ impl SureStore {
 impl Store for SureStore {
     ghost told = { λ s. Some s.files };
 
+    ghost heard = { λ s. Some s.heard };
+
+    ghost stored = { λ s. Some s.stored };
+
     ghost stage = { λ s. s.stage };
 
     ghost taken = { λ s. s.taken };
@@ -91,13 +102,14 @@ impl Store for SureStore {
 
     fn open_file(&mut self, name: &str) -> Result<(), StoreError>
         requires { self.old.stage ≡ Closed }
-        ensures ok { OnOk result (self.new ≡ record self.old { stage = Reading name.now; taken = 0 }) }
+        ensures ok { OnOk result (self.new ≡ record self.old { stage = Reading name.now; taken = 0; heard = self.old.heard ++ (name.now, []) ∷ [] }) }
         ensures handed { self.new.handed ≡ self.old.handed }
         ensures err { OnErr result (self.new ≡ self.old) }
         ensures never { IsErrOf result StoreError.Fault → ⊥ }
         ensures files { self.new.files ≡ self.old.files }
     {
         self.doing = Doing::Reading(Vec::from_slice(self.alloc, name.as_bytes())?);
+        self.heard.begin(name.as_bytes());
         self.taken = 0;
         Ok(())
     }
@@ -106,7 +118,7 @@ impl Store for SureStore {
         requires { IsReading self.old.stage }
         ensures bytes { IfOk result (λ n. HandsOut (content self.old.files (name_of self.old.stage)) self.old.taken n buf.new) }
         ensures bound { IfOk result (λ n. n ≤ length buf.new) }
-        ensures ok { IfOk result (λ n. self.new ≡ record self.old { taken = self.old.taken + n; handed = counted_on self.old.handed n }) }
+        ensures ok { IfOk result (λ n. self.new ≡ record self.old { taken = self.old.taken + n; handed = counted_on self.old.handed n; heard = add_last (take n buf.new) self.old.heard }) }
         ensures always { IsOk result }
         ensures stage { self.new.stage ≡ self.old.stage }
         ensures files { self.new.files ≡ self.old.files }
@@ -116,6 +128,7 @@ impl Store for SureStore {
         };
         let bytes = bytes_at(&self.files, name).unwrap_or(&[]);
         let n = hand_out(bytes, self.taken, None, buf);
+        self.heard.add(&buf[..n]);
         self.taken += n;
         self.handed = self.handed.saturating_add(n as u64);
         Ok(n)
@@ -123,14 +136,15 @@ impl Store for SureStore {
 
     fn create_file(&mut self, name: &str) -> Result<(), StoreError>
         requires { self.old.stage ≡ Closed }
-        ensures ok { OnOk result (self.new ≡ record self.old { files = map.insert self.old.files name.now []; stage = Writing name.now }) }
+        ensures ok { OnOk result (self.new ≡ record self.old { stage = Writing name.now [] }) }
         ensures err { OnErr result (self.new ≡ self.old) }
         ensures never { IsErrOf result StoreError.Fault → ⊥ }
+        ensures files { self.new.files ≡ self.old.files }
         ensures taken { self.new.taken ≡ self.old.taken }
         ensures handed { self.new.handed ≡ self.old.handed }
     {
-        let place = put(self.alloc, &mut self.files, name.as_bytes(), &[])?;
-        self.doing = Doing::Writing(place);
+        let name = Vec::from_slice(self.alloc, name.as_bytes())?;
+        self.doing = Doing::Writing(name, Vec::new(self.alloc));
         Ok(())
     }
 
@@ -138,28 +152,42 @@ impl Store for SureStore {
         requires { IsWriting self.old.stage }
         ensures whole { IfOk result (λ n. n ≡ length piece.now) }
         ensures ok { OnOk result (self.new ≡ record self.old {
-          files = map.insert self.old.files (name_of self.old.stage) (content self.old.files (name_of self.old.stage) ++ piece.now);
+          stage = Writing (name_of self.old.stage) (text_of self.old.stage ++ piece.now);
         }) }
         ensures err { OnErr result (self.new ≡ self.old) }
         ensures never { IsErrOf result StoreError.Fault → ⊥ }
-        ensures stage { self.new.stage ≡ self.old.stage }
+        ensures files { self.new.files ≡ self.old.files }
         ensures taken { self.new.taken ≡ self.old.taken }
         ensures handed { self.new.handed ≡ self.old.handed }
     {
-        let Doing::Writing(place) = self.doing else {
+        let Doing::Writing(_, text) = &mut self.doing else {
             unreachable!();
         };
-        append(&mut self.files, place, piece)?;
+        text.extend_from_slice(piece)?;
         Ok(piece.len())
     }
 
     fn close_file(&mut self) -> Result<(), StoreError>
         requires { self.old.stage ≢ Closed }
-        ensures ok { self.new ≡ record self.old { stage = Closed } }
-        ensures always { IsOk result }
+        ensures ok { OnOk result (self.new ≡ record self.old { files = files_after self.old.stage self.old.files; stage = Closed; stored = stored_after self.old.stage self.old.stored }) }
+        ensures err { OnErr result (self.new ≡ record self.old { stage = Closed }) }
+        ensures never { IsErrOf result StoreError.Fault → ⊥ }
+        ensures closed { self.new.stage ≡ Closed }
+        ensures taken { self.new.taken ≡ self.old.taken }
+        ensures handed { self.new.handed ≡ self.old.handed }
+    {
+        if let Doing::Writing(name, text) = mem::replace(&mut self.doing, Doing::Closed) {
+            put(self.alloc, &mut self.files, &name, &text)?;
+            self.stored.keep_bytes(&name, &text);
+        }
+        Ok(())
+    }
+
+    fn drop_file(&mut self)
+        requires { IsWriting self.old.stage }
+        ensures { self.new ≡ record self.old { stage = Closed } }
     {
         self.doing = Doing::Closed;
-        Ok(())
     }
 }
 

@@ -90,14 +90,3 @@ pub fn put(
     files.push(File { name, bytes })?;
     Ok(place)
 }
-
-/// Appends bytes to the file at a place.
-pub fn append(files: &mut Vec<File>, place: usize, piece: &[u8]) -> Result<(), AllocError>
-    requires { IsFirst files.old.items place }
-    ensures ok { OnOk result (files_of files.new.items ≡ map.insert (files_of files.old.items) (name_at files.old.items place) (content (files_of files.old.items) (name_at files.old.items place) ++ piece.now)) }
-    ensures err { OnErr result (files_of files.new.items ≡ files_of files.old.items) }
-    ensures place { IsPlaceOf files.new.items (name_at files.old.items place) place }
-{
-    files[place].bytes.extend_from_slice(piece)?;
-    Ok(())
-}

@@ -1,7 +1,7 @@
 // Writing a text whole, to a sink and to a file.
-ghost use Rattle.std.specs.Prelude.{◌≡◌, ◌≤◌, ℕ, ◌++◌, [], length, take, IfSome, Some, IsOk, OnOk, OnErr, IsErrOf};
+ghost use Rattle.std.specs.Prelude.{◌≡◌, ◌≤◌, ◌∷◌, ◌++◌, [], IsOk, OnOk, OnErr};
 ghost use Rattle.std.specs.FinMap as map;
-ghost use Rattle.shunt_store.specs.defs.Files.{Closed, IsWriting, name_of, content, BothTold, AddsFront, HoldsFront, Leaves};
+ghost use Rattle.shunt_store.specs.defs.Files.{Closed, Writing, IsWriting, name_of, text_of, BothTold, AddsFront, AppendsFront};
 ghost use Rattle.shunt_store.specs.defs.Causes.{HasCause};
 
 use crate::errors::{SinkError, StoreError};
@@ -22,13 +22,15 @@ pub fn print<O: Sink>(out: &mut O, bytes: &[u8]) -> Result<(), SinkError>
     Ok(())
 }
 
-// Appends the bytes to the empty file that is being written.
-fn append_all<S: Store>(store: &mut S, bytes: &[u8]) -> Result<(), StoreError>
-    requires writing { IsWriting (S.stage store.old) }
-    requires empty { IfSome (S.told store.old) (λ files. map.get files (name_of (S.stage store.old)) ≡ Some []) }
-    ensures ok { OnOk result (BothTold (S.told store.old) (S.told store.new) (λ old new. new ≡ map.insert old (name_of (S.stage store.old)) bytes.now)) }
-    ensures err { OnErr result (BothTold (S.told store.old) (S.told store.new) (HoldsFront (name_of (S.stage store.old)) bytes.now)) }
-    ensures stage { S.stage store.new ≡ S.stage store.old }
+/// Appends the bytes to what is written. After a refusal a front of them may have been appended. No file is changed.
+pub fn append_all<S: Store>(store: &mut S, bytes: &[u8]) -> Result<(), StoreError>
+    requires { IsWriting (S.stage store.old) }
+    ensures ok { OnOk result (S.stage store.new ≡ Writing (name_of (S.stage store.old)) (text_of (S.stage store.old) ++ bytes.now)) }
+    ensures err { OnErr result (AppendsFront bytes.now (S.stage store.old) (S.stage store.new)) }
+    ensures writing { IsWriting (S.stage store.new) }
+    ensures files { S.told store.new ≡ S.told store.old }
+    ensures heard { S.heard store.new ≡ S.heard store.old }
+    ensures stored { S.stored store.new ≡ S.stored store.old }
     ensures taken { S.taken store.new ≡ S.taken store.old }
     ensures cause { HasCause StoreError.Fault (S.faults store.old) (S.faults store.new) result }
 {
@@ -39,20 +41,25 @@ fn append_all<S: Store>(store: &mut S, bytes: &[u8]) -> Result<(), StoreError>
     Ok(())
 }
 
-/// Makes the file hold exactly these bytes, and closes it. After a refusal it holds a front of
-/// them, or is as it was or absent. Every other file is as it was, whatever the answer.
+/// Makes the file hold exactly these bytes. After a refusal it is as it was, or absent as before. Every
+/// other file is as it was, whatever the answer, and no file is left open.
 pub fn write_all_to<S: Store>(store: &mut S, name: &str, bytes: &[u8]) -> Result<(), StoreError>
     requires { S.stage store.old ≡ Closed }
     ensures ok { OnOk result (BothTold (S.told store.old) (S.told store.new) (λ old new. new ≡ map.insert old name.now bytes.now)) }
-    ensures err { OnErr result (BothTold (S.told store.old) (S.told store.new) (Leaves name.now bytes.now)) }
-    ensures closed { (IsErrOf result StoreError.Fault → ⊥) → S.stage store.new ≡ Closed }
+    ensures err { OnErr result (S.told store.new ≡ S.told store.old) }
+    ensures stored { OnOk result (BothTold (S.stored store.old) (S.stored store.new) (λ old new. new ≡ old ++ (name.now, bytes.now) ∷ [])) }
+    ensures none_stored { OnErr result (S.stored store.new ≡ S.stored store.old) }
+    ensures heard { S.heard store.new ≡ S.heard store.old }
+    ensures closed { S.stage store.new ≡ Closed }
     ensures taken { S.taken store.new ≡ S.taken store.old }
     ensures cause { HasCause StoreError.Fault (S.faults store.old) (S.faults store.new) result }
 {
     store.create_file(name)?;
-    let written = append_all(store, bytes);
-    match store.close_file() {
-        Ok(()) => written,
-        Err(_) => Err(StoreError::Fault),
+    match append_all(store, bytes) {
+        Ok(()) => store.close_file(),
+        Err(e) => {
+            store.drop_file();
+            Err(e)
+        }
     }
 }

@@ -1,7 +1,8 @@
 // The answer of `roster`.
-ghost use Rattle.std.specs.Prelude.{◌≡◌, IfOk, IsErrOf, option_map};
-ghost use Rattle.shunt_store.specs.defs.Files.{Closed};
+ghost use Rattle.std.specs.Prelude.{◌≡◌, IfOk, option_map, [], ◌∷◌, Option};
+ghost use Rattle.shunt_store.specs.defs.Files.{Closed, Files};
 ghost use Rattle.shunt_store.specs.defs.Causes.{HasCause};
+ghost use Rattle.shunt_inputs.specs.defs.Views.{HearsFirst, IsView};
 ghost use Rattle.shunt_plan.specs.defs.Plans.{IsPlanInRange};
 ghost use Rattle.shunt_drivers.specs.defs.CrewFormat.{IsCrew};
 ghost use Rattle.shunt_drivers.specs.defs.RosterFormat.{IsRoster};
@@ -30,9 +31,11 @@ pub fn reply_to_roster<S: Store>(
     roster: &str,
 ) -> Result<Answer, Halt>
     requires { S.stage store.old ≡ Closed }
-    ensures told { Holding (S.told store.old) station.now (λ s. Holding (S.told store.old) timetable.now (λ t. Holding (S.told store.old) plan.now (λ p. Holding (S.told store.old) crew.now (λ c. Holding (S.told store.old) roster.now (λ d. Replies reply_of result (Decided (stated_rostering s t p c d) IsRostered)))))) }
+    ensures told { (view : Option Files) → IsView (S.told store.old) (S.heard store.old) (S.heard store.new) view → Holding view station.now (λ s. Holding view timetable.now (λ t. Holding view plan.now (λ p. Holding view crew.now (λ c. Holding view roster.now (λ d. Replies reply_of result (Decided (stated_rostering s t p c d) IsRostered)))))) }
+    ensures first { HearsFirst (station.now ∷ timetable.now ∷ plan.now ∷ crew.now ∷ roster.now ∷ []) (S.heard store.old) (S.heard store.new) }
     ensures files { S.told store.new ≡ S.told store.old }
-    ensures closed { (IsErrOf result Halt.Fault → ⊥) → S.stage store.new ≡ Closed }
+    ensures stored { S.stored store.new ≡ S.stored store.old }
+    ensures closed { S.stage store.new ≡ Closed }
     ensures cause { HasCause Halt.Fault (S.faults store.old) (S.faults store.new) result }
 {
     let instance = load_instance(alloc, store, station, timetable)?;
@@ -53,9 +56,11 @@ fn reply_to_duties<S: Store>(
     requires closed { S.stage store.old ≡ Closed }
     requires plan { IsPlanInRange instance.now plan.now }
     requires crew { IsCrew instance.now.station crew.now }
-    ensures told { Holding (S.told store.old) roster.now (λ d. Replies reply_of result (Decided (stated_roster instance.now plan.now d) (λ ds. IsRostered (record { night = instance.now; plan = plan.now; crew = crew.now; duties = ds })))) }
+    ensures told { (view : Option Files) → IsView (S.told store.old) (S.heard store.old) (S.heard store.new) view → Holding view roster.now (λ d. Replies reply_of result (Decided (stated_roster instance.now plan.now d) (λ ds. IsRostered (record { night = instance.now; plan = plan.now; crew = crew.now; duties = ds })))) }
+    ensures first { HearsFirst (roster.now ∷ []) (S.heard store.old) (S.heard store.new) }
     ensures files { S.told store.new ≡ S.told store.old }
-    ensures closed { (IsErrOf result Halt.Fault → ⊥) → S.stage store.new ≡ Closed }
+    ensures stored { S.stored store.new ≡ S.stored store.old }
+    ensures closed { S.stage store.new ≡ Closed }
     ensures cause { HasCause Halt.Fault (S.faults store.old) (S.faults store.new) result }
 {
     let duties = load_roster(alloc, store, instance, plan, roster)?.into_vec();

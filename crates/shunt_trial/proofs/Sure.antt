@@ -4,6 +4,7 @@ use Rattle.std.specs.FinMap as finmap
 use Rattle.std.specs.Result.{IsErrOf}
 use Rattle.std.specs.Prelude.{◌⊎◌, ◌↔◌, ◌==◌, if◌then◌else◌}
 use Rattle.shunt_store.specs.defs.Files.{Files, content}
+use Rattle.shunt_store.specs.defs.Noting.{Entries}
 use Rattle.shunt_store.specs.defs.Causes.{Rose, HasCause}
 use Rattle.shunt_instance.specs.defs.Instance.{Night, IsInstance}
 use Rattle.shunt_blocks.specs.declared.records.Block.{Block}
@@ -32,12 +33,12 @@ use Rattle.shunt_inputs.specs.declared.loading.Halt.TheVariants as halt
 use Rattle.shunt_inputs.specs.defs.Halts.{Replies}
 use Rattle.shunt_inputs.specs.defs.Inputs.{Holding, stated_night, stated_plans, stated_certificate, plans_in}
 use Rattle.shunt_inputs.specs.defs.Replies.{Reply, Decided, pair_of, refusal, reply_of}
-use Rattle.shunt_inputs.specs.defs.Writes.{written, with_first, HasFirst, Leads}
+use Rattle.shunt_inputs.specs.defs.Writes.{written, with_first, Known, known, HasFirst, Leads}
 use Rattle.shunt_inputs.proofs.Stated.{parted}
 use Rattle.shunt_judging.specs.defs.Audited.{IsAudited, audit_outcome}
 use Rattle.shunt_judging.specs.defs.Checked.{Checkable, stated_check, IsChecked, check_outcome}
 use Rattle.shunt_planning.specs.defs.Planned.{IsPlanned, IsSought, search_outcome}
-use Rattle.shunt_planning.specs.defs.Begun.{IsPlannedOver, MayPlan}
+use Rattle.shunt_planning.specs.defs.Begun.{IsPlannedOver}
 use Rattle.shunt_trial.specs.defs.Rehearsed.{IsNightIn, with_both, AreFit, IsProvedIn, IsSure}
 
 -- ---- no faults
@@ -75,21 +76,21 @@ module _ (files : Files) (s t : List ℕ) (most : ℕ) (p k : List ℕ) (night :
       let ok : stated_night (content h.0 s) (content h.0 t) ≡ Ok night = subst (λ (f : Files). stated_night (content f s) (content f t) ≡ Ok night) same is.stated in
       sought r (subst (λ x. Decided x (IsSought most p k) r) ok h.2)
 
-  pub plan_sure : (new : Option Files) (r : Result Answer Halt) → (IsErrOf r halt.Fault → ⊥) → Leads (IsPlannedOver (Some files) s t most p k) (MayPlan s t k) (Some files) new r → IsSure r
-  plan_sure new (Ok a) fault leads = tt
-  plan_sure new (Err (halt.Input text)) fault leads =
+  pub plan_sure : (stored : Option Entries) (new : Known) (r : Result Answer Halt) → (IsErrOf r halt.Fault → ⊥) → Leads (IsPlannedOver (Some files) s t most p k) (known (Some files) stored) new r → IsSure r
+  plan_sure stored new (Ok a) fault leads = tt
+  plan_sure stored new (Err (halt.Input text)) fault leads =
       let plan = planned_over (with_first leads.first (refusal text.items)) leads.reply in
       absurd (not_input plan.certificate.cost plan.certificate.bound (ap (λ (r : Reply). r.outcome) plan.reply))
-  plan_sure new (Err halt.Fault) fault leads = absurd (fault refl)
-  plan_sure new (Err halt.Memory) fault leads = tt
+  plan_sure stored new (Err halt.Fault) fault leads = absurd (fault refl)
+  plan_sure stored new (Err halt.Memory) fault leads = tt
 
   -- it was written behind its certificate, and told
-  pub plan_found : (mid after : Files) (r : Result Answer Halt) (a : Answer) → r ≡ Ok a → Leads (IsPlannedOver (Some files) s t most p k) (MayPlan s t k) (Some files) (Some mid) r → after ≡ written (map pair_of a.writes.items) mid
+  pub plan_found : (before now : Option Entries) (mid after : Files) (r : Result Answer Halt) (a : Answer) → r ≡ Ok a → Leads (IsPlannedOver (Some files) s t most p k) (known (Some files) before) (known (Some mid) now) r → after ≡ written (map pair_of a.writes.items) mid
       → (plan : Plan) × (c : Certificate) × AreFit night most plan c × (after ≡ with_both p k night plan c files) × (a.text.items ≡ plan_of plan c.bound (length c.nodes))
-  plan_found mid after r a ok leads put =
-      let led : HasFirst (IsPlannedOver (Some files) s t most p k) (Some files) (Some mid) (reply_of a) = subst (λ (x : Result Answer Halt). Leads (IsPlannedOver (Some files) s t most p k) (MayPlan s t k) (Some files) (Some mid) x) ok leads in
+  plan_found before now mid after r a ok leads put =
+      let led : HasFirst (IsPlannedOver (Some files) s t most p k) (known (Some files) before) (known (Some mid) now) (reply_of a) = subst (λ (x : Result Answer Halt). Leads (IsPlannedOver (Some files) s t most p k) (known (Some files) before) (known (Some mid) now) x) ok leads in
       let found = planned_over (with_first led.first (reply_of a)) led.reply in
-      let wrote : mid ≡ written led.first files = led.wrote in (
+      let wrote : mid ≡ written led.first files = led.files in (
         found.plan,
         found.certificate,
         record { in_range = found.in_range; statable = found.statable; meet = found.meet },

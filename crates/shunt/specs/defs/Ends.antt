@@ -1,41 +1,77 @@
 -- How a run ends.
-use Rattle.std.specs.Prelude.{◌≡◌, ◌⊎◌, ℕ, List, [], ◌++◌, Option}
+use Rattle.std.specs.Prelude.{◌≡◌, ◌⊎◌, ℕ, List, [], ◌++◌, Option, None, Some}
 use Rattle.shunt_store.specs.defs.Files.{Files, BothTold, AddsFront}
 use Rattle.shunt_store.specs.defs.Causes.{Rose}
+use Rattle.shunt_store.specs.defs.Noting.{Entries}
 use Rattle.shunt_inputs.specs.declared.answers.Outcome.{Outcome}
 use Rattle.shunt_inputs.specs.declared.answers.Outcome.TheVariants as outcome
 use Rattle.shunt.specs.declared.running.Status.{Status}
 use Rattle.shunt.specs.declared.running.Status.TheVariants as status
-use Rattle.shunt_inputs.specs.defs.Writes.{written, MayWrite}
-use Rattle.shunt_planning.specs.defs.Begun.{MaySearchBeside, MaySearchFor, MayStart}
-use Rattle.shunt.specs.defs.Words.{Call, MakePlan, MakePinned}
-use Rattle.shunt.specs.defs.Inputs.{Value, stated_in}
+use Rattle.shunt_inputs.specs.defs.Writes.{written, Known, known, WritesSome}
+use Rattle.shunt_inputs.specs.defs.Views.{HeardIn}
+use Rattle.shunt.specs.defs.Words.{Call}
 use Rattle.shunt_inputs.specs.defs.Replies.{Reply}
 use Rattle.shunt.specs.defs.Replies.{IsReplyOver}
+
+-- what a store tells at a moment: its files, what was heard of them, and what was stored
+pub record Telling : Type 0 where
+  pub files : Option Files
+  pub heard : Option Entries
+  pub stored : Option Entries
+
+abbrev pub telling : {S : Type 0} → (S → Option Files) → (S → Option Entries) → (S → Option Entries) → S → Telling
+telling files heard stored store = record { files = files store; heard = heard store; stored = stored store }
+
+-- these were stored between two moments
+abbrev pub StoredIn : Option Entries → Option Entries → Entries → Type 0
+StoredIn None new ws = ⊥
+StoredIn (Some old) None ws = ⊥
+StoredIn (Some old) (Some new) ws = new ≡ old ++ ws
+
+-- files that hold what was heard, and what they are with what was stored
+pub record AreMoved (old new : Telling) (before after : Option Files) : Type 0 where
+  pub files : Files
+  pub stores : Entries
+  pub known_before : before ≡ Some files
+  pub known_after : after ≡ Some (written stores files)
+  pub heard : HeardIn old.heard new.heard files
+  pub stored : StoredIn old.stored new.stored stores
+
+-- The files before and after a run as they can be known: as the store tells them; or any that hold what was heard of them, and these with
+-- what was stored.
+abbrev pub AreKnown : Telling → Telling → Option Files → Option Files → Type 0
+AreKnown old new before after = ((before ≡ old.files) × (after ≡ new.files)) ⊎ AreMoved old new before after
 
 -- what can be known of the store and the sink at a moment
 pub record Seen : Type 0 where
   pub files : Option Files
+  pub stored : Option Entries
   pub store_faults : ℕ
   pub output : Option (List ℕ)
   pub sink_faults : ℕ
 
-abbrev pub seen : {S O : Type 0} → (S → Option Files) → (S → ℕ) → (O → Option (List ℕ)) → (O → ℕ) → S → O → Seen
-seen files store_faults output sink_faults store out = record { files = files store; store_faults = store_faults store; output = output out; sink_faults = sink_faults out }
+abbrev pub seen : {S O : Type 0} → Option Files → (S → Option Entries) → (S → ℕ) → (O → Option (List ℕ)) → (O → ℕ) → S → O → Seen
+seen files stored store_faults output sink_faults store out = record { files = files; stored = stored store; store_faults = store_faults store; output = output out; sink_faults = sink_faults out }
 
--- the writing was cut short, and no byte was printed
+-- what of it is known of files
+abbrev pub known_of : Seen → Known
+known_of s = known s.files s.stored
+
+-- the writing was cut short between two files, and no byte was printed
 pub record CutInFiles (r : Reply) (old new : Seen) : Type 0 where
-  pub files : BothTold old.files new.files (MayWrite r.writes)
+  pub some : WritesSome r.writes (known_of old) (known_of new)
   pub output : new.output ≡ old.output
 
 -- all files were written, and the printing was cut short
 pub record CutInText (r : Reply) (old new : Seen) : Type 0 where
   pub files : BothTold old.files new.files (λ a b. b ≡ written r.writes a)
+  pub stored : BothTold old.stored new.stored (λ a b. b ≡ a ++ r.writes)
   pub output : BothTold old.output new.output (AddsFront r.text)
 
 -- all files were written, and all was printed
 pub record IsWhole (r : Reply) (old new : Seen) : Type 0 where
   pub files : BothTold old.files new.files (λ a b. b ≡ written r.writes a)
+  pub stored : BothTold old.stored new.stored (λ a b. b ≡ a ++ r.writes)
   pub output : BothTold old.output new.output (λ a b. b ≡ a ++ r.text)
 
 -- the status of a reply that was delivered whole
@@ -53,25 +89,15 @@ Delivers r old new status.Memory = CutInFiles r old new ⊎ CutInText r old new
 Delivers r old new status.Sink = Rose old.sink_faults new.sink_faults × CutInText r old new
 Delivers r old new s = (s ≡ the_status r.outcome) × IsWhole r old new
 
--- what a command may do to the files before its reply is known, over what its input files state: a search writes its certificate
-abbrev pub Begins : (c : Call) → Value c → Files → Files → Type 0
-Begins (MakePlan s t m p k) night old new = MaySearchFor night [] [] k old new
-Begins (MakePinned s t i m p k) x old new = MaySearchBeside x k old new
-Begins c v old new = ⊥
-
--- what a command may have done to the files before its reply is known: nothing, or that over accepted files
-abbrev pub MayBegin : Call → Files → Files → Type 0
-MayBegin c old new = MayStart (stated_in c) (Begins c) old new
-
--- the run stopped before there was a reply, and nothing was printed
-abbrev pub StopsEarly : Call → Seen → Seen → Status → Type 0
-StopsEarly c old new status.Store = Rose old.store_faults new.store_faults × (new.output ≡ old.output) × BothTold old.files new.files (MayBegin c)
-StopsEarly c old new status.Memory = (new.output ≡ old.output) × BothTold old.files new.files (MayBegin c)
-StopsEarly c old new s = ⊥
+-- the run stopped before there was a reply: no file was changed or stored, and nothing was printed
+abbrev pub StopsEarly : Seen → Seen → Status → Type 0
+StopsEarly old new status.Store = Rose old.store_faults new.store_faults × (new.output ≡ old.output) × (new.files ≡ old.files) × (new.stored ≡ old.stored)
+StopsEarly old new status.Memory = (new.output ≡ old.output) × (new.files ≡ old.files) × (new.stored ≡ old.stored)
+StopsEarly old new s = ⊥
 
 -- a defined reply was delivered as the status says, or the run stopped before there was one
 abbrev pub Ends : Call → Seen → Seen → Status → Type 0
-Ends c old new s = StopsEarly c old new s ⊎ ((r : Reply) × IsReplyOver c old.files r × Delivers r old new s)
+Ends c old new s = StopsEarly old new s ⊎ ((r : Reply) × IsReplyOver c old.files r × Delivers r old new s)
 
 -- the store, memory or the sink came first
 abbrev pub Yields : Status → Type 0

@@ -7,4 +7,4 @@ use Rattle.shunt_store.specs.defs.Files.{Stage, Closed, Reading, Writing}
 abbrev pub stage_of_file : {F A : Type 0} → Doing F A → Stage
 stage_of_file doing.Closed = Closed
 stage_of_file (doing.Reading file name) = Reading name.items
-stage_of_file (doing.Writing file name) = Writing name.items
+stage_of_file (doing.Writing name draft) = Writing name.items draft.text.bytes

@@ -7,8 +7,8 @@ returns-clause-others c = others
 pub returns-clause-store : goal.returns-clause-store
 returns-clause-store c = after_store
 
-pub returns-clause-files : goal.returns-clause-files
-returns-clause-files c = after_failure
+pub returns-clause-some : goal.returns-clause-some
+returns-clause-some c = after_failure
 
 pub returns-clause-memory : goal.returns-clause-memory
 returns-clause-memory c = after_memory

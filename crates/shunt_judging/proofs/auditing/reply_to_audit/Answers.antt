@@ -1,24 +1,41 @@
-use Rattle.std.proofs.Common.{Err}
+use Rattle.std.proofs.Common.{Err, [], ◌∷◌}
 use Rattle.shunt_inputs.specs.declared.answers.Answer.{Answer}
 use Rattle.shunt_inputs.specs.defs.Inputs.{stated_night, stated_plan, stated_plans}
 use Rattle.shunt_judging.specs.defs.Audited.{IsAudited}
 use Rattle.shunt_inputs.specs.defs.Replies.{reply_of}
-use Rattle.shunt_inputs.proofs.Seeing.{some_bytes, holding_at, holding_map, replies_failed, closed_failed, cause_failed, first_refused, then_next, halted}
+use Rattle.shunt_inputs.proofs.Stated.{plans_are}
+use Rattle.shunt_inputs.proofs.Seeing.{some_bytes, holding_map, replies_failed, cause_failed, first_refused, then_next, halted, answered}
+use Rattle.shunt_inputs.proofs.Viewing.{cut_view, hears_on, hears_more}
 use Rattle.shunt_judging.proofs.auditing.reply_to_audit.Goals as goal
 
 pub returns-in_err-instance-clause-told : goal.returns-in_err-instance-clause-told
-returns-in_err-instance-clause-told g c = holding_map _ _ _ _ (λ s hs. holding_map _ _ _ _ (λ t h. some_bytes _ _ _ (λ p. replies_failed _ _ _ _ c.from_residual.ensures (halted {A = Answer} reply_of _ (stated_plans s t p) IsAudited (first_refused _ (stated_night s t) _ h)))) hs) c.in_err-instance.ensures.told
+returns-in_err-instance-clause-told g c = λ view seen.
+    holding_map _ _ _ _ (λ s hs. holding_map _ _ _ _ (λ t h. some_bytes _ _ _ (λ p. replies_failed _ _ _ _ c.from_residual.ensures (halted {A = Answer} reply_of _ (stated_plans s t p) IsAudited (first_refused _ (stated_night s t) _ h)))) hs) (c.in_err-instance.ensures.told view seen)
 
 pub returns-in_err-plan-clause-told : goal.returns-in_err-plan-clause-told
-returns-in_err-plan-clause-told g c =
-    let last = holding_at _ _ _ _ c.in_ok-instance.ensures.files c.in_err-plan.ensures.told in
-    holding_map _ _ _ _ (λ s hs. holding_map _ _ _ _ (λ t is. holding_map _ _ _ _ (λ p h. replies_failed _ _ _ _ c.from_residual-in_err-plan.ensures (halted {A = Answer} reply_of _ (stated_plans s t p) IsAudited (then_next (Err _) (stated_night s t) _ _ is (first_refused _ (stated_plan _ p) _ h)))) last) hs) c.in_ok-instance.ensures.told
-
-pub returns-in_err-plan-clause-closed : goal.returns-in_err-plan-clause-closed
-returns-in_err-plan-clause-closed g c = closed_failed _ _ _ c.from_residual-in_err-plan.ensures c.in_err-plan.ensures.closed
+returns-in_err-plan-clause-told g c = λ view seen.
+    let one = cut_view _ _ _ _ _ view _ _ c.in_ok-instance.ensures.files c.in_ok-instance.ensures.first c.in_err-plan.ensures.first seen in
+    holding_map _ _ _ _ (λ s hs. holding_map _ _ _ _ (λ t is. holding_map _ _ _ _ (λ p h. replies_failed _ _ _ _ c.from_residual-in_err-plan.ensures (halted {A = Answer} reply_of _ (stated_plans s t p) IsAudited (then_next (Err _) (stated_night s t) _ _ is (first_refused _ (stated_plan _ p) _ h)))) (c.in_err-plan.ensures.told view one.1)) hs) (c.in_ok-instance.ensures.told view one.0)
 
 pub returns-in_err-audit_answer-clause-told : goal.returns-in_err-audit_answer-clause-told
-returns-in_err-audit_answer-clause-told g c = some_bytes _ _ _ (λ s. some_bytes _ _ _ (λ t. some_bytes _ _ _ (λ p. replies_failed _ _ _ _ c.from_residual-in_err-audit_answer.ensures tt)))
+returns-in_err-audit_answer-clause-told g c = λ view seen. some_bytes _ _ _ (λ s. some_bytes _ _ _ (λ t. some_bytes _ _ _ (λ p. replies_failed _ _ _ _ c.from_residual-in_err-audit_answer.ensures tt)))
 
 pub returns-in_err-plan-clause-cause : goal.returns-in_err-plan-clause-cause
 returns-in_err-plan-clause-cause g c = cause_failed _ _ _ _ _ c.from_residual-in_err-plan.ensures c.in_ok-instance.ensures.cause.later c.in_err-plan.ensures.cause
+
+pub returns-in_err-instance-clause-first : goal.returns-in_err-instance-clause-first
+returns-in_err-instance-clause-first g c = hears_more _ (c.args.plan.now ∷ []) _ _ c.in_err-instance.ensures.first
+
+pub returns-in_err-plan-clause-first : goal.returns-in_err-plan-clause-first
+returns-in_err-plan-clause-first g c = hears_on _ _ _ _ _ c.in_ok-instance.ensures.heard c.in_err-plan.ensures.first
+
+pub returns-in_err-audit_answer-clause-first : goal.returns-in_err-audit_answer-clause-first
+returns-in_err-audit_answer-clause-first g c = hears_on _ _ _ _ _ c.in_ok-instance.ensures.heard c.in_ok-plan.ensures.first
+
+pub returns-clause-first : goal.returns-clause-first
+returns-clause-first g c = hears_on _ _ _ _ _ c.in_ok-instance.ensures.heard c.in_ok-plan.ensures.first
+
+pub returns-clause-told : goal.returns-clause-told
+returns-clause-told g c = λ view seen.
+    let one = cut_view _ _ _ _ _ view _ _ c.in_ok-instance.ensures.files c.in_ok-instance.ensures.first c.in_ok-plan.ensures.first seen in
+    holding_map _ _ _ _ (λ s hs. holding_map _ _ _ _ (λ t is. holding_map _ _ _ _ (λ p ps. answered _ (stated_plans s t p) _ IsAudited (plans_are s t p _ _ is ps) c.in_ok-audit_answer.ensures) (c.in_ok-plan.ensures.told view one.1)) hs) (c.in_ok-instance.ensures.told view one.0)

@@ -3,9 +3,9 @@ use Rattle.shunt_instance.specs.defs.Matching.{unit_entries, position_entries}
 use Rattle.shunt_blocks.specs.defs.Lists.{units_taken, positions_taken}
 use Rattle.shunt_search.proofs.Free.{free_units, free_positions, free_units_back, free_positions_back}
 use Rattle.shunt_inputs.proofs.Leading.{leads_with}
-use Rattle.shunt_planning.specs.defs.Begun.{MaySearchFor}
+use Rattle.shunt_inputs.specs.defs.Writes.{known}
 use Rattle.shunt_planning.specs.defs.Planned.{IsSought, IsSoughtBeside}
-use Rattle.shunt_planning.proofs.Sought.{MaskLaws, lacks_alike, may_alike, sought_alike, usable_none}
+use Rattle.shunt_planning.proofs.Sought.{MaskLaws, lacks_alike, sought_alike, usable_none}
 use Rattle.shunt_planning.proofs.planning.night_answer.Goals as goal
 
 pub sought_answer-requires-clause-usable : goal.sought_answer-requires-clause-usable
@@ -28,8 +28,6 @@ returns-clause-leads g c =
     let plan = c.args.plan.now in
     let certificate = c.args.certificate.now in
     let laws : MaskLaws = record { matchings = c.masks_alike.ensures.matchings; shortages = c.masks_alike.ensures.shortages } in
-    leads_with (IsSoughtBeside [] c.args.nodes plan certificate night) (IsSought c.args.nodes plan certificate night) (MaySearchFor night (units_taken night []) (positions_taken night []) certificate) (MaySearchFor night [] [] certificate)
-    (S.told c.args.store.now) (S.told c.sought_answer.new.store) c.sought_answer.result
+    leads_with (IsSoughtBeside [] c.args.nodes plan certificate night) (IsSought c.args.nodes plan certificate night) (known (S.told c.args.store.now) (S.stored c.args.store.now)) (known (S.told c.sought_answer.new.store) (S.stored c.sought_answer.new.store)) c.sought_answer.result
     (λ r is. sought_alike laws night (units_taken night []) (positions_taken night []) [] [] (free_units night n, free_positions night m) (free_units_back night n, free_positions_back night m) [] c.args.nodes plan certificate r is)
-    (may_alike laws night (units_taken night []) (positions_taken night []) [] [] (free_units night n, free_positions night m) (free_units_back night n, free_positions_back night m) certificate)
     c.sought_answer.ensures.leads

@@ -1,31 +1,34 @@
 use Rattle.std.proofs.Common.{List, [], ◌∷◌, get_or, subst}
 use Rattle.shunt_blocks.specs.declared.records.Block.{Block}
 use Rattle.shunt_inputs.proofs.Stated.{cause_later}
+use Rattle.shunt_inputs.proofs.Viewing.{first_still, view_still}
 use Rattle.shunt_inputs.specs.declared.pins.Pinned.{Pinned}
 use Rattle.shunt_inputs.specs.defs.Inputs.{stated_pinned}
-use Rattle.shunt_inputs.specs.defs.Writes.{Leads}
-use Rattle.shunt_planning.specs.defs.Begun.{MaySearchBeside}
+use Rattle.shunt_inputs.specs.defs.Writes.{Leads, known}
 use Rattle.shunt_planning.specs.defs.Planned.{IsPinned}
 use Rattle.shunt_planning.proofs.Sought.{found_over, refused_over}
 use Rattle.shunt_planning.proofs.planning.reply_to_pinned.Goals as goal
 
 pub returns-in_err-pinned-clause-leads : goal.returns-in_err-pinned-clause-leads
-returns-in_err-pinned-clause-leads g c =
+returns-in_err-pinned-clause-leads g c = λ view seen.
     let S = g.S.Store in
-    refused_over {X = Pinned} (S.told c.args.store.now) (c.args.station.now ∷ c.args.timetable.now ∷ c.args.pins.now ∷ []) (c.args.plan.now ∷ c.args.certificate.now ∷ []) (λ bs. stated_pinned (get_or bs 0 []) (get_or bs 1 []) (get_or bs 2 []))
-    (IsPinned c.args.nodes c.args.plan.now c.args.certificate.now) (λ x. MaySearchBeside x c.args.certificate.now) c.requires.names (S.told c.load_pinned.new.store) c.from_residual.result _ c.from_residual.ensures c.in_err-pinned.ensures.files
-    c.in_err-pinned.ensures.told
+    refused_over {X = Pinned} view (known (S.told c.args.store.now) (S.stored c.args.store.now)) (c.args.station.now ∷ c.args.timetable.now ∷ c.args.pins.now ∷ []) (c.args.plan.now ∷ c.args.certificate.now ∷ []) (λ bs. stated_pinned (get_or bs 0 []) (get_or bs 1 []) (get_or bs 2 []))
+    (IsPinned c.args.nodes c.args.plan.now c.args.certificate.now) c.requires.names (known (S.told c.load_pinned.new.store) (S.stored c.load_pinned.new.store)) c.from_residual.result _ c.from_residual.ensures (c.in_err-pinned.ensures.files, c.in_err-pinned.ensures.stored)
+    (c.in_err-pinned.ensures.told view seen)
 
 pub returns-clause-leads : goal.returns-clause-leads
-returns-clause-leads g c =
+returns-clause-leads g c = λ view seen.
     let S = g.S.Store in
     let pinned = c.in_ok-pinned.pinned in
     let x : List Block → Pinned = λ pins. record { instance = pinned.instance; pins = pins } in
-    found_over {X = Pinned} (S.told c.args.store.now) (c.args.station.now ∷ c.args.timetable.now ∷ c.args.pins.now ∷ []) (c.args.plan.now ∷ c.args.certificate.now ∷ []) (λ bs. stated_pinned (get_or bs 0 []) (get_or bs 1 []) (get_or bs 2 []))
-    (IsPinned c.args.nodes c.args.plan.now c.args.certificate.now) (λ x. MaySearchBeside x c.args.certificate.now) c.requires.names _ (S.told c.load_pinned.new.store) (S.told c.pinned_answer.new.store) c.in_ok-pinned.ensures.files
-    c.in_ok-pinned.ensures.told c.pinned_answer.result
-    (subst (λ (pins : List Block). Leads (IsPinned c.args.nodes c.args.plan.now c.args.certificate.now (x pins)) (MaySearchBeside (x pins) c.args.certificate.now) (S.told c.load_pinned.new.store) (S.told c.pinned_answer.new.store) c.pinned_answer.result)
+    found_over {X = Pinned} view (known (S.told c.args.store.now) (S.stored c.args.store.now)) (c.args.station.now ∷ c.args.timetable.now ∷ c.args.pins.now ∷ []) (c.args.plan.now ∷ c.args.certificate.now ∷ []) (λ bs. stated_pinned (get_or bs 0 []) (get_or bs 1 []) (get_or bs 2 []))
+    (IsPinned c.args.nodes c.args.plan.now c.args.certificate.now) c.requires.names _ (known (S.told c.load_pinned.new.store) (S.stored c.load_pinned.new.store)) (known (S.told c.pinned_answer.new.store) (S.stored c.pinned_answer.new.store)) (c.in_ok-pinned.ensures.files, c.in_ok-pinned.ensures.stored)
+    (c.in_ok-pinned.ensures.told view (view_still _ _ _ _ view c.pinned_answer.ensures.heard seen)) c.pinned_answer.result
+    (subst (λ (pins : List Block). Leads (IsPinned c.args.nodes c.args.plan.now c.args.certificate.now (x pins)) (known (S.told c.load_pinned.new.store) (S.stored c.load_pinned.new.store)) (known (S.told c.pinned_answer.new.store) (S.stored c.pinned_answer.new.store)) c.pinned_answer.result)
     c.as_slice-pins.ensures c.pinned_answer.ensures.leads)
 
 pub returns-clause-cause : goal.returns-clause-cause
 returns-clause-cause g c = cause_later _ _ _ _ c.in_ok-pinned.ensures.cause.later c.pinned_answer.ensures.cause
+
+pub returns-clause-first : goal.returns-clause-first
+returns-clause-first g c = first_still _ _ _ _ c.pinned_answer.ensures.heard c.in_ok-pinned.ensures.first

@@ -1,10 +1,9 @@
-use Rattle.std.proofs.Common.{refl, inl, inr, subst, Some, None}
+use Rattle.std.proofs.Common.{refl, inl, inr, subst, Some}
 use Rattle.shunt_instance.specs.defs.Matching.{unit_entries, position_entries}
 use Rattle.shunt_blocks.specs.defs.Lists.{units_taken, positions_taken}
 use Rattle.shunt_matching.specs.defs.Nights.{HasMatching}
-use Rattle.shunt_store.proofs.Texts.{both_same}
 use Rattle.shunt_inputs.proofs.Leading.{leads_with, none_first}
-use Rattle.shunt_planning.specs.defs.Begun.{MaySearch, MaySearchFor}
+use Rattle.shunt_inputs.specs.defs.Writes.{known}
 use Rattle.shunt_planning.specs.defs.Planned.{IsPlanned, IsSoughtBeside, Lacks}
 use Rattle.shunt_planning.proofs.planning.sought_answer.Goals as goal
 
@@ -27,12 +26,7 @@ returns-in-Ok-clause-leads g c =
     let night = c.args.instance.now in
     let pins = c.args.pins.now in
     let lacks : Lacks night (units_taken night pins) (positions_taken night pins) (Some c.in-Some.short) = subst (Lacks night (units_taken night pins) (positions_taken night pins)) c.in-Some.is c.requires.lacks in
-    none_first (IsSoughtBeside pins c.args.nodes c.args.plan.now c.args.certificate.now night) _ _ _ refl (inr (record { none = lacks.0; reply = (c.in-Some.short, lacks.1, c.in-Ok.ensures) }))
-
-pub returns-in-Err-clause-leads : goal.returns-in-Err-clause-leads
-returns-in-Err-clause-leads g c =
-    let night = c.args.instance.now in
-    both_same (MaySearchFor night (units_taken night c.args.pins.now) (positions_taken night c.args.pins.now) c.args.certificate.now) _ _ refl (λ a. inl refl)
+    none_first (IsSoughtBeside pins c.args.nodes c.args.plan.now c.args.certificate.now night) _ _ _ (refl, refl) (inr (record { none = lacks.0; reply = (c.in-Some.short, lacks.1, c.in-Ok.ensures) }))
 
 pub returns-in-None-clause-leads : goal.returns-in-None-clause-leads
 returns-in-None-clause-leads g c =
@@ -43,5 +37,4 @@ returns-in-None-clause-leads g c =
     let places = positions_taken night pins in
     let some : HasMatching night units places = subst (Lacks night units places) c.in-None.is c.requires.lacks in
     leads_with (IsPlanned pins c.args.nodes c.args.plan.now c.args.certificate.now night) (IsSoughtBeside pins c.args.nodes c.args.plan.now c.args.certificate.now night)
-    (MaySearch night c.args.certificate.now) (MaySearchFor night units places c.args.certificate.now) (S.told c.args.store.now) (S.told c.search_answer.new.store) c.search_answer.result
-    (λ r is. inl (some, is)) (λ a b may. inr (some, may)) c.search_answer.ensures.leads
+    (known (S.told c.args.store.now) (S.stored c.args.store.now)) (known (S.told c.search_answer.new.store) (S.stored c.search_answer.new.store)) c.search_answer.result (λ r is. inl (some, is)) c.search_answer.ensures.leads

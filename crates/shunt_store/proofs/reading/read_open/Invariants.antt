@@ -1,7 +1,8 @@
 use Rattle.std.proofs.Common.{◌≡◌, ◌+◌, ◌-◌, ◌≤◌, length, take, vec_len}
 use Rattle.std.specs.Prelude.{IfSome}
 use Rattle.shunt_store.specs.defs.Causes.{RoseBy}
-use Rattle.shunt_store.specs.defs.Files.{content, name_of}
+use Rattle.shunt_store.specs.defs.Files.{BothTold, content, name_of}
+use Rattle.shunt_store.specs.defs.Noting.{add_last}
 use Rattle.shunt_store.proofs.reading.read_open.Given as goal
 
 abbrev pub invariant-pieces : goal.invariant-pieces
@@ -14,6 +15,8 @@ invariant-pieces g l =
       least : RoseBy (length l.bytes.items) (S.handed l.fn.store) (S.handed l.store);
       told : IfSome (S.told l.fn.store) (λ files. (l.bytes.items ≡ take (length l.bytes.items) (content files (name_of (S.stage l.fn.store)))) × (length l.bytes.items ≤ length (content files (name_of (S.stage l.fn.store)))));
       stage : S.stage l.store ≡ S.stage l.fn.store;
+      heard : BothTold (S.heard l.fn.store) (S.heard l.store) (λ old new. new ≡ add_last l.bytes.items old);
+      stored : S.stored l.store ≡ S.stored l.fn.store;
       files : S.told l.store ≡ S.told l.fn.store;
       later : S.faults l.fn.store ≤ S.faults l.store;
     }

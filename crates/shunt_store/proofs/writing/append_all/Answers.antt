@@ -1,28 +1,18 @@
-use Rattle.std.proofs.Common.{rules, arith, ap}
+use Rattle.std.proofs.Common.{rules, arith}
 use Rattle.std.proofs.lemmas.Grind.{common_steps}
-use Rattle.shunt_store.specs.defs.Files.{name_of}
-use Rattle.shunt_store.proofs.TableLaws.{on_err}
-use Rattle.shunt_store.proofs.Texts.{starts, file_more, file_front}
+use Rattle.shunt_store.proofs.Texts.{written_more, still_writing}
 use Rattle.shunt_store.proofs.writing.append_all.Goals as goal
-
-pub pieces-init : goal.pieces-init
-pieces-init g c = record {
-  within = search rules;
-  told = starts _ _ c.args.bytes.now c.requires.empty;
-  stage = search rules;
-  taken = search rules;
-  later = search rules;
-}
-
-pub returns-in_err-at-clause-err : goal.returns-in_err-at-clause-err
-returns-in_err-at-clause-err g c = let i = c.pieces.invariant in on_err c.from_residual.result _ (file_front _ _ c.args.bytes.now c.pieces.at _ _ _ (ap name_of i.stage) i.within i.told c.in_err-at.ensures.err)
 
 pub pieces-preserved : goal.pieces-preserved
 pieces-preserved g c =
-    let i = c.pieces.invariant in record {
+    let i = c.pieces.invariant in
+    let stage = written_more c.args.bytes.now c.pieces.at c.in_ok-at.field-0 (g.S.Store.stage c.args.store.now) (g.S.Store.stage c.pieces.store) (g.S.Store.stage c.write.new.self) i.stage c.in_ok-at.ensures.bytes in record {
       within = grind (arith, common_steps);
-      told = file_more _ _ c.args.bytes.now c.pieces.at c.in_ok-at.field-0 _ _ _ (ap name_of i.stage) i.told c.in_ok-at.ensures.bytes;
-      stage = search rules;
+      stage = stage;
+      writing = still_writing _ _ _ stage;
+      told = search rules;
+      heard = search rules;
+      stored = search rules;
       taken = search rules;
       later = search rules;
     }

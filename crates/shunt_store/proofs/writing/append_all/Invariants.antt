@@ -1,6 +1,5 @@
-use Rattle.std.proofs.Common.{length, take, ◌-◌, ◌≡◌, ◌≤◌}
-use Rattle.shunt_store.specs.defs.Files.{BothTold, name_of}
-use Rattle.shunt_store.proofs.Texts.{Holds}
+use Rattle.std.proofs.Common.{length, take, ◌-◌, ◌≡◌, ◌++◌, ◌≤◌}
+use Rattle.shunt_store.specs.defs.Files.{Writing, IsWriting, name_of, text_of}
 use Rattle.shunt_store.proofs.writing.append_all.Given as goal
 
 abbrev pub invariant-pieces : goal.invariant-pieces
@@ -8,8 +7,11 @@ invariant-pieces g l =
     let S = g.S.Store in
     record {
       within : l.at ≤ length l.bytes;
-      told : BothTold (S.told l.fn.store) (S.told l.store) (Holds (name_of (S.stage l.fn.store)) (take l.at l.bytes));
-      stage : S.stage l.store ≡ S.stage l.fn.store;
+      stage : S.stage l.store ≡ Writing (name_of (S.stage l.fn.store)) (text_of (S.stage l.fn.store) ++ take l.at l.bytes);
+      writing : IsWriting (S.stage l.store);
+      told : S.told l.store ≡ S.told l.fn.store;
+      heard : S.heard l.store ≡ S.heard l.fn.store;
+      stored : S.stored l.store ≡ S.stored l.fn.store;
       taken : S.taken l.store ≡ S.taken l.fn.store;
       later : S.faults l.fn.store ≤ S.faults l.store;
     }

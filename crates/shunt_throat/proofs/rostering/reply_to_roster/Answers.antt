@@ -1,44 +1,39 @@
-use Rattle.std.proofs.Common.{◌∙◌}
+use Rattle.std.proofs.Common.{[], ◌∷◌}
 use Rattle.shunt_inputs.specs.declared.answers.Answer.{Answer}
 use Rattle.shunt_throat.specs.defs.Rostered.{stated_rostering, IsRostered}
 use Rattle.shunt_inputs.specs.defs.Replies.{reply_of}
 use Rattle.shunt_throat.proofs.DriversFiles.{night_refused, plan_refused, crew_refused, sharing_refused}
 use Rattle.shunt_throat.proofs.RosterFiles.{rostering_decided}
 use Rattle.shunt_inputs.proofs.Stated.{cause_later}
-use Rattle.shunt_inputs.proofs.Seeing.{some_bytes, holding_at, holding_map, replies_failed, closed_failed, cause_failed, later_still, halted}
+use Rattle.shunt_inputs.proofs.Seeing.{some_bytes, holding_map, replies_failed, cause_failed, later_still, halted}
+use Rattle.shunt_inputs.proofs.Viewing.{cut_view, hears_on, hears_more}
 use Rattle.shunt_throat.proofs.rostering.reply_to_roster.Goals as goal
 
 pub returns-in_err-instance-clause-told : goal.returns-in_err-instance-clause-told
-returns-in_err-instance-clause-told g c =
+returns-in_err-instance-clause-told g c = λ view seen.
     holding_map _ _ _ _ (λ s hs. holding_map _ _ _ _ (λ t h. some_bytes _ _ _ (λ p. some_bytes _ _ _ (λ k. some_bytes _ _ _ (λ d.
-    replies_failed _ _ _ _ c.from_residual.ensures (halted {A = Answer} reply_of _ (stated_rostering s t p k d) IsRostered (sharing_refused _ s t p k d (night_refused _ s t p k h))))))) hs) c.in_err-instance.ensures.told
+    replies_failed _ _ _ _ c.from_residual.ensures (halted {A = Answer} reply_of _ (stated_rostering s t p k d) IsRostered (sharing_refused _ s t p k d (night_refused _ s t p k h))))))) hs) (c.in_err-instance.ensures.told view seen)
 
 pub returns-in_err-plan-clause-told : goal.returns-in_err-plan-clause-told
-returns-in_err-plan-clause-told g c =
-    let third = holding_at _ _ _ _ c.in_ok-instance.ensures.files c.in_err-plan.ensures.told in
+returns-in_err-plan-clause-told g c = λ view seen.
+    let one = cut_view _ _ _ _ _ view _ _ c.in_ok-instance.ensures.files c.in_ok-instance.ensures.first c.in_err-plan.ensures.first seen in
     holding_map _ _ _ _ (λ s hs. holding_map _ _ _ _ (λ t is. holding_map _ _ _ _ (λ p h. some_bytes _ _ _ (λ k. some_bytes _ _ _ (λ d.
-    replies_failed _ _ _ _ c.from_residual-in_err-plan.ensures (halted {A = Answer} reply_of _ (stated_rostering s t p k d) IsRostered (sharing_refused _ s t p k d (plan_refused _ s t p k _ is h)))))) third) hs) c.in_ok-instance.ensures.told
+    replies_failed _ _ _ _ c.from_residual-in_err-plan.ensures (halted {A = Answer} reply_of _ (stated_rostering s t p k d) IsRostered (sharing_refused _ s t p k d (plan_refused _ s t p k _ is h)))))) (c.in_err-plan.ensures.told view one.1)) hs) (c.in_ok-instance.ensures.told view one.0)
 
 pub returns-in_err-crew-clause-told : goal.returns-in_err-crew-clause-told
-returns-in_err-crew-clause-told g c =
-    let third = holding_at _ _ _ _ c.in_ok-instance.ensures.files c.in_ok-plan.ensures.told in
-    let fourth = holding_at _ _ _ _ (c.in_ok-plan.ensures.files ∙ c.in_ok-instance.ensures.files) c.in_err-crew.ensures.told in
+returns-in_err-crew-clause-told g c = λ view seen.
+    let one = cut_view _ _ _ _ _ view _ _ c.in_ok-instance.ensures.files c.in_ok-instance.ensures.first (hears_on _ _ _ _ _ c.in_ok-plan.ensures.heard c.in_err-crew.ensures.first) seen in
+    let two = cut_view _ _ _ _ _ view _ _ c.in_ok-plan.ensures.files c.in_ok-plan.ensures.first c.in_err-crew.ensures.first one.1 in
     holding_map _ _ _ _ (λ s hs. holding_map _ _ _ _ (λ t is. holding_map _ _ _ _ (λ p ps. holding_map _ _ _ _ (λ k h. some_bytes _ _ _ (λ d.
-    replies_failed _ _ _ _ c.from_residual-in_err-crew.ensures (halted {A = Answer} reply_of _ (stated_rostering s t p k d) IsRostered (sharing_refused _ s t p k d (crew_refused _ s t p k _ _ is ps h))))) fourth) third) hs) c.in_ok-instance.ensures.told
+    replies_failed _ _ _ _ c.from_residual-in_err-crew.ensures (halted {A = Answer} reply_of _ (stated_rostering s t p k d) IsRostered (sharing_refused _ s t p k d (crew_refused _ s t p k _ _ is ps h))))) (c.in_err-crew.ensures.told view two.1)) (c.in_ok-plan.ensures.told view two.0)) hs) (c.in_ok-instance.ensures.told view one.0)
 
 pub returns-clause-told : goal.returns-clause-told
-returns-clause-told g c =
-    let third = holding_at _ _ _ _ c.in_ok-instance.ensures.files c.in_ok-plan.ensures.told in
-    let fourth = holding_at _ _ _ _ (c.in_ok-plan.ensures.files ∙ c.in_ok-instance.ensures.files) c.in_ok-crew.ensures.told in
-    let fifth = holding_at _ _ _ _ (c.in_ok-crew.ensures.files ∙ c.in_ok-plan.ensures.files ∙ c.in_ok-instance.ensures.files) c.reply_to_duties.ensures.told in
+returns-clause-told g c = λ view seen.
+    let one = cut_view _ _ _ _ _ view _ _ c.in_ok-instance.ensures.files c.in_ok-instance.ensures.first (hears_on _ _ _ _ _ c.in_ok-plan.ensures.heard (hears_on _ _ _ _ _ c.in_ok-crew.ensures.heard c.reply_to_duties.ensures.first)) seen in
+    let two = cut_view _ _ _ _ _ view _ _ c.in_ok-plan.ensures.files c.in_ok-plan.ensures.first (hears_on _ _ _ _ _ c.in_ok-crew.ensures.heard c.reply_to_duties.ensures.first) one.1 in
+    let three = cut_view _ _ _ _ _ view _ _ c.in_ok-crew.ensures.files c.in_ok-crew.ensures.first c.reply_to_duties.ensures.first two.1 in
     holding_map _ _ _ _ (λ s hs. holding_map _ _ _ _ (λ t is. holding_map _ _ _ _ (λ p ps. holding_map _ _ _ _ (λ k ks. holding_map _ _ _ _ (λ d h.
-    rostering_decided s t p k d _ _ _ _ is ps ks h) fifth) fourth) third) hs) c.in_ok-instance.ensures.told
-
-pub returns-in_err-plan-clause-closed : goal.returns-in_err-plan-clause-closed
-returns-in_err-plan-clause-closed g c = closed_failed _ _ _ c.from_residual-in_err-plan.ensures c.in_err-plan.ensures.closed
-
-pub returns-in_err-crew-clause-closed : goal.returns-in_err-crew-clause-closed
-returns-in_err-crew-clause-closed g c = closed_failed _ _ _ c.from_residual-in_err-crew.ensures c.in_err-crew.ensures.closed
+    rostering_decided s t p k d _ _ _ _ is ps ks h) (c.reply_to_duties.ensures.told view three.1)) (c.in_ok-crew.ensures.told view three.0)) (c.in_ok-plan.ensures.told view two.0)) hs) (c.in_ok-instance.ensures.told view one.0)
 
 pub returns-in_err-plan-clause-cause : goal.returns-in_err-plan-clause-cause
 returns-in_err-plan-clause-cause g c = cause_failed _ _ _ _ _ c.from_residual-in_err-plan.ensures c.in_ok-instance.ensures.cause.later c.in_err-plan.ensures.cause
@@ -48,3 +43,15 @@ returns-in_err-crew-clause-cause g c = cause_failed _ _ _ _ _ c.from_residual-in
 
 pub returns-clause-cause : goal.returns-clause-cause
 returns-clause-cause g c = cause_later _ _ _ _ (later_still _ _ _ (later_still _ _ _ c.in_ok-instance.ensures.cause.later c.in_ok-plan.ensures.cause.later) c.in_ok-crew.ensures.cause.later) c.reply_to_duties.ensures.cause
+
+pub returns-in_err-instance-clause-first : goal.returns-in_err-instance-clause-first
+returns-in_err-instance-clause-first g c = hears_more _ (c.args.plan.now ∷ c.args.crew.now ∷ c.args.roster.now ∷ []) _ _ c.in_err-instance.ensures.first
+
+pub returns-in_err-plan-clause-first : goal.returns-in_err-plan-clause-first
+returns-in_err-plan-clause-first g c = hears_more _ (c.args.crew.now ∷ c.args.roster.now ∷ []) _ _ (hears_on _ _ _ _ _ c.in_ok-instance.ensures.heard c.in_err-plan.ensures.first)
+
+pub returns-in_err-crew-clause-first : goal.returns-in_err-crew-clause-first
+returns-in_err-crew-clause-first g c = hears_more _ (c.args.roster.now ∷ []) _ _ (hears_on _ _ _ _ _ c.in_ok-instance.ensures.heard (hears_on _ _ _ _ _ c.in_ok-plan.ensures.heard c.in_err-crew.ensures.first))
+
+pub returns-clause-first : goal.returns-clause-first
+returns-clause-first g c = hears_on _ _ _ _ _ c.in_ok-instance.ensures.heard (hears_on _ _ _ _ _ c.in_ok-plan.ensures.heard (hears_on _ _ _ _ _ c.in_ok-crew.ensures.heard c.reply_to_duties.ensures.first))

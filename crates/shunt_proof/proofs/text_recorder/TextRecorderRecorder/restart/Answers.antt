@@ -1,47 +1,69 @@
 use Rattle.std.proofs.Common.{refl}
 use Rattle.shunt_proof.specs.declared.text_recorder.Doing.TheVariants as doing
 use Rattle.shunt_proof.specs.defs.Streaming.{seen}
-use Rattle.shunt_proof.proofs.Stages.{opened, failed_is, shut_is}
-use Rattle.shunt_proof.proofs.Calls.{restart_done, restart_open}
+use Rattle.shunt_proof.proofs.Stages.{failed_is, stalled_is}
+use Rattle.shunt_proof.proofs.Calls.{is_writing, keeps_by, restart_done, restart_open, restart_keeps}
 use Rattle.shunt_proof.proofs.text_recorder.TextRecorderRecorder.restart.Goals as goal
 
 pub begin_again-requires : goal.begin_again-requires
 begin_again-requires g c =
     let r = c.args.self.now in
     let S = g.S.Store in
-    let s = seen r.instance.now r.name.now (S.told r.store.now) (S.stage r.store.now) r.doing r.nodes r.cases in
-    (opened s c.requires.stage).place
+    let s = seen r.instance.now r.name.now (S.stage r.store.now) r.doing r.nodes r.cases in
+    is_writing s c.requires.stage
 
 pub returns-in-Ok-clause-told : goal.returns-in-Ok-clause-told
 returns-in-Ok-clause-told g c =
     let r = c.args.self.now in
     let S = g.S.Store in
-    let s = seen r.instance.now r.name.now (S.told r.store.now) (S.stage r.store.now) r.doing r.nodes r.cases in
-    let t = seen r.instance.now r.name.now (S.told c.begin_again.new.store) (S.stage c.begin_again.new.store) r.doing 0 0 in
-    (restart_done s t c.requires.stage (record { night = refl; name = refl }) c.station.ensures.formed refl refl refl c.in-Ok.ensures.ok).told
+    let s = seen r.instance.now r.name.now (S.stage r.store.now) r.doing r.nodes r.cases in
+    let t = seen r.instance.now r.name.now (S.stage c.begin_again.new.store) r.doing 0 0 in
+    (restart_done s t c.requires.stage (record { night = refl; name = refl }) c.in-Ok.ensures.ok refl c.station.ensures.formed refl refl).told
 
 pub returns-in-Ok-clause-stage : goal.returns-in-Ok-clause-stage
 returns-in-Ok-clause-stage g c =
     let r = c.args.self.now in
     let S = g.S.Store in
-    let s = seen r.instance.now r.name.now (S.told r.store.now) (S.stage r.store.now) r.doing r.nodes r.cases in
-    let t = seen r.instance.now r.name.now (S.told c.begin_again.new.store) (S.stage c.begin_again.new.store) r.doing 0 0 in
-    restart_open s t c.requires.stage (record { night = refl; name = refl }) c.station.ensures.formed refl refl refl c.in-Ok.ensures.ok c.in-Ok.ensures.open
+    let s = seen r.instance.now r.name.now (S.stage r.store.now) r.doing r.nodes r.cases in
+    let t = seen r.instance.now r.name.now (S.stage c.begin_again.new.store) r.doing 0 0 in
+    restart_open s t c.requires.stage (record { night = refl; name = refl }) c.in-Ok.ensures.ok refl (restart_done s t c.requires.stage (record { night = refl; name = refl }) c.in-Ok.ensures.ok refl c.station.ensures.formed refl refl)
+
+pub returns-in-Ok-clause-keeps : goal.returns-in-Ok-clause-keeps
+returns-in-Ok-clause-keeps g c =
+    let r = c.args.self.now in
+    let S = g.S.Store in
+    let s = seen r.instance.now r.name.now (S.stage r.store.now) r.doing r.nodes r.cases in
+    let t = seen r.instance.now r.name.now (S.stage c.begin_again.new.store) r.doing 0 0 in
+    (refl, (restart_keeps s t c.requires.stage (record { night = refl; name = refl }) c.in-Ok.ensures.ok refl, (c.begin_again.ensures.files, (c.begin_again.ensures.heard, c.begin_again.ensures.stored))))
 
 pub returns-in-Err-Memory-clause-stage : goal.returns-in-Err-Memory-clause-stage
 returns-in-Err-Memory-clause-stage g c =
     let r = c.args.self.now in
     let S = g.S.Store in
-    let s = seen r.instance.now r.name.now (S.told r.store.now) (S.stage r.store.now) r.doing r.nodes r.cases in
-    let t = seen r.instance.now r.name.now (S.told c.begin_again.new.store) (S.stage c.begin_again.new.store) doing.Shut r.nodes r.cases in
-    let i = c.in-Err-Memory.is in
-    let f = c.in-Err-Memory.field-0-is in
-    shut_is t refl (c.in-Err-Memory.ensures.closed cc)
+    let s = seen r.instance.now r.name.now (S.stage r.store.now) r.doing r.nodes r.cases in
+    let t = seen r.instance.now r.name.now (S.stage c.begin_again.new.store) doing.Stalled r.nodes r.cases in
+    stalled_is t refl
+
+pub returns-in-Err-Memory-clause-keeps : goal.returns-in-Err-Memory-clause-keeps
+returns-in-Err-Memory-clause-keeps g c =
+    let r = c.args.self.now in
+    let S = g.S.Store in
+    let s = seen r.instance.now r.name.now (S.stage r.store.now) r.doing r.nodes r.cases in
+    let t = seen r.instance.now r.name.now (S.stage c.begin_again.new.store) doing.Stalled r.nodes r.cases in
+    (refl, (keeps_by s t (record { night = refl; name = refl }) c.in-Err-Memory.ensures.err, (c.begin_again.ensures.files, (c.begin_again.ensures.heard, c.begin_again.ensures.stored))))
 
 pub returns-in-Err-Fault-clause-stage : goal.returns-in-Err-Fault-clause-stage
 returns-in-Err-Fault-clause-stage g c =
     let r = c.args.self.now in
     let S = g.S.Store in
-    let s = seen r.instance.now r.name.now (S.told r.store.now) (S.stage r.store.now) r.doing r.nodes r.cases in
-    let t = seen r.instance.now r.name.now (S.told c.begin_again.new.store) (S.stage c.begin_again.new.store) doing.Failed r.nodes r.cases in
+    let s = seen r.instance.now r.name.now (S.stage r.store.now) r.doing r.nodes r.cases in
+    let t = seen r.instance.now r.name.now (S.stage c.begin_again.new.store) doing.Failed r.nodes r.cases in
     failed_is t refl
+
+pub returns-in-Err-Fault-clause-keeps : goal.returns-in-Err-Fault-clause-keeps
+returns-in-Err-Fault-clause-keeps g c =
+    let r = c.args.self.now in
+    let S = g.S.Store in
+    let s = seen r.instance.now r.name.now (S.stage r.store.now) r.doing r.nodes r.cases in
+    let t = seen r.instance.now r.name.now (S.stage c.begin_again.new.store) doing.Failed r.nodes r.cases in
+    (refl, (keeps_by s t (record { night = refl; name = refl }) c.in-Err-Fault.ensures.err, (c.begin_again.ensures.files, (c.begin_again.ensures.heard, c.begin_again.ensures.stored))))

@@ -117,18 +117,26 @@ module _ (found : FoundNone) (laws : SheetLaws) (s t p n : List ℕ) (files afte
   pub goes : followed y.0.station orders ≡ answers.Through 0
   goes = laws.followed y.0 y.1.blocks of_plan.0 clean.0
 
-abbrev pub IsGone : Seen → Seen → Status → Type 0
-IsGone old new x = (x ≡ status.Done) × ((os : List Order) × IsWhole (says outcome.Done (followed_of os (answers.Through 0))) old new)
+abbrev pub IsGone : List Order → Seen → Seen → Status → Type 0
+IsGone orders old new x = (x ≡ status.Done) × IsWhole (says outcome.Done (followed_of orders (answers.Through 0))) old new
 
-followed_well : (s n : List ℕ) (after : Files) (v : Followable) (old new : Seen) (x : Status) → old.files ≡ Some after → following_in s n after ≡ Ok v → followed v.station v.orders ≡ answers.Through 0 → Ends (Follow s n) old new x → IsGone old new x ⊎ Yields x
+-- the orders are those of the plan
+abbrev pub PlanGone : List ℕ → List ℕ → List ℕ → Files → Seen → Seen → Status → Type 0
+PlanGone s t p files old new x = (x ≡ status.Done) × ((y : Night × Plan) × (plans_in s t p files ≡ Ok y) × IsWhole (says outcome.Done (followed_of (orders_in y.0 y.1.blocks) (answers.Through 0))) old new)
+
+plan_gone : (s t p : List ℕ) (files : Files) (y : Night × Plan) (old new : Seen) (x : Status) → plans_in s t p files ≡ Ok y → IsGone (orders_in y.0 y.1.blocks) old new x ⊎ Yields x → PlanGone s t p files old new x ⊎ Yields x
+plan_gone s t p files y old new x ok (inl g) = inl (g.0, (y, ok, g.1))
+plan_gone s t p files y old new x ok (inr late) = inr late
+
+followed_well : (s n : List ℕ) (after : Files) (v : Followable) (old new : Seen) (x : Status) → old.files ≡ Some after → following_in s n after ≡ Ok v → followed v.station v.orders ≡ answers.Through 0 → Ends (Follow s n) old new x → IsGone v.orders old new x ⊎ Yields x
 followed_well s n after v old new x known ok through (inl h) = inr (early (Follow s n) old new x h)
 followed_well s n after v old new x known ok through (inr h) = at (its_own h.0 old new x h.2)
   where
     told : h.0 ≡ says outcome.Done (followed_of v.orders (answers.Through 0))
     told = gone v h.0 through (subst (λ (q : Result Followable (List ℕ)). Decided q IsFollowed h.0) ok (reply_at (Follow s n) old.files after h.0 known h.1))
 
-    at : ((x ≡ the_status h.0.outcome) × IsWhole h.0 old new) ⊎ Yields x → IsGone old new x ⊎ Yields x
-    at (inl w) = inl (w.0 ∙ ap (λ (q : Reply). the_status q.outcome) told, (v.orders, subst (λ q. IsWhole q old new) told w.1))
+    at : ((x ≡ the_status h.0.outcome) × IsWhole h.0 old new) ⊎ Yields x → IsGone v.orders old new x ⊎ Yields x
+    at (inl w) = inl (w.0 ∙ ap (λ (q : Reply). the_status q.outcome) told, subst (λ q. IsWhole q old new) told w.1)
     at (inr late) = inr late
 
 own_sheet : (n : List ℕ) (y : Night × Plan) (r : Reply) → r.outcome ≡ outcome.Done → IsOrdered n y r → HasSheet n y r
@@ -136,7 +144,7 @@ own_sheet n y r e (inl f) = absurd (let no : outcome.Findings ≡ outcome.Done =
 own_sheet n y r e (inr h) = h
 
 pub goes_through : (found : FoundNone) (laws : SheetLaws) (s t p n : List ℕ) (a b old new : Seen) (x : Status) (files after : Files) → IsUsable (Sheet s t p n) → a.files ≡ Some files → b.files ≡ Some after → old.files ≡ Some after
-    → Ends (Sheet s t p n) a b status.Done → Ends (Follow s n) old new x → IsGone old new x ⊎ Yields x
+    → Ends (Sheet s t p n) a b status.Done → Ends (Follow s n) old new x → PlanGone s t p files old new x ⊎ Yields x
 goes_through found laws s t p n a b old new x files after usable before left known first second =
     let h = has_reply (Sheet s t p n) outcome.Done a b first in
     let is = reply_at (Sheet s t p n) a.files files h.0 before h.1 in
@@ -144,6 +152,7 @@ goes_through found laws s t p n a b old new x files after usable before left kno
     let own = own_sheet n at.0 h.0 h.2 at.2 in
     let clean = clean_of (Sheet s t p n) s t p (HasSheet n) (sheet_answers s t p n) found files at.0 h.0 at.1 at.2 h.2 in
     let wrote : after ≡ written h.0.writes files = both_here a.files b.files files after (λ u v. v ≡ written h.0.writes u) before left h.3.files in
-    followed_well s n after (followable at.0.0.station (orders_in at.0.0 at.0.1.blocks)) old new x known
+    plan_gone s t p files at.0 old new x at.1
+    (followed_well s n after (followable at.0.0.station (orders_in at.0.0 at.0.1.blocks)) old new x known
     (states found laws s t p n files after usable at.0 h.0 at.1 own clean wrote)
-    (goes found laws s t p n files after usable at.0 h.0 at.1 own clean wrote) second
+    (goes found laws s t p n files after usable at.0 h.0 at.1 own clean wrote) second)

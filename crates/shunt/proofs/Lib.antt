@@ -5,6 +5,7 @@ mod Exactly
 mod Matched
 pub mod Audits
 mod Replayed
+mod TurnLines
 mod Checked
 mod Passed
 mod Shared

@@ -32,7 +32,7 @@ use Rattle.shunt_judging.proofs.Turned.{last_state, last_in_range}
 replayed : (n : List ℕ) (x : Result Replayable (List ℕ)) (y : Replayable) (r : Reply) → x ≡ Ok y → Decided x (IsReplayed n) r → IsReplayed n y r
 replayed n x y r e is = subst (λ x. Decided x (IsReplayed n) r) e is
 
-turns_stated : (s t p e : List ℕ) (y : Replayable) → stated_turns s t p e ≡ Ok y → IsInstance y.night × IsPlanInRange y.night y.plan
+pub turns_stated : (s t p e : List ℕ) (y : Replayable) → stated_turns s t p e ≡ Ok y → IsInstance y.night × IsPlanInRange y.night y.plan
 unfolding stated_turns
 turns_stated s t p e y is =
     let first = parted (stated_plans s t p) _ y is in

@@ -29,7 +29,7 @@ use Rattle.shunt.specs.defs.Inputs.{Value, stated_in}
 use Rattle.shunt.specs.defs.Replies.{IsAnswer}
 use Rattle.shunt_planning.specs.defs.Planned.{IsPlanned, IsSoughtOver, planned, search_outcome}
 use Rattle.shunt.specs.defs.Ends.{Seen, Ends, IsWhole, Yields, the_status}
-use Rattle.shunt_planning.specs.defs.Found.{IsBounded, IsCheapest, AreDifferent}
+use Rattle.shunt_planning.specs.defs.Found.{AreStated, IsBounded, IsCheapest, AreDifferent}
 use Rattle.shunt.proofs.Exactly.{decides, has_reply, completes, reply_at, short_outcome, EndsAs}
 
 -- ---- outcomes
@@ -106,6 +106,9 @@ module _ (bounds : Bounds) (pins : List Block) (m : ℕ) (p k : List ℕ) (night
     states = is.meet.accepted.states;
     least = λ other sound keeps. bounds night pins is.plan.blocks is.plan.cost is.certificate other of_night is.statable.nodes usable.apart is.meet.accepted sound keeps;
   }
+
+  pub stated : AreStated night pins is.plan is.certificate
+  stated = record { in_range = is.in_range; statable = is.statable; accepted = is.meet.accepted }
 
   cost_is : is.certificate.cost ≡ is.plan.cost
   cost_is = is.meet.accepted.cost ∙ sym is.meet.accepted.states
@@ -284,15 +287,15 @@ module _ (c : Call) (q : Search c) (answers : Answers c q) where
       }
 
   pub done_cheapest : (bounds : Bounds) (old new : Seen) → Ends c old new status.Done
-      → (files : Files) × Agrees old.files files × ((v : Value c) × (stated_in c files ≡ Ok v) × ((plan : Plan) × (d : Certificate) × IsCheapest (q.night v) (q.pins v) plan × (d.bound ≡ plan.cost) × IsWhole (planned outcome.Done q.plan q.certificate (q.night v) plan d) old new))
+      → (files : Files) × Agrees old.files files × ((v : Value c) × (stated_in c files ≡ Ok v) × ((plan : Plan) × (d : Certificate) × AreStated (q.night v) (q.pins v) plan d × IsCheapest (q.night v) (q.pins v) plan × (d.bound ≡ plan.cost) × IsWhole (planned outcome.Done q.plan q.certificate (q.night v) plan d) old new))
   done_cheapest bounds old new e =
       let f = finds outcome.Done old new (λ e. cc) (λ e. cc) (λ e. cc) e in
       let best = cheapest bounds (q.pins f.value) q.most q.plan q.certificate (q.night f.value) f.reply f.formed f.usable f.is f.outcome in
-      (f.files, f.agrees, (f.value, f.ok, (f.is.plan, f.is.certificate, best.0, best.1, f.whole)))
+      (f.files, f.agrees, (f.value, f.ok, (f.is.plan, f.is.certificate, stated bounds (q.pins f.value) q.most q.plan q.certificate (q.night f.value) f.reply f.formed f.usable f.is, best.0, best.1, f.whole)))
 
   pub unfinished_bounded : (bounds : Bounds) (laws : TreeLaws) (old new : Seen) → Ends c old new status.Unfinished
       → (files : Files) × Agrees old.files files × ((v : Value c) × (stated_in c files ≡ Ok v)
-      × ((plan : Plan) × (d : Certificate) × IsBounded (q.night v) (q.pins v) plan d.bound × (d.bound < plan.cost) × AreDifferent (q.night v) (q.pins v) d.nodes q.most × IsWhole (planned outcome.Unfinished q.plan q.certificate (q.night v) plan d) old new))
+      × ((plan : Plan) × (d : Certificate) × AreStated (q.night v) (q.pins v) plan d × IsBounded (q.night v) (q.pins v) plan d.bound × (d.bound < plan.cost) × AreDifferent (q.night v) (q.pins v) d.nodes q.most × IsWhole (planned outcome.Unfinished q.plan q.certificate (q.night v) plan d) old new))
   unfinished_bounded bounds laws old new e =
       let f = finds outcome.Unfinished old new (λ e. cc) (λ e. cc) (λ e. cc) e in
       let less = below bounds (q.pins f.value) q.most q.plan q.certificate (q.night f.value) f.reply f.formed f.usable f.is f.outcome in
@@ -306,6 +309,7 @@ module _ (c : Call) (q : Search c) (answers : Answers c q) where
           (
             f.is.plan,
             f.is.certificate,
+            stated bounds (q.pins f.value) q.most q.plan q.certificate (q.night f.value) f.reply f.formed f.usable f.is,
             bounded bounds (q.pins f.value) q.most q.plan q.certificate (q.night f.value) f.reply f.formed f.usable f.is,
             less,
             different bounds (q.pins f.value) q.most q.plan q.certificate (q.night f.value) f.reply f.formed f.usable f.is laws lower,

@@ -1,7 +1,7 @@
 //! What follows from the contract of `run` on when each status comes and what then stands: of every command, and then of each.
 //! The files of a `Seen` are those that can be known, as the definition `AreKnown` has it: they are told by the store; or before a run they are
 //! any that hold what was read in it, and after it these with what was stored. So each law holds of the real folder too, over what was read.
-ghost use Rattle.std.specs.Prelude.{◌≡◌, ◌⊎◌, List, [], ◌<◌, ℕ, Some, Ok};
+ghost use Rattle.std.specs.Prelude.{◌≡◌, ◌⊎◌, List, [], ◌++◌, ◌<◌, ℕ, Some, Ok, ◌∷◌, ◌+◌, length};
 ghost use Rattle.std.specs.FinMap as map;
 ghost use Rattle.shunt_lists.specs.defs.Members.{In};
 ghost use Rattle.shunt_store.specs.defs.Files.{Files, BothTold, content};
@@ -14,13 +14,13 @@ ghost use Rattle.shunt_plan.specs.declared.records.Plan.{Plan};
 ghost use Rattle.shunt_checker.specs.declared.verdict.Verdict.TheVariants as verdict;
 ghost use Rattle.shunt_report.specs.defs.VerdictTexts.{verdict_of};
 ghost use Rattle.shunt_report.specs.defs.SheetTexts.{followed_of};
-ghost use Rattle.shunt_sheet.specs.declared.records.Order.{Order};
+ghost use Rattle.shunt_sheet.specs.defs.Orders.{orders_in};
 ghost use Rattle.shunt_sheet.specs.declared.records.Followed.TheVariants as answers;
 ghost use Rattle.shunt_moves.specs.defs.States.{IsState};
 ghost use Rattle.shunt_inputs.specs.declared.answers.Outcome.{Outcome};
 ghost use Rattle.shunt.specs.declared.running.Status.{Status};
 ghost use Rattle.shunt_planning.specs.defs.Planned.{planned};
-ghost use Rattle.shunt_planning.specs.defs.Found.{IsBounded, IsCheapest, AreDifferent};
+ghost use Rattle.shunt_planning.specs.defs.Found.{AreStated, IsBounded, IsCheapest, AreDifferent};
 ghost use Rattle.shunt_choices.specs.defs.Choices.{partial_plans};
 ghost use Rattle.shunt_proof.specs.declared.records.Certificate.{Certificate};
 ghost use Rattle.shunt_exchange.specs.defs.Upgraded.{Upgradable, upgrade_in};
@@ -34,7 +34,8 @@ ghost use Rattle.shunt_judging.specs.defs.Pinned.{PinChecked, pin_check_in, IsPi
 ghost use Rattle.shunt_throat.specs.defs.Passed.{Passable, passing_in, NoneMeet};
 ghost use Rattle.shunt_throat.specs.defs.Shared.{Sharable, sharing_in};
 ghost use Rattle.shunt_throat.specs.defs.Rostered.{Rosterable, rostering_in, SharesAll};
-ghost use Rattle.shunt_judging.specs.defs.Replayed.{Replayable, stated_turns, turns_in, last_of, EndsFeasible};
+ghost use Rattle.shunt_plan.specs.declared.edits.Turn.{Turn};
+ghost use Rattle.shunt_judging.specs.defs.Replayed.{Replayable, stated_turns, turns_in, last_of, after_turns, bench_of, lines_from, replay_lines, IsTurnLine, EndsFeasible};
 ghost use Rattle.shunt.specs.defs.Inputs.{refused};
 ghost use Rattle.shunt_inputs.specs.defs.Replies.{Reply, refusal, says};
 ghost use Rattle.shunt.specs.defs.Replies.{IsReply, IsReplyOver};
@@ -43,6 +44,7 @@ ghost use Rattle.shunt_inputs.specs.defs.Writes.{Stays, WritesSome};
 ghost use Rattle.shunt.specs.defs.Ends.{Ends, Seen, known_of, CutInText, IsWhole, Yields, the_status};
 
 use shunt_audit::laws;
+use shunt_audit::laws::findings;
 use shunt_checker::laws::reasons;
 use shunt_drivers::laws::{roster_fault_in_words, stated_values_are_formed, texts_of_rosters};
 use shunt_make::laws::made_nights;
@@ -334,11 +336,11 @@ pub fn follow_completes()
     ensures { (s n : List ℕ) (old new : Seen) (status : Status) (files : Files) (x : Followable) → old.files ≡ Some files → following_in s n files ≡ Ok x → (Rose old.store_faults new.store_faults → ⊥) → (Rose old.sink_faults new.sink_faults → ⊥) → Ends (Follow s n) old new status → (status ≡ Status.Done) ⊎ ((status ≡ Status.Findings) ⊎ (status ≡ Status.Memory)) }
 {}
 
-/// On the files that `sheet` left with `Done`, `follow` of the sheet ends with `Done` and tells that no block is left, unless the store,
-/// memory or the sink comes first.
+/// On the files that `sheet` left with `Done`, `follow` of the sheet ends with `Done`, follows the orders of the plan, and prints that no
+/// block is left, unless the store, memory or the sink comes first.
 pub fn written_sheets_go_through()
     ensures { (s t p n : List ℕ) (a b old new : Seen) (status : Status) (files after : Files) → IsUsable (Sheet s t p n) → a.files ≡ Some files → b.files ≡ Some after → old.files ≡ Some after → Ends (Sheet s t p n) a b Status.Done → Ends (Follow s n) old new status
-        → ((status ≡ Status.Done) × ((orders : List Order) × IsWhole (says Outcome.Done (followed_of orders (answers.Through 0))) old new)) ⊎ Yields status }
+        → ((status ≡ Status.Done) × ((x : Night × Plan) × (plans_in s t p files ≡ Ok x) × IsWhole (says Outcome.Done (followed_of (orders_in x.0 x.1.blocks) (answers.Through 0))) old new)) ⊎ Yields status }
 {
     laws::plan_findings();
     sheets_of_plans();
@@ -414,6 +416,15 @@ pub fn replay_leaves_a_state()
     ensures { (s t p e : List ℕ) (x : Replayable) → stated_turns s t p e ≡ Ok x → IsState x.night (last_of x) }
 {}
 
+/// Behind the lines of the turns before it, each turn of accepted files has the line of the state that it leaves: how many findings the
+/// blocks of that state have, which are exactly those of a fresh audit, and what these blocks cost.
+pub fn replay_prints_each_state()
+    ensures { (s t p e : List ℕ) (x : Replayable) (before : List Turn) (turn : Turn) (after : List Turn) → stated_turns s t p e ≡ Ok x → x.turns ≡ before ++ turn ∷ after
+        → (line rest : List ℕ) × IsTurnLine (length before + 1) (after_turns (bench_of x) before) turn line × (replay_lines x ≡ lines_from 1 (bench_of x) before ++ (line ++ rest)) }
+{
+    findings();
+}
+
 /// `plan` ends with `NoMatching` exactly when both input files are accepted and no list is a matching, unless the store, memory or
 /// the sink came first. It never ends with `Findings`.
 pub fn plan_no_matching_exactly()
@@ -425,7 +436,7 @@ pub fn plan_no_matching_exactly()
 /// Where `plan` ends with `Done`, the plan file holds the text of a feasible plan that states its cost, no feasible plan of the night
 /// costs less, and that cost was printed as optimal, and as the bound.
 pub fn plan_is_cheapest()
-    ensures { (s t : List ℕ) (m : ℕ) (p k : List ℕ) (old new : Seen) → Ends (MakePlan s t m p k) old new Status.Done → (files : Files) × Agrees old.files files × ((night : Night) × (stated_night (content files s) (content files t) ≡ Ok night) × ((plan : Plan) × (c : Certificate) × IsCheapest night [] plan × (c.bound ≡ plan.cost) × IsWhole (planned Outcome.Done p k night plan c) old new)) }
+    ensures { (s t : List ℕ) (m : ℕ) (p k : List ℕ) (old new : Seen) → Ends (MakePlan s t m p k) old new Status.Done → (files : Files) × Agrees old.files files × ((night : Night) × (stated_night (content files s) (content files t) ≡ Ok night) × ((plan : Plan) × (c : Certificate) × AreStated night [] plan c × IsCheapest night [] plan × (c.bound ≡ plan.cost) × IsWhole (planned Outcome.Done p k night plan c) old new)) }
 {
     proved_bounds();
 }
@@ -434,7 +445,7 @@ pub fn plan_is_cheapest()
 /// different partial plans; the plan file holds that of a feasible plan that states its cost; and every feasible plan of the night costs
 /// at least the bound that was printed, which is below the plan's cost.
 pub fn plan_is_unfinished()
-    ensures { (s t : List ℕ) (m : ℕ) (p k : List ℕ) (old new : Seen) → Ends (MakePlan s t m p k) old new Status.Unfinished → (files : Files) × Agrees old.files files × ((night : Night) × (stated_night (content files s) (content files t) ≡ Ok night) × ((plan : Plan) × (c : Certificate) × IsBounded night [] plan c.bound × (c.bound < plan.cost) × AreDifferent night [] c.nodes m × IsWhole (planned Outcome.Unfinished p k night plan c) old new)) }
+    ensures { (s t : List ℕ) (m : ℕ) (p k : List ℕ) (old new : Seen) → Ends (MakePlan s t m p k) old new Status.Unfinished → (files : Files) × Agrees old.files files × ((night : Night) × (stated_night (content files s) (content files t) ≡ Ok night) × ((plan : Plan) × (c : Certificate) × AreStated night [] plan c × IsBounded night [] plan c.bound × (c.bound < plan.cost) × AreDifferent night [] c.nodes m × IsWhole (planned Outcome.Unfinished p k night plan c) old new)) }
 {
     few_nodes();
     known_by_paths();
@@ -471,7 +482,7 @@ pub fn pinned_no_matching_exactly()
 /// Where `pinned` ends with `Done`, the plan file holds the text of a feasible plan that keeps the pins and states its cost, no feasible
 /// plan of the night that keeps them costs less, and that cost was printed as optimal, and as the bound.
 pub fn pinned_is_cheapest()
-    ensures { (s t i : List ℕ) (m : ℕ) (p k : List ℕ) (old new : Seen) → Ends (MakePinned s t i m p k) old new Status.Done → (files : Files) × Agrees old.files files × ((x : Pinned) × (pinned_in s t i files ≡ Ok x) × ((plan : Plan) × (c : Certificate) × IsCheapest x.instance x.pins plan × (c.bound ≡ plan.cost) × IsWhole (planned Outcome.Done p k x.instance plan c) old new)) }
+    ensures { (s t i : List ℕ) (m : ℕ) (p k : List ℕ) (old new : Seen) → Ends (MakePinned s t i m p k) old new Status.Done → (files : Files) × Agrees old.files files × ((x : Pinned) × (pinned_in s t i files ≡ Ok x) × ((plan : Plan) × (c : Certificate) × AreStated x.instance x.pins plan c × IsCheapest x.instance x.pins plan × (c.bound ≡ plan.cost) × IsWhole (planned Outcome.Done p k x.instance plan c) old new)) }
 {
     laws::pins();
     proved_bounds();
@@ -481,7 +492,7 @@ pub fn pinned_is_cheapest()
 /// different partial plans over the pins; the plan file holds that of a feasible plan that keeps the pins and states its cost; and every
 /// feasible plan of the night that keeps them costs at least the bound that was printed, which is below the plan's cost.
 pub fn pinned_is_unfinished()
-    ensures { (s t i : List ℕ) (m : ℕ) (p k : List ℕ) (old new : Seen) → Ends (MakePinned s t i m p k) old new Status.Unfinished → (files : Files) × Agrees old.files files × ((x : Pinned) × (pinned_in s t i files ≡ Ok x) × ((plan : Plan) × (c : Certificate) × IsBounded x.instance x.pins plan c.bound × (c.bound < plan.cost) × AreDifferent x.instance x.pins c.nodes m × IsWhole (planned Outcome.Unfinished p k x.instance plan c) old new)) }
+    ensures { (s t i : List ℕ) (m : ℕ) (p k : List ℕ) (old new : Seen) → Ends (MakePinned s t i m p k) old new Status.Unfinished → (files : Files) × Agrees old.files files × ((x : Pinned) × (pinned_in s t i files ≡ Ok x) × ((plan : Plan) × (c : Certificate) × AreStated x.instance x.pins plan c × IsBounded x.instance x.pins plan c.bound × (c.bound < plan.cost) × AreDifferent x.instance x.pins c.nodes m × IsWhole (planned Outcome.Unfinished p k x.instance plan c) old new)) }
 {
     laws::pins();
     few_nodes();

@@ -86,6 +86,12 @@ abbrev pub lines_from : ℕ → Bench → List Turn → List ℕ
 lines_from number bench [] = []
 lines_from number bench (t ∷ ts) = line_of number bench t ++ lines_from (number + 1) (after_turn bench t) ts
 
+-- the line of a turn in words: how it ended, how many findings the blocks that it leaves have, of which the list is exact, and what they cost
+pub record IsTurnLine (number : ℕ) (bench : Bench) (t : Turn) (line : List ℕ) : Type 0 where
+  pub findings : List Finding
+  pub told : AreFindings bench.night (after_turn bench t).present.blocks findings
+  pub is : line ≡ turn_line number (turn_outcome bench t) (length findings) (total_cost bench.night (after_turn bench t).present.blocks)
+
 -- the bench of the plan's blocks
 abbrev pub bench_of : Replayable → Bench
 bench_of x = started x.night x.plan.blocks

@@ -6,7 +6,11 @@ use Rattle.shunt_blocks.specs.defs.Lists.{IsFeasible, total_cost}
 use Rattle.shunt_blocks.specs.defs.Pins.{Keeps, without_id}
 use Rattle.shunt_choices.specs.defs.Paths.{IsPartialPlan}
 use Rattle.shunt_plan.specs.declared.records.Plan.{Plan}
+use Rattle.shunt_plan.specs.defs.Plans.{IsPlanInRange}
 use Rattle.shunt_proof.specs.declared.records.Node.{Node}
+use Rattle.shunt_proof.specs.declared.records.Certificate.{Certificate}
+use Rattle.shunt_proof.specs.defs.Accepted.{IsAccepted}
+use Rattle.shunt_proof.specs.defs.Certificates.{IsCertificate}
 use Rattle.shunt_proof.specs.defs.Trees.{IsStart, path_at}
 
 -- the plan is feasible, keeps the pins and states its cost, and every feasible plan of the night that keeps them costs at least the bound
@@ -19,6 +23,13 @@ pub record IsBounded (night : Night) (pins : List Block) (plan : Plan) (bound : 
 -- no feasible plan that keeps the pins costs less
 abbrev pub IsCheapest : Night → List Block → Plan → Type 0
 IsCheapest night pins plan = IsBounded night pins plan plan.cost
+
+-- files can state the plan and the certificate, so their texts state no others; and the certificate is accepted with the plan: its root
+-- proves its bound, and its tree is lean
+pub record AreStated (night : Night) (pins : List Block) (plan : Plan) (c : Certificate) : Type 0 where
+  pub in_range : IsPlanInRange night plan
+  pub statable : IsCertificate night c
+  pub accepted : IsAccepted night pins plan.blocks plan.cost c
 
 -- that many nodes, whose paths are partial plans over the pins that differ by more than their ids
 pub record AreDifferent (night : Night) (pins : List Block) (nodes : List Node) (many : ℕ) : Type 0 where

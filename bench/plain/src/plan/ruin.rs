@@ -8,6 +8,9 @@ use crate::nights::{Choice, Park, Shape, Tables};
 
 const NO_BLOCK: usize = usize::MAX;
 
+/// Of so many drawn blocks the one is ruined that weighs most above its duals.
+const DRAWN: usize = 4;
+
 /// Above so many units a search begins cool and goes on longer.
 pub(crate) const MANY: usize = 100;
 
@@ -31,6 +34,8 @@ pub(crate) struct Search<'m> {
     stays: Vec<Stay>,
     draws: Draws,
     blocks: Vec<Option<Choice>>,
+    /// For each block what it weighs above its duals.
+    above: Vec<i64>,
     units: Vec<usize>,
     positions: Vec<usize>,
     free: Vec<usize>,
@@ -57,6 +62,7 @@ impl Search<'_> {
             stays: model.rows.iter().map(|row| Stay::new(tables, row.shape, Park { track: 0, sides: [0, 0] })).collect(),
             draws: Draws::new(1),
             blocks: vec![None; units],
+            above: vec![0; units],
             units: vec![NO_BLOCK; units],
             positions: vec![NO_BLOCK; positions],
             free: (0..positions).collect(),
@@ -81,6 +87,17 @@ impl Search<'_> {
         self.model.rows_at(shape.u, shape.v)[shape.n - 1].group
     }
 
+    // What a block weighs above its duals.
+    fn above(&self, choice: Choice) -> i64 {
+        let Shape { u, v, n } = choice.shape;
+        let place = self.model.starts[u * self.positions.len() + v] + n - 1;
+        let option = match choice.park {
+            None => self.guide.unparked,
+            Some(park) => 1000 * self.tables().ways(choice.shape, park).unwrap_or(0) as i64 + self.guide.part(self.model.rows[place].group, choice),
+        };
+        self.guide.reduced[place] + option
+    }
+
     fn weigh(&mut self, choice: Choice, sign: i64) {
         self.cost += sign * 1000 * self.tables().cost(choice).unwrap_or(0) as i64;
         self.parts += sign * self.guide.part(self.group(choice.shape), choice);
@@ -98,6 +115,7 @@ impl Search<'_> {
             self.yard.come(park.track, stay);
         }
         self.blocks[u] = Some(choice);
+        self.above[u] = self.above(choice);
         self.weigh(choice, 1);
     }
 
@@ -146,6 +164,23 @@ impl Search<'_> {
         all.into_iter().find(|choice| holds(self.tables(), *choice))
     }
 
+    fn some_split(&mut self) -> Option<Choice> {
+        self.some_block(|tables, choice| tables.ends(choice.shape) > 0)
+    }
+
+    // The dearest of some split or coupled blocks.
+    fn dear_split(&mut self) -> Option<Choice> {
+        let drawn: Vec<Choice> = (0..DRAWN).filter_map(|_| self.some_split()).collect();
+        drawn.into_iter().max_by_key(|choice| self.above[choice.shape.u])
+    }
+
+    // The unit of the dearest of some blocks, or without these any unit.
+    fn dear_unit(&mut self) -> usize {
+        let drawn: Vec<usize> = (0..DRAWN).map(|_| self.some_unit()).collect();
+        let above = |unit: &usize| self.above.get(self.units[*unit]).copied().unwrap_or(i64::MIN);
+        drawn.into_iter().max_by_key(above).unwrap_or(0)
+    }
+
     fn ruin_tracks(&mut self) {
         let many = self.yard.tracks.len();
         for _ in 0..1 + self.draws.below(2) {
@@ -158,8 +193,7 @@ impl Search<'_> {
 
     // Some longer shape through a split or coupled block, and one or two of the tracks of the blocks there.
     fn ruin_split(&mut self) {
-        let split = self.some_block(|tables, choice| tables.ends(choice.shape) > 0);
-        let Some(Shape { u, n, .. }) = split.map(|choice| choice.shape) else { return };
+        let Some(Shape { u, n, .. }) = self.dear_split().map(|choice| choice.shape) else { return };
         let model = self.model;
         let units = model.tables.units.as_slice();
         let (train, many) = (units[u].train, self.positions.len());
@@ -204,7 +238,7 @@ impl Search<'_> {
 
     fn ruin_more(&mut self) {
         for _ in 0..1 + self.draws.below(4) {
-            let unit = self.some_unit();
+            let unit = self.dear_unit();
             match self.draws.below(4) {
                 0 => {
                     if let Some(choice) = self.some_block(|_, choice| choice.park.is_none()) {

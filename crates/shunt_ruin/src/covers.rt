@@ -33,6 +33,14 @@ impl Placed {
         }
     }
 
+    /// What it weighs above its duals.
+    pub(crate) fn above(&self, tables: &Tables) -> i64 {
+        match self.spot {
+            Some(spot) => self.row.reduced.wrapping_add(spot.weight),
+            None => self.row.reduced.wrapping_add(tables.unparked_weight),
+        }
+    }
+
     /// Its option.
     fn park(&self) -> Option<Park> {
         Some(self.spot?.park)

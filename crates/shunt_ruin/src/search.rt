@@ -7,6 +7,9 @@ use crate::tables::{Row, Spot, Tables};
 use crate::yard::Standing;
 use std::alloc::{AllocError, Global};
 
+/// Of that many blocks by chance the one is ruined that weighs most above its duals.
+const DRAWN: usize = 4;
+
 /// A plan under change, with what has gone and come since it was last kept.
 #[derive(Debug, Drop)]
 pub(crate) struct Search {
@@ -151,6 +154,39 @@ impl Search {
         None
     }
 
+    /// What a unit's block weighs above its duals, and the least number where it has none.
+    fn above(&self, tables: &Tables, unit: usize) -> i64 {
+        let first = block_of(&self.covers.units, unit);
+        match self.covers.block(usize::from(first)) {
+            Some(placed) => placed.above(tables),
+            None => i64::MIN,
+        }
+    }
+
+    /// Of some units by chance the one whose block weighs most above its duals.
+    fn dear_unit(&mut self, tables: &Tables) -> usize {
+        let mut dearest = self.some_unit();
+        for _more in 1..DRAWN {
+            let unit = self.some_unit();
+            if self.above(tables, unit) > self.above(tables, dearest) {
+                dearest = unit;
+            }
+        }
+        dearest
+    }
+
+    /// Of some blocks by chance that split or couple the one that weighs most above its duals.
+    fn dear_split(&mut self, tables: &Tables) -> Option<Placed> {
+        let mut dearest = self.some_block(Wanted::Split)?;
+        for _more in 1..DRAWN {
+            let other = self.some_block(Wanted::Split)?;
+            if other.above(tables) > dearest.above(tables) {
+                dearest = other;
+            }
+        }
+        Some(dearest)
+    }
+
     /// One or two tracks by chance are ruined. Err is want of memory.
     fn ruin_tracks(&mut self, tables: &Tables) -> Result<(), AllocError> {
         let many = self.covers.yard.len();
@@ -207,7 +243,7 @@ impl Search {
     /// A longer shape through a block that splits or couples is ruined, and one or two of the tracks of the blocks there. Err is want of
     /// memory.
     fn ruin_split(&mut self, tables: &Tables) -> Result<(), AllocError> {
-        let Some(split) = self.some_block(Wanted::Split) else {
+        let Some(split) = self.dear_split(tables) else {
             return Ok(());
         };
         let Some(row) = self.longer(tables, &split.row) else {
@@ -289,7 +325,7 @@ impl Search {
 
     /// Something small is ruined. Err is want of memory.
     fn ruin_one(&mut self, tables: &Tables) -> Result<(), AllocError> {
-        let unit = self.some_unit();
+        let unit = self.dear_unit(tables);
         match self.draws.below(4) {
             0 => match self.some_block(Wanted::Unparked) {
                 Some(placed) => self.ruin(tables, placed.row.unit),

@@ -105,19 +105,25 @@ pub fn plan(version: Version, files: [&str; 2], nodes: &str, plan_file: &str, ce
     let cost = cost_of(&tables, &plan);
     let most: usize = nodes.parse().expect("a number");
     let first = if version == Version::Second { most.min(FEW) } else { most };
-    let mut tree = Tree::new(&model, ByPrices::new(&model), cases.clone(), sums, plan, cost);
+    let mut tree = Tree::new(&model, ByPrices::new(&model), cases.clone(), sums.clone(), plan, cost);
     let bound = tree.grow(first);
     if bound == tree.cost || first == most {
         let (text, count) = writing::certificate_text(&model, &tree, bound, 1);
         return write(&tables, &tree.plan, [plan_file, certificate_file], &text, (tree.cost, bound, count));
     }
-    let (slots, cases, sums) = cases_with_stacks(&model, &cases, unparked_in(&tree.plan), tree.cost);
-    let (plan, cost) = (tree.plan, tree.cost);
-    let model = Model::new(&tables, slots);
-    let stacks = Stacks::new(&model);
-    let mut tree = Tree::new(&model, ByStacks::new(&stacks), cases, sums, plan, cost);
+    let (slots, more, more_sums) = cases_with_stacks(&model, &cases, unparked_in(&tree.plan), tree.cost);
+    let wide = Model::new(&tables, slots);
+    let stacks = Stacks::new(&wide);
+    let mut other = Tree::new(&wide, ByStacks::new(&stacks), more, more_sums, tree.plan, tree.cost);
+    let reached = other.grow(most);
+    if reached >= bound {
+        let (text, count) = writing::certificate_text(&wide, &other, reached, 2);
+        return write(&tables, &other.plan, [plan_file, certificate_file], &text, (other.cost, reached, count));
+    }
+    // Prices alone bounded more with few nodes, and so they do with all.
+    let mut tree = Tree::new(&model, ByPrices::new(&model), cases, sums, other.plan, other.cost);
     let bound = tree.grow(most);
-    let (text, count) = writing::certificate_text(&model, &tree, bound, 2);
+    let (text, count) = writing::certificate_text(&model, &tree, bound, 1);
     write(&tables, &tree.plan, [plan_file, certificate_file], &text, (tree.cost, bound, count));
 }
 

@@ -187,10 +187,13 @@ fn empty_draft(alloc: Global, instance: &Instance, slots: &[Slot]) -> Result<Dra
     Ok(draft)
 }
 
-// The price of a track whose blocks exceed its length most, but for those that a draft has.
-fn fullest(full: &Scene, work: &Work, draft: &Draft, track: usize) -> Option<Slot> {
+/// Less than what blocks exceed a length by, or come nearest to it.
+const LEAST: Number = Wrapping(i64::MIN);
+
+// The price of a track whose blocks exceed its length most, and by more than this, but for those that a draft has.
+fn fullest(full: &Scene, work: &Work, draft: &Draft, track: usize, least: Number) -> Option<Slot> {
     let mut found = None;
-    let mut most = NOTHING;
+    let mut most = least;
     for (place, slot) in full.slots.iter().enumerate() {
         let over = at(&work.slopes.prices, place);
         if slot.track.0 as usize == track && over > most && !draft.has(slot) {
@@ -214,7 +217,7 @@ fn full_point(alloc: Global, full: &Scene, draft: &Draft) -> Result<Point, Alloc
     })
 }
 
-// Adds for each track the price whose moment is the fullest, where its blocks exceed its length there.
+// Adds for each track the price whose moment is the fullest, where its blocks exceed its length there or the draft has no prices yet.
 fn add_fullest(
     alloc: Global,
     full: &Scene,
@@ -223,11 +226,19 @@ fn add_fullest(
 ) -> Result<(), AllocError> {
     let point = full_point(alloc, full, draft)?;
     work.evaluate(full, EVERY, &point);
+    let least = if draft.prices.is_empty() {
+        LEAST
+    } else {
+        NOTHING
+    };
     for track in 0..full.tracks {
-        if let Some(slot) = fullest(full, work, draft, track) {
+        if let Some(slot) = fullest(full, work, draft, track, least) {
             draft.add(slot)?;
         }
     }
+    draft
+        .prices
+        .sort_unstable_by_key(|price| (price.slot.train.0, price.slot.track.0));
     Ok(())
 }
 
@@ -365,14 +376,25 @@ fn add_parts(
     Ok(())
 }
 
-// Above that many prices only those that cost anything get prices of parts beside them.
-const MANY: usize = 64;
+// Above that many moments only prices that cost anything get prices of parts beside them.
+const MANY: usize = 32;
+
+// At how many moments a scene has prices.
+fn count_moments(alloc: Global, scene: &Scene) -> Result<usize, AllocError> {
+    let mut trains = Vec::with_capacity(alloc, scene.slots.len())?;
+    for slot in &scene.slots {
+        trains.push(slot.train.0)?;
+    }
+    trains.sort_unstable();
+    trains.dedup();
+    Ok(trains.len())
+}
 
 // The draft of a point of a scene, with prices of parts at its moments.
 fn with_parts(alloc: Global, scene: &Scene, point: &Point) -> Result<Draft, AllocError> {
     let mut all = draft_of(alloc, scene, point.copied(alloc)?)?;
     let lengths = lengths_of(alloc, scene)?;
-    let many = scene.slots.len() >= MANY;
+    let many = count_moments(alloc, scene)? > MANY;
     for (slot, value) in scene.slots.iter().zip(&point.prices) {
         if !many || *value > NOTHING {
             add_parts(alloc, &lengths, slot, &mut all)?;

@@ -1,0 +1,17 @@
+mod Sums
+mod Parts
+mod Owned
+mod Filled
+mod Plans
+mod Rises
+mod Priced
+mod Ones
+mod Clashes
+mod Sizes
+mod Listed
+mod Existing
+mod Least
+mod Bounded
+mod Examples
+mod Nests
+mod Best

@@ -1,5 +1,6 @@
 -- The greatest gain by recursion over events is the greatest over all nests.
 use Rattle.std.specs.Prelude.{◌==◌, not, nat_le, ◌&&◌, cond, map, IfSome, Option, Some, None, ◌≤ℤ◌, ◌<ℤ◌}
+use Rattle.std.specs.Option.{IsSomeAnd}
 use Rattle.std.specs.Int.{int_max}
 use Rattle.std.proofs.Common.{◌≡◌, ◌⊎◌, ⊎_elim, inl, inr, ℕ, zero, suc, ◌+◌, ◌-◌, ◌<◌, ◌≤◌, Bool, true, false, List, [], ◌∷◌, ◌++◌, ℤ, pos, ◌+ℤ◌, refl, sym, subst, ap, ◌∙◌, arith}
 use Rattle.std.proofs.lemmas.Int.{ints, clamps, by_lt_z}
@@ -26,8 +27,7 @@ le_from m n e = grind (arith, nat_tests)
 -- ---- at least that much
 
 abbrev pub AtLeast : Option ℤ → ℤ → Type 0
-AtLeast None z = ⊥
-AtLeast (Some g) z = z ≤ℤ g
+AtLeast o z = IsSomeAnd o (λ g. z ≤ℤ g)
 
 greater_left : (a b : Option ℤ) (z : ℤ) → AtLeast a z → AtLeast (greater a b) z
 greater_left None b z h = absurd h

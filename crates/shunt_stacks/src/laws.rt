@@ -1,8 +1,12 @@
 //! What follows from the definitions of this crate.
-ghost use Rattle.std.specs.Prelude.{Option, true, None, Some, pos, ◌≡◌, ◌↔◌, ◌<◌, ◌≤◌, ℕ, ℤ, ◌+ℤ◌, ◌≤ℤ◌, IsTrue, All, List, [], ◌∷◌, ◌++◌, length};
+ghost use Rattle.std.specs.Prelude.{Option, IfSome, true, None, Some, pos, ◌≡◌, ◌↔◌, ◌<◌, ◌≤◌, ◌+◌, ℕ, ℤ, ◌+ℤ◌, ◌≤ℤ◌, IsTrue, All, List, [], ◌∷◌, ◌++◌, length};
+ghost use Rattle.std.specs.Option.{IsSomeAnd};
 ghost use Rattle.shunt_lists.specs.defs.Members.{In};
+ghost use Rattle.shunt_base.specs.declared.ids.Side.{Side};
+ghost use Rattle.shunt_base.specs.declared.keys.Stay.{Stay};
+ghost use Rattle.shunt_base.specs.defs.Keys.{IsBefore};
 ghost use Rattle.shunt_base.specs.declared.duals.Case.{Case};
-ghost use Rattle.shunt_stays.specs.defs.Crossing.{NoneCross, NoneOver};
+ghost use Rattle.shunt_stays.specs.defs.Crossing.{Crosses, NoneCross, NoneOver};
 ghost use Rattle.shunt_instance.specs.declared.records.Station.{Station};
 ghost use Rattle.shunt_instance.specs.defs.Words.{is_open_at};
 ghost use Rattle.shunt_instance.specs.defs.Wellformed.{IsStation};
@@ -22,6 +26,7 @@ ghost use Rattle.shunt_prices.specs.defs.Bounds.{case_sum, IsCasesBound};
 ghost use Rattle.shunt_stacks.specs.defs.Stacks.{Stack, stacks, is_of, blocks_of, stack_of};
 ghost use Rattle.shunt_stacks.specs.defs.Fillings.{gain, gain_of, IsFilling, IsStackGain};
 ghost use Rattle.shunt_stacks.specs.defs.Cases.{StackCasesHold};
+ghost use Rattle.shunt_stacks.specs.defs.Spans.{IsBy, Span, IsNest, AreOwn, gain_of_spans, best};
 ghost use Rattle.shunt_stacks.specs.defs.Bounds.{AreStackGains, IsStackSum, IsChoiceSum, IsStackBound, IsChoiceBound};
 
 use shunt_blocks::laws::{
@@ -197,3 +202,19 @@ pub fn gains_there()
     ids_do_not_matter();
     choices();
 }
+
+/// Two stays by one side of one track cross exactly where the second comes while the first stands, and the first leaves first. So those
+/// that don't are nested or apart in the order of events.
+pub fn nested_stays()
+    ensures crosses { (side : Side) (b c : Stay) → b.track.0 ≡ c.track.0 → IsBy side b → IsBy side c →
+        Crosses b c ↔ IsBefore b.enter c.enter × IsBefore c.enter b.leave × IsBefore b.leave c.leave }
+{}
+
+/// Of spans whose events are their own, the greatest gain by recursion over the events is the greatest over all nests: no nest gains
+/// more, and where there is one, some nest gains that.
+pub fn nests()
+    ensures most { (fixed free spans : List Span) (n x y room : ℕ) → AreOwn fixed free → y ≤ x + n → IsNest fixed free x y room spans →
+        IsSomeAnd (best n fixed free x y room) (λ g. gain_of_spans spans ≤ℤ g) }
+    ensures reached { (fixed free : List Span) (n x y room : ℕ) → AreOwn fixed free → y ≤ x + n →
+        IfSome (best n fixed free x y room) (λ g. (spans : List Span) × IsNest fixed free x y room spans × (gain_of_spans spans ≡ g)) }
+{}

@@ -3,7 +3,14 @@ use Rattle.std.specs.Prelude.{◌≡◌, ◌⊎◌, ℕ, zero, suc, ◌+◌, ◌
 use Rattle.std.specs.List.{AllByRecursion}
 use Rattle.std.specs.Int.{int_max}
 use Rattle.shunt_lists.specs.defs.Members.{In}
+use Rattle.shunt_base.specs.declared.ids.Side.{Side}
+use Rattle.shunt_base.specs.declared.keys.Stay.{Stay}
 use Rattle.shunt_prices.specs.defs.Sums.{sum_z}
+
+-- it comes and goes by a side
+pub record IsBy (side : Side) (s : Stay) : Type 0 where
+  pub comes : s.side_in ≡ side
+  pub goes : s.side_out ≡ side
 
 -- what a block takes of the events in their order: its entries are those from `from` on and before `inside`, its leaves those from
 -- `until` on and before `past`; how long it is, and what it gains

@@ -1,0 +1,8 @@
+use Rattle.shunt_stacks.proofs.Best.{up, down}
+use Rattle.shunt_stacks.proofs.laws.nests.Goals as goal
+
+pub returns : goal.returns
+returns c = record {
+  most = λ fixed free spans n x y room own le nest. up fixed free own n x y room spans le nest;
+  reached = λ fixed free n x y room own le. down fixed free own n x y room le;
+}

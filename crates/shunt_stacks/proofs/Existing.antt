@@ -25,6 +25,7 @@ use Rattle.shunt_choices.proofs.Given.{PlaceLaws, is_within, each_one}
 use Rattle.shunt_choices.proofs.Trails.{has_from, has_position_from}
 use Rattle.shunt_stacks.specs.defs.Stacks.{Stack, is_of, blocks_of}
 use Rattle.shunt_stacks.specs.defs.Fillings.{gain, gain_of, IsFilling, IsStackGain}
+use Rattle.shunt_stacks.specs.defs.Numbers.{AreFreeOf}
 use Rattle.shunt_stacks.proofs.Sums.{from_members}
 use Rattle.shunt_stacks.proofs.Parts.{IsFreeAt, is_block}
 use Rattle.shunt_stacks.proofs.Listed.{in_range, of_range, lists_of, in_lists, of_lists, greatest}
@@ -65,7 +66,7 @@ bare_gain night c (b ∷ blocks) = next (gain night c b) _ _ (bare_gain night c 
 
 -- ---- all free blocks without ids
 
-abbrev frees : Night → List Block → List Block
+abbrev pub frees : Night → List Block → List Block
 frees night path = flat_map (λ u. map (chosen 0) (choices_of night (masks_of night path) u)) (range_with_len 0 (unit_total night))
 
 module _ (places : PlaceLaws) (choices : ChoiceLaw) (few : FewLaw) (night : Night) (i : IsInstance night) (path : List Block) where
@@ -167,6 +168,17 @@ module _ (places : PlaceLaws) (choices : ChoiceLaw) (few : FewLaw) (night : Nigh
             (all_pass (unit_total night) (λ u. nat_le (times_unit night (bare l) u) 1) (λ u lt. to_low (times_unit night (bare l) u) (omega (arith, bare_units night l u, fill.apart.units u))))
             (all_pass (position_total night) (λ v. nat_le (times_position night (bare l) v) 1) (λ v lt. to_low (times_position night (bare l) v) (omega (arith, bare_positions night l v, fill.apart.positions v)))))
             (subst (λ (bs : List Block). GoesThrough (track_lengths night.station) (stays_of night bs)) (sym (bare_placed 1 (blocks_of stack path) l)) fill.through)
+
+    -- ---- all free blocks of the stack
+
+    pub frees_are : AreFreeOf night path stack (blocks_of stack (frees night path))
+    frees_are =
+        let owned_by = λ (x : Block). is_of stack x.park in
+        record {
+          own = from_members (λ (b : Block). is_of stack b.park ≡ true) owned (λ b there. (filter_from owned_by (frees night path) b there).1);
+          free = from_members (IsFreeAt night path) owned (λ b there. of_frees b (filter_from owned_by (frees night path) b there).0);
+          every = λ b of free. (without_id b, filter_to owned_by (frees night path) (without_id b) (in_frees b free) of, refl);
+        }
 
     -- ---- the greatest gain
 

@@ -15,3 +15,8 @@ mod Bounded
 mod Examples
 mod Nests
 mod Best
+mod Keyed
+mod Pairs
+mod Spanned
+mod Tied
+mod Numbered

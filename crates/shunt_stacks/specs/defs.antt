@@ -4,3 +4,4 @@ pub mod Fillings
 pub mod Cases
 pub mod Bounds
 pub mod Spans
+pub mod Numbers

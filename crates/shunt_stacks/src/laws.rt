@@ -20,6 +20,7 @@ ghost use Rattle.shunt_blocks.specs.defs.Lists.{ShareNothing, RunsThrough, place
 ghost use Rattle.shunt_blocks.specs.defs.Pins.{Keeps};
 ghost use Rattle.shunt_choices.specs.defs.Paths.{masks_of};
 ghost use Rattle.shunt_prices.specs.defs.Sums.{sum_z, IsWithin};
+ghost use Rattle.shunt_prices.specs.defs.Prices.{track_length};
 ghost use Rattle.shunt_prices.specs.defs.Limits.{IsCase, AreCases, case_at};
 ghost use Rattle.shunt_prices.specs.defs.Cases.{IsFreeBlock, HoldsInCase, CasesHold};
 ghost use Rattle.shunt_prices.specs.defs.Bounds.{case_sum, IsCasesBound};
@@ -27,13 +28,14 @@ ghost use Rattle.shunt_stacks.specs.defs.Stacks.{Stack, stacks, is_of, blocks_of
 ghost use Rattle.shunt_stacks.specs.defs.Fillings.{gain, gain_of, IsFilling, IsStackGain};
 ghost use Rattle.shunt_stacks.specs.defs.Cases.{StackCasesHold};
 ghost use Rattle.shunt_stacks.specs.defs.Spans.{IsBy, Span, IsNest, AreOwn, gain_of_spans, best};
+ghost use Rattle.shunt_stacks.specs.defs.Numbers.{IsNumbering, entry_number, leave_number, fixed_spans, free_spans, AreFreeOf};
 ghost use Rattle.shunt_stacks.specs.defs.Bounds.{AreStackGains, IsStackSum, IsChoiceSum, IsStackBound, IsChoiceBound};
 
 use shunt_blocks::laws::{
-    feasible_lists, few_blocks, ids_do_not_matter, places, shapes, stays_of_blocks,
+    feasible_lists, few_blocks, ids_do_not_matter, places, shapes, stays, stays_of_blocks,
 };
 use shunt_choices::laws::{choices, held_choices};
-use shunt_instance::laws::{instances, unit_numbers};
+use shunt_instance::laws::{instances, rooms_of_trains, unit_numbers};
 use shunt_prices::laws::{bounds, longer_paths, room};
 use shunt_stays::laws::clash_law;
 
@@ -218,3 +220,25 @@ pub fn nests()
     ensures reached { (fixed free : List Span) (n x y room : ℕ) → AreOwn fixed free → y ≤ x + n →
         IfSome (best n fixed free x y room) (λ g. (spans : List Span) × IsNest fixed free x y room spans × (gain_of_spans spans ≡ g)) }
 {}
+
+/// The gain of a stack is the greatest gain of spans, by recursion over the night's events, whatever numbers these have that rise in their
+/// order: with the spans of the path's blocks of the stack fixed, and those of its free blocks free, in the length of the track. Each
+/// night has such numbers, and each stack a list of its free blocks.
+pub fn gains_by_events()
+    ensures gain { (night : Night) (path blocks : List Block) (c : Case) (stack : Stack) (events : ℕ) (entry leave : ℕ → ℕ) (most : ℤ) → IsInstance night →
+        All (IsBlockButId night) path → ShareNothing night path → IsNumbering night events entry leave → AreFreeOf night path stack blocks →
+        best events (fixed_spans night entry leave (blocks_of stack path)) (free_spans night entry leave c blocks) 0 events (track_length night stack.track.0) ≡ Some most ↔ IsStackGain night path c stack most }
+    ensures numbers { (night : Night) → IsInstance night → IsNumbering night 5760000 (entry_number night) (leave_number night) }
+    ensures blocks { (night : Night) (path : List Block) (stack : Stack) → IsInstance night → (blocks : List Block) × AreFreeOf night path stack blocks }
+{
+    instances();
+    unit_numbers();
+    rooms_of_trains();
+    places();
+    shapes();
+    stays();
+    stays_of_blocks();
+    few_blocks();
+    choices();
+    clash_law();
+}

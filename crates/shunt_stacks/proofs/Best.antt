@@ -80,7 +80,8 @@ fixed_up : (fixed free : List Span) (without : Option ℤ) (value : Span → Opt
 fixed_up [] free without value s z i h = absurd i
 fixed_up (f ∷ fixed) free without value s z i h = most_up (map value (f ∷ fixed)) (value s) z (in_map value (f ∷ fixed) s i) h
 
-free_up : (fixed free : List Span) (without : Option ℤ) (value : Span → Option ℤ) (s : Span) (z : ℤ) → ((f : Span) → In f fixed → ⊥) → In s free → AtLeast (value s) z → AtLeast (best_at fixed free without value) z
+free_up : (fixed free : List Span) (without : Option ℤ) (value : Span → Option ℤ) (s : Span) (z : ℤ) → ((f : Span) → In f fixed → ⊥) → In s free → AtLeast (value s) z
+    → AtLeast (best_at fixed free without value) z
 free_up [] free without value s z bare i h = greater_right without (greatest_of (map value free)) z (most_up (map value free) (value s) z (in_map value free s i) h)
 free_up (f ∷ fixed) free without value s z bare i h = absurd (bare f (inl refl))
 
@@ -95,22 +96,29 @@ at_down P (f ∷ fixed) free without value h k = values_down P value (f ∷ fixe
 
 -- ---- one step
 
-step_up : (rest : ℕ → ℕ → ℕ → Option ℤ) (fixed free : List Span) (x y room : ℕ) (z : ℤ) → x < y → AtLeast (best_at (coming_at x fixed) (coming_at x free) (rest (x + 1) y room) (best_with rest y room)) z → AtLeast (best_step rest fixed free x y room) z
-step_up rest fixed free x y room z lt h = subst (λ (b : Bool). AtLeast (cond b (Some (pos 0)) (best_at (coming_at x fixed) (coming_at x free) (rest (x + 1) y room) (best_with rest y room))) z) (sym (no_le y x lt)) h
+step_up : (rest : ℕ → ℕ → ℕ → Option ℤ) (fixed free : List Span) (x y room : ℕ) (z : ℤ) → x < y
+    → AtLeast (best_at (coming_at x fixed) (coming_at x free) (rest (x + 1) y room) (best_with rest y room)) z → AtLeast (best_step rest fixed free x y room) z
+step_up rest fixed free x y room z lt h =
+    subst (λ (b : Bool). AtLeast (cond b (Some (pos 0)) (best_at (coming_at x fixed) (coming_at x free) (rest (x + 1) y room) (best_with rest y room))) z) (sym (no_le y x lt)) h
 
 step_end : (rest : ℕ → ℕ → ℕ → Option ℤ) (fixed free : List Span) (x y room : ℕ) (P : Option ℤ → Type 0) → y ≤ x → P (Some (pos 0)) → P (best_step rest fixed free x y room)
-step_end rest fixed free x y room P le h = subst (λ (b : Bool). P (cond b (Some (pos 0)) (best_at (coming_at x fixed) (coming_at x free) (rest (x + 1) y room) (best_with rest y room)))) (sym (yes_le y x le)) h
+step_end rest fixed free x y room P le h =
+    subst (λ (b : Bool). P (cond b (Some (pos 0)) (best_at (coming_at x fixed) (coming_at x free) (rest (x + 1) y room) (best_with rest y room)))) (sym (yes_le y x le)) h
 
-step_down : (P : ℤ → Type 0) (rest : ℕ → ℕ → ℕ → Option ℤ) (fixed free : List Span) (x y room : ℕ) → x < y → IfSome (best_at (coming_at x fixed) (coming_at x free) (rest (x + 1) y room) (best_with rest y room)) P → IfSome (best_step rest fixed free x y room) P
-step_down P rest fixed free x y room lt h = subst (λ (b : Bool). IfSome (cond b (Some (pos 0)) (best_at (coming_at x fixed) (coming_at x free) (rest (x + 1) y room) (best_with rest y room))) P) (sym (no_le y x lt)) h
+step_down : (P : ℤ → Type 0) (rest : ℕ → ℕ → ℕ → Option ℤ) (fixed free : List Span) (x y room : ℕ) → x < y
+    → IfSome (best_at (coming_at x fixed) (coming_at x free) (rest (x + 1) y room) (best_with rest y room)) P → IfSome (best_step rest fixed free x y room) P
+step_down P rest fixed free x y room lt h =
+    subst (λ (b : Bool). IfSome (cond b (Some (pos 0)) (best_at (coming_at x fixed) (coming_at x free) (rest (x + 1) y room) (best_with rest y room))) P) (sym (no_le y x lt)) h
 
-with_up : (rest : ℕ → ℕ → ℕ → Option ℤ) (y room : ℕ) (s : Span) (a b : ℤ) → s.past ≤ y → s.length ≤ room → AtLeast (rest s.inside s.until (room - s.length)) a → AtLeast (rest s.past y room) b → AtLeast (best_with rest y room s) (s.gain +ℤ (a +ℤ b))
+with_up : (rest : ℕ → ℕ → ℕ → Option ℤ) (y room : ℕ) (s : Span) (a b : ℤ) → s.past ≤ y → s.length ≤ room → AtLeast (rest s.inside s.until (room - s.length)) a
+    → AtLeast (rest s.past y room) b → AtLeast (best_with rest y room s) (s.gain +ℤ (a +ℤ b))
 with_up rest y room s a b past long h k =
     let sum = plus (Some s.gain) (plus (rest s.inside s.until (room - s.length)) (rest s.past y room)) in
     subst (λ (t : Bool). AtLeast (cond t sum None) (s.gain +ℤ (a +ℤ b))) (sym (and_from (nat_le s.past y) (nat_le s.length room) (yes_le s.past y past) (yes_le s.length room long)))
     (plus_up (Some s.gain) (plus (rest s.inside s.until (room - s.length)) (rest s.past y room)) s.gain (a +ℤ b) (omega (arith, ints)) (plus_up (rest s.inside s.until (room - s.length)) (rest s.past y room) a b h k))
 
-with_down : (P Q R : ℤ → Type 0) (rest : ℕ → ℕ → ℕ → Option ℤ) (y room : ℕ) (s : Span) → (s.past ≤ y → s.length ≤ room → IfSome (rest s.inside s.until (room - s.length)) P × IfSome (rest s.past y room) Q)
+with_down : (P Q R : ℤ → Type 0) (rest : ℕ → ℕ → ℕ → Option ℤ) (y room : ℕ) (s : Span)
+    → (s.past ≤ y → s.length ≤ room → IfSome (rest s.inside s.until (room - s.length)) P × IfSome (rest s.past y room) Q)
     → (s.past ≤ y → s.length ≤ room → (a b : ℤ) → P a → Q b → R (s.gain +ℤ (a +ℤ b))) → IfSome (best_with rest y room s) R
 with_down P Q R rest y room s parts both = at (nat_le s.past y && nat_le s.length room) refl
   where
@@ -156,7 +164,8 @@ module _ (fixed free : List Span) (own : AreOwn fixed free) where
   -- ---- no nest gains more
 
   none_here : (x y room : ℕ) (spans : List Span) → y ≤ x → Nest x y room spans → gain_of_spans spans ≤ℤ pos 0
-  none_here x y room spans le nest = sum_z-low (λ (s : Span). s.gain) spans (λ s i. let b = nest.between s i in let a = own.spans s (nest.of s i) in absurd (omega (arith, le, b.0, b.1, a.enters, a.stays, a.leaves)))
+  none_here x y room spans le nest =
+      sum_z-low (λ (s : Span). s.gain) spans (λ s i. let b = nest.between s i in let a = own.spans s (nest.of s i) in absurd (omega (arith, le, b.0, b.1, a.enters, a.stays, a.leaves)))
 
   later : (x y room : ℕ) (spans : List Span) → Nest x y room spans → ((s : Span) → In s spans → s.from ≡ x → ⊥) → Nest (x + 1) y room spans
   later x y room spans nest none = record {
@@ -211,8 +220,10 @@ module _ (fixed free : List Span) (own : AreOwn fixed free) where
     long : s.length ≤ room
     long = let a = are s there in omega (arith, nest.fits s there, load_own spans s s there (stands s s (omega arith) (omega (arith, a.enters, a.stays, a.leaves))))
 
-    gain_up : (rest : ℕ → ℕ → ℕ → Option ℤ) → AtLeast (rest s.inside s.until (room - s.length)) (gain_of_spans (inner s spans)) → AtLeast (rest s.past y room) (gain_of_spans (outer s spans)) → AtLeast (best_with rest y room s) (gain_of_spans spans)
-    gain_up rest h k = subst (AtLeast (best_with rest y room s)) (sym (split spans nest.nested are s there first)) (with_up rest y room s (gain_of_spans (inner s spans)) (gain_of_spans (outer s spans)) (nest.between s there).1 long h k)
+    gain_up : (rest : ℕ → ℕ → ℕ → Option ℤ) → AtLeast (rest s.inside s.until (room - s.length)) (gain_of_spans (inner s spans))
+        → AtLeast (rest s.past y room) (gain_of_spans (outer s spans)) → AtLeast (best_with rest y room s) (gain_of_spans spans)
+    gain_up rest h k =
+        subst (AtLeast (best_with rest y room s)) (sym (split spans nest.nested are s there first)) (with_up rest y room s (gain_of_spans (inner s spans)) (gain_of_spans (outer s spans)) (nest.between s there).1 long h k)
 
     -- a fixed one that comes there is this one
     is_fixed : (f : Span) → In f fixed → f.from ≡ x → f ≡ s
@@ -341,7 +352,8 @@ module _ (fixed free : List Span) (own : AreOwn fixed free) where
   summed : (s : Span) (inside behind : List Span) (g f : ℤ) → gain_of_spans inside ≡ g → gain_of_spans behind ≡ f → gain_of_spans (s ∷ inside ++ behind) ≡ s.gain +ℤ (g +ℤ f)
   summed s inside behind g f e d = ap (λ (z : ℤ). s.gain +ℤ z) (sum_z-append (λ (t : Span). t.gain) inside behind ∙ ap (λ (z : ℤ). z +ℤ gain_of_spans behind) e ∙ ap (λ (z : ℤ). g +ℤ z) d)
 
-  with_span : (n x y room : ℕ) → y ≤ x + suc n → Down n → (s : Span) → In s fixed ⊎ In s free → s.from ≡ x → ((f : Span) → In f fixed → f.from ≡ x → f ≡ s) → IfSome (best_with (best n fixed free) y room s) (Reached x y room)
+  with_span : (n x y room : ℕ) → y ≤ x + suc n → Down n → (s : Span) → In s fixed ⊎ In s free → s.from ≡ x → ((f : Span) → In f fixed → f.from ≡ x → f ≡ s)
+      → IfSome (best_with (best n fixed free) y room s) (Reached x y room)
   with_span n x y room le known s of here alone =
       let a = own.spans s of in
       with_down (Reached s.inside s.until (room - s.length)) (Reached s.past y room) (Reached x y room) (best n fixed free) y room s
@@ -364,3 +376,24 @@ module _ (fixed free : List Span) (own : AreOwn fixed free) where
       (λ lt. stepped n x y room le lt (λ v w r more. down n v w r more))
       (λ ge. step_end (best n fixed free) fixed free x y room (λ o. IfSome o (Reached x y room)) ge ([], nothing x y room ge, refl))
       (cases_lt x y)
+
+  -- ---- how many events may be looked at is nothing, where they are enough
+
+  one_of : (o p : Option ℤ) → IfSome o (AtLeast p) → IfSome p (AtLeast o) → o ≡ p
+  one_of None None h k = refl
+  one_of None (Some y) h k = absurd k
+  one_of (Some x) None h k = absurd h
+  one_of (Some x) (Some y) h k = ap Some (even x y h k)
+    where
+      even : (x y : ℤ) → x ≤ℤ y → y ≤ℤ x → x ≡ y
+      even x y le ge = omega (arith, ints, le, ge)
+
+  no_more_than : (n m x y room : ℕ) → y ≤ x + n → y ≤ x + m → IfSome (best n fixed free x y room) (AtLeast (best m fixed free x y room))
+  no_more_than n m x y room le few = each (best n fixed free x y room) (down n x y room le)
+    where
+      each : (o : Option ℤ) → IfSome o (Reached x y room) → IfSome o (AtLeast (best m fixed free x y room))
+      each None h = tt
+      each (Some g) h = subst (AtLeast (best m fixed free x y room)) h.2 (up m x y room h.0 few h.1)
+
+  pub any_number : (n m x y room : ℕ) → y ≤ x + n → y ≤ x + m → best n fixed free x y room ≡ best m fixed free x y room
+  any_number n m x y room le few = one_of (best n fixed free x y room) (best m fixed free x y room) (no_more_than n m x y room le few) (no_more_than m n x y room few le)

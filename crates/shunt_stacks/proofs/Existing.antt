@@ -96,7 +96,8 @@ module _ (places : PlaceLaws) (choices : ChoiceLaw) (few : FewLaw) (night : Nigh
     -- ---- whether a list of such blocks is a filling
 
     abbrev test : List Block → Bool
-    test l = (all_below (unit_total night) (λ u. nat_le (times_unit night l u) 1) && all_below (position_total night) (λ v. nat_le (times_position night l v) 1)) && runs_placed night (blocks_of stack path ++ l)
+    test l =
+        (all_below (unit_total night) (λ u. nat_le (times_unit night l u) 1) && all_below (position_total night) (λ v. nat_le (times_position night l v) 1)) && runs_placed night (blocks_of stack path ++ l)
 
     abbrev owned : List Block
     owned = blocks_of stack (frees night path)
@@ -171,13 +172,13 @@ module _ (places : PlaceLaws) (choices : ChoiceLaw) (few : FewLaw) (night : Nigh
 
     -- ---- all free blocks of the stack
 
-    pub frees_are : AreFreeOf night path stack (blocks_of stack (frees night path))
-    frees_are =
+    pub frees_are : (c : Case) → AreFreeOf night path c stack (blocks_of stack (frees night path))
+    frees_are c =
         let owned_by = λ (x : Block). is_of stack x.park in
         record {
           own = from_members (λ (b : Block). is_of stack b.park ≡ true) owned (λ b there. (filter_from owned_by (frees night path) b there).1);
           free = from_members (IsFreeAt night path) owned (λ b there. of_frees b (filter_from owned_by (frees night path) b there).0);
-          every = λ b of free. (without_id b, filter_to owned_by (frees night path) (without_id b) (in_frees b free) of, refl);
+          every = λ b of free gains room. (without_id b, filter_to owned_by (frees night path) (without_id b) (in_frees b free) of, refl);
         }
 
     -- ---- the greatest gain
@@ -185,7 +186,8 @@ module _ (places : PlaceLaws) (choices : ChoiceLaw) (few : FewLaw) (night : Nigh
     pub gain_there : (c : Case) → IsFilling night path stack [] → (most : ℤ) × IsStackGain night path c stack most
     gain_there c none = found fillings (in_fillings [] none) (λ l there. is_filling l there) (λ l fill. in_fillings l fill)
       where
-        found : (ls : List (List Block)) → In [] ls → ((l : List Block) → In l ls → IsFilling night path stack l) → ((l : List Block) → IsFilling night path stack l → In (bare l) ls) → (most : ℤ) × IsStackGain night path c stack most
+        found : (ls : List (List Block)) → In [] ls → ((l : List Block) → In l ls → IsFilling night path stack l)
+            → ((l : List Block) → IsFilling night path stack l → In (bare l) ls) → (most : ℤ) × IsStackGain night path c stack most
         found [] there are all = absurd there
         found (l ∷ ls) there are all =
             let g = greatest (gain_of night c) l ls in

@@ -137,7 +137,8 @@ pub inner_to : (s : Span) (spans : List Span) (t : Span) → In t spans → s.in
 inner_to s spans t i low high = filter_to (is_inside s) spans t i (inside_to s t low high)
 
 pub outer_to : (s : Span) (spans : List Span) (t : Span) → In t spans → s.past ≤ t.from → IsSpan s → IsSpan t → In t (outer s spans)
-outer_to s spans t i le a b = filter_to (is_behind s) (beyond s spans) t (filter_to (λ u. not (is_inside s u)) spans t i (ap not (out (is_inside s t) (λ e. let h = inside_from s t e in absurd (omega (arith, le, h.1, a.leaves, b.enters, b.stays, b.leaves)))))) (behind_to s t le)
+outer_to s spans t i le a b =
+    filter_to (is_behind s) (beyond s spans) t (filter_to (λ u. not (is_inside s u)) spans t i (ap not (out (is_inside s t) (λ e. let h = inside_from s t e in absurd (omega (arith, le, h.1, a.leaves, b.enters, b.stays, b.leaves)))))) (behind_to s t le)
   where
     out : (b : Bool) → (b ≡ true → ⊥) → b ≡ false
     out true never = absurd (never refl)

@@ -33,8 +33,10 @@ use Rattle.shunt_stacks.proofs.Keyed.{Ordered, by_minute, by_train, by_place, by
 -- what the laws of the crates below say
 pub record EventLaws : Type 0 where
   pub places : PlaceLaws
-  pub unit : (night : Night) (s : Shape) (k : ℕ) → AreRunsWithin night s → k < s.n → unit_at night (unit_from night s + k) ≡ make_unit s.arr.0 (s.p + k) (kind_at (train_at night.arrive s.arr.0) (s.p + k))
-  pub position : (night : Night) (s : Shape) (k : ℕ) → AreRunsWithin night s → k < s.n → position_at night (position_from night s + k) ≡ make_position s.dep.0 (s.q + k) (kind_at (train_at night.depart s.dep.0) (s.q + k))
+  pub unit : (night : Night) (s : Shape) (k : ℕ) → AreRunsWithin night s → k < s.n
+      → unit_at night (unit_from night s + k) ≡ make_unit s.arr.0 (s.p + k) (kind_at (train_at night.arrive s.arr.0) (s.p + k))
+  pub position : (night : Night) (s : Shape) (k : ℕ) → AreRunsWithin night s → k < s.n
+      → position_at night (position_from night s + k) ≡ make_position s.dep.0 (s.q + k) (kind_at (train_at night.depart s.dep.0) (s.q + k))
   pub opened : (night : Night) → IsInstance night → IsOrderedNight night
   pub behind : (trains : List Train) (i j : ℕ) → i < j → i < length trains → unit_count (take i trains) + length (train_at trains i).units ≤ unit_count (take j trains)
   pub formed : (night : Night) (b : Block) → IsInstance night → IsWithinTrains night b → b.id < 2 ^ 32 → IfSome (stay_of night b) IsWellFormed
@@ -156,7 +158,8 @@ module _ (laws : EventLaws) (night : Night) (i : IsInstance night) (stack : Stac
 
   -- the one comes while the other stands, or after it has left
   while_there : (x y : Block) → IsBlockButId night x → IsBlockButId night y → comes y < goes x → (k j : ℕ) → k < y.n → j < x.n → entry (first_unit_of y + k) < leave (first_position_of x + j)
-  while_there x y a b lt k j p q = num.entry_first (first_unit_of y + k) (first_position_of x + j) (unit_in y b k p) (position_in x a j q) (omega (arith, arrives_then y b k p, departs_then x a j q, lt))
+  while_there x y a b lt k j p q =
+      num.entry_first (first_unit_of y + k) (first_position_of x + j) (unit_in y b k p) (position_in x a j q) (omega (arith, arrives_then y b k p, departs_then x a j q, lt))
 
   after_it : (x y : Block) → IsBlockButId night x → IsBlockButId night y → goes x ≤ comes y → (k j : ℕ) → k < y.n → j < x.n → leave (first_position_of x + j) < entry (first_unit_of y + k)
   after_it x y a b le k j p q = num.leave_first (first_unit_of y + k) (first_position_of x + j) (unit_in y b k p) (position_in x a j q) (omega (arith, arrives_then y b k p, departs_then x a j q, le))
@@ -299,13 +302,15 @@ module _ (laws : EventLaws) (night : Night) (i : IsInstance night) (stack : Stac
   turned s t (inr (inl e)) = inr (inr e)
   turned s t (inr (inr e)) = inr (inl e)
 
-  pub nested_from : (x y : Block) → IsBlockButId night x → IsBlockButId night y → AreApart night x y → (Crosses (stay x) (stay y) → ⊥) → (Crosses (stay y) (stay x) → ⊥) → AreNested (span_of night entry leave (λ z. pos 0) x) (span_of night entry leave (λ z. pos 0) y)
+  pub nested_from : (x y : Block) → IsBlockButId night x → IsBlockButId night y → AreApart night x y → (Crosses (stay x) (stay y) → ⊥) → (Crosses (stay y) (stay x) → ⊥)
+      → AreNested (span_of night entry leave (λ z. pos 0) x) (span_of night entry leave (λ z. pos 0) y)
   nested_from x y a b apart never neither = ⊎_elim
       (λ c. half x y a b apart c never)
       (λ c. turned (span y) (span x) (half y x b a (record { units = λ u p q. apart.units u q p; positions = λ v p q. apart.positions v q p }) c neither))
       (comes_either x y a b apart)
 
-  pub no_cross : (x y : Block) → IsBlockButId night x → IsBlockButId night y → AreApart night x y → AreNested (span_of night entry leave (λ z. pos 0) x) (span_of night entry leave (λ z. pos 0) y) → Crosses (stay x) (stay y) → ⊥
+  pub no_cross : (x y : Block) → IsBlockButId night x → IsBlockButId night y → AreApart night x y
+      → AreNested (span_of night entry leave (λ z. pos 0) x) (span_of night entry leave (λ z. pos 0) y) → Crosses (stay x) (stay y) → ⊥
   no_cross x y a b apart nested k = ⊎_elim
       (λ c. ⊎_elim
       (λ lt. ⊎_elim (λ l. apart_numbers c lt l nested) (λ l. not_blocked l k.blocked) (leaves_either x y a b apart))
@@ -314,7 +319,9 @@ module _ (laws : EventLaws) (night : Night) (i : IsInstance night) (stack : Stac
       (λ c. less_not_more (sym k.after ∙ c.keys.more))
       (comes_either x y a b apart)
     where
-      not_blocked : LeavesFirst y x → (ComesBefore (leave_key night y) (leave_key night x) × (stack.side ≢ stack.side)) ⊎ (ComesBefore (leave_key night x) (leave_key night y) × (stack.side ≡ stack.side)) → ⊥
+      not_blocked : LeavesFirst y x
+          → (ComesBefore (leave_key night y) (leave_key night x) × (stack.side ≢ stack.side)) ⊎ (ComesBefore (leave_key night x) (leave_key night y) × (stack.side ≡ stack.side))
+          → ⊥
       not_blocked l (inl h) = h.1 refl
       not_blocked l (inr h) = less_not_more (sym h.0 ∙ l.keys.more)
 
@@ -335,13 +342,15 @@ module _ (laws : EventLaws) (night : Night) (i : IsInstance night) (stack : Stac
       (comes_either x y a b apart)
 
   -- and at no event of another
-  pub not_between : (x y : Block) → IsBlockButId night x → IsBlockButId night y → AreApart night x y → entry (first_unit_of x) < entry (first_unit_of y) → entry (first_unit_of y) < entry (first_unit_of x + (x.n - 1)) + 1 → ⊥
+  pub not_between : (x y : Block) → IsBlockButId night x → IsBlockButId night y → AreApart night x y → entry (first_unit_of x) < entry (first_unit_of y)
+      → entry (first_unit_of y) < entry (first_unit_of x + (x.n - 1)) + 1 → ⊥
   not_between x y a b apart low high = ⊎_elim
       (λ c. omega (arith, high, first_inside x y a b c))
       (λ c. omega (arith, low, first_inside y x b a c, later_entry y b (y.n - 1) (last y b)))
       (comes_either x y a b apart)
 
-  pub not_leaving : (x y : Block) → IsBlockButId night x → IsBlockButId night y → leave (first_position_of x + (x.n - 1)) ≤ entry (first_unit_of y) → entry (first_unit_of y) < leave (first_position_of x) + 1 → ⊥
+  pub not_leaving : (x y : Block) → IsBlockButId night x → IsBlockButId night y → leave (first_position_of x + (x.n - 1)) ≤ entry (first_unit_of y)
+      → entry (first_unit_of y) < leave (first_position_of x) + 1 → ⊥
   not_leaving x y a b low high = ⊎_elim
       (λ lt. let there = subst (λ (u : ℕ). entry u < leave (first_position_of x + (x.n - 1))) (plus_none (first_unit_of y)) (while_there x y a b lt 0 (x.n - 1) (zero_in y b) (last x a)) in omega (arith, low, there))
       (λ ge. omega (arith, high, first_after x y a b ge))
@@ -393,7 +402,8 @@ module _ (laws : EventLaws) (night : Night) (i : IsInstance night) (stack : Stac
       let same = ap entry k.2 in
       (omega (arith, same, later_entry b is k.0 k.1), omega (arith, same, rises_to_last b is k.0 k.1))
 
-  position_between : (b : Block) → IsBlockButId night b → (v : ℕ) → has_position night (shape_of b) v ≡ true → (leave (first_position_of b + (b.n - 1)) ≤ leave v) × (leave v ≤ leave (first_position_of b))
+  position_between : (b : Block) → IsBlockButId night b → (v : ℕ) → has_position night (shape_of b) v ≡ true
+      → (leave (first_position_of b + (b.n - 1)) ≤ leave v) × (leave v ≤ leave (first_position_of b))
   position_between b is v has =
       let k = position_at_place b v has in
       let same = ap leave k.2 in
@@ -403,7 +413,8 @@ module _ (laws : EventLaws) (night : Night) (i : IsInstance night) (stack : Stac
   stays_then b is of = while_there b b is is (stays_long b is of) (b.n - 1) (b.n - 1) (last b is) (last b is)
 
   -- blocks whose spans are nested or apart share nothing
-  half_apart : (x y : Block) → IsBlockButId night x → IsBlockButId night y → is_of stack x.park ≡ true → is_of stack y.park ≡ true → (IsBefore (span x) (span y)) ⊎ (IsInside (span y) (span x)) → AreApart night x y
+  half_apart : (x y : Block) → IsBlockButId night x → IsBlockButId night y → is_of stack x.park ≡ true → is_of stack y.park ≡ true
+      → (IsBefore (span x) (span y)) ⊎ (IsInside (span y) (span x)) → AreApart night x y
   half_apart x y a b of on (inl before) = record {
     units = λ u p q. omega (arith, before, (unit_between x a u p).1, (unit_between y b u q).0, stays_then x a of, earlier_leave x a (x.n - 1) (last x a));
     positions = λ v p q. omega (arith, before, (position_between x a v p).1, (position_between y b v q).0, stays_then y b on, later_entry y b (y.n - 1) (last y b));
@@ -416,7 +427,8 @@ module _ (laws : EventLaws) (night : Night) (i : IsInstance night) (stack : Stac
   turned_apart : (x y : Block) → AreApart night x y → AreApart night y x
   turned_apart x y k = record { units = λ u p q. k.units u q p; positions = λ v p q. k.positions v q p }
 
-  pub apart_from : (x y : Block) → IsBlockButId night x → IsBlockButId night y → is_of stack x.park ≡ true → is_of stack y.park ≡ true → AreNested (span_of night entry leave (λ z. pos 0) x) (span_of night entry leave (λ z. pos 0) y) → AreApart night x y
+  pub apart_from : (x y : Block) → IsBlockButId night x → IsBlockButId night y → is_of stack x.park ≡ true → is_of stack y.park ≡ true
+      → AreNested (span_of night entry leave (λ z. pos 0) x) (span_of night entry leave (λ z. pos 0) y) → AreApart night x y
   apart_from x y a b of on (inl (inl e)) = half_apart x y a b of on (inl e)
   apart_from x y a b of on (inl (inr e)) = turned_apart y x (half_apart y x b a on of (inl e))
   apart_from x y a b of on (inr (inl e)) = turned_apart y x (half_apart y x b a on of (inr e))
@@ -437,7 +449,8 @@ module _ (laws : EventLaws) (night : Night) (i : IsInstance night) (stack : Stac
   no_lt m n le = grind (arith, nat_tests)
 
   -- whether y has come when x comes
-  come : (x y : Block) → IsBlockButId night x → IsBlockButId night y → AreApart night x y → nat_le (entry (first_unit_of y)) (entry (first_unit_of x)) ≡ is_le (key_cmp (enter_key night y) (enter_key night x))
+  come : (x y : Block) → IsBlockButId night x → IsBlockButId night y → AreApart night x y
+      → nat_le (entry (first_unit_of y)) (entry (first_unit_of x)) ≡ is_le (key_cmp (enter_key night y) (enter_key night x))
   come x y a b apart = ⊎_elim
       (λ c. no_le (entry (first_unit_of y)) (entry (first_unit_of x)) (omega (arith, first_inside x y a b c, later_entry x a (x.n - 1) (last x a))) ∙ sym (ap is_le c.keys.more))
       (λ c. yes_le (entry (first_unit_of y)) (entry (first_unit_of x)) (omega (arith, first_inside y x b a c, later_entry y b (y.n - 1) (last y b))) ∙ sym (ap is_le c.keys.less))
@@ -453,8 +466,10 @@ module _ (laws : EventLaws) (night : Night) (i : IsInstance night) (stack : Stac
   both_tests : (p q r s : Bool) → p ≡ q → r ≡ s → (p && r) ≡ ((stack.track.0 == stack.track.0) && (q && s))
   both_tests p q r s e f = ap (λ (t : Bool). t && r) e ∙ ap (λ (t : Bool). q && t) f ∙ sym (ap (λ (t : Bool). t && (q && s)) (eq-eqb stack.track.0 stack.track.0 refl))
 
-  pub same_standing : (x y : Block) → IsBlockButId night x → IsBlockButId night y → AreApart night x y → is_standing (span_of night entry leave (λ z. pos 0) y) (span_of night entry leave (λ z. pos 0) x) ≡ stands_at stack.track.0 (enter_key night x) (stay y)
+  pub same_standing : (x y : Block) → IsBlockButId night x → IsBlockButId night y → AreApart night x y
+      → is_standing (span_of night entry leave (λ z. pos 0) y) (span_of night entry leave (λ z. pos 0) x) ≡ stands_at stack.track.0 (enter_key night x) (stay y)
   same_standing x y a b apart = both_tests _ _ _ _ (come x y a b apart) (gone x y a b)
 
-  pub own_standing : (x : Block) → IsBlockButId night x → is_standing (span_of night entry leave (λ z. pos 0) x) (span_of night entry leave (λ z. pos 0) x) ≡ stands_at stack.track.0 (enter_key night x) (stay x)
+  pub own_standing : (x : Block) → IsBlockButId night x
+      → is_standing (span_of night entry leave (λ z. pos 0) x) (span_of night entry leave (λ z. pos 0) x) ≡ stands_at stack.track.0 (enter_key night x) (stay x)
   own_standing x a = both_tests _ _ _ _ (yes_le (entry (first_unit_of x)) (entry (first_unit_of x)) (omega arith) ∙ sym (itself (comes x) true x.arr.0 x.p x.id)) (gone x x a a)

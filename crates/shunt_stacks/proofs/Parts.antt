@@ -84,19 +84,21 @@ part_within night P part whole h all = from_members P part (λ b there. each_one
 
 -- of blocks that share nothing the run of each part goes through, with places as ids
 abbrev pub PartLaw : Type 0
-PartLaw = (night : Night) (blocks others : List Block) → IsInstance night → All (IsWithinTrains night) blocks → ShareNothing night blocks → All (IsWithinTrains night) others → ShareNothing night others
+PartLaw =
+    (night : Night) (blocks others : List Block) → IsInstance night → All (IsWithinTrains night) blocks → ShareNothing night blocks → All (IsWithinTrains night) others → ShareNothing night others
     → ((c : Block) → In c others → (b : Block) × In b blocks × (without_id b ≡ without_id c)) → RunsThrough night (placed blocks) → RunsThrough night (placed others)
 
-pub part_runs : (law : PartLaw) (night : Night) (part whole : List Block) → IsInstance night → All (IsWithinTrains night) whole → ShareNothing night whole → IsPart night part whole → RunsThrough night (placed whole) → RunsThrough night (placed part)
+pub part_runs : (law : PartLaw) (night : Night) (part whole : List Block) → IsInstance night → All (IsWithinTrains night) whole → ShareNothing night whole
+    → IsPart night part whole → RunsThrough night (placed whole) → RunsThrough night (placed part)
 part_runs law night part whole i within apart h go =
     law night whole part i within apart (part_within night (IsWithinTrains night) part whole h within) (part_apart night part whole h apart) (λ b there. (b, h.members b there, refl)) go
 
 -- ---- free blocks
 
-unit_test : (night : Night) (b : Block) (w : ℕ) → HasUnit night (shape_of b) w → has_unit night (shape_of b) w ≡ true
+pub unit_test : (night : Night) (b : Block) (w : ℕ) → HasUnit night (shape_of b) w → has_unit night (shape_of b) w ≡ true
 unit_test night b w has = let from = has.from in let to = has.to in grind (arith, nat_tests)
 
-position_test : (night : Night) (b : Block) (w : ℕ) → HasPosition night (shape_of b) w → has_position night (shape_of b) w ≡ true
+pub position_test : (night : Night) (b : Block) (w : ℕ) → HasPosition night (shape_of b) w → has_position night (shape_of b) w ≡ true
 position_test night b w has = let from = has.from in let to = has.to in grind (arith, nat_tests)
 
 abbrev pub IsFreeAt : Night → List Block → Block → Type 0
@@ -110,7 +112,8 @@ module _ (places : PlaceLaws) (night : Night) where
   unit_bare path b free w has = not_taken (times_unit night path) (unit_total night) w true (places.unit_in night (shape_of b) w free.shape.shape.within has) (free.shape.units w has)
 
   pub position_bare : (path : List Block) (b : Block) → IsFreeAt night path b → (v : ℕ) → HasPosition night (shape_of b) v → times_position night path v ≡ 0
-  position_bare path b free v has = not_taken (times_position night path) (position_total night) v true (places.position_in night (shape_of b) v free.shape.shape.within has) (free.shape.positions v has)
+  position_bare path b free v has =
+      not_taken (times_position night path) (position_total night) v true (places.position_in night (shape_of b) v free.shape.shape.within has) (free.shape.positions v has)
 
   -- a block of which a path has no unit and no position
   pub free_from : (path : List Block) (b : Block) → IsBlockButId night b
@@ -143,7 +146,8 @@ module _ (places : PlaceLaws) (night : Night) where
       (λ v has. omega (arith, h.positions v, position_bare longer b free v has))
 
   -- free blocks that share nothing share nothing with a part of the path either
-  pub joined_apart : (path front filling : List Block) → ShareNothing night path → All (IsFreeAt night path) filling → ShareNothing night filling → IsPart night front path → ShareNothing night (front ++ filling)
+  pub joined_apart : (path front filling : List Block) → ShareNothing night path → All (IsFreeAt night path) filling → ShareNothing night filling
+      → IsPart night front path → ShareNothing night (front ++ filling)
   joined_apart path front filling apart free few h = record {
     units = λ u. omega (arith, unit_parts night front filling u, few_both _ _ _ (h.units u) (apart.units u) (few.units u) (taken_unit u));
     positions = λ v. omega (arith, position_parts night front filling v, few_both _ _ _ (h.positions v) (apart.positions v) (few.positions v) (taken_position v));

@@ -45,9 +45,11 @@ pub record StepLaws : Type 0 where
   pub places : PlaceLaws
   pub part : PartLaw
   pub station : (night : Night) → IsInstance night → IsStation night.station
-  pub room : (night : Night) (blocks : List Block) (b : Block) → IsInstance night → All (IsWithinTrains night) blocks → ShareNothing night blocks → RunsThrough night (placed blocks) → In b blocks → IsBlockButId night b → HasRoom night (shape_of b) b.park
+  pub room : (night : Night) (blocks : List Block) (b : Block) → IsInstance night → All (IsWithinTrains night) blocks → ShareNothing night blocks
+      → RunsThrough night (placed blocks) → In b blocks → IsBlockButId night b → HasRoom night (shape_of b) b.park
   pub opens : (cases : List Case) (path : List Block) (b : Block) (k : ℕ) → IsOpenAt cases (path ++ b ∷ []) k → IsOpenAt cases path k
-  pub sum : (night : Night) (path : List Block) (b : Block) (from : ℕ) (c : Case) → IsFreeBlock night (masks_of night path) (shape_of b) b.park → sum_at night (path ++ b ∷ []) from c ≡ sum_at night path from c +ℤ (weight night c b -ℤ duals_over night c.duals (shape_of b))
+  pub sum : (night : Night) (path : List Block) (b : Block) (from : ℕ) (c : Case) → IsFreeBlock night (masks_of night path) (shape_of b) b.park
+      → sum_at night (path ++ b ∷ []) from c ≡ sum_at night path from c +ℤ (weight night c b -ℤ duals_over night c.duals (shape_of b))
   pub there : (sum : ℤ) → (bound : ℤ) × IsBoundOf sum bound
   pub rise : (sum more bound other : ℤ) → sum ≤ℤ more → IsBoundOf sum bound → IsBoundOf more other → bound ≤ℤ other
 
@@ -59,7 +61,8 @@ pub record PlanLaws : Type 0 where
   pub held : (night : Night) (plan path : List Block) (u : ℕ) → IsInstance night → IsFeasible night plan → ShareNothing night path → Keeps plan path → next_of (masks_of night path) ≡ Some u
       → (c : Choice) × IsChoiceAt night path c × Keeps plan (longer_by path c) × RunsThrough night (placed (longer_by path c))
   pub of_cases : (night : Night) (path : List Block) (cases : List Case) → 1 ≤ length cases → (bound : ℤ) × IsCasesBound night path cases bound
-  pub prices : (night : Night) (plan path : List Block) (cases : List Case) (bound : ℤ) → IsInstance night → IsFeasible night plan → ShareNothing night path → Keeps plan path → AreCases night cases → CasesHold night path cases → IsCasesBound night path cases bound → bound ≤ℤ pos (total_cost night plan)
+  pub prices : (night : Night) (plan path : List Block) (cases : List Case) (bound : ℤ) → IsInstance night → IsFeasible night plan → ShareNothing night path
+      → Keeps plan path → AreCases night cases → CasesHold night path cases → IsCasesBound night path cases bound → bound ≤ℤ pos (total_cost night plan)
 
 -- ---- a kept block is the plan's but for its id
 
@@ -90,7 +93,8 @@ chain : (end middle now w d more : ℤ) → end ≡ middle -ℤ more → middle 
 chain end middle now w d more e f = omega (arith, ints, e, f)
 
 module _ (laws : StepLaws) (night : Night) where
-  pub sum_after : (rest path : List Block) → ShareNothing night (path ++ rest) → All (IsBlockButId night) rest → (from : ℕ) (c : Case) → sum_at night (path ++ rest) from c ≡ sum_at night path from c -ℤ gain_of night c rest
+  pub sum_after : (rest path : List Block) → ShareNothing night (path ++ rest) → All (IsBlockButId night) rest → (from : ℕ) (c : Case)
+      → sum_at night (path ++ rest) from c ≡ sum_at night path from c -ℤ gain_of night c rest
   sum_after [] path apart fits from c = ap (λ (bs : List Block). sum_at night bs from c) (append-nil path) ∙ nothing (sum_at night path from c)
     where
       nothing : (z : ℤ) → z ≡ z -ℤ pos 0
@@ -137,7 +141,8 @@ module _ (laws : PlanLaws) (night : Night) (i : IsInstance night) (plan : List B
       let more = known (longer_by path x.0) (length-append path (b ∷ [])) (grown_apart night path b apart (choice_free laws.steps.places night path at.0 (length path + 1) x.0 at.2)) x.2 in
       (b ∷ more.0, subst IsEnd (sym (append_one path b more.0)) more.1)
 
-  next : (o : Option ℕ) (path : List Block) → next_of (masks_of night path) ≡ o → (next_of (masks_of night path) ≡ None → Ends path) → ((u : ℕ) → next_of (masks_of night path) ≡ Some u → Ends path) → Ends path
+  next : (o : Option ℕ) (path : List Block) → next_of (masks_of night path) ≡ o → (next_of (masks_of night path) ≡ None → Ends path)
+      → ((u : ℕ) → next_of (masks_of night path) ≡ Some u → Ends path) → Ends path
   next None path e none some = none e
   next (Some u) path e none some = some u e
 
@@ -163,7 +168,8 @@ module _ (laws : PlanLaws) (night : Night) (i : IsInstance night) (plan : List B
   all_hold end cases is k d lt = record { holds = λ s park free room. absurd (none_free end is s park free) }
 
   -- a bound of sums that are at most those at the end
-  under_end : (end : List Block) → IsEnd end → (cases : List Case) → AreCases night cases → (sums : List ℤ) (bound : ℤ) → ((k : ℕ) → IsOpenAt cases end k → slice_index_or sums k (pos 0) ≤ℤ case_sum night end cases k)
+  under_end : (end : List Block) → IsEnd end → (cases : List Case) → AreCases night cases → (sums : List ℤ) (bound : ℤ)
+      → ((k : ℕ) → IsOpenAt cases end k → slice_index_or sums k (pos 0) ≤ℤ case_sum night end cases k)
       → ((k : ℕ) (other : ℤ) → IsOpenAt cases end k → IsBoundOf (slice_index_or sums k (pos 0)) other → bound ≤ℤ other) → bound ≤ℤ pos (total_cost night plan)
   under_end end is cases are sums bound low least =
       let x = laws.of_cases night end cases are.some in
@@ -187,7 +193,8 @@ module _ (laws : PlanLaws) (night : Night) (i : IsInstance night) (plan : List B
     within = all_within night (path ++ rest) (kept (path ++ rest) is.keeps)
 
     -- a block of no stack gains nothing
-    beside : (c : Case) → HoldsBesideStacks night (masks_of night path) c → NoneBeside laws.steps.places laws.steps.part night i path rest within fits is.apart (through (path ++ rest) is) c (stacks night.station) rest
+    beside : (c : Case) → HoldsBesideStacks night (masks_of night path) c
+        → NoneBeside laws.steps.places laws.steps.part night i path rest within fits is.apart (through (path ++ rest) is) c (stacks night.station) rest
     beside c hold b there none =
         let fit = each_one (IsBlockButId night) rest b fits there in
         let free = free_behind laws.steps.places night path rest b is.apart there fit in
@@ -197,11 +204,13 @@ module _ (laws : PlanLaws) (night : Night) (i : IsInstance night) (plan : List B
         never : IsBlockButId night b → (s : Stack) → stack_of b.park ≡ Some s → ⊥
         never fit s e = let of = (is_of_tells s b.park).1 e in true≢false (sym of ∙ none s (stack_there night (laws.steps.station night i) (shape_of b) b.park s fit.option of))
 
-    rest_gains : (c : Case) (gains : List ℤ) (some : List Block) → HoldsBesideStacks night (masks_of night path) c → AllZip (IsStackGain night path c) (stacks night.station) gains → IsPart night some rest → gain_of night c some ≤ℤ sum_z (λ z. z) gains
+    rest_gains : (c : Case) (gains : List ℤ) (some : List Block) → HoldsBesideStacks night (masks_of night path) c
+        → AllZip (IsStackGain night path c) (stacks night.station) gains → IsPart night some rest → gain_of night c some ≤ℤ sum_z (λ z. z) gains
     rest_gains c gains some hold all part =
         within_gains laws.steps.places laws.steps.part night i path rest within fits is.apart (through (path ++ rest) is) c (stacks night.station) gains some all part (λ b there none. beside c hold b (part.members b there) none)
 
-    other_gains : (c : Case) (gains : List ℤ) (own : Stack) (most : ℤ) (some : List Block) → HoldsBesideStacks night (masks_of night path) c → AllZip (IsStackGain night path c) (stacks night.station) gains → In own (stacks night.station) → IsStackGain night path c own most → IsPart night some rest
+    other_gains : (c : Case) (gains : List ℤ) (own : Stack) (most : ℤ) (some : List Block) → HoldsBesideStacks night (masks_of night path) c
+        → AllZip (IsStackGain night path c) (stacks night.station) gains → In own (stacks night.station) → IsStackGain night path c own most → IsPart night some rest
         → gain_of night c (others own some) ≤ℤ (sum_z (λ z. z) gains -ℤ most)
     other_gains c gains own most some hold all there has part =
         let less = part_part night (others own some) some rest (part_filter night (λ (b : Block). not (is_of own b.park)) some) part in
@@ -210,14 +219,16 @@ module _ (laws : PlanLaws) (night : Night) (i : IsInstance night) (plan : List B
         (λ b in_others. (other_block own some b in_others).1)
 
     own_gains : (c : Case) (own : Stack) (most : ℤ) → IsStackGain night path c own most → gain_of night c (blocks_of own rest) ≤ℤ most
-    own_gains c own most has = has.no_more (blocks_of own rest) (fills laws.steps.places laws.steps.part night i path rest within fits is.apart (through (path ++ rest) is) own rest (part_itself night rest))
+    own_gains c own most has =
+        has.no_more (blocks_of own rest) (fills laws.steps.places laws.steps.part night i path rest within fits is.apart (through (path ++ rest) is) own rest (part_itself night rest))
 
     end_sum : (cases : List Case) (k : ℕ) → case_sum night (path ++ rest) cases k ≡ case_sum night path cases k -ℤ gain_of night (case_at cases k) rest
     end_sum cases k = sum_after laws.steps night rest path is.apart fits (from_of cases k) (case_at cases k)
 
   -- ---- the bound of a path
 
-  path_low : (path rest : List Block) → IsEnd (path ++ rest) → (cases : List Case) (k : ℕ) (sum : ℤ) → HoldsBesideStacks night (masks_of night path) (case_at cases k) → IsStackSum night path cases k sum → sum ≤ℤ case_sum night (path ++ rest) cases k
+  path_low : (path rest : List Block) → IsEnd (path ++ rest) → (cases : List Case) (k : ℕ) (sum : ℤ) → HoldsBesideStacks night (masks_of night path) (case_at cases k)
+      → IsStackSum night path cases k sum → sum ≤ℤ case_sum night (path ++ rest) cases k
   path_low path rest is cases k sum hold s =
       lower sum (case_sum night path cases k) (case_sum night (path ++ rest) cases k) (sum_z (λ z. z) s.gains) (gain_of night (case_at cases k) rest)
       s.is (end_sum path rest is cases k) (rest_gains path rest is (case_at cases k) s.gains rest hold s.are (part_itself night rest))
@@ -225,7 +236,8 @@ module _ (laws : PlanLaws) (night : Night) (i : IsInstance night) (plan : List B
       lower : (sum now end gains some : ℤ) → sum ≡ now -ℤ gains → end ≡ now -ℤ some → some ≤ℤ gains → sum ≤ℤ end
       lower sum now end gains some e f le = omega (arith, ints, e, f, le)
 
-  pub path_bound : (path : List Block) (cases : List Case) (bound : ℤ) → ShareNothing night path → Keeps plan path → AreCases night cases → StackCasesHold night path cases → IsStackBound night path cases bound → bound ≤ℤ pos (total_cost night plan)
+  pub path_bound : (path : List Block) (cases : List Case) (bound : ℤ) → ShareNothing night path → Keeps plan path → AreCases night cases
+      → StackCasesHold night path cases → IsStackBound night path cases bound → bound ≤ℤ pos (total_cost night plan)
   path_bound path cases bound apart keeps are hold is =
       let e = ends (unit_total night) path (omega arith) apart keeps in
       under_end (path ++ e.0) e.1 cases are is.sums bound
@@ -234,7 +246,8 @@ module _ (laws : PlanLaws) (night : Night) (i : IsInstance night) (plan : List B
 
   -- ---- the bound of a choice
 
-  choice_low : (path rest : List Block) (b : Block) → IsEnd (path ++ b ∷ rest) → IsEnd ((path ++ b ∷ []) ++ rest) → (cases : List Case) (k : ℕ) (sum : ℤ) → HoldsBesideStacks night (masks_of night path) (case_at cases k) → IsChoiceSum night path b cases k sum → sum ≤ℤ case_sum night (path ++ b ∷ rest) cases k
+  choice_low : (path rest : List Block) (b : Block) → IsEnd (path ++ b ∷ rest) → IsEnd ((path ++ b ∷ []) ++ rest) → (cases : List Case) (k : ℕ) (sum : ℤ)
+      → HoldsBesideStacks night (masks_of night path) (case_at cases k) → IsChoiceSum night path b cases k sum → sum ≤ℤ case_sum night (path ++ b ∷ rest) cases k
   choice_low path rest b is long cases k sum hold s = by_stack (stack_of b.park) refl s.is_fall
     where
       part : IsPart night rest (b ∷ rest)
@@ -244,7 +257,8 @@ module _ (laws : PlanLaws) (night : Night) (i : IsInstance night) (plan : List B
       lower sum whole fall own now end gains more e f g le = omega (arith, ints, e, f, g, le)
 
       done : gain_of night (case_at cases k) rest ≤ℤ (sum_z (λ z. z) s.is_whole.gains -ℤ s.fall) → sum ≤ℤ case_sum night (path ++ b ∷ rest) cases k
-      done le = lower sum s.whole s.fall (gain night (case_at cases k) b) (case_sum night path cases k) (case_sum night (path ++ b ∷ rest) cases k) (sum_z (λ z. z) s.is_whole.gains) (gain_of night (case_at cases k) rest) s.is s.is_whole.is (end_sum path (b ∷ rest) is cases k) le
+      done le =
+          lower sum s.whole s.fall (gain night (case_at cases k) b) (case_sum night path cases k) (case_sum night (path ++ b ∷ rest) cases k) (sum_z (λ z. z) s.is_whole.gains) (gain_of night (case_at cases k) rest) s.is s.is_whole.is (end_sum path (b ∷ rest) is cases k) le
 
       by_stack : (o : Option Stack) → stack_of b.park ≡ o → IsFall night path b (case_at cases k) o s.fall → sum ≤ℤ case_sum night (path ++ b ∷ rest) cases k
       by_stack None e fall = done (omega (arith, ints, fall, rest_gains path (b ∷ rest) is (case_at cases k) s.is_whole.gains rest hold s.is_whole.are part))
@@ -261,7 +275,8 @@ module _ (laws : PlanLaws) (night : Night) (i : IsInstance night) (plan : List B
             other_gains path (b ∷ rest) is (case_at cases k) s.is_whole.gains own fall.0 rest hold s.is_whole.are there fall.2 part,
           ))
 
-  pub choice_bound : (path : List Block) (b : Block) (cases : List Case) (bound : ℤ) → ShareNothing night (path ++ b ∷ []) → Keeps plan (path ++ b ∷ []) → AreCases night cases → StackCasesHold night path cases → IsChoiceBound night path b cases bound → bound ≤ℤ pos (total_cost night plan)
+  pub choice_bound : (path : List Block) (b : Block) (cases : List Case) (bound : ℤ) → ShareNothing night (path ++ b ∷ []) → Keeps plan (path ++ b ∷ [])
+      → AreCases night cases → StackCasesHold night path cases → IsChoiceBound night path b cases bound → bound ≤ℤ pos (total_cost night plan)
   choice_bound path b cases bound apart keeps are hold is =
       let e = ends (unit_total night) (path ++ b ∷ []) (omega arith) apart keeps in
       let back = append_one path b e.0 in

@@ -56,7 +56,8 @@ module _ (places : PlaceLaws) (night : Night) where
       added x y n m k e f g = omega (arith, ints, e, f, g)
 
   few_units : (blocks : List Block) → All (IsWithinTrains night) blocks → ShareNothing night blocks → sum_by (λ (b : Block). b.n) blocks ≤ unit_total night
-  few_units blocks all apart = less (sum_z_below (unit_total night) (λ u. pos (times_unit night blocks u))) _ _ (units_in blocks all) (at_most_one (unit_total night) (times_unit night blocks) apart.units)
+  few_units blocks all apart =
+      less (sum_z_below (unit_total night) (λ u. pos (times_unit night blocks u))) _ _ (units_in blocks all) (at_most_one (unit_total night) (times_unit night blocks) apart.units)
     where
       less : (z : ℤ) (n m : ℕ) → z ≡ pos n → z ≤ℤ pos m → n ≤ m
       less z n m e le = omega (arith, ints, e, le)
@@ -107,7 +108,8 @@ module _ (night : Night) (c : Case) (is : IsCase night c) (stack : Stack) where
 
 module _ (places : PlaceLaws) (law : PartLaw) (night : Night) (i : IsInstance night) (few : unit_total night ≤ 160) (path : List Block) (within : All (IsWithinTrains night) path) (apart : ShareNothing night path) (go : RunsThrough night (placed path)) (c : Case) (is : IsCase night c) where
   pub gain_small : (stack : Stack) (most : ℤ) → IsStackGain night path c stack most → IsWithin 319999999999680 most
-  gain_small stack most g = ends most (gain_of night c g.filling) g.has (at_least_zero law night i path within apart c stack most go g) (filling_small night c is stack places few path g.filling g.fills)
+  gain_small stack most g =
+      ends most (gain_of night c g.filling) g.has (at_least_zero law night i path within apart c stack most go g) (filling_small night c is stack places few path g.filling g.fills)
     where
       ends : (most sum : ℤ) → sum ≡ most → pos 0 ≤ℤ most → sum ≤ℤ pos 319999999999680 → IsWithin 319999999999680 most
       ends most sum e low high = record { low = omega (arith, ints, low); high = omega (arith, ints, e, high) }

@@ -127,19 +127,23 @@ module _ (laws : ListLaws) (night : Night) (i : IsInstance night) (stack : Stack
           (none (stay_for x) (stay_for y.0) (in_map stay_for blocks x here) (in_map stay_for blocks y.0 there))
           (none (stay_for y.0) (stay_for x) (in_map stay_for blocks y.0 there) (in_map stay_for blocks x here)))
 
-  pub to_nest : RunsThrough night blocks → AreAllNested (map (span_of night entry leave (λ z. pos 0)) blocks) × ((s : Span) → In s (map (span_of night entry leave (λ z. pos 0)) blocks) → load_with (map (span_of night entry leave (λ z. pos 0)) blocks) s ≤ track_length night stack.track.0)
+  pub to_nest : RunsThrough night blocks
+      → AreAllNested (map (span_of night entry leave (λ z. pos 0)) blocks) × ((s : Span) → In s (map (span_of night entry leave (λ z. pos 0)) blocks) → load_with (map (span_of night entry leave (λ z. pos 0)) blocks) s ≤ track_length night stack.track.0)
   to_nest go =
       let parts = clash.0 (subst (GoesThrough (track_lengths night.station)) (stays_are blocks all) go) in
       (nested_some blocks all apart parts.0, λ s j. fitting s (of_map span_for blocks s j) parts.1)
     where
-      fitting : (s : Span) → ((x : Block) × In x blocks × (s ≡ span_for x)) → NoneOver (track_lengths night.station) (map stay_for blocks) → load_with (map span_for blocks) s ≤ track_length night stack.track.0
+      fitting : (s : Span) → ((x : Block) × In x blocks × (s ≡ span_for x)) → NoneOver (track_lengths night.station) (map stay_for blocks)
+          → load_with (map span_for blocks) s ≤ track_length night stack.track.0
       fitting s x over =
           let fit = over (stay_for x.0) (in_map stay_for blocks x.0 x.1) in
           subst (λ (t : Span). load_with (map span_for blocks) t ≤ track_length night stack.track.0) (sym x.2) (omega (arith, fit, same_load x.0 x.1 blocks all))
 
   -- ---- a nest runs through
 
-  pub from_nest : AreAllNested (map (span_of night entry leave (λ z. pos 0)) blocks) → ((s : Span) → In s (map (span_of night entry leave (λ z. pos 0)) blocks) → load_with (map (span_of night entry leave (λ z. pos 0)) blocks) s ≤ track_length night stack.track.0) → RunsThrough night blocks
+  pub from_nest : AreAllNested (map (span_of night entry leave (λ z. pos 0)) blocks)
+      → ((s : Span) → In s (map (span_of night entry leave (λ z. pos 0)) blocks) → load_with (map (span_of night entry leave (λ z. pos 0)) blocks) s ≤ track_length night stack.track.0)
+      → RunsThrough night blocks
   from_nest nested load = subst (GoesThrough (track_lengths night.station)) (sym (stays_are blocks all)) (clash.1 (none, over))
     where
       apart_two : (x y : Block) → In x blocks → In y blocks → Crosses (stay_for x) (stay_for y) → ⊥

@@ -1,12 +1,12 @@
 -- Fillings of a stack are nests of spans, and its gain is the greatest gain of nests.
-use Rattle.std.specs.Prelude.{◌↔◌, cond, count_by, map, All, IfSome, Option, Some, None, ◌≤ℤ◌}
+use Rattle.std.specs.Prelude.{◌↔◌, cond, count_by, map, All, IfSome, Option, Some, None, ◌≤ℤ◌, ◌<ℤ◌}
 use Rattle.std.proofs.Common.{◌≡◌, ◌⊎◌, ⊎_elim, inl, inr, ℕ, ◌+◌, ◌<◌, ◌≤◌, Bool, true, false, List, [], ◌∷◌, ◌++◌, ℤ, pos, ◌+ℤ◌, refl, sym, subst, ap, ◌∙◌, arith}
 use Rattle.std.proofs.lemmas.Int.{ints}
 use Rattle.std.proofs.lemmas.Bool.{cases_lt}
 use Rattle.std.proofs.lemmas.List.{map-append}
 use Rattle.std.proofs.lemmas.List.Sums.{sum_by-cons}
 use Rattle.shunt_lists.specs.defs.Members.{In}
-use Rattle.shunt_lists.proofs.Members.{all_in, all_from, in_map, of_map, in_left, in_cases, filter_from, Distinct}
+use Rattle.shunt_lists.proofs.Members.{all_in, all_from, in_map, of_map, in_left, in_right, in_cases, filter_from, Distinct}
 use Rattle.shunt_lists.proofs.Sums.{sum_within}
 use Rattle.shunt_base.specs.declared.duals.Case.{Case}
 use Rattle.shunt_instance.specs.defs.Instance.{Night, IsInstance}
@@ -15,18 +15,19 @@ use Rattle.shunt_blocks.specs.defs.Shapes.{shape_of, unit_from, IsWithinTrains}
 use Rattle.shunt_blocks.specs.defs.Blocks.{IsBlockButId}
 use Rattle.shunt_blocks.specs.defs.Lists.{has_unit, has_position, times_unit, times_position, CanStand, ShareNothing, RunsThrough, placed, placed_from}
 use Rattle.shunt_blocks.proofs.Held.{held, holder}
-use Rattle.shunt_choices.proofs.Given.{PlaceLaws, is_within, each_one}
+use Rattle.shunt_choices.proofs.Given.{PlaceLaws, is_within, all_within, each_one}
 use Rattle.shunt_choices.proofs.Trails.{has_from, has_position_from}
 use Rattle.shunt_prices.specs.defs.Prices.{track_length}
+use Rattle.shunt_prices.specs.defs.Cases.{HasRoom}
 use Rattle.shunt_prices.proofs.Signed.{sum_z-append}
 use Rattle.shunt_stacks.specs.defs.Stacks.{Stack, is_of, blocks_of}
 use Rattle.shunt_stacks.specs.defs.Fillings.{gain, gain_of, IsFilling, IsStackGain}
 use Rattle.shunt_stacks.specs.defs.Spans.{Span, IsSpan, AreNested, AreAllNested, is_standing, load_with, gain_of_spans, IsNest, AreOwn, best}
 use Rattle.shunt_stacks.specs.defs.Numbers.{IsNumbering, span_of, fixed_spans, free_spans, AreFreeOf}
 use Rattle.shunt_stacks.proofs.Sums.{from_members}
-use Rattle.shunt_stacks.proofs.Parts.{part_filter, part_apart, IsFreeAt, is_block, joined_apart, unit_bare, position_bare}
+use Rattle.shunt_stacks.proofs.Parts.{part_filter, part_apart, IsFreeAt, is_block, joined_apart, unit_bare, position_bare, PartLaw}
 use Rattle.shunt_stacks.proofs.Nests.{two_of, apart_starts, nested_append, load_one}
-use Rattle.shunt_stacks.proofs.Filled.{one_gain}
+use Rattle.shunt_stacks.proofs.Filled.{one_gain, part_fills, Gaining, gaining}
 use Rattle.shunt_stacks.proofs.Best.{AtLeast, Reached, up, down}
 use Rattle.shunt_stacks.proofs.Pairs.{AreApart, is_span, not_one_entry, not_between, not_leaving, apart_from, begins_in, ends_in}
 use Rattle.shunt_stacks.proofs.Spanned.{apart_head, apart_tail, two_blocks, ListLaws, to_nest, from_nest}
@@ -95,6 +96,9 @@ load_within spans whole t distinct members = sum_within (λ (s : Span). cond (is
 pub record TieLaws : Type 0 where
   pub lists : ListLaws
   pub places : PlaceLaws
+  pub part : PartLaw
+  pub room : (night : Night) (blocks : List Block) (b : Block) → IsInstance night → All (IsWithinTrains night) blocks → ShareNothing night blocks
+      → RunsThrough night (placed blocks) → In b blocks → IsBlockButId night b → HasRoom night (shape_of b) b.park
   pub stand : (night : Night) (blocks : List Block) → IsInstance night → All (IsWithinTrains night) blocks → ShareNothing night blocks → CanStand night (placed blocks)
 
 module _ (laws : TieLaws) (night : Night) (i : IsInstance night) (stack : Stack) (events : ℕ) (entry leave : ℕ → ℕ) (num : IsNumbering night events entry leave)
@@ -219,7 +223,7 @@ module _ (laws : TieLaws) (night : Night) (i : IsInstance night) (stack : Stack)
       added : (all first rest own : ℤ) → all ≡ first +ℤ rest → first ≡ pos 0 → rest ≡ own → all ≡ own
       added all first rest own e f g = omega (arith, ints, e, f, g)
 
-  module _ (blocks : List Block) (are : AreFreeOf night path stack blocks) where
+  module _ (blocks : List Block) (are : AreFreeOf night path c stack blocks) where
     abbrev free_ones : List Span
     free_ones = free_of blocks
 
@@ -301,8 +305,9 @@ module _ (laws : TieLaws) (night : Night) (i : IsInstance night) (stack : Stack)
 
     -- ---- a filling is a nest
 
-    filling_nest : (filling : List Block) → IsFilling night path stack filling → IsNest fixed free_ones 0 events room (fixed ++ free_of filling)
-    filling_nest filling fill = record {
+    filling_nest : (filling : List Block) → IsFilling night path stack filling → ((b : Block) → In b filling → pos 0 <ℤ gain night c b)
+        → IsNest fixed free_ones 0 events room (fixed ++ free_of filling)
+    filling_nest filling fill gains = record {
       of = λ s j. ⊎_elim (λ l. inl l) (λ r. inr (listed s (of_map (span_with (gain night c)) filling s r))) (in_cases fixed (free_of filling) s j);
       has = λ f j low high. in_left fixed (free_of filling) f j;
       between = λ s j. ⊎_elim (λ l. first s (of_map (span_with (λ z. pos 0)) standing s l)) (λ r. second s (of_map (span_with (gain night c)) filling s r)) (in_cases fixed (free_of filling) s j);
@@ -310,9 +315,13 @@ module _ (laws : TieLaws) (night : Night) (i : IsInstance night) (stack : Stack)
       fits = (nest_of_run filling fill.own fill.free fill.apart fill.through).1;
     }
       where
+        has_room : (b : Block) → In b filling → HasRoom night (shape_of b) b.park
+        has_room b j =
+            laws.room night (standing ++ filling) b i (whole_within filling fill.own fill.free fill.apart) (whole_apart filling fill.own fill.free fill.apart) fill.through (in_right standing filling b j) (free_fits filling fill.own fill.free fill.apart b j)
+
         listed : (s : Span) → ((b : Block) × In b filling × (s ≡ span_of night entry leave (gain night c) b)) → In s (free_spans night entry leave c blocks)
         listed s b =
-            let other = are.every b.0 (each_one (λ (x : Block). is_of stack x.park ≡ true) filling b.0 fill.own b.1) (each_one (IsFreeAt night path) filling b.0 fill.free b.1) in
+            let other = are.every b.0 (each_one (λ (x : Block). is_of stack x.park ≡ true) filling b.0 fill.own b.1) (each_one (IsFreeAt night path) filling b.0 fill.free b.1) (gains b.0 b.1) (has_room b.0 b.1) in
             let same : span_of night entry leave (gain night c) b.0 ≡ span_of night entry leave (gain night c) other.0 = ap (λ (x : Block). span_of night entry leave (gain night c) x) other.2 in
             subst (λ (t : Span). In t (free_spans night entry leave c blocks)) (sym (b.2 ∙ same)) (in_map (span_of night entry leave (gain night c)) blocks other.0 other.1)
 
@@ -384,7 +393,8 @@ module _ (laws : TieLaws) (night : Night) (i : IsInstance night) (stack : Stack)
         }
       where
         far : (y : Block) → In y filling → AreApart night b y
-        far y l = apart_from laws.lists.events night i stack events entry leave num b y (block_fits b (each b (inl refl))) (block_fits y (each y (inr l))) (block_own b (each b (inl refl))) (block_own y (each y (inr l)))
+        far y l =
+            apart_from laws.lists.events night i stack events entry leave num b y (block_fits b (each b (inl refl))) (block_fits y (each y (inr l))) (block_own b (each b (inl refl))) (block_own y (each y (inr l)))
             (all_in (AreNested (span_with (gain night c) b)) (map (span_with (gain night c)) filling) (span_with (gain night c) y) nested.0 (in_map (span_with (gain night c)) filling y l))
 
         one_at : (test : Block → Bool) → count_by test filling ≤ 1 → ((y : Block) → In y filling → test b ≡ true → test y ≡ true → ⊥) → count_by test (b ∷ filling) ≤ 1
@@ -427,7 +437,8 @@ module _ (laws : TieLaws) (night : Night) (i : IsInstance night) (stack : Stack)
           (chosen.nest nest.nested)
           (λ s t j k. pair s t (of_map span_for standing s j) (of_map (span_with (gain night c)) chosen.filling t k))
         where
-          pair : (s t : Span) → ((x : Block) × In x standing × (s ≡ span_of night entry leave (λ z. pos 0) x)) → ((y : Block) × In y chosen.filling × (t ≡ span_of night entry leave (gain night c) y)) → AreNested s t
+          pair : (s t : Span) → ((x : Block) × In x standing × (s ≡ span_of night entry leave (λ z. pos 0) x))
+              → ((y : Block) × In y chosen.filling × (t ≡ span_of night entry leave (gain night c) y)) → AreNested s t
           pair s t x y =
               let in_blocks = chosen.each y.0 y.1 in
               subst (λ (r : Span). AreNested r t) (sym x.2) (subst (AreNested (span_for x.0)) (sym y.2)
@@ -459,6 +470,17 @@ module _ (laws : TieLaws) (night : Night) (i : IsInstance night) (stack : Stack)
     abbrev greatest : Option ℤ
     greatest = best events fixed free_ones 0 events room
 
+    -- what gains something of a filling is one, and gains no less
+    module _ (filling : List Block) (fill : IsFilling night path stack filling) where
+      gainers : Gaining night c filling
+      gainers = gaining night c filling
+
+      gainers_fill : IsFilling night path stack gainers.some
+      gainers_fill = part_fills laws.places laws.part night i path (all_within night path all) apart stack filling fill gainers.some gainers.part
+
+      reaches : AtLeast greatest (gain_of_spans (fixed ++ free_of gainers.some))
+      reaches = up fixed free_ones own_events events 0 events room (fixed ++ free_of gainers.some) (omega arith) (filling_nest gainers.some gainers_fill gainers.each)
+
     gain_from : (most : ℤ) → greatest ≡ Some most → IsStackGain night path c stack most
     gain_from most e =
         let r = subst (λ (o : Option ℤ). IfSome o (Reached fixed free_ones own_events 0 events room)) e (down fixed free_ones own_events events 0 events room (omega arith)) in
@@ -467,19 +489,20 @@ module _ (laws : TieLaws) (night : Night) (i : IsInstance night) (stack : Stack)
           fills = nest_filling r.0 r.1;
           has = sym (chosen r.0 r.1).gains ∙ r.2;
           no_more = λ other fill.
-              let h = subst (λ (o : Option ℤ). AtLeast o (gain_of_spans (fixed ++ free_of other))) e (up fixed free_ones own_events events 0 events room (fixed ++ free_of other) (omega arith) (filling_nest other fill)) in
-              lower _ _ most (nest_gain other) h;
+              let h = subst (λ (o : Option ℤ). AtLeast o (gain_of_spans (fixed ++ free_of (gainers other fill).some))) e (reaches other fill) in
+              lower _ _ (gain_of night c other) most (nest_gain (gainers other fill).some) (gainers other fill).no_less h;
         }
       where
-        lower : (x y z : ℤ) → x ≡ y → x ≤ℤ z → y ≤ℤ z
-        lower x y z same le = omega (arith, ints, same, le)
+        lower : (x y w z : ℤ) → x ≡ y → w ≤ℤ y → x ≤ℤ z → w ≤ℤ z
+        lower x y w z same less le = omega (arith, ints, same, less, le)
 
     gain_to : (most : ℤ) → IsStackGain night path c stack most → greatest ≡ Some most
-    gain_to most g = at greatest refl (up fixed free_ones own_events events 0 events room (fixed ++ free_of g.filling) (omega arith) (filling_nest g.filling g.fills))
+    gain_to most g = at greatest refl (reaches g.filling g.fills)
       where
-        at : (o : Option ℤ) → greatest ≡ o → AtLeast o (gain_of_spans (fixed ++ free_of g.filling)) → greatest ≡ Some most
+        at : (o : Option ℤ) → greatest ≡ o → AtLeast o (gain_of_spans (fixed ++ free_of (gainers g.filling g.fills).some)) → greatest ≡ Some most
         at None e none = absurd none
         at (Some x) e le = e ∙ ap Some (one_gain night path c stack x most (gain_from x e) g)
 
-    pub gain_is : (most : ℤ) → (best events (fixed_spans night entry leave (blocks_of stack path)) (free_spans night entry leave c blocks) 0 events (track_length night stack.track.0) ≡ Some most) ↔ IsStackGain night path c stack most
+    pub gain_is : (most : ℤ)
+        → (best events (fixed_spans night entry leave (blocks_of stack path)) (free_spans night entry leave c blocks) 0 events (track_length night stack.track.0) ≡ Some most) ↔ IsStackGain night path c stack most
     gain_is most = (gain_from most, gain_to most)

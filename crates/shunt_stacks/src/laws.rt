@@ -1,5 +1,5 @@
 //! What follows from the definitions of this crate.
-ghost use Rattle.std.specs.Prelude.{Option, IfSome, true, None, Some, pos, ◌≡◌, ◌↔◌, ◌<◌, ◌≤◌, ◌+◌, ℕ, ℤ, ◌+ℤ◌, ◌≤ℤ◌, IsTrue, All, List, [], ◌∷◌, ◌++◌, length};
+ghost use Rattle.std.specs.Prelude.{Option, IfSome, true, None, Some, pos, ◌≡◌, ◌↔◌, ◌<◌, ◌≤◌, ◌+◌, ℕ, ℤ, ◌+ℤ◌, ◌≤ℤ◌, IsTrue, Bool, All, filter, List, [], ◌∷◌, ◌++◌, length};
 ghost use Rattle.std.specs.Option.{IsSomeAnd};
 ghost use Rattle.shunt_lists.specs.defs.Members.{In};
 ghost use Rattle.shunt_base.specs.declared.ids.Side.{Side};
@@ -53,8 +53,8 @@ pub fn stacks_of_stations()
 
 /// A filling is what stands with the path's blocks of the stack: the run of both goes through exactly where no two of them cross and
 /// none of their entries leaves more than the track's length. Nothing is a filling; so are, of blocks that share nothing and whose run
-/// goes through, those of the stack that come behind the path. What is a filling at a longer path is one at the shorter, and so it is
-/// with the block that comes to the path, where that is of the stack.
+/// goes through, those of the stack that come behind the path, and those of a filling that pass a test. What is a filling at a longer
+/// path is one at the shorter; where the block that comes to the path is of the stack, exactly what is one with the block.
 pub fn fillings()
     ensures clash { (night : Night) (path filling : List Block) (stack : Stack) → IsInstance night → All (IsWithinTrains night) path → ShareNothing night path →
         All (λ b. IsFreeBlock night (masks_of night path) (shape_of b) b.park) filling → ShareNothing night filling →
@@ -69,7 +69,9 @@ pub fn fillings()
         IsFilling night path stack filling }
     ensures with_block { (night : Night) (path filling : List Block) (b : Block) (stack : Stack) → IsInstance night → All (IsWithinTrains night) path →
         ShareNothing night path → IsFreeBlock night (masks_of night path) (shape_of b) b.park → is_of stack b.park ≡ true →
-        IsFilling night (path ++ b ∷ []) stack filling → IsFilling night path stack (b ∷ filling) }
+        IsFilling night (path ++ b ∷ []) stack filling ↔ IsFilling night path stack (b ∷ filling) }
+    ensures some { (night : Night) (path filling : List Block) (stack : Stack) (test : Block → Bool) → IsInstance night → All (IsWithinTrains night) path →
+        ShareNothing night path → IsFilling night path stack filling → IsFilling night path stack (filter test filling) }
 {
     instances();
     places();
@@ -123,7 +125,7 @@ pub fn never_below_prices()
 
 /// If a path gets one more block, of uncovered units and positions, cases with stacks that hold at it still hold, and no gain of a
 /// stack rises; that of the block's own stack falls by the block's gain at least. Where the longer path's run goes through, the bound
-/// of the choice is at least the path's, and that of the longer path at least the choice's.
+/// of the choice is at least the path's, that of the longer path at least the choice's, and so it is at least the path's.
 pub fn bounds_rise()
     ensures hold { (night : Night) (path : List Block) (b : Block) (cases : List Case) → StackCasesHold night path cases → StackCasesHold night (path ++ b ∷ []) cases }
     ensures falls { (night : Night) (path : List Block) (b : Block) (c : Case) (stack : Stack) (before after : ℤ) → IsInstance night → All (IsWithinTrains night) path →
@@ -138,9 +140,14 @@ pub fn bounds_rise()
     ensures longer { (night : Night) (path : List Block) (b : Block) (cases : List Case) (before after : ℤ) → IsInstance night → All (IsWithinTrains night) path →
         ShareNothing night path → IsFreeBlock night (masks_of night path) (shape_of b) b.park →
         IsChoiceBound night path b cases before → IsStackBound night (path ++ b ∷ []) cases after → before ≤ℤ after }
+    ensures path { (night : Night) (path : List Block) (b : Block) (cases : List Case) (before after : ℤ) → IsInstance night → All (IsWithinTrains night) path →
+        ShareNothing night path → IsFreeBlock night (masks_of night path) (shape_of b) b.park → RunsThrough night (placed (path ++ b ∷ [])) →
+        StackCasesHold night path cases → IsStackBound night path cases before → IsStackBound night (path ++ b ∷ []) cases after → before ≤ℤ after }
 {
     instances();
     places();
+    few_blocks();
+    choices();
     ids_do_not_matter();
     room();
     longer_paths();
@@ -213,23 +220,25 @@ pub fn nested_stays()
 {}
 
 /// Of spans whose events are their own, the greatest gain by recursion over the events is the greatest over all nests: no nest gains
-/// more, and where there is one, some nest gains that.
+/// more, and where there is one, some nest gains that; so it doesn't see how many events may be looked at, where they are enough.
 pub fn nests()
     ensures most { (fixed free spans : List Span) (n x y room : ℕ) → AreOwn fixed free → y ≤ x + n → IsNest fixed free x y room spans →
         IsSomeAnd (best n fixed free x y room) (λ g. gain_of_spans spans ≤ℤ g) }
     ensures reached { (fixed free : List Span) (n x y room : ℕ) → AreOwn fixed free → y ≤ x + n →
         IfSome (best n fixed free x y room) (λ g. (spans : List Span) × IsNest fixed free x y room spans × (gain_of_spans spans ≡ g)) }
+    ensures any_number { (fixed free : List Span) (n m x y room : ℕ) → AreOwn fixed free → y ≤ x + n → y ≤ x + m →
+        best n fixed free x y room ≡ best m fixed free x y room }
 {}
 
 /// The gain of a stack is the greatest gain of spans, by recursion over the night's events, whatever numbers these have that rise in their
-/// order: with the spans of the path's blocks of the stack fixed, and those of its free blocks free, in the length of the track. Each
-/// night has such numbers, and each stack a list of its free blocks.
+/// order: with the spans of the path's blocks of the stack fixed, and those of its free blocks free, in the length of the track; free
+/// blocks that gain nothing, or are longer than the track, may be left out. Each night has such numbers, and each stack such a list.
 pub fn gains_by_events()
     ensures gain { (night : Night) (path blocks : List Block) (c : Case) (stack : Stack) (events : ℕ) (entry leave : ℕ → ℕ) (most : ℤ) → IsInstance night →
-        All (IsBlockButId night) path → ShareNothing night path → IsNumbering night events entry leave → AreFreeOf night path stack blocks →
+        All (IsBlockButId night) path → ShareNothing night path → IsNumbering night events entry leave → AreFreeOf night path c stack blocks →
         best events (fixed_spans night entry leave (blocks_of stack path)) (free_spans night entry leave c blocks) 0 events (track_length night stack.track.0) ≡ Some most ↔ IsStackGain night path c stack most }
     ensures numbers { (night : Night) → IsInstance night → IsNumbering night 5760000 (entry_number night) (leave_number night) }
-    ensures blocks { (night : Night) (path : List Block) (stack : Stack) → IsInstance night → (blocks : List Block) × AreFreeOf night path stack blocks }
+    ensures blocks { (night : Night) (path : List Block) (c : Case) (stack : Stack) → IsInstance night → (blocks : List Block) × AreFreeOf night path c stack blocks }
 {
     instances();
     unit_numbers();
@@ -240,5 +249,7 @@ pub fn gains_by_events()
     stays_of_blocks();
     few_blocks();
     choices();
+    ids_do_not_matter();
+    room();
     clash_law();
 }

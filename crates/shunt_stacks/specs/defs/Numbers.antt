@@ -1,5 +1,5 @@
 -- Numberings of a night's events, and what blocks of a stack take of them.
-use Rattle.std.specs.Prelude.{◌≡◌, ◌⊎◌, ℕ, ◌+◌, ◌-◌, ◌*◌, ◌<◌, ◌≤◌, ℤ, pos, true, map, All, List}
+use Rattle.std.specs.Prelude.{◌≡◌, ◌⊎◌, ℕ, ◌+◌, ◌-◌, ◌*◌, ◌<◌, ◌≤◌, ℤ, pos, ◌<ℤ◌, true, map, All, List}
 use Rattle.shunt_lists.specs.defs.Members.{In}
 use Rattle.shunt_base.specs.declared.duals.Case.{Case}
 use Rattle.shunt_instance.specs.defs.Words.{train_at}
@@ -9,7 +9,7 @@ use Rattle.shunt_blocks.specs.defs.Shapes.{shape_of, unit_from, position_from}
 use Rattle.shunt_blocks.specs.defs.Standing.{block_length}
 use Rattle.shunt_blocks.specs.defs.Pins.{without_id}
 use Rattle.shunt_choices.specs.defs.Paths.{masks_of}
-use Rattle.shunt_prices.specs.defs.Cases.{IsFreeBlock}
+use Rattle.shunt_prices.specs.defs.Cases.{IsFreeBlock, HasRoom}
 use Rattle.shunt_stacks.specs.defs.Stacks.{Stack, is_of}
 use Rattle.shunt_stacks.specs.defs.Fillings.{gain}
 use Rattle.shunt_stacks.specs.defs.Spans.{Span}
@@ -61,8 +61,10 @@ fixed_spans night entry leave blocks = map (span_of night entry leave (λ b. pos
 abbrev pub free_spans : Night → (ℕ → ℕ) → (ℕ → ℕ) → Case → List Block → List Span
 free_spans night entry leave c blocks = map (span_of night entry leave (gain night c)) blocks
 
--- blocks of a stack that are free at a path, and each such block but for its id
-pub record AreFreeOf (night : Night) (path : List Block) (stack : Stack) (blocks : List Block) : Type 0 where
+-- blocks of a stack that are free at a path, and but for its id each such block that gains something in a case and is no longer than
+-- the track
+pub record AreFreeOf (night : Night) (path : List Block) (c : Case) (stack : Stack) (blocks : List Block) : Type 0 where
   pub own : All (λ b. is_of stack b.park ≡ true) blocks
   pub free : All (λ b. IsFreeBlock night (masks_of night path) (shape_of b) b.park) blocks
-  pub every : (b : Block) → is_of stack b.park ≡ true → IsFreeBlock night (masks_of night path) (shape_of b) b.park → (other : Block) × In other blocks × (without_id b ≡ without_id other)
+  pub every : (b : Block) → is_of stack b.park ≡ true → IsFreeBlock night (masks_of night path) (shape_of b) b.park → pos 0 <ℤ gain night c b → HasRoom night (shape_of b) b.park
+      → (other : Block) × In other blocks × (without_id b ≡ without_id other)

@@ -21,6 +21,8 @@ returns c =
     let laws : TieLaws = record {
       lists = record { events = events; stays = c.stays_of_blocks.ensures.stays; tracks = c.stays_of_blocks.ensures.tracks; clash = c.clash_law.ensures.law };
       places = places;
+      part = c.ids_do_not_matter.ensures.placed_part;
+      room = c.room.ensures.placed;
       stand = c.stays_of_blocks.ensures.placed;
     } in
     let numbers : NumberLaws = record {
@@ -33,5 +35,5 @@ returns c =
     record {
       gain = λ night path blocks k stack count entry leave most i all apart num are. gain_is laws night i stack count entry leave num path all apart k blocks are most;
       numbers = λ night i. numbered numbers night i;
-      blocks = λ night path stack i. (blocks_of stack (frees night path), frees_are places c.choices.ensures.members c.few_blocks.ensures.most night i path stack);
+      blocks = λ night path k stack i. (blocks_of stack (frees night path), frees_are places c.choices.ensures.members c.few_blocks.ensures.most night i path stack k);
     }

@@ -142,10 +142,10 @@ find_start x (t ∷ spans) = ⊎_elim
     (λ ne. ⊎_elim (λ f. inl (f.0, inr f.1, f.2)) (λ none. inr (λ s i e. ⊎_elim (λ same. ne (ap (λ (u : Span). u.from) (sym same) ∙ e)) (λ later. none s later e) i)) (find_start x spans))
     (cases_eq t.from x)
 
-in_coming : (x : ℕ) (spans : List Span) (s : Span) → In s spans → s.from ≡ x → In s (coming_at x spans)
+pub in_coming : (x : ℕ) (spans : List Span) (s : Span) → In s spans → s.from ≡ x → In s (coming_at x spans)
 in_coming x spans s i e = filter_to (λ (t : Span). t.from == x) spans s i (eq-eqb s.from x e)
 
-of_coming : (x : ℕ) (spans : List Span) (s : Span) → In s (coming_at x spans) → In s spans × (s.from ≡ x)
+pub of_coming : (x : ℕ) (spans : List Span) (s : Span) → In s (coming_at x spans) → In s spans × (s.from ≡ x)
 of_coming x spans s i = let h = filter_from (λ (t : Span). t.from == x) spans s i in (h.0, eqb-true s.from x h.1)
 
 module _ (fixed free : List Span) (own : AreOwn fixed free) where
@@ -379,7 +379,7 @@ module _ (fixed free : List Span) (own : AreOwn fixed free) where
 
   -- ---- how many events may be looked at is nothing, where they are enough
 
-  one_of : (o p : Option ℤ) → IfSome o (AtLeast p) → IfSome p (AtLeast o) → o ≡ p
+  pub one_of : (o p : Option ℤ) → IfSome o (AtLeast p) → IfSome p (AtLeast o) → o ≡ p
   one_of None None h k = refl
   one_of None (Some y) h k = absurd k
   one_of (Some x) None h k = absurd h

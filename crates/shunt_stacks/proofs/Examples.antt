@@ -1,5 +1,5 @@
 -- Stacks, gains and what goes through on two nights that were worked by hand.
-use Rattle.std.proofs.Common.{◌≡◌, ℕ, ◌++◌, pos, Bool, true, false, [], ◌∷◌, Option, Some, None, refl}
+use Rattle.std.proofs.Common.{◌≡◌, ℕ, ◌+◌, ◌++◌, ℤ, pos, neg_ℤ, Bool, true, false, [], ◌∷◌, Option, Some, None, refl}
 use Rattle.shunt_base.specs.declared.ids.Side.{Side}
 use Rattle.shunt_base.specs.declared.ids.Side.TheVariants.{A, B}
 use Rattle.shunt_base.specs.declared.duals.Case.{Case}
@@ -14,6 +14,7 @@ use Rattle.shunt_choices.specs.defs.Choices.{runs_placed}
 use Rattle.shunt_prices.specs.defs.Limits.{case_at, plain}
 use Rattle.shunt_stacks.specs.defs.Stacks.{Stack, stacks, is_of, blocks_of, stack_of}
 use Rattle.shunt_stacks.specs.defs.Fillings.{gain, gain_of}
+use Rattle.shunt_stacks.specs.defs.Spans.{Span, best}
 
 -- ---- one track, and two trains of one unit each, which leave in the order in which they came or in the other
 
@@ -116,3 +117,36 @@ no_room = refl
 -- a path's blocks that go through stand in no stack
 only_own : blocks_of (end A) (block 0 0 (park A B) ∷ block 1 1 (park A A) ∷ block 0 0 None ∷ []) ≡ block 1 1 (park A A) ∷ []
 only_own = refl
+
+-- ---- spans of the same nights, with the numbers of their four events
+
+abbrev span : ℕ → ℕ → ℤ → Span
+span from until gains = record { from = from; inside = from + 1; until = until; past = until + 1; length = 500; gain = gains }
+
+one_of_two : best 4 [] (span 0 2 (pos 94000) ∷ span 1 3 (pos 94000) ∷ []) 0 4 1000 ≡ Some (pos 94000)
+one_of_two = refl
+
+both_of_two : best 4 [] (span 0 3 (pos 94000) ∷ span 1 2 (pos 94000) ∷ []) 0 4 1000 ≡ Some (pos 188000)
+both_of_two = refl
+
+room_for_one : best 4 [] (span 0 3 (pos 94000) ∷ span 1 2 (pos 94000) ∷ []) 0 4 999 ≡ Some (pos 94000)
+room_for_one = refl
+
+-- one after the other on a track for one
+one_by_one : best 4 [] (span 0 1 (pos 94000) ∷ span 2 3 (pos 94000) ∷ []) 0 4 500 ≡ Some (pos 188000)
+one_by_one = refl
+
+-- what loses is left out
+not_the_second : best 4 [] (span 0 3 (pos 94000) ∷ span 1 2 (neg_ℤ (pos 1)) ∷ []) 0 4 1000 ≡ Some (pos 94000)
+not_the_second = refl
+
+-- a fixed span that the other crosses
+in_the_way : best 4 (span 0 2 (pos 0) ∷ []) (span 1 3 (pos 94000) ∷ []) 0 4 1000 ≡ Some (pos 0)
+in_the_way = refl
+
+inside_fixed : best 4 (span 0 3 (pos 0) ∷ []) (span 1 2 (pos 94000) ∷ []) 0 4 1000 ≡ Some (pos 94000)
+inside_fixed = refl
+
+-- a fixed one that doesn't fit
+none_at_all : best 4 (span 0 2 (pos 0) ∷ []) (span 1 3 (pos 94000) ∷ []) 0 4 499 ≡ None
+none_at_all = refl

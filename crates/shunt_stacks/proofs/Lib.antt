@@ -20,3 +20,5 @@ mod Pairs
 mod Spanned
 mod Tied
 mod Numbered
+mod Around
+mod Beside

@@ -5,6 +5,7 @@ use Rattle.std.proofs.lemmas.Bool.{cases_Bool, cases_lt, eqb-true, eq-eqb, and_p
 use Rattle.std.proofs.lemmas.List.Sums.{length-filter, count_by-le-length}
 use Rattle.shunt_lists.specs.defs.Members.{In}
 use Rattle.shunt_lists.proofs.Members.{in_left, in_right, in_cases, filter_from, filter_to}
+use Rattle.shunt_base.specs.declared.ids.PlatformId.{PlatformId}
 use Rattle.shunt_base.specs.declared.ids.Side.{Side}
 use Rattle.shunt_base.specs.declared.ids.Side.TheVariants.{A, B}
 use Rattle.shunt_base.specs.defs.Sides.{same_side}
@@ -18,8 +19,8 @@ use Rattle.shunt_instance.specs.defs.Instance.{Night}
 use Rattle.shunt_instance.proofs.Found.{side_open}
 use Rattle.shunt_blocks.specs.declared.records.Shape.{Shape}
 use Rattle.shunt_blocks.specs.declared.records.Park.{Park}
-use Rattle.shunt_blocks.specs.defs.Ways.{way_to}
-use Rattle.shunt_blocks.specs.defs.Blocks.{IsOption}
+use Rattle.shunt_blocks.specs.defs.Ways.{way_from, way_to}
+use Rattle.shunt_blocks.specs.defs.Blocks.{IsOption, IsParkable}
 use Rattle.shunt_stacks.specs.defs.Stacks.{Stack, both_sides, sides_below, stacks, is_of, stack_of}
 
 -- ---- an option is of a stack exactly where that is its stack
@@ -126,3 +127,18 @@ stack_there night h s (Some k) stack is of =
   where
     open_there : (t u : ℕ) (x y : Side) → t ≡ u → x ≡ y → IsTrue (is_open_at night.station (record { 0 = t }) x) → IsTrue (is_open_at night.station (record { 0 = u }) y)
     open_there t u x y e f opens = sym (ap (λ (n : ℕ). is_open_at night.station (record { 0 = n }) x) e ∙ ap (λ (z : Side). is_open_at night.station (record { 0 = u }) z) f) ∙ opens
+
+-- ---- tracks that are open at one side
+
+opens_in : (s : Station) (h : IsStation s) (p : PlatformId) (k : Park) → IsSome (route_cost s p k.track k.side_in) → IsTrue (is_open_at s k.track k.side_in)
+opens_in s h p k way = opens_out s h (origin.Platform p) (record k { side_out = k.side_in }) way
+
+-- what comes from a platform to a track that is open at one side alone is of the stack there
+pub one_side : (night : Night) (h : IsStation night.station) (s : Shape) (k : Park) (p : PlatformId) (side : Side) → IsParkable night s k → (train_at night.arrive s.arr.0).origin ≡ origin.Platform p
+    → ((other : Side) → IsTrue (is_open_at night.station k.track other) → other ≡ side) → is_of (record { track = k.track; side = side }) (Some k) ≡ true
+one_side night h s k p side is from only =
+    let way : IsSome (way_from night.station (origin.Platform p) k.track k.side_in) = subst (λ (o : Origin). IsSome (way_from night.station o k.track k.side_in)) from is.way_in in
+    let comes = only k.side_in (opens_in night.station h p k way) in
+    let goes = only k.side_out (opens_out night.station h (train_at night.depart s.dep.0).origin k is.way_out) in
+    and_from (k.track.0 == k.track.0) (same_side k.side_in side && same_side k.side_out side) (eq-eqb k.track.0 k.track.0 refl)
+    (and_from (same_side k.side_in side) (same_side k.side_out side) (same_side_is k.side_in side comes) (same_side_is k.side_out side goes))

@@ -94,10 +94,10 @@ module _ (laws : EventLaws) (night : Night) (i : IsInstance night) (stack : Stac
   abbrev span : Block → Span
   span b = span_of night entry leave (λ x. pos 0) b
 
-  abbrev first_unit_of : Block → ℕ
+  abbrev pub first_unit_of : Block → ℕ
   first_unit_of b = unit_from night (shape_of b)
 
-  abbrev first_position_of : Block → ℕ
+  abbrev pub first_position_of : Block → ℕ
   first_position_of b = position_from night (shape_of b)
 
   -- when it comes and when it goes
@@ -396,13 +396,13 @@ module _ (laws : EventLaws) (night : Night) (i : IsInstance night) (stack : Stac
       (λ ge. let e : first_position_of b + (b.n - 1) ≡ first_position_of b + k = omega (arith, ge, lt) in let same = ap leave e in omega (arith, same))
       (cases_lt k (b.n - 1))
 
-  unit_between : (b : Block) → IsBlockButId night b → (u : ℕ) → has_unit night (shape_of b) u ≡ true → (entry (first_unit_of b) ≤ entry u) × (entry u ≤ entry (first_unit_of b + (b.n - 1)))
+  pub unit_between : (b : Block) → IsBlockButId night b → (u : ℕ) → has_unit night (shape_of b) u ≡ true → (entry (first_unit_of b) ≤ entry u) × (entry u ≤ entry (first_unit_of b + (b.n - 1)))
   unit_between b is u has =
       let k = unit_at_place b u has in
       let same = ap entry k.2 in
       (omega (arith, same, later_entry b is k.0 k.1), omega (arith, same, rises_to_last b is k.0 k.1))
 
-  position_between : (b : Block) → IsBlockButId night b → (v : ℕ) → has_position night (shape_of b) v ≡ true
+  pub position_between : (b : Block) → IsBlockButId night b → (v : ℕ) → has_position night (shape_of b) v ≡ true
       → (leave (first_position_of b + (b.n - 1)) ≤ leave v) × (leave v ≤ leave (first_position_of b))
   position_between b is v has =
       let k = position_at_place b v has in

@@ -1,7 +1,7 @@
 -- How large the gains of fillings and of stacks become, and sums with stacks.
 use Rattle.std.specs.Prelude.{All, cond, sum_by, Option, Some, None, ◌-ℤ◌, ◌≤ℤ◌}
 use Rattle.std.specs.List.{AllZip}
-use Rattle.std.proofs.Common.{◌≡◌, ⊎_elim, ℕ, zero, suc, ◌+◌, ◌-◌, ◌*◌, ◌≤◌, Bool, true, false, List, [], ◌∷◌, length, get_or, ℤ, pos, ◌+ℤ◌, refl, sym, subst, ◌∙◌, arith}
+use Rattle.std.proofs.Common.{◌≡◌, ⊎_elim, ℕ, zero, suc, ◌+◌, ◌-◌, ◌*◌, ◌≤◌, Bool, true, false, List, [], ◌∷◌, ◌++◌, length, get_or, ℤ, pos, ◌+ℤ◌, refl, sym, subst, ◌∙◌, arith}
 use Rattle.std.proofs.lemmas.Int.{ints}
 use Rattle.std.proofs.lemmas.Bool.{cases_lt, false≢true}
 use Rattle.std.proofs.lemmas.List.{get_or_past}
@@ -21,6 +21,7 @@ use Rattle.shunt_prices.specs.defs.Cases.{alpha_at, beta_at, duals_over, weight_
 use Rattle.shunt_prices.proofs.Signed.{sum_z_below-same, sum_z_below-zero, sum_z_below-add, window}
 use Rattle.shunt_prices.proofs.Sizes.{both_within, nothing_within, sum_z_below-within}
 use Rattle.shunt_stacks.specs.defs.Stacks.{Stack, is_of}
+use Rattle.shunt_stacks.specs.defs.Bounds.{IsFall}
 use Rattle.shunt_stacks.specs.defs.Fillings.{gain, gain_of, IsFilling, IsStackGain}
 use Rattle.shunt_stacks.proofs.Parts.{PartLaw, is_block}
 use Rattle.shunt_stacks.proofs.Filled.{at_least_zero}
@@ -132,3 +133,30 @@ module _ (places : PlaceLaws) (law : PartLaw) (night : Night) (i : IsInstance ni
 -- a sum that is within limits, less what all stacks gain
 pub less_gains : (sum now gains : ℤ) → sum ≡ now -ℤ gains → IsWithin 4000000000000000000 now → IsWithin 38399999999961600 gains → IsWithin 4038399999999961600 sum
 less_gains sum now gains e v w = record { low = omega (arith, ints, e, v.low, w.high); high = omega (arith, ints, e, v.high, w.low) }
+
+-- ---- choices
+
+pub block_within : (night : Night) (c : Case) (b : Block) → IsWithin 15999999999984 (duals_over night c.duals (shape_of b))
+    → IsWithin 23040939999999999 (weight_with night c (shape_of b) b.park) → IsWithin 23056939999999983 (gain night c b)
+block_within night c b v w = difference _ _ v w
+  where
+    difference : (d g : ℤ) → IsWithin 15999999999984 d → IsWithin 23040939999999999 g → IsWithin 23056939999999983 (d -ℤ g)
+    difference d g v w = record { low = omega (arith, ints, v.low, w.high); high = omega (arith, ints, v.high, w.low) }
+
+pub fall_small : (places : PlaceLaws) (law : PartLaw) (night : Night) (i : IsInstance night) (few : unit_total night ≤ 160) (path : List Block) (b : Block)
+    → All (IsWithinTrains night) path → ShareNothing night path → RunsThrough night (placed path)
+    → All (IsWithinTrains night) (path ++ b ∷ []) → ShareNothing night (path ++ b ∷ []) → RunsThrough night (placed (path ++ b ∷ []))
+    → (c : Case) → IsCase night c → (o : Option Stack) (fall : ℤ) → IsFall night path b c o fall → IsWithin 639999999999360 fall
+fall_small places law night i few path b within apart go more_within more_apart more_go c is None fall f = none fall f
+  where
+    none : (z : ℤ) → z ≡ pos 0 → IsWithin 639999999999360 z
+    none z e = record { low = omega (arith, ints, e); high = omega (arith, ints, e) }
+fall_small places law night i few path b within apart go more_within more_apart more_go c is (Some s) fall f =
+    difference fall f.0 f.1 f.4 (gain_small places law night i few path within apart go c is s f.0 f.2) (gain_small places law night i few (path ++ b ∷ []) more_within more_apart more_go c is s f.1 f.3)
+  where
+    difference : (z x y : ℤ) → z ≡ x -ℤ y → IsWithin 319999999999680 x → IsWithin 319999999999680 y → IsWithin 639999999999360 z
+    difference z x y e v w = record { low = omega (arith, ints, e, v.low, w.high); high = omega (arith, ints, e, v.high, w.low) }
+
+pub choice_within : (sum whole fall own : ℤ) → sum ≡ whole +ℤ fall -ℤ own → IsWithin 4038399999999961600 whole → IsWithin 639999999999360 fall
+    → IsWithin 23056939999999983 own → IsWithin 4100000000000000000 sum
+choice_within sum whole fall own e u v w = record { low = omega (arith, ints, e, u.low, v.low, w.high); high = omega (arith, ints, e, u.high, v.high, w.low) }

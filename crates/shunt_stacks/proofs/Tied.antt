@@ -103,7 +103,7 @@ pub record TieLaws : Type 0 where
 
 module _ (laws : TieLaws) (night : Night) (i : IsInstance night) (stack : Stack) (events : ℕ) (entry leave : ℕ → ℕ) (num : IsNumbering night events entry leave)
     (path : List Block) (all : All (IsBlockButId night) path) (apart : ShareNothing night path) (c : Case) where
-  abbrev span_with : (Block → ℤ) → Block → Span
+  abbrev pub span_with : (Block → ℤ) → Block → Span
   span_with value b = span_of night entry leave value b
 
   abbrev span_for : Block → Span
@@ -115,10 +115,10 @@ module _ (laws : TieLaws) (night : Night) (i : IsInstance night) (stack : Stack)
   abbrev room : ℕ
   room = track_length night stack.track.0
 
-  abbrev fixed : List Span
+  abbrev pub fixed : List Span
   fixed = fixed_spans night entry leave (blocks_of stack path)
 
-  abbrev free_of : List Block → List Span
+  abbrev pub free_of : List Block → List Span
   free_of blocks = free_spans night entry leave c blocks
 
   -- ---- equal lists
@@ -224,7 +224,7 @@ module _ (laws : TieLaws) (night : Night) (i : IsInstance night) (stack : Stack)
       added all first rest own e f g = omega (arith, ints, e, f, g)
 
   module _ (blocks : List Block) (are : AreFreeOf night path c stack blocks) where
-    abbrev free_ones : List Span
+    abbrev pub free_ones : List Span
     free_ones = free_of blocks
 
     block_free : (b : Block) → In b blocks → IsFreeAt night path b
@@ -265,7 +265,7 @@ module _ (laws : TieLaws) (night : Night) (i : IsInstance night) (stack : Stack)
       far = λ y j. inr (free_apart x.0 y (block_free x.0 x.1) j);
     }
 
-    own_events : AreOwn fixed free_ones
+    pub own_events : AreOwn fixed free_ones
     own_events = record {
       spans = λ s k. let x = behind s k in subst IsSpan (sym x.is) (span_is x.value x.block x.fit x.own);
       entries = entries_of;

@@ -1,20 +1,22 @@
 //! What follows from the definitions of this crate.
-ghost use Rattle.std.specs.Prelude.{Option, IfSome, true, None, Some, pos, ◌≡◌, ◌↔◌, ◌<◌, ◌≤◌, ◌+◌, ℕ, ℤ, ◌+ℤ◌, ◌≤ℤ◌, IsTrue, Bool, All, filter, List, [], ◌∷◌, ◌++◌, length};
+ghost use Rattle.std.specs.Prelude.{Option, IfSome, true, None, Some, pos, ◌≡◌, ◌↔◌, ◌⊎◌, ◌<◌, ◌≤◌, ◌+◌, ℕ, ℤ, ◌+ℤ◌, ◌≤ℤ◌, IsTrue, Bool, All, filter, List, [], ◌∷◌, ◌++◌, length};
 ghost use Rattle.std.specs.Option.{IsSomeAnd};
 ghost use Rattle.shunt_lists.specs.defs.Members.{In};
+ghost use Rattle.shunt_base.specs.declared.ids.PlatformId.{PlatformId};
 ghost use Rattle.shunt_base.specs.declared.ids.Side.{Side};
 ghost use Rattle.shunt_base.specs.declared.keys.Stay.{Stay};
 ghost use Rattle.shunt_base.specs.defs.Keys.{IsBefore};
 ghost use Rattle.shunt_base.specs.declared.duals.Case.{Case};
 ghost use Rattle.shunt_stays.specs.defs.Crossing.{Crosses, NoneCross, NoneOver};
 ghost use Rattle.shunt_instance.specs.declared.records.Station.{Station};
-ghost use Rattle.shunt_instance.specs.defs.Words.{is_open_at};
+ghost use Rattle.shunt_instance.specs.declared.records.Origin.TheVariants as origin;
+ghost use Rattle.shunt_instance.specs.defs.Words.{is_open_at, train_at};
 ghost use Rattle.shunt_instance.specs.defs.Wellformed.{IsStation};
 ghost use Rattle.shunt_instance.specs.defs.Instance.{Night, IsInstance};
 ghost use Rattle.shunt_blocks.specs.declared.records.Shape.{Shape};
 ghost use Rattle.shunt_blocks.specs.declared.records.Block.{Block};
 ghost use Rattle.shunt_blocks.specs.declared.records.Park.{Park};
-ghost use Rattle.shunt_blocks.specs.defs.Shapes.{shape_of, IsWithinTrains};
+ghost use Rattle.shunt_blocks.specs.defs.Shapes.{shape_of, AreRunsWithin, IsWithinTrains};
 ghost use Rattle.shunt_blocks.specs.defs.Blocks.{IsOption, IsBlockButId};
 ghost use Rattle.shunt_blocks.specs.defs.Lists.{ShareNothing, RunsThrough, placed, IsFeasible, total_cost, track_lengths, stays_of};
 ghost use Rattle.shunt_blocks.specs.defs.Pins.{Keeps};
@@ -27,8 +29,8 @@ ghost use Rattle.shunt_prices.specs.defs.Bounds.{case_sum, IsCasesBound};
 ghost use Rattle.shunt_stacks.specs.defs.Stacks.{Stack, stacks, is_of, blocks_of, stack_of};
 ghost use Rattle.shunt_stacks.specs.defs.Fillings.{gain, gain_of, IsFilling, IsStackGain};
 ghost use Rattle.shunt_stacks.specs.defs.Cases.{StackCasesHold};
-ghost use Rattle.shunt_stacks.specs.defs.Spans.{IsBy, Span, IsNest, AreOwn, gain_of_spans, best};
-ghost use Rattle.shunt_stacks.specs.defs.Numbers.{IsNumbering, entry_number, leave_number, fixed_spans, free_spans, AreFreeOf};
+ghost use Rattle.shunt_stacks.specs.defs.Spans.{IsBy, Span, IsNest, AreOwn, AgreeWithin, IsOutside, gain_of_spans, best, best_step, best_with};
+ghost use Rattle.shunt_stacks.specs.defs.Numbers.{IsNumbering, entry_number, leave_number, span_of, fixed_spans, free_spans, AreFreeOf, apart_of};
 ghost use Rattle.shunt_stacks.specs.defs.Bounds.{AreStackGains, IsStackSum, IsChoiceSum, IsStackBound, IsChoiceBound};
 
 use shunt_blocks::laws::{
@@ -40,13 +42,17 @@ use shunt_prices::laws::{bounds, longer_paths, room};
 use shunt_stays::laws::clash_law;
 
 /// An option is of a stack exactly where that is its stack. A station has a stack for each open side of its tracks, 120 at most,
-/// and those of its blocks that come and go by one side are of one of them.
+/// and those of its blocks that come and go by one side are of one of them. On a track that is open at one side alone they are all that
+/// come from a platform.
 pub fn stacks_of_stations()
     ensures own { (stack : Stack) (park : Option Park) → is_of stack park ≡ true ↔ stack_of park ≡ Some stack }
     ensures there { (night : Night) (s : Shape) (park : Option Park) (stack : Stack) → IsInstance night → IsOption night s park →
         stack_of park ≡ Some stack → In stack (stacks night.station) }
     ensures open_at { (s : Station) (stack : Stack) → In stack (stacks s) ↔ (stack.track.0 < length s.tracks) × IsTrue (is_open_at s stack.track stack.side) }
     ensures few { (s : Station) → IsStation s → length (stacks s) ≤ 120 }
+    ensures one_side { (night : Night) (s : Shape) (k : Park) (p : PlatformId) (side : Side) → IsInstance night → IsOption night s (Some k) →
+        (train_at night.arrive s.arr.0).origin ≡ origin.Platform p →
+        ((other : Side) → IsTrue (is_open_at night.station k.track other) → other ≡ side) → is_of (record { track = k.track; side = side }) (Some k) ≡ true }
 {
     instances();
 }
@@ -173,7 +179,8 @@ pub fn one_gain()
 }
 
 /// Gains are small: a filling has each unit once, so it gains at most 319,999,999,999,680, and the gains of all stacks at a path whose
-/// run goes through add up to at most 120 times that. A sum with stacks fits a signed number of 64 bits.
+/// run goes through add up to at most 120 times that. The gain of a block, a sum with stacks and that of a choice fit a signed number of
+/// 64 bits.
 pub fn sums_fit()
     ensures filling { (night : Night) (path filling : List Block) (c : Case) (stack : Stack) → IsInstance night → IsCase night c → IsFilling night path stack filling →
         gain_of night c filling ≤ℤ pos 319999999999680 }
@@ -183,6 +190,10 @@ pub fn sums_fit()
         RunsThrough night (placed path) → IsCase night c → AreStackGains night path c gains → IsWithin 38399999999961600 (sum_z (λ z. z) gains) }
     ensures sum { (night : Night) (path : List Block) (cases : List Case) (k : ℕ) (x : ℤ) → IsInstance night → All (IsWithinTrains night) path → ShareNothing night path →
         RunsThrough night (placed path) → AreCases night cases → k < length cases → IsStackSum night path cases k x → IsWithin 4038399999999961600 x }
+    ensures block { (night : Night) (c : Case) (b : Block) → IsInstance night → IsCase night c → AreRunsWithin night (shape_of b) → IsWithin 23056939999999983 (gain night c b) }
+    ensures choice { (night : Night) (path : List Block) (b : Block) (cases : List Case) (k : ℕ) (x : ℤ) → IsInstance night → All (IsWithinTrains night) path →
+        ShareNothing night path → IsFreeBlock night (masks_of night path) (shape_of b) b.park → RunsThrough night (placed (path ++ b ∷ [])) →
+        AreCases night cases → k < length cases → IsChoiceSum night path b cases k x → IsWithin 4100000000000000000 x }
 {
     instances();
     unit_numbers();
@@ -220,7 +231,9 @@ pub fn nested_stays()
 {}
 
 /// Of spans whose events are their own, the greatest gain by recursion over the events is the greatest over all nests: no nest gains
-/// more, and where there is one, some nest gains that; so it doesn't see how many events may be looked at, where they are enough.
+/// more, and where there is one, some nest gains that. So it doesn't see how many events may be looked at, where they are enough, and
+/// each value is the step from others of the same number: where a fixed span comes, with that one, and where none comes, from the next
+/// event on. It sees no more of the spans than those among its events.
 pub fn nests()
     ensures most { (fixed free spans : List Span) (n x y room : ℕ) → AreOwn fixed free → y ≤ x + n → IsNest fixed free x y room spans →
         IsSomeAnd (best n fixed free x y room) (λ g. gain_of_spans spans ≤ℤ g) }
@@ -228,6 +241,14 @@ pub fn nests()
         IfSome (best n fixed free x y room) (λ g. (spans : List Span) × IsNest fixed free x y room spans × (gain_of_spans spans ≡ g)) }
     ensures any_number { (fixed free : List Span) (n m x y room : ℕ) → AreOwn fixed free → y ≤ x + n → y ≤ x + m →
         best n fixed free x y room ≡ best m fixed free x y room }
+    ensures steps { (fixed free : List Span) (n x y room : ℕ) → AreOwn fixed free → y ≤ x + n →
+        best n fixed free x y room ≡ best_step (best n fixed free) fixed free x y room }
+    ensures at_fixed { (fixed free : List Span) (n x y room : ℕ) (f : Span) → AreOwn fixed free → In f fixed → f.from ≡ x → x < y → y ≤ x + n →
+        best n fixed free x y room ≡ best_with (best n fixed free) y room f }
+    ensures at_none { (fixed free : List Span) (n x y room : ℕ) → AreOwn fixed free → ((s : Span) → In s fixed ⊎ In s free → s.from ≡ x → ⊥) → x < y → y ≤ x + n →
+        best n fixed free x y room ≡ best n fixed free (x + 1) y room }
+    ensures agree { (fixed free others more : List Span) (n x y room : ℕ) → AreOwn fixed free → AreOwn others more → y ≤ x + n →
+        AgreeWithin fixed free others more x y → best n fixed free x y room ≡ best n others more x y room }
 {}
 
 /// The gain of a stack is the greatest gain of spans, by recursion over the night's events, whatever numbers these have that rise in their
@@ -237,6 +258,9 @@ pub fn gains_by_events()
     ensures gain { (night : Night) (path blocks : List Block) (c : Case) (stack : Stack) (events : ℕ) (entry leave : ℕ → ℕ) (most : ℤ) → IsInstance night →
         All (IsBlockButId night) path → ShareNothing night path → IsNumbering night events entry leave → AreFreeOf night path c stack blocks →
         best events (fixed_spans night entry leave (blocks_of stack path)) (free_spans night entry leave c blocks) 0 events (track_length night stack.track.0) ≡ Some most ↔ IsStackGain night path c stack most }
+    ensures own { (night : Night) (path blocks : List Block) (c : Case) (stack : Stack) (events : ℕ) (entry leave : ℕ → ℕ) → IsInstance night →
+        All (IsBlockButId night) path → ShareNothing night path → IsNumbering night events entry leave → AreFreeOf night path c stack blocks →
+        AreOwn (fixed_spans night entry leave (blocks_of stack path)) (free_spans night entry leave c blocks) }
     ensures numbers { (night : Night) → IsInstance night → IsNumbering night 5760000 (entry_number night) (leave_number night) }
     ensures blocks { (night : Night) (path : List Block) (c : Case) (stack : Stack) → IsInstance night → (blocks : List Block) × AreFreeOf night path c stack blocks }
 {
@@ -249,6 +273,36 @@ pub fn gains_by_events()
     stays_of_blocks();
     few_blocks();
     choices();
+    ids_do_not_matter();
+    room();
+    clash_law();
+}
+
+/// If a path gets one more block of a stack, the stack's free blocks there are those that share nothing with it. Among events none of
+/// which are the new block's, the fixed and free spans are those of the path; so are the values of the recursion there, and the value at
+/// the block's own first event comes from the path's. So one table serves all choices at a path.
+pub fn choices_by_events()
+    ensures blocks { (night : Night) (path blocks : List Block) (b : Block) (c : Case) (stack : Stack) → IsInstance night →
+        IsFreeBlock night (masks_of night path) (shape_of b) b.park → AreFreeOf night path c stack blocks →
+        AreFreeOf night (path ++ b ∷ []) c stack (apart_of night b blocks) }
+    ensures agree { (night : Night) (path blocks : List Block) (b : Block) (c : Case) (stack : Stack) (events : ℕ) (entry leave : ℕ → ℕ) (x y : ℕ) → IsInstance night →
+        IsNumbering night events entry leave → AreFreeOf night path c stack blocks →
+        IsFreeBlock night (masks_of night path) (shape_of b) b.park → is_of stack b.park ≡ true → IsOutside x y (span_of night entry leave (λ z. pos 0) b) →
+        AgreeWithin (fixed_spans night entry leave (blocks_of stack path)) (free_spans night entry leave c blocks)
+        (fixed_spans night entry leave (blocks_of stack (path ++ b ∷ []))) (free_spans night entry leave c (apart_of night b blocks)) x y }
+    ensures value { (night : Night) (path blocks : List Block) (b : Block) (c : Case) (stack : Stack) (events : ℕ) (entry leave : ℕ → ℕ) (n y room : ℕ) →
+        IsInstance night → All (IsBlockButId night) path → ShareNothing night path → IsNumbering night events entry leave → AreFreeOf night path c stack blocks →
+        IsFreeBlock night (masks_of night path) (shape_of b) b.park → is_of stack b.park ≡ true →
+        let own = span_of night entry leave (λ z. pos 0) b in own.past ≤ y → y ≤ own.from + n →
+        best n (fixed_spans night entry leave (blocks_of stack (path ++ b ∷ []))) (free_spans night entry leave c (apart_of night b blocks)) own.from y room ≡
+        best_with (best n (fixed_spans night entry leave (blocks_of stack path)) (free_spans night entry leave c blocks)) y room own }
+{
+    instances();
+    rooms_of_trains();
+    places();
+    shapes();
+    stays();
+    stays_of_blocks();
     ids_do_not_matter();
     room();
     clash_law();

@@ -1,5 +1,5 @@
 -- Numberings of a night's events, and what blocks of a stack take of them.
-use Rattle.std.specs.Prelude.{◌≡◌, ◌⊎◌, ℕ, ◌+◌, ◌-◌, ◌*◌, ◌<◌, ◌≤◌, ℤ, pos, ◌<ℤ◌, true, map, All, List}
+use Rattle.std.specs.Prelude.{◌≡◌, ◌⊎◌, ℕ, ◌+◌, ◌-◌, ◌*◌, ◌<◌, ◌≤◌, nat_lt, Bool, not, ◌&&◌, ◌||◌, ℤ, pos, ◌<ℤ◌, true, filter, map, All, List}
 use Rattle.shunt_lists.specs.defs.Members.{In}
 use Rattle.shunt_base.specs.declared.duals.Case.{Case}
 use Rattle.shunt_instance.specs.defs.Words.{train_at}
@@ -68,3 +68,15 @@ pub record AreFreeOf (night : Night) (path : List Block) (c : Case) (stack : Sta
   pub free : All (λ b. IsFreeBlock night (masks_of night path) (shape_of b) b.park) blocks
   pub every : (b : Block) → is_of stack b.park ≡ true → IsFreeBlock night (masks_of night path) (shape_of b) b.park → pos 0 <ℤ gain night c b → HasRoom night (shape_of b) b.park
       → (other : Block) × In other blocks × (without_id b ≡ without_id other)
+
+-- whether two runs of numbers have one in common
+abbrev pub meet : ℕ → ℕ → ℕ → ℕ → Bool
+meet a n b m = nat_lt a (b + m) && nat_lt b (a + n)
+
+-- whether two blocks share a unit or a position
+abbrev pub shares : Night → Block → Block → Bool
+shares night x y = meet (unit_from night (shape_of x)) x.n (unit_from night (shape_of y)) y.n || meet (position_from night (shape_of x)) x.n (position_from night (shape_of y)) y.n
+
+-- those of these blocks that share nothing with a block
+abbrev pub apart_of : Night → Block → List Block → List Block
+apart_of night b blocks = filter (λ x. not (shares night b x)) blocks

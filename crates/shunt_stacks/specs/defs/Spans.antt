@@ -1,5 +1,5 @@
 -- Spans: what blocks of a stack take of its events, and the greatest gain of spans that are nested or apart.
-use Rattle.std.specs.Prelude.{◌≡◌, ◌⊎◌, ℕ, zero, suc, ◌+◌, ◌-◌, ◌<◌, ◌≤◌, ◌==◌, nat_le, nat_lt, Bool, ◌&&◌, if◌then◌else◌, ℤ, pos, ◌+ℤ◌, filter, map, sum_by, List, [], ◌∷◌, Option, Some, None}
+use Rattle.std.specs.Prelude.{◌≡◌, ◌⊎◌, ◌↔◌, ℕ, zero, suc, ◌+◌, ◌-◌, ◌<◌, ◌≤◌, ◌==◌, nat_le, nat_lt, Bool, ◌&&◌, if◌then◌else◌, ℤ, pos, ◌+ℤ◌, filter, map, sum_by, List, [], ◌∷◌, Option, Some, None}
 use Rattle.std.specs.List.{AllByRecursion}
 use Rattle.std.specs.Int.{int_max}
 use Rattle.shunt_lists.specs.defs.Members.{In}
@@ -111,3 +111,12 @@ pub record AreOwn (fixed free : List Span) : Type 0 where
   pub entries : (s f : Span) → In s fixed ⊎ In s free → In f fixed → s.from < f.from → f.from < s.inside → ⊥
   pub leaves : (s f : Span) → In s fixed ⊎ In s free → In f fixed → s.until ≤ f.from → f.from < s.past → ⊥
   pub one : (f g : Span) → In f fixed → In g fixed → f.from ≡ g.from → f ≡ g
+
+-- two pairs of lists agree among the events from x on and before y: in the spans that lie there, and in the fixed ones that come there
+pub record AgreeWithin (fixed free others more : List Span) (x y : ℕ) : Type 0 where
+  pub members : (s : Span) → x ≤ s.from → s.past ≤ y → (In s fixed ⊎ In s free) ↔ (In s others ⊎ In s more)
+  pub same : (s : Span) → x ≤ s.from → s.from < y → In s fixed ↔ In s others
+
+-- no event of a span is from x on and before y
+abbrev pub IsOutside : ℕ → ℕ → Span → Type 0
+IsOutside x y s = (y ≤ s.from) ⊎ (((s.inside ≤ x) × (y ≤ s.until)) ⊎ (s.past ≤ x))

@@ -1,7 +1,7 @@
 use Rattle.shunt_choices.proofs.Given.{PlaceLaws}
 use Rattle.shunt_stacks.specs.defs.Stacks.{blocks_of}
 use Rattle.shunt_stacks.proofs.Pairs.{EventLaws}
-use Rattle.shunt_stacks.proofs.Tied.{TieLaws, gain_is}
+use Rattle.shunt_stacks.proofs.Tied.{TieLaws, gain_is, own_events}
 use Rattle.shunt_stacks.proofs.Numbered.{NumberLaws, numbered}
 use Rattle.shunt_stacks.proofs.Existing.{frees, frees_are}
 use Rattle.shunt_stacks.proofs.laws.gains_by_events.Goals as goal
@@ -34,6 +34,7 @@ returns c =
     } in
     record {
       gain = λ night path blocks k stack count entry leave most i all apart num are. gain_is laws night i stack count entry leave num path all apart k blocks are most;
+      own = λ night path blocks k stack count entry leave i all apart num are. own_events laws night i stack count entry leave num path all apart k blocks are;
       numbers = λ night i. numbered numbers night i;
       blocks = λ night path k stack i. (blocks_of stack (frees night path), frees_are places c.choices.ensures.members c.few_blocks.ensures.most night i path stack k);
     }

@@ -2,7 +2,8 @@
 
 use crate::choices::read;
 use crate::nights::{Choice, Park, Shape, Tables};
-use crate::stacks::{Bringing, Order, Stack};
+use crate::stacks::{Bringing, Filling, Order, Stack};
+use std::cell::RefCell;
 
 pub(crate) struct Price {
     pub(crate) parts: Option<u64>,
@@ -295,34 +296,39 @@ struct Judge<'t> {
 struct Known {
     sums: Vec<i64>,
     bringing: Vec<Vec<Vec<Bringing>>>,
+    fillings: Vec<Vec<RefCell<Filling>>>,
     gains: Vec<Vec<i64>>,
 }
 
 impl Judge<'_> {
-    fn known(&self, path: &Path, cases: &[Case]) -> Known {
-        let mut known = Known { sums: sums(self.tables, path, cases), bringing: vec![], gains: vec![] };
+    // Above is what is known of a shorter path by the same cases.
+    fn known(&self, path: &Path, cases: &[Case], above: Option<&Known>) -> Known {
+        let mut known = Known { sums: sums(self.tables, path, cases), bringing: vec![], fillings: vec![], gains: vec![] };
         let Some(order) = &self.stacks else { return known };
-        for (case, sum) in cases.iter().zip(&mut known.sums) {
-            let bringing = order.bringing_at(self.tables, path, case);
-            let greatest = |(stack, blocks): (usize, &Vec<Bringing>)| order.greatest(self.tables, stack, &path.blocks, blocks);
-            let gains: Vec<i64> = bringing.iter().enumerate().map(|it| greatest(it).expect("a path that goes through")).collect();
-            *sum -= gains.iter().sum::<i64>();
+        for k in 0..cases.len() {
+            let free = |blocks: &Vec<Bringing>| blocks.iter().filter(|block| block.is_free(path)).copied().collect();
+            let bringing: Vec<Vec<Bringing>> = match above {
+                Some(above) => above.bringing[k].iter().map(free).collect(),
+                None => order.bringing_at(self.tables, path, &cases[k]),
+            };
+            let fillings = bringing.iter().enumerate().map(|(stack, blocks)| RefCell::new(order.filling(self.tables, stack, path, blocks)));
+            let fillings: Vec<_> = fillings.collect();
+            let gains: Vec<i64> = fillings.iter().map(|filling| filling.borrow_mut().greatest().expect("a path that goes through")).collect();
+            known.sums[k] -= gains.iter().sum::<i64>();
             known.bringing.push(bringing);
+            known.fillings.push(fillings);
             known.gains.push(gains);
         }
         known
     }
 
     // How much the sum of a case grows since the stack of a choice brings less once its block stands there; none where it can't.
-    fn less_brought(&self, path: &Path, known: &Known, k: usize, choice: Choice) -> Option<i64> {
+    fn less_brought(&self, known: &Known, k: usize, choice: Choice) -> Option<i64> {
         let (Some(order), Some(stack)) = (&self.stacks, Stack::place_of(choice)) else { return Some(0) };
-        let before = known.gains[k][stack];
-        if before == 0 {
+        if known.gains[k][stack] == 0 {
             return Some(0);
         }
-        let free: Vec<Bringing> = known.bringing[k][stack].iter().filter(|block| block.is_apart_from(choice.shape)).copied().collect();
-        let longer: Vec<Choice> = path.blocks.iter().copied().chain([choice]).collect();
-        Some(before - order.greatest(self.tables, stack, &longer, &free)?)
+        order.less_brought(self.tables, &mut known.fillings[k][stack].borrow_mut(), choice.shape)
     }
 
     /// The bound of a choice at a path, or one that is enough; none where it isn't a choice that goes through.
@@ -333,7 +339,7 @@ impl Judge<'_> {
         }
         let mut grown = known.sums.clone();
         for (k, sum) in grown.iter_mut().enumerate() {
-            *sum += self.less_brought(path, known, k, choice)?;
+            *sum += self.less_brought(known, k, choice)?;
         }
         bound_with(self.tables, path, cases, &grown, parts, choice)
     }
@@ -427,7 +433,8 @@ fn verdict(tables: &Tables, blocks: &[Choice], cost: u64, certificate: &Certific
         if !tried.into_iter().all(|case| holds(tables, &path, case, certificate.with_stacks)) {
             return Err(k + 1);
         }
-        let at = judge.known(&path, cases);
+        let inherited = above.last().filter(|(parent, ..)| *parent == owner).map(|(.., known)| known);
+        let at = judge.known(&path, cases, inherited);
         if node.kind == "leaf" && bound_of(&path, cases, &at.sums) < certificate.bound {
             return Err(k + 1);
         }

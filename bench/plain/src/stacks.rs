@@ -85,45 +85,62 @@ impl Order {
         all
     }
 
-    /// The greatest sum of what blocks of a stack bring that can stand there together with those of a path; none where these can't.
-    pub(crate) fn greatest(&self, tables: &Tables, stack: usize, path: &[Choice], free: &[Bringing]) -> Option<i64> {
-        let mut filling = Filling { from: vec![vec![]; self.events], forced: vec![None; self.events], known: HashMap::new() };
-        for block in free {
-            filling.from[block.enters].push(*block);
-        }
-        for block in path.iter().filter(|block| Stack::place_of(**block) == Some(stack)) {
+    /// What can stand on a stack together with the blocks of a path there.
+    pub(crate) fn filling(&self, tables: &Tables, stack: usize, path: &Path, free: &[Bringing]) -> Filling {
+        let mut from = vec![vec![]; self.events];
+        free.iter().for_each(|block| from[block.enters].push(*block));
+        let mut forced = vec![None; self.events];
+        for block in path.blocks.iter().filter(|block| Stack::place_of(**block) == Some(stack)) {
             let block = self.bringing(tables, block.shape, 0);
-            filling.forced[block.enters] = Some(block);
+            forced[block.enters] = Some(block);
         }
-        filling.best(0, self.events, tables.night.rooms[stack / 2])
+        let mut nexts = vec![self.events; self.events + 1];
+        for at in (0..self.events).rev() {
+            nexts[at] = if from[at].is_empty() && forced[at].is_none() { nexts[at + 1] } else { at };
+        }
+        Filling { from, forced, nexts, room: tables.night.rooms[stack / 2], known: HashMap::new() }
     }
-}
 
-/// Whether two shapes share no unit and no position.
-pub(crate) fn are_apart(one: Shape, other: Shape) -> bool {
-    let apart = |a: usize, b: usize| a + one.n <= b || b + other.n <= a;
-    apart(one.u, other.u) && apart(one.v, other.v)
+    /// What less a stack brings behind the entry of a next block if that stands there; none where it can't. What isn't on the path comes no earlier.
+    pub(crate) fn less_brought(&self, tables: &Tables, filling: &mut Filling, shape: Shape) -> Option<i64> {
+        let block = self.bringing(tables, shape, 0);
+        let (to, room) = filling.part_at(block.enters);
+        Some(filling.best(block.enters, to, room)? - filling.with(block, to, room)?)
+    }
 }
 
 impl Bringing {
-    pub(crate) fn is_apart_from(&self, shape: Shape) -> bool {
-        are_apart(self.shape, shape)
+    /// Whether none of its units and positions is on a path.
+    pub(crate) fn is_free(&self, path: &Path) -> bool {
+        let Shape { u, v, n } = self.shape;
+        path.units[u..u + n].iter().chain(&path.positions[v..v + n]).all(|covered| !covered)
     }
 }
 
-/// The blocks that may begin at each event, those that have to, and what is known of parts of the order.
-struct Filling {
+/// The blocks that may begin at each event, those that have to, the next event at which one begins, and what is known of parts of the order.
+pub(crate) struct Filling {
     from: Vec<Vec<Bringing>>,
     forced: Vec<Option<Bringing>>,
+    nexts: Vec<usize>,
+    room: u64,
     known: HashMap<(usize, usize, u64), Option<i64>>,
 }
 
 impl Filling {
+    /// The greatest sum of what blocks of the stack bring that can stand there together with those of the path; none where these can't.
+    pub(crate) fn greatest(&mut self) -> Option<i64> {
+        self.best(0, self.forced.len(), self.room)
+    }
+
+    // Where the part of the order ends in which an event lies behind all entries of the path, and its room.
+    fn part_at(&self, at: usize) -> (usize, u64) {
+        let standing = self.forced[..at].iter().flatten().filter(|block| block.leaves > at);
+        standing.fold((self.forced.len(), self.room), |(_, room), block| (block.leaves + 1 - block.shape.n, room.saturating_sub(block.long)))
+    }
+
     // The greatest sum between two events with some room left.
-    fn best(&mut self, mut from: usize, to: usize, room: u64) -> Option<i64> {
-        while from < to && self.from[from].is_empty() && self.forced[from].is_none() {
-            from += 1;
-        }
+    fn best(&mut self, from: usize, to: usize, room: u64) -> Option<i64> {
+        let from = self.nexts[from.min(self.forced.len())];
         if from >= to {
             return Some(0);
         }

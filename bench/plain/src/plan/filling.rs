@@ -1,4 +1,7 @@
 //! The greatest sum of what blocks of one stack bring: a table over those events alone at which such blocks begin or end.
+//!
+//! A row is for the pieces that end before some end, and for some room. It has the greatest sum from each entry on, from the last entry down to where it was
+//! asked for. What a piece brings with all that is inside it goes by the room alone, so each row finds it at hand.
 
 use super::stacks::{NO_ROOM, Part, Stack};
 
@@ -21,6 +24,9 @@ struct Place {
     behind: usize,
 }
 
+const UNKNOWN: i64 = i64::MIN;
+const TOO_LONG: i64 = i64::MIN / 2;
+
 /// A table of one stack, kept so that no memory is asked for again.
 #[derive(Default)]
 pub(crate) struct Table {
@@ -29,17 +35,20 @@ pub(crate) struct Table {
     entries: Vec<u32>,
     firsts: Vec<usize>,
     ends: Vec<u32>,
-    values: Vec<i64>,
-    stamps: Vec<u32>,
-    stamp: u32,
     rooms: usize,
     lengths: usize,
+    // For each end and room how far down the row is known, and its sums.
+    known: Vec<usize>,
+    sums: Vec<i64>,
+    // For each piece and room what it brings with all that is inside it.
+    whole: Vec<i64>,
 }
 
 impl Table {
-    /// Prepares the table for its pieces, which stand by their entries.
+    /// Prepares the table for its pieces.
     pub(crate) fn prepare(&mut self, stack: &Stack, lengths: usize) {
         (self.rooms, self.lengths) = (stack.rooms.len(), lengths);
+        self.pieces.sort_unstable_by_key(|piece| (piece.enters, piece.leaves));
         self.entries.clear();
         self.firsts.clear();
         for (place, piece) in self.pieces.iter().enumerate() {
@@ -62,12 +71,15 @@ impl Table {
             inside: (entry(piece.enters + piece.n), end(piece.leaves + 1 - piece.n)),
             behind: entry(piece.leaves + 1),
         }));
-        let size = self.entries.len() * (self.ends.len() + 1) * self.rooms;
-        if self.values.len() < size {
-            self.values.resize(size, 0);
-            self.stamps.resize(size, 0);
+        let (rows, wide) = ((self.ends.len() + 1) * self.rooms, self.entries.len() + 1);
+        self.known.clear();
+        self.known.resize(rows, wide - 1);
+        if self.sums.len() < rows * wide {
+            self.sums.resize(rows * wide, 0);
         }
-        self.stamp += 1;
+        (0..rows).for_each(|row| self.sums[row * wide + wide - 1] = 0);
+        self.whole.clear();
+        self.whole.resize(self.pieces.len() * self.rooms, UNKNOWN);
     }
 
     // The greatest sum from an entry on of pieces that end before an end, with some room.
@@ -75,25 +87,32 @@ impl Table {
         if from >= self.entries.len() || to == 0 || self.ends[to - 1] < self.entries[from] {
             return 0;
         }
-        let at = (from * (self.ends.len() + 1) + to) * self.rooms + room as usize;
-        if self.stamps[at] == self.stamp {
-            return self.values[at];
+        let row = to * self.rooms + room as usize;
+        let start = row * (self.entries.len() + 1);
+        while self.known[row] > from {
+            let at = self.known[row] - 1;
+            let mut best = self.sums[start + at + 1];
+            for k in self.firsts[at]..self.firsts[at + 1] {
+                if self.places[k].leaves >= to {
+                    break;
+                }
+                best = best.max(self.whole(stack, k, room) + self.sums[start + self.places[k].behind]);
+            }
+            self.sums[start + at] = best;
+            self.known[row] = at;
         }
-        let mut best = self.best(stack, from + 1, to, room);
-        for k in self.firsts[from]..self.firsts[from + 1] {
-            best = best.max(self.with(stack, k, to, room).unwrap_or(0));
-        }
-        (self.values[at], self.stamps[at]) = (best, self.stamp);
-        best
+        self.sums[start + from]
     }
 
-    fn with(&mut self, stack: &Stack, k: usize, to: usize, room: u16) -> Option<i64> {
-        let (piece, place) = (self.pieces[k], self.places[k]);
-        let left = stack.less(room, piece.long, self.lengths);
-        if place.leaves >= to || left == NO_ROOM {
-            return None;
+    // What a piece brings with all that is inside it, where it fits.
+    fn whole(&mut self, stack: &Stack, k: usize, room: u16) -> i64 {
+        let at = k * self.rooms + room as usize;
+        if self.whole[at] == UNKNOWN {
+            let (piece, inside) = (self.pieces[k], self.places[k].inside);
+            let left = stack.less(room, piece.long, self.lengths);
+            self.whole[at] = if left == NO_ROOM { TOO_LONG } else { piece.gain + self.best(stack, inside.0, inside.1, left) };
         }
-        Some(piece.gain + self.best(stack, place.inside.0, place.inside.1, left) + self.best(stack, place.behind, to, room))
+        self.whole[at]
     }
 
     fn between(&self, part: Part) -> (usize, usize) {
@@ -117,20 +136,21 @@ impl Table {
         let (from, to) = self.between(part);
         let mut left = vec![(from, to, part.room)];
         while let Some((mut from, to, room)) = left.pop() {
-            loop {
-                let best = self.best(stack, from, to, room);
-                if best == 0 {
-                    break;
-                }
-                if self.best(stack, from + 1, to, room) == best {
+            let mut best = self.best(stack, from, to, room);
+            while best > 0 {
+                let behind = self.best(stack, from + 1, to, room);
+                if behind == best {
                     from += 1;
                     continue;
                 }
-                let pick = (self.firsts[from]..self.firsts[from + 1]).find(|k| self.with(stack, *k, to, room) == Some(best)).expect("a piece");
+                let pieces = (self.firsts[from]..self.firsts[from + 1]).filter(|k| self.places[*k].leaves < to).collect::<Vec<_>>();
+                let with = |table: &mut Table, k: usize| table.whole(stack, k, room) + table.best(stack, table.places[k].behind, to, room);
+                let pick = pieces.into_iter().find(|k| with(self, *k) == best).expect("a piece");
                 rows.push(self.pieces[pick].row);
                 let place = self.places[pick];
                 left.push((place.inside.0, place.inside.1, stack.less(room, self.pieces[pick].long, self.lengths)));
                 from = place.behind;
+                best = self.best(stack, from, to, room);
             }
         }
     }

@@ -5,6 +5,7 @@ pub mod Causes
 pub mod Errors
 pub mod Table
 pub mod Pieces
+pub mod Parts
 pub mod Memory
 pub mod Held
 pub mod Disk

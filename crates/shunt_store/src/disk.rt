@@ -1,13 +1,15 @@
 // A store over the files of the current folder.
-ghost use Rattle.std.specs.Prelude.{◌≡◌, ◌<◌, ◌≤◌, ◌++◌, None, Some, [], IfOk, OnErr, IsErrOf, length, take};
+ghost use Rattle.std.specs.Prelude.{◌≡◌, ◌<◌, ◌≤◌, ◌++◌, None, Some, [], All, IfOk, OnOk, OnErr, IsErrOf, length, take, string_bytes};
 ghost use Rattle.shunt_store.specs.defs.Causes.{Counts, HasCause};
 ghost use Rattle.shunt_store.specs.defs.Files.{Closed, Writing, IsWriting, name_of, text_of};
-ghost use Rattle.shunt_store.specs.defs.Disk.{stage_of_file};
+ghost use Rattle.shunt_store.specs.defs.Parts.{part_endings, EndsWith};
+ghost use Rattle.shunt_store.specs.defs.Disk.{stage_of_file, HasEndings};
 
 use crate::counting::one_fault_more;
-use crate::drafts::{Draft, begin, discard, free_number, settle, write_on};
+use crate::drafts::{Draft, begin, discard, settle, write_on};
 use crate::errors::StoreError;
 use crate::noted::NotedFiles;
+use crate::parts::free_endings;
 use crate::traits::Store;
 use std::alloc::Allocator;
 use std::io::Read;
@@ -24,14 +26,14 @@ pub enum Doing<F, A: Allocator> {
 /// The files of the current folder. It doesn't tell what they hold, but what was read of them, and
 /// what they were made to hold.
 ///
-/// A file is written beside the one that it is to replace, under its name with `.part` behind it; what
+/// A file is written beside the one that it is to replace, under its name with `.part` behind it, once or more often; what
 /// a run that was killed left there is overwritten. A device, a pipe, a folder, and any name under /dev
 /// or /proc is written in place. A link is followed.
 #[derive(Drop)]
 pub struct DiskStore<'r, R: FileSystem + Alloc> {
     rt: &'r R,
-    // Which number stands behind `.part`; none for 0.
-    part: u64,
+    // How many endings stand behind the name of a file that is written beside another.
+    endings: usize,
     doing: Doing<R::File, R::A>,
     heard: NotedFiles,
     stored: NotedFiles,
@@ -52,7 +54,7 @@ impl<'r, R: FileSystem + Alloc> DiskStore<'r, R> {
     {
         DiskStore {
             rt,
-            part: 0,
+            endings: 1,
             doing: Doing::Closed,
             heard: NotedFiles::new(),
             stored: NotedFiles::new(),
@@ -62,7 +64,7 @@ impl<'r, R: FileSystem + Alloc> DiskStore<'r, R> {
         }
     }
 
-    /// The same for a command with these words: a number behind `.part` keeps parts from having the name of a word.
+    /// The same for a command with these words: no file that is written beside another has the name of one.
     pub fn for_words(rt: &'r R, words: &[String]) -> DiskStore<'r, R>
         ensures stage { stage_of_file result.doing ≡ Closed }
         ensures heard { result.heard.entries ≡ [] }
@@ -70,9 +72,10 @@ impl<'r, R: FileSystem + Alloc> DiskStore<'r, R> {
         ensures taken { result.taken ≡ 0 }
         ensures handed { result.handed ≡ 0 }
         ensures faults { result.faults ≡ 0 }
+        ensures parts { All (λ word. EndsWith (string_bytes word) (part_endings result.endings) → ⊥) words.now }
     {
         DiskStore {
-            part: free_number(words),
+            endings: free_endings(words),
             ..DiskStore::new(rt)
         }
     }
@@ -127,9 +130,21 @@ impl<R: FileSystem + Alloc> Store for DiskStore<'_, R> {
         Err(StoreError::Fault)
     }
 
-    fn create_file(&mut self, name: &str) -> Result<(), StoreError> {
+    fn create_file(&mut self, name: &str) -> Result<(), StoreError>
+        requires { stage_of_file self.old.doing ≡ Closed }
+        ensures ok { OnOk result (stage_of_file self.new.doing ≡ Writing name.now []) }
+        ensures part { OnOk result (HasEndings self.old.endings self.new.doing) }
+        ensures err { OnErr result (stage_of_file self.new.doing ≡ Closed) }
+        ensures endings { self.new.endings ≡ self.old.endings }
+        ensures heard { self.new.heard.entries ≡ self.old.heard.entries }
+        ensures stored { self.new.stored.entries ≡ self.old.stored.entries }
+        ensures taken { self.new.taken ≡ self.old.taken }
+        ensures handed { self.new.handed ≡ self.old.handed }
+        ensures counts { Counts StoreError.Fault self.old.faults self.new.faults result }
+        ensures cause { HasCause StoreError.Fault self.old.faults self.new.faults result }
+    {
         let owned = Vec::from_slice(self.rt.alloc(), name.as_bytes())?;
-        match begin(self.rt, name, self.part)? {
+        match begin(self.rt, name, self.endings)? {
             Some(draft) => {
                 self.doing = Doing::Writing(owned, draft);
                 Ok(())

@@ -1,7 +1,9 @@
 // A file that is being written: beside the one that it is to replace, or in place.
-ghost use Rattle.std.specs.Prelude.{◌≡◌, ◌<◌, ◌≤◌, ◌++◌, [], length, take, IfOk, IfSome, IfNone};
+ghost use Rattle.std.specs.Prelude.{◌≡◌, ◌<◌, ◌≤◌, ◌++◌, [], length, take, IfOk, IfSome, IfNone, string_bytes};
+ghost use Rattle.shunt_store.specs.defs.Parts.{part_endings, EndsWith};
 
 use crate::noted::Noted;
+use crate::parts::part_of;
 use std::alloc::{AllocError, Allocator};
 use std::fs::{OpenFile, Permissions};
 use std::io::Write;
@@ -69,21 +71,16 @@ fn resolved<R: FileSystem + Alloc>(rt: &R, name: &str) -> Result<PathBuf<R::A>, 
     }
 }
 
-// The name of a part: `.part` behind the target's, and a number that isn't 0.
-fn part_of<A: Allocator>(alloc: A, target: &str, number: u64) -> Result<String<A>, AllocError> {
-    if number == 0 {
-        return format!(in alloc; "{target}.part");
-    }
-    format!(in alloc; "{target}.part{number}")
-}
-
+// Where a file is written, and what it is to replace.
 fn places<R: FileSystem + Alloc>(
     rt: &R,
     name: &str,
-    number: u64,
-) -> Result<Beside<R::A>, AllocError> {
+    endings: usize,
+) -> Result<Beside<R::A>, AllocError>
+    ensures { IfOk result (λ b. EndsWith (string_bytes b.part) (part_endings endings)) }
+{
     let target = resolved(rt, name)?;
-    let part = part_of(rt.alloc(), target.as_str(), number)?;
+    let part = part_of(rt.alloc(), target.as_str(), endings)?;
     Ok(Beside { part, target })
 }
 
@@ -99,13 +96,14 @@ fn create_part<R: FileSystem>(rt: &R, part: &str, way: Way) -> io::Result<R::Fil
     Ok(file)
 }
 
-/// A file to be written, which is empty, and whose part has a number. None if the system refuses it.
+/// A file to be written, which is empty, and whose part has so many endings. None if the system refuses it.
 pub fn begin<R: FileSystem + Alloc>(
     rt: &R,
     name: &str,
-    number: u64,
+    endings: usize,
 ) -> Result<Option<Draft<R::File, R::A>>, AllocError>
-    ensures { IfOk result (λ draft. IfSome draft (λ d. d.text.bytes ≡ [])) }
+    ensures empty { IfOk result (λ draft. IfSome draft (λ d. d.text.bytes ≡ [])) }
+    ensures part { IfOk result (λ draft. IfSome draft (λ d. IfSome d.beside (λ b. EndsWith (string_bytes b.part) (part_endings endings)))) }
 {
     let way = way_of(rt, name);
     if let Way::InPlace = way {
@@ -117,7 +115,7 @@ pub fn begin<R: FileSystem + Alloc>(
             }),
         );
     }
-    let beside = places(rt, name, number)?;
+    let beside = places(rt, name, endings)?;
     match create_part(rt, beside.part.as_str(), way) {
         Ok(file) => Ok(Some(Draft {
             file,
@@ -183,24 +181,4 @@ pub fn discard<R: FileSystem + Alloc>(rt: &R, draft: &Draft<R::File, R::A>) {
     if let Some(beside) = &draft.beside {
         let _ = fs::remove_file(rt, beside.part.as_str());
     }
-}
-
-// The number behind the `.part` at the end of a name, if it has one.
-fn part_number(name: &str) -> Option<u64> {
-    let (_, number) = name.rsplit_once(".part")?;
-    if number.is_empty() {
-        return Some(0);
-    }
-    number.parse().ok()
-}
-
-/// A number of parts that none of these names has.
-pub fn free_number(names: &[String]) -> u64 {
-    let mut free: u64 = 0;
-    for name in names {
-        if let Some(number) = part_number(name.as_str()) {
-            free = free.max(number.saturating_add(1));
-        }
-    }
-    free
 }

@@ -10,6 +10,7 @@ mod memory;
 mod memory_sink;
 mod moving;
 mod noted;
+mod parts;
 mod reading;
 mod sure;
 mod table;

@@ -1,11 +1,14 @@
 //! The program: the words of the command line, the files of the current folder, and the standard output.
 #![tactic(auto)]
 
-ghost use Rattle.std.specs.Prelude.{◌≡◌};
-ghost use Rattle.shunt_main.specs.defs.Numbers.{number_of};
+ghost use Rattle.std.specs.Prelude.{◌≡◌, ◌↔◌, Option};
+ghost use Rattle.shunt_store.specs.defs.Files.{Closed, Files as KnownFiles};
+ghost use Rattle.shunt.specs.defs.Words.{Call, Spells, texts};
+ghost use Rattle.shunt.specs.defs.Ends.{AreKnown, seen, telling};
+ghost use Rattle.shunt_main.specs.defs.Numbers.{number_of, EndsAs};
 
 use shunt::{Status, run};
-use shunt_store::{ConsoleSink, DiskStore};
+use shunt_store::{ConsoleSink, DiskStore, Sink, Store};
 use std::alloc::{AllocError, Global};
 use std::env::FillError;
 use std::process::ExitCode;
@@ -56,14 +59,33 @@ fn to_number(status: Status) -> u8
     }
 }
 
+// Does what the words ask for over the files of the current folder and the standard output, and answers the number of how that ended.
+fn run_here(
+    alloc: Global,
+    words: &Vec<String>,
+    store: &mut DiskStore<'_, HostRuntime>,
+    out: &mut ConsoleSink<'_, HostRuntime>,
+) -> u8
+    requires { ⟦<DiskStore<'static, HostRuntime> as Store>⟧.stage store.old ≡ Closed }
+    ensures words { (result ≡ number_of Status.Words) ↔ ((c : Call) → Spells (texts words.now.items) c → ⊥) }
+    ensures ends { (c : Call) → Spells (texts words.now.items) c → (before after : Option KnownFiles) →
+        let D = ⟦<DiskStore<'static, HostRuntime> as Store>⟧ in
+        let O = ⟦<ConsoleSink<'static, HostRuntime> as Sink>⟧ in
+        AreKnown (telling D.told D.heard D.stored store.old) (telling D.told D.heard D.stored store.new) before after → EndsAs c
+        (seen before D.stored D.faults O.told O.faults store.old out.old)
+        (seen after D.stored D.faults O.told O.faults store.new out.new) result }
+{
+    to_number(run(alloc, words, store, out))
+}
+
 fn main(rt: HostRuntime) -> ExitCode {
-    let status = match words_of(&rt, rt.alloc()) {
+    let number = match words_of(&rt, rt.alloc()) {
         Ok(words) => {
             let mut store = DiskStore::for_words(&rt, &words);
             let mut out = ConsoleSink::new(&rt);
-            run(rt.alloc(), &words, &mut store, &mut out)
+            run_here(rt.alloc(), &words, &mut store, &mut out)
         }
-        Err(_) => Status::Memory,
+        Err(_) => to_number(Status::Memory),
     };
-    ExitCode::from(to_number(status))
+    ExitCode::from(number)
 }

@@ -1,5 +1,5 @@
 -- Texts that are put together entry by entry.
-use Rattle.std.proofs.Common.{◌≡◌, ℕ, ◌+◌, ◌<◌, List, ◌++◌, length, get_or, drop, sym, ap, ◌∙◌}
+use Rattle.std.proofs.Common.{◌≡◌, ℕ, ◌+◌, ◌<◌, List, ◌++◌, length, get_or, drop, refl, sym, ap, ◌∙◌}
 use Rattle.std.specs.List.{flat_map}
 use Rattle.std.proofs.lemmas.List.{append_assoc, drop_more}
 use Rattle.std.proofs.lemmas.List.Concat.{flat_map-cons}
@@ -22,3 +22,7 @@ one_entry line xs i x d text more lt at push =
     let rest = each_from line (i + 1) (drop (i + 1) xs) in
     ap (λ t. t ++ rest) (push ∙ ap (λ y. text ++ line i y) at) ∙ append_assoc text (line i (get_or xs i d)) rest
     ∙ ap (λ t. text ++ t) (sym (ap (each_from line i) (drop_more xs i d lt)))
+
+-- and where it is the one with this number
+pub one_number : {X : Type 0} (line : ℕ → X → List ℕ) (xs : List X) (i : ℕ) (d : X) (text more : List ℕ) → i < length xs → more ≡ text ++ line i (get_or xs i d) → more ++ each_from line (i + 1) (drop (i + 1) xs) ≡ text ++ each_from line i (drop i xs)
+one_number line xs i d text more lt push = one_entry line xs i (get_or xs i d) d text more lt refl push

@@ -7,7 +7,7 @@ use Rattle.std.proofs.lemmas.List.Elements.{All-weaker, All-push}
 use Rattle.shunt_picture.specs.declared.records.TrainMark.{TrainMark}
 use Rattle.shunt_picture.specs.declared.records.Lane.{Lane}
 use Rattle.shunt_picture.specs.defs.Words.{x_of}
-use Rattle.shunt_picture.specs.defs.Layouts.{lane_high, AreStacked, width_of, IsLeftOf, AreTrainRows}
+use Rattle.shunt_picture.specs.defs.Layouts.{lane_high, AreStacked, end_of, IsLeftOf, AreTrainRows}
 
 put_below : (lanes : List Lane) (top bottom : ℕ) (l : Lane) → AreStacked top lanes bottom → l.top ≡ bottom → AreStacked top (lanes ++ l ∷ []) (bottom + lane_high l)
 put_below [] top bottom l same is = (is ∙ sym same, ap (λ n. n + lane_high l) same)
@@ -20,7 +20,7 @@ stacked_more lanes more top bottom low l stacked is push sum =
 
 -- the words of a train end before the end that is noted for a row
 abbrev pub EndsBy : ℕ → TrainMark → List ℕ → ℕ → Type 0
-EndsBy from t ends row = x_of from t.minute + width_of t ≤ slice_index ends row
+EndsBy from t ends row = end_of from t ≤ slice_index ends row
 
 -- the rows of the first trains, and where the words of each row end
 pub record AreRowed (from : ℕ) (trains : List TrainMark) (rows ends : List ℕ) : Type 0 where
@@ -41,7 +41,7 @@ rowed_none from = record {
 
 module _ (from : ℕ) (trains : List TrainMark) (rows ends : List ℕ) (h : AreRowed from trains rows ends) (t : TrainMark) (row : ℕ) (later : List ℕ)
     (free : row < length ends → slice_index ends row ≤ x_of from t.minute) (inside : row < length later) (longer : length ends ≤ length later) (few : length later ≤ length ends + 1)
-    (here : slice_index later row ≡ x_of from t.minute + width_of t) (others : (k : ℕ) → k < length ends → k ≢ row → slice_index later k ≡ slice_index ends k) where
+    (here : slice_index later row ≡ end_of from t) (others : (k : ℕ) → k < length ends → k ≢ row → slice_index later k ≡ slice_index ends k) where
   row_within : (k : ℕ) → k < length trains → slice_index rows k < length ends
   row_within k lt = let count = h.count in h.within k 0 (omega (arith, lt, count))
 
@@ -117,7 +117,7 @@ module _ (from : ℕ) (trains : List TrainMark) (rows ends : List ℕ) (h : AreR
 -- one more train
 pub rowed_more : (from : ℕ) (trains : List TrainMark) (i : ℕ) (rows more ends later : List ℕ) (t : TrainMark) (row : ℕ) → AreRowed from (take i trains) rows ends → i < length trains → t ≡ get_or trains i t
     → (row < length ends → slice_index ends row ≤ x_of from t.minute) → row < length later → length ends ≤ length later → length later ≤ length ends + 1
-    → slice_index later row ≡ x_of from t.minute + width_of t → ((k : ℕ) → k < length ends → k ≢ row → slice_index later k ≡ slice_index ends k) → more ≡ rows ++ row ∷ []
+    → slice_index later row ≡ end_of from t → ((k : ℕ) → k < length ends → k ≢ row → slice_index later k ≡ slice_index ends k) → more ≡ rows ++ row ∷ []
     → AreRowed from (take (i + 1) trains) more later
 rowed_more from trains i rows more ends later t row h lt at free inside longer few here others push =
     let all : take (i + 1) trains ≡ take i trains ++ t ∷ [] = take_more trains i t lt ∙ ap (λ (u : TrainMark). take i trains ++ u ∷ []) (sym at) in

@@ -1,5 +1,5 @@
 -- Lanes that are made of seats.
-use Rattle.std.proofs.Common.{◌≡◌, ℕ, ◌+◌, ◌-◌, ◌<◌, ◌≤◌, min, max, List, [], ◌∷◌, map, length, get_or, take, refl, sym, subst, ap, ◌∙◌, IsPermutation, arith}
+use Rattle.std.proofs.Common.{◌≡◌, ◌==◌, ℕ, Bool, ◌+◌, ◌-◌, ◌<◌, ◌≤◌, min, max, List, [], ◌∷◌, map, length, get_or, take, refl, sym, subst, ap, ◌∙◌, IsPermutation, arith}
 use Rattle.std.specs.Prelude.{All, AllPairs, slice_get, Some}
 use Rattle.std.specs.List.Sorted.{IsSortedByKey}
 use Rattle.std.proofs.lemmas.List.{length-map, map_more}
@@ -16,12 +16,12 @@ use Rattle.shunt_picture.specs.declared.standing.Standing.{Standing}
 use Rattle.shunt_picture.specs.declared.rows.Seat.{Seat}
 use Rattle.shunt_picture.specs.declared.records.Bar.{Bar}
 use Rattle.shunt_picture.specs.declared.records.Level.{Level}
-use Rattle.shunt_picture.specs.declared.records.Lane.{Lane}
 use Rattle.shunt_picture.specs.defs.Told.{told_of}
 use Rattle.shunt_picture.specs.defs.Levels.{levels_of}
-use Rattle.shunt_picture.specs.defs.Rows.{standings_on, AreApart, ShowsOrder, IsRowAmong}
-use Rattle.shunt_picture.specs.defs.Lanes.{bar_of, standing_of, AreBarsApart, ShowOrder, first_of, last_of, rows_of, IsLaneOf}
+use Rattle.shunt_picture.specs.defs.Rows.{standings_on, AreApart, HaveRoom, ShowsOrder, IsRowAmong}
+use Rattle.shunt_picture.specs.defs.Lanes.{bar_of, standing_of, AreBarsApart, AreMarksApart, ShowOrder, first_of, last_of, rows_of, IsLaneOf}
 use Rattle.shunt_picture.proofs.Seated.{pairs_mapped, sorted_mapped, sorted_back}
+use Rattle.shunt_picture.proofs.Marked.{marks_of}
 
 -- the uppermost and the lowest row with one more seat
 pub first_noted : (seats : List Seat) (i : ℕ) (d : Seat) (first more : ℕ) → i < length seats → first ≡ first_of (map (λ s. s.row) (take i seats)) → more ≡ min first (get_or seats i d).row → more ≡ first_of (map (λ s. s.row) (take (i + 1) seats))
@@ -59,12 +59,14 @@ module _ (night : Night) (findings : List Finding) where
   rows_back [] = refl
   rows_back (s ∷ seats) = ap (λ (l : List ℕ). s.row ∷ l) (rows_back seats)
 
-  pub lane_is : (blocks : List Block) (from to first last top : ℕ) (track : TrackId) (head : Track) (standings : List Standing) (seats : List Seat) (stays : List Stay) (bars : List Bar) (levels : List Level)
+  pub lane_is : (blocks : List Block) (from to first last top : ℕ) (is_ordered : Bool) (track : TrackId) (head : Track) (standings : List Standing) (seats : List Seat) (stays : List Stay) (bars : List Bar) (levels : List Level)
       → slice_get night.station.tracks track.0 ≡ Some head
       → IsPermutation (standings_on night track blocks) standings
       → IsSortedByKey (λ s. s.stay.enter) key_cmp standings
       → map (λ s. s.standing) seats ≡ standings
       → AllPairs AreApart seats
+      → is_ordered ≡ (length findings == 0)
+      → AllPairs (HaveRoom from is_ordered) seats
       → (findings ≡ [] → AllPairs ShowsOrder seats)
       → All (λ s. first ≤ s.row) seats
       → All (λ s. s.row ≤ last) seats
@@ -75,7 +77,7 @@ module _ (night : Night) (findings : List Finding) where
       → bars ≡ map (bar_of night findings) seats
       → levels ≡ levels_of stays from (to - from)
       → IsLaneOf night findings blocks from to (record { track = track; head = head; first = first; last = last; bars = bars; levels = levels; top = top })
-  lane_is blocks from to first last top track head standings seats stays bars levels is_head permuted sorted same apart order least greatest among is_first is_last are made loads =
+  lane_is blocks from to first last top is_ordered track head standings seats stays bars levels is_head permuted sorted same apart empty room order least greatest among is_first is_last are made loads =
       let f = bar_of night findings in
       let of_seats : IsSortedByKey (λ (s : Seat). s.standing.stay.enter) key_cmp seats = sorted_back (λ (s : Standing). s.stay.enter) key_cmp (λ (s : Seat). s.standing) seats (subst (IsSortedByKey (λ (s : Standing). s.stay.enter) key_cmp) (sym same) sorted) in
       subst (λ (bs : List Bar). IsLaneOf night findings blocks from to (record { track = track; head = head; first = first; last = last; bars = bs; levels = levels; top = top })) (sym made) (record {
@@ -84,6 +86,7 @@ module _ (night : Night) (findings : List Finding) where
         by_entry = sorted_mapped (λ (b : Bar). b.stay.enter) key_cmp f seats of_seats;
         told = All-map (λ (b : Bar). b.told ≡ told_of night findings b.block) f seats (λ k d lt. refl);
         apart = pairs_mapped AreBarsApart f seats apart;
+        marks = pairs_mapped (AreMarksApart from) f seats (λ i j d lt within. marks_of night from findings (get_or seats i d) (get_or seats j d) is_ordered empty (room i j d lt within));
         order = λ none. pairs_mapped ShowOrder f seats (order none);
         rows = All-map (λ (b : Bar). (first ≤ b.row) × (b.row ≤ last)) f seats (λ k d lt. (least k d lt, greatest k d lt));
         among = subst (λ n. All (λ (b : Bar). IsRowAmong n b.row) (map f seats)) (sym (length-map seats f)) (All-map (λ (b : Bar). IsRowAmong (length seats) b.row) f seats among);

@@ -1,7 +1,10 @@
-mod Drawn
+pub mod Chained
+pub mod Drawn
 mod Hours
 mod Laid
 mod LanesMade
-mod Ranges
+mod Marked
+pub mod Ranges
 mod Seated
+mod Widest
 mod Within

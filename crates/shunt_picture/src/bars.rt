@@ -1,26 +1,29 @@
 // How bars are drawn.
 ghost use Rattle.std.specs.Prelude.{◌≡◌, ◌<◌, ◌++◌, OnOk};
-ghost use Rattle.shunt_picture.specs.defs.BarTexts.{area_of, bar_class, corner_in, corner_out, room_of, bar_words, title_of, shape_of, bar_in, bar_text};
+ghost use Rattle.shunt_picture.specs.defs.BarTexts.{area_of, bar_class, corner_in, corner_out, room_of, words_in, bar_words, stay_words, title_of, shape_of, bar_in, bar_text};
 
-use crate::records::{Bar, Lane, Told};
-use crate::svg::{Area, close_words, open_words, push_corner, push_rectangle};
+use crate::records::{Bar, Kind, Lane, Told};
+use crate::svg::{Area, push_corner, push_rectangle, push_words, wide};
 use crate::text::Text;
-use crate::words::{colour, push_faults, push_fitting, push_label, push_time, x_of};
-use shunt_base::{Side, Stay};
+use crate::words::{
+    colour, faults_words, fitting, id_of, label_of, push_group, push_time, push_told, side_word,
+    x_of,
+};
+use shunt_base::{Name, Side, Stay};
 use std::alloc::{AllocError, Global};
 
-// If a bar is drawn: two pixels wide for each minute, 14 high, in rows of 16.
+// Where a bar is drawn: from its entry, or where the hours begin, to its leave, 14 pixels high, in rows of 16.
 fn area_of(from: u16, lane: &Lane, bar: &Bar) -> Area
     ensures exact { result ≡ area_of from lane.now bar.now }
     ensures x { result.x < 1000000 }
     ensures y { result.y < 8000000000 }
     ensures width { result.width < 1000000 }
 {
-    let minutes = bar.stay.leave.minute.saturating_sub(bar.stay.enter.minute);
+    let x = x_of(from, bar.stay.enter.minute);
     Area {
-        x: x_of(from, bar.stay.enter.minute),
+        x,
         y: u64::from(lane.top) + 16 * u64::from(bar.row.saturating_sub(lane.first)),
-        width: 2 * u64::from(minutes),
+        width: x_of(from, bar.stay.leave.minute).saturating_sub(x),
         height: 14,
     }
 }
@@ -61,40 +64,83 @@ fn push_corner_out(text: &mut Text, area: Area, side: Side) -> Result<(), AllocE
     }
 }
 
-// For how many bytes there is room in a bar, beside the numbers of its findings.
-fn room_of(width: u64, faults: &[u8]) -> u64
-    ensures { result ≡ room_of width faults.now }
+// For how many bytes there is room in a bar, beside its marks.
+fn room_of(width: u64, marks: &[u8]) -> u64
+    ensures { result ≡ room_of width marks.now }
 {
-    let marks = faults.len().min(100) as u64;
-    width.saturating_sub(16 + 21 * marks) / 7
+    width.saturating_sub(16 + wide(7, marks)) / 7
 }
 
-// The numbers of its findings, and its label or its id where there is room.
+// Its marks, and its label or its id where there is room.
+#[tactic(auto, unfolding(crate::specs::defs::BarTexts::words_in))]
+fn push_words_in(
+    text: &mut Text,
+    alloc: Global,
+    area: Area,
+    told: &Told,
+    marks: &[u8],
+) -> Result<(), AllocError>
+    requires x { area.x < 1000000 }
+    requires y { area.y < 8000000000 }
+    ensures { OnOk result (text.new ≡ text.old ++ words_in area told.now marks.now) }
+{
+    let long = label_of(alloc, told)?;
+    let short = id_of(alloc, told)?;
+    let label = fitting(&long, &short, room_of(area.width, marks));
+    push_words(text, b"on mark", 7, area.x + 9, area.y + 11, marks)?;
+    push_words(
+        text,
+        b"on",
+        7,
+        area.x + 9 + wide(7, marks),
+        area.y + 11,
+        label,
+    )
+}
+
+// The numbers of its findings are its marks.
 #[tactic(auto, unfolding(crate::specs::defs::BarTexts::bar_words))]
 fn push_bar_words(text: &mut Text, alloc: Global, area: Area, told: &Told) -> Result<(), AllocError>
     requires x { area.x < 1000000 }
     requires y { area.y < 8000000000 }
     ensures { OnOk result (text.new ≡ text.old ++ bar_words area told.now) }
 {
-    let room = room_of(area.width, told.faults.as_slice());
-    open_words(text, b"label", area.x + 9, area.y + 11)?;
-    push_faults(text, told.faults.as_slice())?;
-    push_fitting(text, alloc, told, room)?;
-    close_words(text)
+    let marks = faults_words(alloc, told.faults.as_slice())?;
+    push_words_in(text, alloc, area, told, &marks)
+}
+
+// When a block stands on a track, and by which sides it comes and goes.
+#[tactic(auto, unfolding(crate::specs::defs::BarTexts::stay_words))]
+fn push_stay(text: &mut Text, track: &Name, stay: &Stay) -> Result<(), AllocError>
+    ensures { OnOk result (text.new ≡ text.old ++ stay_words track.now stay.now) }
+{
+    text.push(b"\n")?;
+    text.push(track.bytes())?;
+    text.push(b" by ")?;
+    text.push(side_word(stay.side_in))?;
+    text.push(b" from ")?;
+    push_time(text, stay.enter.minute)?;
+    text.push(b" to ")?;
+    push_time(text, stay.leave.minute)?;
+    text.push(b" by ")?;
+    text.push(side_word(stay.side_out))?;
+    text.push(b"</title>\n")
 }
 
 // What is shown while one points at a bar.
 #[tactic(auto, unfolding(crate::specs::defs::BarTexts::title_of))]
-fn push_title(text: &mut Text, told: &Told, stay: &Stay) -> Result<(), AllocError>
-    ensures { OnOk result (text.new ≡ text.old ++ title_of told.now stay.now) }
+fn push_title(
+    text: &mut Text,
+    kinds: &[Kind],
+    track: &Name,
+    told: &Told,
+    stay: &Stay,
+) -> Result<(), AllocError>
+    ensures { OnOk result (text.new ≡ text.old ++ title_of kinds.now track.now told.now stay.now) }
 {
-    text.push(b"<title>")?;
-    push_label(text, told)?;
-    text.push(b" ")?;
-    push_time(text, stay.enter.minute)?;
-    text.push(b" ")?;
-    push_time(text, stay.leave.minute)?;
-    text.push(b"</title>\n")
+    push_group(text, told)?;
+    push_told(text, kinds, told)?;
+    push_stay(text, track, stay)
 }
 
 // Its rectangle.
@@ -108,14 +154,20 @@ fn push_shape(text: &mut Text, area: Area, told: &Told) -> Result<(), AllocError
 
 // A bar at a place.
 #[tactic(auto, unfolding(crate::specs::defs::BarTexts::bar_in))]
-fn push_bar_in(text: &mut Text, alloc: Global, area: Area, bar: &Bar) -> Result<(), AllocError>
+fn push_bar_in(
+    text: &mut Text,
+    alloc: Global,
+    kinds: &[Kind],
+    track: &Name,
+    area: Area,
+    bar: &Bar,
+) -> Result<(), AllocError>
     requires x { area.x < 1000000 }
     requires y { area.y < 8000000000 }
     requires width { area.width < 1000000 }
-    ensures { OnOk result (text.new ≡ text.old ++ bar_in area bar.now) }
+    ensures { OnOk result (text.new ≡ text.old ++ bar_in kinds.now track.now area bar.now) }
 {
-    text.push(b"<g>")?;
-    push_title(text, &bar.told, &bar.stay)?;
+    push_title(text, kinds, track, &bar.told, &bar.stay)?;
     push_shape(text, area, &bar.told)?;
     push_corner_in(text, area, bar.stay.side_in)?;
     push_corner_out(text, area, bar.stay.side_out)?;
@@ -128,10 +180,12 @@ pub(crate) fn push_bar(
     text: &mut Text,
     alloc: Global,
     from: u16,
+    kinds: &[Kind],
     lane: &Lane,
     bar: &Bar,
 ) -> Result<(), AllocError>
-    ensures { OnOk result (text.new ≡ text.old ++ bar_text from lane.now bar.now) }
+    ensures { OnOk result (text.new ≡ text.old ++ bar_text from kinds.now lane.now bar.now) }
 {
-    push_bar_in(text, alloc, area_of(from, lane, bar), bar)
+    let area = area_of(from, lane, bar);
+    push_bar_in(text, alloc, kinds, &lane.head.name, area, bar)
 }

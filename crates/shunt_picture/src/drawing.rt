@@ -2,42 +2,70 @@
 ghost use Rattle.std.specs.Prelude.{◌≡◌, ◌<◌, ◌≤◌, ◌+◌, ◌*◌, ◌++◌, slice_index_or, OnOk, IfOk};
 ghost use Rattle.std.specs.List.{flat_map};
 ghost use Rattle.shunt_picture.specs.defs.LaneTexts.{lane_text};
-ghost use Rattle.shunt_picture.specs.defs.PictureTexts.{right_of, style, svg_name, svg_opened, page_text, start_of, start_text, costs_text, note_text, title_text, entry_x, entry_y, swatch_text, kind_words, kind_in, kind_text, kinds_text, rule_text, hour_in, hour_text, hours_text, place_text, places_text, train_words, fault_places, train_faults, tick_text, train_in, train_text, trains_text, track_words, loose_words, loose_mark, loose_in, loose_text, looses_text, arrive_name, depart_name, loose_name, names_text, head_part, body_part, svg_of};
+ghost use Rattle.shunt_picture.specs.defs.PictureTexts.{right_of, words_style, bars_style, dark_style, style, svg_name, seen_text, size_text, view_text, svg_opened, paper_text, page_text, start_of, title_words, bars_note, marks_note, title_text, top_part, start_text, entry_x, entry_y, swatch_text, kind_in, kind_text, kinds_text, rule_text, hour_words, hour_in, hour_text, hours_text, loose_times, loose_where, loose_title, loose_mark, loose_in, loose_text, looses_text, arrive_name, depart_name, loose_name, names_text, trains_part, head_part, body_part, svg_of};
 
-use crate::records::{Kind, Lane, Loose, Picture, Told, TrainMark};
+use crate::records::{Kind, Lane, Loose, Picture};
 use crate::strips::push_lane;
-use crate::svg::{
-    Area, close_words, open_words, push_attribute, push_rectangle, push_stroke, push_words,
-};
+use crate::svg::{Area, push_attribute, push_rectangle, push_stroke, push_words, wide};
 use crate::text::Text;
-use crate::words::{colour, push_faults, push_label, push_letter, push_letters, push_time, x_of};
+use crate::told::push_track;
+use crate::train_texts::push_trains;
+use crate::words::{colour, letter, push_group, push_time, push_told};
 use shunt_base::{Name, TypeId};
 use std::alloc::{AllocError, Global};
 
-// If the hours end, in pixels.
-fn right_of(picture: &Picture) -> u64
-    ensures exact { result ≡ right_of picture.now }
+// Where the hours end, in pixels.
+pub(crate) fn right_of(from: u16, to: u16) -> u64
+    ensures exact { result ≡ right_of from to }
     ensures small { result < 10000000 }
 {
-    150 + 120 * u64::from(picture.to.saturating_sub(picture.from))
+    150 + 120 * u64::from(to.saturating_sub(from))
+}
+
+// How words and lines look.
+#[tactic(auto, unfolding(crate::specs::defs::PictureTexts::words_style))]
+fn push_words_style(text: &mut Text) -> Result<(), AllocError>
+    ensures { OnOk result (text.new ≡ text.old ++ words_style) }
+{
+    text.push(
+        b"<style>.night{max-width:100%;height:auto;background:#fff}.night text{font:11px monospace;fill:#222;white-space:pre}.night .title{font-size:14px;font-weight:bold}.night .name{font-weight:bold}.night .small,.night .hour{font-size:10px;fill:#555}\n",
+    )?;
+    text.push(
+        b".night .end{font-weight:bold;fill:#06c}.night .mark{font-weight:bold;fill:#c00}.night path{fill:none}.night .tick{stroke:#888}.night .rule{stroke:#ddd}.night .full{stroke:#06c;stroke-dasharray:4 3}.night .load{fill:#bcd;stroke:#678}.night .side{fill:#06c}\n",
+    )
+}
+
+// How bars look.
+#[tactic(auto, unfolding(crate::specs::defs::PictureTexts::bars_style))]
+fn push_bars_style(text: &mut Text) -> Result<(), AllocError>
+    ensures { OnOk result (text.new ≡ text.old ++ bars_style) }
+{
+    text.push(
+        b".night .page0{fill:#fff}.night .lane0{fill-opacity:.04}.night .lane1{fill-opacity:0}.night .bar{stroke:#555}.night .bad{stroke:#c00;stroke-width:2.5}.night .on.mark{stroke:#fff;stroke-width:3;paint-order:stroke}\n",
+    )?;
+    text.push(
+        b".night .k0{fill:#a6cee3}.night .k1{fill:#b2df8a}.night .k2{fill:#fdbf6f}.night .k3{fill:#cab2d6}.night .k4{fill:#ffff99}.night .k5{fill:#8dd3c7}.night .k6{fill:#d9d9d9}.night .k7{fill:#fccde5}.night .k8{fill:#e5c494}.night .k9{fill:#ccebc5}.night .k10{fill:#b3cde3}.night .k11{fill:#ffed6f}\n",
+    )
+}
+
+// How it looks on dark screens, and on paper.
+#[tactic(auto, unfolding(crate::specs::defs::PictureTexts::dark_style))]
+fn push_dark_style(text: &mut Text) -> Result<(), AllocError>
+    ensures { OnOk result (text.new ≡ text.old ++ dark_style) }
+{
+    text.push(
+        b"@media screen and (prefers-color-scheme:dark){.night,.night .page0{background:#15181c;fill:#15181c}.night text{fill:#ddd}.night .small,.night .hour{fill:#aaa}.night text.on{fill:#222}.night .end{fill:#7ab8ff}.night .mark{fill:#ff8a80}.night .on.mark{fill:#c00}.night .rule{stroke:#3a3f45}.night .lane0{fill:#fff;fill-opacity:.06}.night .load{fill:#3b4a5a;stroke:#8fa3b8}.night .full{stroke:#7ab8ff}}\n",
+    )?;
+    text.push(b"@page{margin:10mm}@media print{.night{max-height:100vh}}</style>\n")
 }
 
 #[tactic(auto, unfolding(crate::specs::defs::PictureTexts::style))]
 fn push_style(text: &mut Text) -> Result<(), AllocError>
     ensures { OnOk result (text.new ≡ text.old ++ style) }
 {
-    text.push(
-        b"<style>text{font:11px monospace;fill:#222}.title{font-size:14px;font-weight:bold}.name{font-weight:bold}.small,.hour{font-size:10px;fill:#555}.end{font-size:10px;font-weight:bold;fill:#06c}.mark{font-weight:bold;fill:#c00}\n",
-    )?;
-    text.push(
-        b"path{fill:none}.tick{stroke:#888}.rule{stroke:#ddd}.full{stroke:#06c;stroke-dasharray:4 3}.load{fill:#bcd;stroke:#678}.side{fill:#06c}.page0{fill:#fff}.lane0{fill-opacity:.04}.lane1{fill-opacity:0}\n",
-    )?;
-    text.push(
-        b".bar{stroke:#555}.bad{stroke:#c00;stroke-width:2.5}.k0{fill:#a6cee3}.k1{fill:#b2df8a}.k2{fill:#fdbf6f}.k3{fill:#cab2d6}.k4{fill:#ffff99}.k5{fill:#8dd3c7}\n",
-    )?;
-    text.push(
-        b".k6{fill:#d9d9d9}.k7{fill:#fccde5}.k8{fill:#e5c494}.k9{fill:#ccebc5}.k10{fill:#b3cde3}.k11{fill:#ffed6f}</style>\n",
-    )
+    push_words_style(text)?;
+    push_bars_style(text)?;
+    push_dark_style(text)
 }
 
 // What each text begins with.
@@ -45,18 +73,61 @@ fn push_style(text: &mut Text) -> Result<(), AllocError>
 fn push_svg_name(text: &mut Text) -> Result<(), AllocError>
     ensures { OnOk result (text.new ≡ text.old ++ svg_name) }
 {
-    text.push(b"<svg xmlns='http://www.w3.org/2000/svg'")
+    text.push(
+        b"<svg xmlns='http://www.w3.org/2000/svg' xml:space='preserve' class='night' role='img'",
+    )
 }
 
-// The beginning of a text that is so wide and so high.
+#[tactic(auto, unfolding(crate::specs::defs::PictureTexts::seen_text))]
+fn push_seen(text: &mut Text, width: u64, height: u64) -> Result<(), AllocError>
+    ensures { OnOk result (text.new ≡ text.old ++ seen_text width height) }
+{
+    text.push(b" viewBox='0 0 ")?;
+    text.push_number(width)?;
+    text.push(b" ")?;
+    text.push_number(height)?;
+    text.push(b"'")
+}
+
+#[tactic(auto, unfolding(crate::specs::defs::PictureTexts::size_text))]
+fn push_size(text: &mut Text, width: u64, height: u64) -> Result<(), AllocError>
+    ensures { OnOk result (text.new ≡ text.old ++ size_text width height) }
+{
+    push_attribute(text, b"width", width)?;
+    push_attribute(text, b"height", height)
+}
+
+// How much of it is seen, and how large.
+#[tactic(auto, unfolding(crate::specs::defs::PictureTexts::view_text))]
+fn push_view(text: &mut Text, width: u64, height: u64) -> Result<(), AllocError>
+    ensures { OnOk result (text.new ≡ text.old ++ view_text width height) }
+{
+    push_seen(text, width, height)?;
+    push_size(text, width, height)
+}
+
+// The beginning of a text that is so wide and so high, and is told in these words.
 #[tactic(auto, unfolding(crate::specs::defs::PictureTexts::svg_opened))]
-fn open_svg(text: &mut Text, width: u64, height: u64) -> Result<(), AllocError>
-    ensures { OnOk result (text.new ≡ text.old ++ svg_opened width height) }
+fn open_svg(text: &mut Text, width: u64, height: u64, words: &[u8]) -> Result<(), AllocError>
+    ensures { OnOk result (text.new ≡ text.old ++ svg_opened width height words.now) }
 {
     push_svg_name(text)?;
-    push_attribute(text, b"width", width)?;
-    push_attribute(text, b"height", height)?;
-    text.push(b">\n")
+    push_view(text, width, height)?;
+    text.push(b" aria-label='")?;
+    text.push(words)?;
+    text.push(b"'>\n")
+}
+
+// How the paper lies.
+#[tactic(auto, unfolding(crate::specs::defs::PictureTexts::paper_text))]
+fn push_paper(text: &mut Text, width: u64, height: u64) -> Result<(), AllocError>
+    ensures { OnOk result (text.new ≡ text.old ++ paper_text width height) }
+{
+    if height <= width {
+        text.push(b"<style>@page{size:landscape}</style>\n")
+    } else {
+        text.push(b"<style>@page{size:portrait}</style>\n")
+    }
 }
 
 // Its ground.
@@ -78,66 +149,92 @@ fn push_page(text: &mut Text, width: u64, height: u64) -> Result<(), AllocError>
 }
 
 #[tactic(auto, unfolding(crate::specs::defs::PictureTexts::start_of))]
-fn push_start_of(text: &mut Text, width: u64, height: u64) -> Result<(), AllocError>
-    ensures { OnOk result (text.new ≡ text.old ++ start_of width height) }
+fn push_start_of(text: &mut Text, width: u64, height: u64, words: &[u8]) -> Result<(), AllocError>
+    ensures { OnOk result (text.new ≡ text.old ++ start_of width height words.now) }
 {
-    open_svg(text, width, height)?;
+    open_svg(text, width, height, words)?;
     push_style(text)?;
+    push_paper(text, width, height)?;
     push_page(text, width, height)
 }
 
-#[tactic(auto, unfolding(crate::specs::defs::PictureTexts::start_text))]
-fn push_start(text: &mut Text, picture: &Picture) -> Result<(), AllocError>
-    ensures { OnOk result (text.new ≡ text.old ++ start_text picture.now) }
+// What is told of the plan as a whole.
+#[tactic(auto, unfolding(crate::specs::defs::PictureTexts::title_words))]
+pub(crate) fn title_words(
+    alloc: Global,
+    station: &Name,
+    findings: u64,
+    cost: u64,
+    stated: u64,
+) -> Result<Vec<u8>, AllocError>
+    ensures { IfOk result (λ v. v.items ≡ title_words station.now findings cost stated) }
 {
-    push_start_of(text, right_of(picture) + 150, u64::from(picture.height))
+    let mut text = Text::new(alloc);
+    text.push(station.bytes())?;
+    text.push(b" findings ")?;
+    text.push_number(findings)?;
+    text.push(b" cost ")?;
+    text.push_number(cost)?;
+    text.push(b" stated ")?;
+    text.push_number(stated)?;
+    Ok(text.into_bytes())
 }
 
-// What is told of the plan as a whole.
-#[tactic(auto, unfolding(crate::specs::defs::PictureTexts::costs_text))]
-fn push_costs(text: &mut Text, picture: &Picture) -> Result<(), AllocError>
-    ensures { OnOk result (text.new ≡ text.old ++ costs_text picture.now) }
+// How bars are to be read.
+#[tactic(auto, unfolding(crate::specs::defs::PictureTexts::bars_note))]
+pub(crate) fn bars_note() -> &'static [u8]
+    ensures { result.now ≡ bars_note }
 {
-    text.push(b" findings ")?;
-    text.push_number(picture.findings)?;
-    text.push(b" cost ")?;
-    text.push_number(picture.cost)?;
-    text.push(b" stated ")?;
-    text.push_number(picture.stated)
+    b"bar: a block on its track; blue corners: the end by which it comes and goes, A up and B down"
 }
 
 // How marks are to be read.
-#[tactic(auto, unfolding(crate::specs::defs::PictureTexts::note_text))]
-fn push_note(text: &mut Text) -> Result<(), AllocError>
-    ensures { OnOk result (text.new ≡ text.old ++ note_text) }
+#[tactic(auto, unfolding(crate::specs::defs::PictureTexts::marks_note))]
+pub(crate) fn marks_note() -> &'static [u8]
+    ensures { result.now ≡ marks_note }
 {
-    push_words(
-        text,
-        b"small",
-        420,
-        18,
-        b"blue corners: the end by which a block comes and goes, A up and B down; dashed: the length of the track; red: numbers of findings",
-    )
+    b"below the bars: the load of the track, and dashed its length; red: numbers of findings"
 }
 
-// The station, and what is told of the plan.
+// The title, and the notes below it.
 #[tactic(auto, unfolding(crate::specs::defs::PictureTexts::title_text))]
-fn push_title(text: &mut Text, picture: &Picture) -> Result<(), AllocError>
-    ensures { OnOk result (text.new ≡ text.old ++ title_text picture.now) }
+fn push_title(text: &mut Text, words: &[u8]) -> Result<(), AllocError>
+    ensures { OnOk result (text.new ≡ text.old ++ title_text words.now) }
 {
-    open_words(text, b"title", 6, 18)?;
-    text.push(picture.station.bytes())?;
-    push_costs(text, picture)?;
-    close_words(text)?;
-    push_note(text)
+    push_words(text, b"title", 9, 6, 18, words)?;
+    push_words(text, b"small", 6, 6, 34, bars_note())?;
+    push_words(text, b"small", 6, 6, 46, marks_note())
 }
 
-// If an entry of a list stands, by its number from 0.
-fn entry_x(columns: u32, entry: u64) -> u64
-    ensures exact { result ≡ entry_x columns entry }
-    ensures small { result < 2000000000000 }
+// What stands at the top.
+#[tactic(auto, unfolding(crate::specs::defs::PictureTexts::top_part))]
+fn push_top(text: &mut Text, width: u64, height: u64, words: &[u8]) -> Result<(), AllocError>
+    ensures { OnOk result (text.new ≡ text.old ++ top_part width height words.now) }
 {
-    6 + 300 * (entry % u64::from(columns).max(1))
+    push_start_of(text, width, height, words)?;
+    push_title(text, words)
+}
+
+#[tactic(auto, unfolding(crate::specs::defs::PictureTexts::start_text))]
+fn push_start(text: &mut Text, alloc: Global, picture: &Picture) -> Result<(), AllocError>
+    ensures { OnOk result (text.new ≡ text.old ++ start_text picture.now) }
+{
+    let words = title_words(
+        alloc,
+        &picture.station,
+        picture.findings,
+        picture.cost,
+        picture.stated,
+    )?;
+    push_top(text, picture.width, u64::from(picture.height), &words)
+}
+
+// Where an entry of a list stands, by its number from 0.
+fn entry_x(room: u32, columns: u32, entry: u64) -> u64
+    ensures exact { result ≡ entry_x room columns entry }
+    ensures small { result < 18446744073709000000 }
+{
+    6 + u64::from(room) * (entry % u64::from(columns).max(1))
 }
 
 fn entry_y(columns: u32, top: u64, entry: u64) -> u64
@@ -152,7 +249,7 @@ fn entry_y(columns: u32, top: u64, entry: u64) -> u64
 // The colour of a type with its letter.
 #[tactic(auto, unfolding(crate::specs::defs::PictureTexts::swatch_text))]
 fn push_swatch(text: &mut Text, x: u64, y: u64, number: TypeId) -> Result<(), AllocError>
-    requires x { x < 2000000000000 }
+    requires x { x < 18446744073709000000 }
     requires y { 12 ≤ y }
     ensures { OnOk result (text.new ≡ text.old ++ swatch_text x y number) }
 {
@@ -167,26 +264,10 @@ fn push_swatch(text: &mut Text, x: u64, y: u64, number: TypeId) -> Result<(), Al
             height: 13,
         },
     )?;
-    open_words(text, b"label", x + 5, y)?;
-    push_letter(text, number)?;
-    close_words(text)
+    push_words(text, b"on", 7, x + 5, y, &[letter(number)])
 }
 
-// Its name and its length.
-#[tactic(auto, unfolding(crate::specs::defs::PictureTexts::kind_words))]
-fn push_kind_words(text: &mut Text, x: u64, y: u64, kind: &Kind) -> Result<(), AllocError>
-    requires { x < 2000000000000 }
-    ensures { OnOk result (text.new ≡ text.old ++ kind_words x y kind.now) }
-{
-    open_words(text, b"label", x + 24, y)?;
-    text.push(kind.name.bytes())?;
-    text.push(b" ")?;
-    text.push_number(u64::from(kind.length))?;
-    text.push(b" dm")?;
-    close_words(text)
-}
-
-// A type at a place.
+// A type at a place: its colour with its letter, its name and its length.
 #[tactic(auto, unfolding(crate::specs::defs::PictureTexts::kind_in))]
 fn push_kind_in(
     text: &mut Text,
@@ -195,28 +276,34 @@ fn push_kind_in(
     number: TypeId,
     kind: &Kind,
 ) -> Result<(), AllocError>
-    requires x { x < 2000000000000 }
+    requires x { x < 18446744073709000000 }
     requires y { 12 ≤ y }
     ensures { OnOk result (text.new ≡ text.old ++ kind_in x y number kind.now) }
 {
     push_swatch(text, x, y, number)?;
-    push_kind_words(text, x, y, kind)
+    push_words(text, b"label", 7, x + 24, y, kind.words.as_slice())
 }
 
 #[tactic(auto, unfolding(crate::specs::defs::PictureTexts::kind_text))]
-fn push_kind(text: &mut Text, columns: u32, entry: u64, kind: &Kind) -> Result<(), AllocError>
-    ensures { OnOk result (text.new ≡ text.old ++ kind_text columns entry kind.now) }
+fn push_kind(
+    text: &mut Text,
+    room: u32,
+    columns: u32,
+    entry: u64,
+    kind: &Kind,
+) -> Result<(), AllocError>
+    ensures { OnOk result (text.new ≡ text.old ++ kind_text room columns entry kind.now) }
 {
-    let x = entry_x(columns, entry);
-    let y = entry_y(columns, 28, entry);
+    let x = entry_x(room, columns, entry);
+    let y = entry_y(columns, 52, entry);
     push_kind_in(text, x, y, TypeId((entry % 256) as u8), kind)
 }
 
-fn push_kinds(text: &mut Text, columns: u32, kinds: &[Kind]) -> Result<(), AllocError>
-    ensures { OnOk result (text.new ≡ text.old ++ kinds_text columns kinds.now) }
+fn push_kinds(text: &mut Text, room: u32, columns: u32, kinds: &[Kind]) -> Result<(), AllocError>
+    ensures { OnOk result (text.new ≡ text.old ++ kinds_text room columns kinds.now) }
 {
     for i in 0..kinds.len() {
-        push_kind(text, columns, i as u64, &kinds[i])?;
+        push_kind(text, room, columns, i as u64, &kinds[i])?;
     }
     Ok(())
 }
@@ -238,230 +325,97 @@ fn push_rule(text: &mut Text, picture: &Picture, x: u64) -> Result<(), AllocErro
     )
 }
 
-// An hour at its place: the line, and its number above the lanes.
-#[tactic(auto, unfolding(crate::specs::defs::PictureTexts::hour_in))]
-fn push_hour_in(text: &mut Text, picture: &Picture, x: u64, hour: u16) -> Result<(), AllocError>
-    ensures { OnOk result (text.new ≡ text.old ++ hour_in picture.now x hour) }
+#[tactic(auto, unfolding(crate::specs::defs::PictureTexts::hour_words))]
+fn hour_words(alloc: Global, hour: u16) -> Result<Vec<u8>, AllocError>
+    ensures { IfOk result (λ v. v.items ≡ hour_words hour) }
 {
-    push_rule(text, picture, x)?;
-    open_words(
-        text,
-        b"hour",
-        x,
-        u64::from(picture.lanes_top).saturating_sub(4),
-    )?;
+    let mut text = Text::new(alloc);
     text.push_number(u64::from(hour))?;
     text.push(b":00")?;
-    close_words(text)
+    Ok(text.into_bytes())
+}
+
+// An hour at its place: the line, and its number above the lanes.
+#[tactic(auto, unfolding(crate::specs::defs::PictureTexts::hour_in))]
+fn push_hour_in(
+    text: &mut Text,
+    alloc: Global,
+    picture: &Picture,
+    x: u64,
+    hour: u16,
+) -> Result<(), AllocError>
+    ensures { OnOk result (text.new ≡ text.old ++ hour_in picture.now x hour) }
+{
+    let words = hour_words(alloc, hour)?;
+    let y = u64::from(picture.lanes_top).saturating_sub(4);
+    push_rule(text, picture, x)?;
+    push_words(text, b"hour", 6, x, y, &words)
 }
 
 #[tactic(auto, unfolding(crate::specs::defs::PictureTexts::hour_text))]
-fn push_hour(text: &mut Text, picture: &Picture, hour: u16) -> Result<(), AllocError>
+fn push_hour(text: &mut Text, alloc: Global, picture: &Picture, hour: u16) -> Result<(), AllocError>
     ensures { OnOk result (text.new ≡ text.old ++ hour_text picture.now hour) }
 {
     let x = 150 + 120 * u64::from(hour.saturating_sub(picture.from));
-    push_hour_in(text, picture, x, hour)
+    push_hour_in(text, alloc, picture, x, hour)
 }
 
-fn push_hours(text: &mut Text, picture: &Picture) -> Result<(), AllocError>
+fn push_hours(text: &mut Text, alloc: Global, picture: &Picture) -> Result<(), AllocError>
     ensures { OnOk result (text.new ≡ text.old ++ hours_text picture.now) }
 {
     for hour in picture.from..picture.to {
-        push_hour(text, picture, hour)?;
+        push_hour(text, alloc, picture, hour)?;
     }
     Ok(())
 }
 
-#[tactic(auto, unfolding(crate::specs::defs::PictureTexts::place_text))]
-fn push_place(text: &mut Text, kind: u8, place: u8) -> Result<(), AllocError>
-    ensures { OnOk result (text.new ≡ text.old ++ place_text kind place) }
+#[tactic(auto, unfolding(crate::specs::defs::PictureTexts::loose_times))]
+fn push_loose_times(text: &mut Text, enter: u16, leave: u16) -> Result<(), AllocError>
+    ensures { OnOk result (text.new ≡ text.old ++ loose_times enter leave) }
 {
     text.push(b" ")?;
-    text.push_number(u64::from(kind))?;
-    text.push(b":")?;
-    text.push_number(u64::from(place))
-}
-
-// Places of units or positions, each with the number of its finding.
-#[tactic(auto, unfolding(crate::specs::defs::PictureTexts::places_text))]
-fn push_places(text: &mut Text, kind: u8, places: &[u8]) -> Result<(), AllocError>
-    ensures { OnOk result (text.new ≡ text.old ++ places_text kind places.now) }
-{
-    for place in places {
-        push_place(text, kind, *place)?;
-    }
-    Ok(())
-}
-
-// A train's name, where it comes from or goes to, and its types.
-#[tactic(auto, unfolding(crate::specs::defs::PictureTexts::train_words))]
-fn push_train_words(text: &mut Text, train: &TrainMark) -> Result<(), AllocError>
-    ensures { OnOk result (text.new ≡ text.old ++ train_words train.now) }
-{
-    text.push(train.name.bytes())?;
+    push_time(text, enter)?;
     text.push(b" ")?;
-    text.push(train.place.bytes())?;
-    text.push(b" ")?;
-    push_letters(text, train.kinds.as_slice())
+    push_time(text, leave)?;
+    text.push(b"</title>\n")
 }
 
-// The places of what of it is bare or twice.
-#[tactic(auto, unfolding(crate::specs::defs::PictureTexts::fault_places))]
-fn push_fault_places(text: &mut Text, kind: u8, train: &TrainMark) -> Result<(), AllocError>
-    requires { kind < 200 }
-    ensures { OnOk result (text.new ≡ text.old ++ fault_places kind train.now) }
-{
-    push_places(text, kind, train.bare.as_slice())?;
-    push_places(text, kind + 1, train.twice.as_slice())
-}
-
-// The same as a mark.
-#[tactic(auto, unfolding(crate::specs::defs::PictureTexts::train_faults))]
-fn push_train_faults(text: &mut Text, kind: u8, train: &TrainMark) -> Result<(), AllocError>
-    requires { kind < 200 }
-    ensures { OnOk result (text.new ≡ text.old ++ train_faults kind train.now) }
-{
-    text.push(b"<tspan class='mark'>")?;
-    push_fault_places(text, kind, train)?;
-    text.push(b"</tspan>")
-}
-
-// The stroke at its minute.
-#[tactic(auto, unfolding(crate::specs::defs::PictureTexts::tick_text))]
-fn push_tick(text: &mut Text, x: u64, y: u64) -> Result<(), AllocError>
-    requires { y < 4299967296 }
-    ensures { OnOk result (text.new ≡ text.old ++ tick_text x y) }
-{
-    push_stroke(
-        text,
-        b"tick",
-        Area {
-            x,
-            y: y + 2,
-            width: 0,
-            height: 10,
-        },
-    )
-}
-
-// A train at a place.
-#[tactic(auto, unfolding(crate::specs::defs::PictureTexts::train_in))]
-fn push_train_in(
+// Where a loose block is parked, and when its trains come and go.
+#[tactic(auto, unfolding(crate::specs::defs::PictureTexts::loose_where))]
+fn push_loose_where(
     text: &mut Text,
-    x: u64,
-    y: u64,
-    kind: u8,
-    train: &TrainMark,
+    track: &Option<Name>,
+    enter: u16,
+    leave: u16,
 ) -> Result<(), AllocError>
-    requires x { x < 1000000 }
-    requires y { y < 4299967296 }
-    requires kind { kind < 200 }
-    ensures { OnOk result (text.new ≡ text.old ++ train_in x y kind train.now) }
+    ensures { OnOk result (text.new ≡ text.old ++ loose_where track.now enter leave) }
 {
-    push_tick(text, x, y)?;
-    open_words(text, b"label", x + 3, y + 11)?;
-    push_train_words(text, train)?;
-    push_train_faults(text, kind, train)?;
-    close_words(text)
+    text.push(b"\nnot on a track")?;
+    push_track(text, track)?;
+    push_loose_times(text, enter, leave)
 }
 
-// A train at its minute.
-#[tactic(auto, unfolding(crate::specs::defs::PictureTexts::train_text))]
-fn push_train(
-    text: &mut Text,
-    from: u16,
-    y: u64,
-    kind: u8,
-    train: &TrainMark,
-) -> Result<(), AllocError>
-    requires y { y < 4299967296 }
-    requires kind { kind < 200 }
-    ensures { OnOk result (text.new ≡ text.old ++ train_text from y kind train.now) }
+// What is shown while one points at a loose block.
+#[tactic(auto, unfolding(crate::specs::defs::PictureTexts::loose_title))]
+fn push_loose_title(text: &mut Text, kinds: &[Kind], loose: &Loose) -> Result<(), AllocError>
+    ensures { OnOk result (text.new ≡ text.old ++ loose_title kinds.now loose.now) }
 {
-    let x = x_of(from, train.minute.number());
-    push_train_in(text, x, y, kind, train)
-}
-
-// The row with a number, or 0 where there is none.
-fn row_at(rows: &[u16], entry: usize) -> u16
-    ensures { result ≡ slice_index_or rows.now entry 0 }
-{
-    if entry < rows.len() { rows[entry] } else { 0 }
-}
-
-// The train with a number in its row.
-fn push_in_row(
-    text: &mut Text,
-    from: u16,
-    top: u32,
-    kind: u8,
-    rows: &[u16],
-    entry: usize,
-    train: &TrainMark,
-) -> Result<(), AllocError>
-    requires { kind < 200 }
-    ensures { OnOk result (text.new ≡ text.old ++ train_text from (top + 12 * slice_index_or rows.now entry 0) kind train.now) }
-{
-    let y = u64::from(top) + 12 * u64::from(row_at(rows, entry));
-    push_train(text, from, y, kind, train)
-}
-
-// Trains one after the other in their rows.
-fn push_trains(
-    text: &mut Text,
-    from: u16,
-    top: u32,
-    kind: u8,
-    rows: &[u16],
-    trains: &[TrainMark],
-) -> Result<(), AllocError>
-    requires { kind < 200 }
-    ensures { OnOk result (text.new ≡ text.old ++ trains_text from top kind rows.now trains.now) }
-{
-    for i in 0..trains.len() {
-        push_in_row(text, from, top, kind, rows, i, &trains[i])?;
-    }
-    Ok(())
-}
-
-// If a loose block is parked, but its train leaves too soon.
-#[tactic(auto, unfolding(crate::specs::defs::PictureTexts::track_words))]
-fn push_track(text: &mut Text, track: &Option<Name>) -> Result<(), AllocError>
-    ensures { OnOk result (text.new ≡ text.old ++ track_words track.now) }
-{
-    match track {
-        None => Ok(()),
-        Some(name) => {
-            text.push(b" on ")?;
-            text.push(name.bytes())
-        }
-    }
-}
-
-// A loose block: its findings, its label, the minutes of its trains.
-#[tactic(auto, unfolding(crate::specs::defs::PictureTexts::loose_words))]
-fn push_loose_words(text: &mut Text, loose: &Loose) -> Result<(), AllocError>
-    ensures { OnOk result (text.new ≡ text.old ++ loose_words loose.now) }
-{
-    push_faults(text, loose.told.faults.as_slice())?;
-    push_label(text, &loose.told)?;
-    text.push(b" ")?;
-    push_time(text, loose.enter.number())?;
-    text.push(b" ")?;
-    push_time(text, loose.leave.number())?;
-    push_track(text, &loose.track)
+    push_group(text, &loose.told)?;
+    push_told(text, kinds, &loose.told)?;
+    let enter = loose.enter.number();
+    push_loose_where(text, &loose.track, enter, loose.leave.number())
 }
 
 // Its colour.
 #[tactic(auto, unfolding(crate::specs::defs::PictureTexts::loose_mark))]
-fn push_loose_mark(text: &mut Text, x: u64, y: u64, told: &Told) -> Result<(), AllocError>
+fn push_loose_mark(text: &mut Text, x: u64, y: u64, kinds: &[TypeId]) -> Result<(), AllocError>
     requires { 12 ≤ y }
-    ensures { OnOk result (text.new ≡ text.old ++ loose_mark x y told.now) }
+    ensures { OnOk result (text.new ≡ text.old ++ loose_mark x y kinds.now) }
 {
     push_rectangle(
         text,
         b"bar k",
-        colour(told.kinds.as_slice()),
+        colour(kinds),
         Area {
             x,
             y: y - 10,
@@ -473,39 +427,57 @@ fn push_loose_mark(text: &mut Text, x: u64, y: u64, told: &Told) -> Result<(), A
 
 // A loose block at a place.
 #[tactic(auto, unfolding(crate::specs::defs::PictureTexts::loose_in))]
-fn push_loose_in(text: &mut Text, x: u64, y: u64, loose: &Loose) -> Result<(), AllocError>
-    requires x { x < 2000000000000 }
+fn push_loose_in(
+    text: &mut Text,
+    kinds: &[Kind],
+    x: u64,
+    y: u64,
+    loose: &Loose,
+) -> Result<(), AllocError>
+    requires x { x < 18446744073709000000 }
     requires y { 12 ≤ y }
-    ensures { OnOk result (text.new ≡ text.old ++ loose_in x y loose.now) }
+    ensures { OnOk result (text.new ≡ text.old ++ loose_in kinds.now x y loose.now) }
 {
-    push_loose_mark(text, x, y, &loose.told)?;
-    open_words(text, b"label", x + 15, y)?;
-    push_loose_words(text, loose)?;
-    close_words(text)
+    let marks = loose.marks.as_slice();
+    let words = loose.words.as_slice();
+    push_loose_title(text, kinds, loose)?;
+    push_loose_mark(text, x, y, loose.told.kinds.as_slice())?;
+    push_words(text, b"mark", 7, x + 15, y, marks)?;
+    push_words(text, b"label", 7, x + 15 + wide(7, marks), y, words)?;
+    text.push(b"</g>\n")
 }
 
 #[tactic(auto, unfolding(crate::specs::defs::PictureTexts::loose_text))]
 fn push_loose(
     text: &mut Text,
+    kinds: &[Kind],
+    room: u32,
     columns: u32,
     top: u64,
     entry: u64,
     loose: &Loose,
 ) -> Result<(), AllocError>
     requires { top < 4294967320 }
-    ensures { OnOk result (text.new ≡ text.old ++ loose_text columns top entry loose.now) }
+    ensures { OnOk result (text.new ≡ text.old ++ loose_text kinds.now room columns top entry loose.now) }
 {
-    let x = entry_x(columns, entry);
+    let x = entry_x(room, columns, entry);
     let y = entry_y(columns, top, entry);
-    push_loose_in(text, x, y, loose)
+    push_loose_in(text, kinds, x, y, loose)
 }
 
-fn push_looses(text: &mut Text, columns: u32, top: u64, looses: &[Loose]) -> Result<(), AllocError>
+fn push_looses(
+    text: &mut Text,
+    kinds: &[Kind],
+    room: u32,
+    columns: u32,
+    top: u64,
+    looses: &[Loose],
+) -> Result<(), AllocError>
     requires { top < 4294967320 }
-    ensures { OnOk result (text.new ≡ text.old ++ looses_text columns top looses.now) }
+    ensures { OnOk result (text.new ≡ text.old ++ looses_text kinds.now room columns top looses.now) }
 {
     for i in 0..looses.len() {
-        push_loose(text, columns, top, i as u64, &looses[i])?;
+        push_loose(text, kinds, room, columns, top, i as u64, &looses[i])?;
     }
     Ok(())
 }
@@ -515,12 +487,13 @@ fn push_lanes(
     alloc: Global,
     from: u16,
     right: u64,
+    kinds: &[Kind],
     lanes: &[Lane],
 ) -> Result<(), AllocError>
-    ensures { OnOk result (text.new ≡ text.old ++ flat_map (lane_text from right) lanes.now) }
+    ensures { OnOk result (text.new ≡ text.old ++ flat_map (lane_text from right kinds.now) lanes.now) }
 {
     for lane in lanes {
-        push_lane(text, alloc, from, right, lane)?;
+        push_lane(text, alloc, from, right, kinds, lane)?;
     }
     Ok(())
 }
@@ -529,21 +502,28 @@ fn push_lanes(
 fn push_arrive_name(text: &mut Text, top: u32) -> Result<(), AllocError>
     ensures { OnOk result (text.new ≡ text.old ++ arrive_name top) }
 {
-    push_words(text, b"name", 6, u64::from(top) + 11, b"arriving trains")
+    push_words(text, b"name", 7, 6, u64::from(top) + 11, b"arriving trains")
 }
 
 #[tactic(auto, unfolding(crate::specs::defs::PictureTexts::depart_name))]
 fn push_depart_name(text: &mut Text, top: u32) -> Result<(), AllocError>
     ensures { OnOk result (text.new ≡ text.old ++ depart_name top) }
 {
-    push_words(text, b"name", 6, u64::from(top) + 11, b"departing trains")
+    push_words(
+        text,
+        b"name",
+        7,
+        6,
+        u64::from(top) + 11,
+        b"departing trains",
+    )
 }
 
 #[tactic(auto, unfolding(crate::specs::defs::PictureTexts::loose_name))]
 fn push_loose_name(text: &mut Text, top: u32) -> Result<(), AllocError>
     ensures { OnOk result (text.new ≡ text.old ++ loose_name top) }
 {
-    push_words(text, b"name", 6, u64::from(top) + 18, b"unparked blocks")
+    push_words(text, b"name", 7, 6, u64::from(top) + 18, b"unparked blocks")
 }
 
 // The names of the lines above the lanes and of the list below them.
@@ -557,32 +537,30 @@ fn push_names(text: &mut Text, picture: &Picture) -> Result<(), AllocError>
 }
 
 #[tactic(auto, unfolding(crate::specs::defs::PictureTexts::head_part))]
-fn push_head(text: &mut Text, picture: &Picture) -> Result<(), AllocError>
+fn push_head(text: &mut Text, alloc: Global, picture: &Picture) -> Result<(), AllocError>
     ensures { OnOk result (text.new ≡ text.old ++ head_part picture.now) }
 {
-    push_start(text, picture)?;
-    push_title(text, picture)?;
-    push_kinds(text, picture.columns, picture.kinds.as_slice())?;
+    let kinds = picture.kinds.as_slice();
+    push_start(text, alloc, picture)?;
+    push_kinds(text, picture.kind_room, picture.kind_columns, kinds)?;
     push_names(text, picture)?;
-    push_arrive(text, picture)?;
-    push_depart(text, picture)?;
-    push_hours(text, picture)
+    push_trains_part(text, picture)?;
+    push_hours(text, alloc, picture)
 }
 
-fn push_arrive(text: &mut Text, picture: &Picture) -> Result<(), AllocError>
-    ensures { OnOk result (text.new ≡ text.old ++ trains_text picture.now.from picture.now.arrive_top 1 picture.now.arrive_rows picture.now.arrive) }
+// The lines of trains.
+#[tactic(auto, unfolding(crate::specs::defs::PictureTexts::trains_part))]
+fn push_trains_part(text: &mut Text, picture: &Picture) -> Result<(), AllocError>
+    ensures { OnOk result (text.new ≡ text.old ++ trains_part picture.now) }
 {
+    let kinds = picture.kinds.as_slice();
+    let from = picture.from;
     let rows = picture.arrive_rows.as_slice();
     let trains = picture.arrive.as_slice();
-    push_trains(text, picture.from, picture.arrive_top, 1, rows, trains)
-}
-
-fn push_depart(text: &mut Text, picture: &Picture) -> Result<(), AllocError>
-    ensures { OnOk result (text.new ≡ text.old ++ trains_text picture.now.from picture.now.depart_top 3 picture.now.depart_rows picture.now.depart) }
-{
+    push_trains(text, kinds, from, picture.arrive_top, true, rows, trains)?;
     let rows = picture.depart_rows.as_slice();
     let trains = picture.depart.as_slice();
-    push_trains(text, picture.from, picture.depart_top, 3, rows, trains)
+    push_trains(text, kinds, from, picture.depart_top, false, rows, trains)
 }
 
 #[tactic(auto, unfolding(crate::specs::defs::PictureTexts::body_part))]
@@ -590,22 +568,26 @@ fn push_body(text: &mut Text, alloc: Global, picture: &Picture) -> Result<(), Al
     ensures { OnOk result (text.new ≡ text.old ++ body_part picture.now) }
 {
     let lanes = picture.lanes.as_slice();
-    push_lanes(text, alloc, picture.from, right_of(picture), lanes)?;
+    let kinds = picture.kinds.as_slice();
+    let right = right_of(picture.from, picture.to);
+    push_lanes(text, alloc, picture.from, right, kinds, lanes)?;
     let top = u64::from(picture.loose_top) + 24;
-    push_looses(text, picture.columns, top, picture.loose.as_slice())?;
+    let columns = picture.loose_columns;
+    let loose = picture.loose.as_slice();
+    push_looses(text, kinds, picture.loose_room, columns, top, loose)?;
     text.push(b"</svg>\n")
 }
 
 /// The picture as SVG.
 ///
-/// Places are in pixels: two for each minute, 16 for each row of a lane. The text is a function of the picture alone. The error is want
-/// of memory.
+/// Places are in pixels: two for each minute, 16 for each row of a lane, 7 for each byte of most words. The text is a function of the
+/// picture alone. The error is want of memory.
 #[tactic(auto, unfolding(crate::specs::defs::PictureTexts::svg_of))]
 pub fn picture_text(alloc: Global, picture: &Picture) -> Result<Vec<u8>, AllocError>
     ensures { IfOk result (λ v. v.items ≡ svg_of picture.now) }
 {
     let mut text = Text::new(alloc);
-    push_head(&mut text, picture)?;
+    push_head(&mut text, alloc, picture)?;
     push_body(&mut text, alloc, picture)?;
     Ok(text.into_bytes())
 }

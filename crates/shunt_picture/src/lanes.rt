@@ -134,7 +134,7 @@ pub(crate) fn lane_of(
     ensures low { IfOk result (λ l. l.last < 800) }
 {
     let standings = sorted_on(alloc, instance, blocks, track)?;
-    let seats = seats_of(alloc, &standings, findings.is_empty())?;
+    let seats = seats_of(alloc, &standings, from, findings.is_empty())?;
     let stays = stays_in(alloc, &standings)?;
     let head = head_of(alloc, instance, track)?;
     let bars = bars_of(alloc, instance, findings, &seats)?;

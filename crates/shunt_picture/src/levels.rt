@@ -1,6 +1,6 @@
 // How much stands on a track.
 ghost use Rattle.std.specs.Prelude.{◌≡◌, ◌≤◌, ◌-◌, ◌++◌, ◌∷◌, [], length, IfOk, OnOk, if◌then◌else◌};
-ghost use Rattle.shunt_picture.specs.defs.Levels.{load_of, load_at, comes_or_goes, is_event, level_at, levels_of};
+ghost use Rattle.shunt_picture.specs.defs.Levels.{load_of, load_at, comes_or_goes, is_event, is_shown, level_at, levels_of};
 
 use crate::records::Level;
 use shunt_base::Stay;
@@ -43,19 +43,31 @@ fn is_event(stays: &[Stay], minute: u16) -> bool
     stays.iter().any(|stay| comes_or_goes(stay, minute))
 }
 
-// Adds the load at a minute in which one of these enters or leaves.
-fn note_level(levels: &mut Vec<Level>, stays: &[Stay], minute: u16) -> Result<(), AllocError>
-    requires { length stays.now ≤ 400 }
-    ensures { OnOk result (levels.new.items ≡ levels.old.items ++ (if is_event stays.now minute then level_at stays.now minute ∷ [] else [])) }
+// Whether the load is told at a minute: it is the first one, or one of these enters or leaves in it.
+fn is_shown(stays: &[Stay], first: u16, minute: u16) -> bool
+    ensures { result ≡ is_shown stays.now first minute }
 {
-    if is_event(stays, minute) {
+    minute == first || is_event(stays, minute)
+}
+
+// Adds the load at a minute where it is told.
+fn note_level(
+    levels: &mut Vec<Level>,
+    stays: &[Stay],
+    first: u16,
+    minute: u16,
+) -> Result<(), AllocError>
+    requires { length stays.now ≤ 400 }
+    ensures { OnOk result (levels.new.items ≡ levels.old.items ++ (if is_shown stays.now first minute then level_at stays.now minute ∷ [] else [])) }
+{
+    if is_shown(stays, first, minute) {
         let load = load_at(stays, minute);
         levels.push(Level { minute, load })?;
     }
     Ok(())
 }
 
-// The load at each minute from one to another at which one of these enters or leaves.
+// The load at the first minute from one to another, and at each at which one of these enters or leaves.
 pub(crate) fn levels_of(
     alloc: Global,
     stays: &[Stay],
@@ -67,7 +79,7 @@ pub(crate) fn levels_of(
 {
     let mut levels = Vec::new(alloc);
     for minute in from..to {
-        note_level(&mut levels, stays, minute)?;
+        note_level(&mut levels, stays, from, minute)?;
     }
     Ok(levels)
 }

@@ -15,6 +15,7 @@ mod strips;
 mod svg;
 mod text;
 mod told;
+mod train_texts;
 mod words;
 
 pub use drawing::picture_text;

@@ -1,15 +1,18 @@
 // The trains above the lanes.
-ghost use Rattle.std.specs.Prelude.{◌≡◌, ◌≢◌, ℕ, ◌<◌, ◌≤◌, ◌+◌, ◌++◌, ◌∷◌, [], IfOk, OnOk, map, length, slice_index, if◌then◌else◌};
-ghost use Rattle.std.specs.List.{range_with_len};
+ghost use Rattle.std.specs.Prelude.{◌≡◌, ◌≢◌, ℕ, ◌<◌, ◌≤◌, ◌+◌, ◌++◌, ◌∷◌, [], max, All, IfOk, OnOk, map, length, slice_index, if◌then◌else◌};
+ghost use Rattle.std.specs.List.{flat_map, range_with_len};
 ghost use Rattle.shunt_instance.specs.defs.Wellformed.{IsTrain, IsOrigin};
-ghost use Rattle.shunt_picture.specs.defs.Marks.{tells, is_told, places_of, origin_name, train_mark, arrive_mark, depart_mark};
-ghost use Rattle.shunt_picture.specs.defs.Layouts.{trains_high, width_of, AreTrainRows};
+ghost use Rattle.shunt_picture.specs.defs.Marks.{tells, is_told, places_of, origin_name, train_words, place_text, places_text, fault_places, mark_of, train_mark, arrive_mark, depart_mark};
+ghost use Rattle.shunt_picture.specs.defs.Layouts.{trains_high, width_of, end_of, AreTrainRows};
+ghost use Rattle.shunt_instance.specs.defs.Words.{is_standing};
 
 use crate::records::TrainMark;
+use crate::svg::wide;
+use crate::text::Text;
 use crate::told::copied;
-use crate::words::x_of;
+use crate::words::{push_letters, x_of};
 use shunt_audit::types::Finding;
-use shunt_base::{ArrId, DepId, Name};
+use shunt_base::{ArrId, DepId, Name, TypeId};
 use shunt_instance::{Instance, Origin, Train};
 use shunt_lists::Items;
 use std::alloc::{AllocError, Global};
@@ -81,6 +84,96 @@ fn origin_name(instance: &Instance, origin: Origin) -> &Name
     }
 }
 
+// Whether a train stands on a track when the night begins.
+pub(crate) fn stands(train: &Train) -> bool
+    ensures { result ≡ is_standing train.now }
+{
+    match train.origin {
+        Origin::Platform(_) => false,
+        Origin::Track(_) => true,
+    }
+}
+
+// A train's name, where it comes from or goes to, and its types.
+#[tactic(auto, unfolding(crate::specs::defs::Marks::train_words))]
+fn train_words(
+    alloc: Global,
+    name: &Name,
+    place: &Name,
+    kinds: &[TypeId],
+) -> Result<Vec<u8>, AllocError>
+    ensures { IfOk result (λ v. v.items ≡ train_words name.now place.now kinds.now) }
+{
+    let mut text = Text::new(alloc);
+    text.push(name.bytes())?;
+    text.push(b" ")?;
+    text.push(place.bytes())?;
+    text.push(b" ")?;
+    push_letters(&mut text, kinds)?;
+    Ok(text.into_bytes())
+}
+
+#[tactic(auto, unfolding(crate::specs::defs::Marks::place_text))]
+fn push_place(text: &mut Text, kind: u8, place: u8) -> Result<(), AllocError>
+    ensures { OnOk result (text.new ≡ text.old ++ place_text kind place) }
+{
+    text.push(b" ")?;
+    text.push_number(u64::from(kind))?;
+    text.push(b":")?;
+    text.push_number(u64::from(place))
+}
+
+// Places of units or positions, each with the number of its finding.
+fn push_places(text: &mut Text, kind: u8, places: &[u8]) -> Result<(), AllocError>
+    ensures { OnOk result (text.new ≡ text.old ++ places_text kind places.now) }
+{
+    for place in places {
+        push_place(text, kind, *place)?;
+    }
+    Ok(())
+}
+
+// The places of what of a train is bare or twice.
+#[tactic(auto, unfolding(crate::specs::defs::Marks::fault_places))]
+fn fault_places(alloc: Global, kind: u8, bare: &[u8], twice: &[u8]) -> Result<Vec<u8>, AllocError>
+    requires { kind ≤ 3 }
+    ensures { IfOk result (λ v. v.items ≡ fault_places kind bare.now twice.now) }
+{
+    let mut text = Text::new(alloc);
+    push_places(&mut text, kind, bare)?;
+    push_places(&mut text, kind + 1, twice)?;
+    Ok(text.into_bytes())
+}
+
+// A train with the name of its platform or track, and with the places that findings of a kind and of the next one tell of.
+fn mark_of(
+    alloc: Global,
+    train: &Train,
+    place: Name,
+    kind: u8,
+    bare: Vec<u8>,
+    twice: Vec<u8>,
+) -> Result<TrainMark, AllocError>
+    requires { kind ≤ 3 }
+    ensures { IfOk result (λ m. m ≡ mark_of train.now place kind bare.items twice.items) }
+{
+    let name = copied(alloc, &train.name)?;
+    let kinds = Vec::from_slice(alloc, train.units.as_slice())?;
+    let words = train_words(alloc, &train.name, &place, train.units.as_slice())?;
+    let marks = fault_places(alloc, kind, &bare, &twice)?;
+    Ok(TrainMark {
+        name,
+        place,
+        stands: stands(train),
+        minute: train.minute,
+        kinds: Items::from_vec(kinds),
+        bare: Items::from_vec(bare),
+        twice: Items::from_vec(twice),
+        words: Items::from_vec(words),
+        marks: Items::from_vec(marks),
+    })
+}
+
 // A train whose first unit or position has a number. Findings of the first kind say what is bare, and those of the next one what is
 // twice.
 fn train_mark(
@@ -97,19 +190,10 @@ fn train_mark(
     ensures { IfOk result (λ m. m ≡ train_mark instance.now.station findings.now train.now kind first) }
 {
     let count = train.units.len();
-    let name = copied(alloc, &train.name)?;
     let place = copied(alloc, origin_name(instance, train.origin))?;
-    let kinds = Vec::from_slice(alloc, train.units.as_slice())?;
     let bare = places_of(alloc, findings, kind, first, count)?;
     let twice = places_of(alloc, findings, kind + 1, first, count)?;
-    Ok(TrainMark {
-        name,
-        place,
-        minute: train.minute,
-        kinds: Items::from_vec(kinds),
-        bare: Items::from_vec(bare),
-        twice: Items::from_vec(twice),
-    })
+    mark_of(alloc, train, place, kind, bare, twice)
 }
 
 fn arrive_mark(
@@ -172,14 +256,39 @@ pub(crate) fn depart_marks(
     Ok(marks)
 }
 
-// How wide a train's words are about, in pixels.
+// How wide a train is drawn, in pixels.
 fn width_of(train: &TrainMark) -> u64
     ensures exact { result ≡ width_of train.now }
     ensures small { result ≤ 10000 }
 {
-    let names = train.name.bytes().len().min(16) + train.place.bytes().len().min(16);
-    let marks = train.bare.len().min(8) + train.twice.len().min(8);
-    7 * (names + train.kinds.len().min(8) + 4 * marks + 3) as u64
+    10 + wide(7, train.words.as_slice()) + wide(7, train.marks.as_slice())
+}
+
+// Where its words end.
+fn end_of(from: u16, train: &TrainMark) -> u64
+    ensures exact { result ≡ end_of from train.now }
+    ensures small { result ≤ 200000 }
+{
+    x_of(from, train.minute.number()) + width_of(train)
+}
+
+// The further one of a place and where a train's words end.
+fn farther(from: u16, train: &TrainMark, far: u64) -> u64
+    ensures { result ≡ max (end_of from train.now) far }
+{
+    end_of(from, train).max(far)
+}
+
+// Where the words of these trains end, or another place where that is further.
+pub(crate) fn far_end(from: u16, trains: &[TrainMark], least: u64) -> u64
+    ensures least { least ≤ result }
+    ensures trains { All (λ t. end_of from t ≤ result) trains.now }
+{
+    let mut far = least;
+    for train in trains {
+        far = farther(from, train, far);
+    }
+    far
 }
 
 // The first of the rows whose words end before a place, or one more.
@@ -225,7 +334,7 @@ pub(crate) fn train_rows(
     let mut ends = Vec::new(alloc);
     for train in trains {
         let x = x_of(from, train.minute.number());
-        let end = x + width_of(train);
+        let end = end_of(from, train);
         let row = row_from(&ends, x);
         note_end(&mut ends, row, end)?;
         rows.push(row as u16)?;

@@ -10,6 +10,8 @@ pub struct Kind {
     pub name: Name,
     /// The length of a unit in dm.
     pub length: u32,
+    /// How it stands in the legend.
+    pub words: Items<u8>,
 }
 
 /// A train above the lanes.
@@ -18,6 +20,8 @@ pub struct TrainMark {
     pub name: Name,
     /// The platform to which it comes or from which it leaves, or the track on which it stands.
     pub place: Name,
+    /// Whether it stands there already when the night begins.
+    pub stands: bool,
     pub minute: Minute,
     /// The types of its units or positions, from its A end to its B end.
     pub kinds: Items<TypeId>,
@@ -25,6 +29,10 @@ pub struct TrainMark {
     pub bare: Items<u8>,
     /// The places of those that are in two or more blocks.
     pub twice: Items<u8>,
+    /// What stands at its minute.
+    pub words: Items<u8>,
+    /// The places of what is bare or twice, which stand behind its words.
+    pub marks: Items<u8>,
 }
 
 /// What is told of a block.
@@ -33,10 +41,18 @@ pub struct Told {
     pub id: u32,
     /// Its arriving train.
     pub arr: Name,
+    /// The place of its first unit there.
+    pub p: u8,
     /// Its departing train.
     pub dep: Name,
+    /// Its first position there.
+    pub q: u8,
     /// The types of its units.
     pub kinds: Items<TypeId>,
+    /// In dm.
+    pub length: u32,
+    /// In cost units.
+    pub cost: u64,
     /// The numbers of the findings that name it, of the kinds 5 to 10.
     pub faults: Items<u8>,
 }
@@ -73,7 +89,7 @@ pub struct Lane {
     pub bars: Items<Bar>,
     /// At each minute at which a block comes or goes.
     pub levels: Items<Level>,
-    /// If it begins, in pixels from the top.
+    /// Where it begins, in pixels from the top.
     pub top: u32,
 }
 
@@ -87,6 +103,10 @@ pub struct Loose {
     pub leave: Minute,
     /// The track on which it is parked, where it is.
     pub track: Option<Name>,
+    /// How it stands in the list.
+    pub words: Items<u8>,
+    /// The numbers of its findings, which stand before its words.
+    pub marks: Items<u8>,
 }
 
 /// A night with a plan.
@@ -113,16 +133,24 @@ pub struct Picture {
     /// One for each track, in their order.
     pub lanes: Items<Lane>,
     pub loose: Items<Loose>,
-    /// How many entries the legend and the list of loose blocks have in a line.
-    pub columns: u32,
-    /// If the line of arriving trains begins, in pixels from the top.
+    /// How much room an entry of the legend has, in pixels.
+    pub kind_room: u32,
+    /// How many of them stand in a line.
+    pub kind_columns: u32,
+    /// How much room an entry of the list of loose blocks has.
+    pub loose_room: u32,
+    /// How many of them stand in a line.
+    pub loose_columns: u32,
+    /// Where the line of arriving trains begins, in pixels from the top.
     pub arrive_top: u32,
-    /// If that of departing trains begins.
+    /// Where that of departing trains begins.
     pub depart_top: u32,
-    /// If the first lane begins.
+    /// Where the first lane begins.
     pub lanes_top: u32,
-    /// If the loose blocks begin.
+    /// Where the loose blocks begin.
     pub loose_top: u32,
+    /// How wide it is, in pixels.
+    pub width: u64,
     /// How high it is.
     pub height: u32,
 }

@@ -1,12 +1,12 @@
 // How lanes are drawn.
-ghost use Rattle.std.specs.Prelude.{◌≡◌, ◌++◌, OnOk};
+ghost use Rattle.std.specs.Prelude.{◌≡◌, ◌++◌, OnOk, IfOk};
 ghost use Rattle.std.specs.List.{flat_map};
 ghost use Rattle.shunt_picture.specs.defs.BarTexts.{bar_text};
-ghost use Rattle.shunt_picture.specs.defs.LaneTexts.{rows_high, level_height, level_text, base_of, head_text, end_text, ends_text, full_text, levels_text, load_end, load_over, load_text, ground_text, lane_text};
+ghost use Rattle.shunt_picture.specs.defs.LaneTexts.{rows_high, level_height, level_text, base_of, length_words, head_text, end_text, ends_text, full_text, levels_text, load_end, load_over, load_text, ground_text, lane_text};
 
 use crate::bars::push_bar;
-use crate::records::{Bar, Lane, Level};
-use crate::svg::{Area, close_words, open_words, push_rectangle, push_stroke, push_words};
+use crate::records::{Bar, Kind, Lane, Level};
+use crate::svg::{Area, push_rectangle, push_stroke, push_words};
 use crate::text::Text;
 use crate::words::x_of;
 use std::alloc::{AllocError, Global};
@@ -18,7 +18,7 @@ fn rows_high(lane: &Lane) -> u64
     16 * (u64::from(lane.last.saturating_sub(lane.first)) + 1)
 }
 
-// If the line of a lane's load is at 0.
+// Where the line of a lane's load is at 0.
 fn base_of(lane: &Lane) -> u64
     ensures { result ≡ base_of lane.now }
 {
@@ -118,7 +118,7 @@ fn push_end(text: &mut Text, is_open: bool, y: u64, word: &[u8]) -> Result<(), A
     ensures { OnOk result (text.new ≡ text.old ++ end_text is_open y word.now) }
 {
     if is_open {
-        push_words(text, b"end", 138, y, word)?;
+        push_words(text, b"end", 7, 138, y, word)?;
     }
     Ok(())
 }
@@ -133,17 +133,25 @@ fn push_ends(text: &mut Text, lane: &Lane) -> Result<(), AllocError>
     push_end(text, lane.head.side_b, top + rows_high(lane) + 3, b"B")
 }
 
+#[tactic(auto, unfolding(crate::specs::defs::LaneTexts::length_words))]
+fn length_words(alloc: Global, length: u32) -> Result<Vec<u8>, AllocError>
+    ensures { IfOk result (λ v. v.items ≡ length_words length) }
+{
+    let mut text = Text::new(alloc);
+    text.push_number(u64::from(length))?;
+    text.push(b" dm")?;
+    Ok(text.into_bytes())
+}
+
 // Its name, its length, and its open ends.
 #[tactic(auto, unfolding(crate::specs::defs::LaneTexts::head_text))]
-fn push_head(text: &mut Text, lane: &Lane) -> Result<(), AllocError>
+fn push_head(text: &mut Text, alloc: Global, lane: &Lane) -> Result<(), AllocError>
     ensures { OnOk result (text.new ≡ text.old ++ head_text lane.now) }
 {
     let top = u64::from(lane.top);
-    push_words(text, b"name", 6, top + 12, lane.head.name.bytes())?;
-    open_words(text, b"small", 6, top + 26)?;
-    text.push_number(u64::from(lane.head.length))?;
-    text.push(b" dm")?;
-    close_words(text)?;
+    let length = length_words(alloc, lane.head.length)?;
+    push_words(text, b"name", 7, 6, top + 12, lane.head.name.bytes())?;
+    push_words(text, b"small", 6, 6, top + 26, &length)?;
     push_ends(text, lane)
 }
 
@@ -151,13 +159,14 @@ fn push_bars(
     text: &mut Text,
     alloc: Global,
     from: u16,
+    kinds: &[Kind],
     lane: &Lane,
     bars: &[Bar],
 ) -> Result<(), AllocError>
-    ensures { OnOk result (text.new ≡ text.old ++ flat_map (bar_text from lane.now) bars.now) }
+    ensures { OnOk result (text.new ≡ text.old ++ flat_map (bar_text from kinds.now lane.now) bars.now) }
 {
     for bar in bars {
-        push_bar(text, alloc, from, lane, bar)?;
+        push_bar(text, alloc, from, kinds, lane, bar)?;
     }
     Ok(())
 }
@@ -185,12 +194,13 @@ pub(crate) fn push_lane(
     alloc: Global,
     from: u16,
     right: u64,
+    kinds: &[Kind],
     lane: &Lane,
 ) -> Result<(), AllocError>
-    ensures { OnOk result (text.new ≡ text.old ++ lane_text from right lane.now) }
+    ensures { OnOk result (text.new ≡ text.old ++ lane_text from right kinds.now lane.now) }
 {
     push_ground(text, right, lane)?;
     push_load(text, from, right, lane)?;
-    push_head(text, lane)?;
-    push_bars(text, alloc, from, lane, lane.bars.as_slice())
+    push_head(text, alloc, lane)?;
+    push_bars(text, alloc, from, kinds, lane, lane.bars.as_slice())
 }

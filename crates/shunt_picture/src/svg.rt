@@ -1,6 +1,6 @@
 // Pieces of SVG.
-ghost use Rattle.std.specs.Prelude.{◌≡◌, ◌++◌, OnOk};
-ghost use Rattle.shunt_picture.specs.defs.Svg.{attribute, rectangle, stroke, opened, closed, words_at, corner};
+ghost use Rattle.std.specs.Prelude.{◌≡◌, ◌≤◌, ◌++◌, OnOk};
+ghost use Rattle.shunt_picture.specs.defs.Svg.{attribute, rectangle, stroke, wide, opened, element, words_at, corner};
 
 use crate::text::Text;
 use std::alloc::AllocError;
@@ -64,38 +64,63 @@ pub(crate) fn push_stroke(text: &mut Text, class: &[u8], area: Area) -> Result<(
     text.push(b"'/>\n")
 }
 
+// How wide words are drawn, with that many pixels for a byte.
+pub(crate) fn wide(unit: u64, words: &[u8]) -> u64
+    requires { unit ≤ 9 }
+    ensures exact { result ≡ wide unit words.now }
+    ensures small { result ≤ 1800 }
+{
+    unit * words.len().min(200) as u64
+}
+
+// The beginning of words of a class at a place, that are so wide.
 #[tactic(auto, unfolding(crate::specs::defs::Svg::opened))]
-pub(crate) fn open_words(text: &mut Text, class: &[u8], x: u64, y: u64) -> Result<(), AllocError>
-    ensures { OnOk result (text.new ≡ text.old ++ opened class.now x y) }
+fn open_words(text: &mut Text, class: &[u8], x: u64, y: u64, width: u64) -> Result<(), AllocError>
+    ensures { OnOk result (text.new ≡ text.old ++ opened class.now x y width) }
 {
     text.push(b"<text class='")?;
     text.push(class)?;
     text.push(b"'")?;
     push_attribute(text, b"x", x)?;
     push_attribute(text, b"y", y)?;
+    push_attribute(text, b"textLength", width)?;
     text.push(b">")
 }
 
-#[tactic(auto, unfolding(crate::specs::defs::Svg::closed))]
-pub(crate) fn close_words(text: &mut Text) -> Result<(), AllocError>
-    ensures { OnOk result (text.new ≡ text.old ++ closed) }
-{
-    text.push(b"</text>\n")
-}
-
-#[tactic(auto, unfolding(crate::specs::defs::Svg::words_at))]
-pub(crate) fn push_words(
+#[tactic(auto, unfolding(crate::specs::defs::Svg::element))]
+fn push_element(
     text: &mut Text,
     class: &[u8],
+    unit: u64,
     x: u64,
     y: u64,
     words: &[u8],
 ) -> Result<(), AllocError>
-    ensures { OnOk result (text.new ≡ text.old ++ words_at class.now x y words.now) }
+    requires { unit ≤ 9 }
+    ensures { OnOk result (text.new ≡ text.old ++ element class.now unit x y words.now) }
 {
-    open_words(text, class, x, y)?;
+    open_words(text, class, x, y, wide(unit, words))?;
     text.push(words)?;
-    close_words(text)
+    text.push(b"</text>\n")
+}
+
+// Words of a class at a place, so wide; nothing where there are none.
+#[tactic(auto, unfolding(crate::specs::defs::Svg::words_at))]
+pub(crate) fn push_words(
+    text: &mut Text,
+    class: &[u8],
+    unit: u64,
+    x: u64,
+    y: u64,
+    words: &[u8],
+) -> Result<(), AllocError>
+    requires { unit ≤ 9 }
+    ensures { OnOk result (text.new ≡ text.old ++ words_at class.now unit x y words.now) }
+{
+    if words.is_empty() {
+        return Ok(());
+    }
+    push_element(text, class, unit, x, y, words)
 }
 
 // A small triangle at the corner of a bar; `turn` is the way from there and back.

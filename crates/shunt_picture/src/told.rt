@@ -1,12 +1,14 @@
 // What is told of blocks.
 ghost use Rattle.std.specs.Prelude.{◌≡◌, ◌++◌, ◌∷◌, [], IfOk, OnOk, All, if◌then◌else◌};
 ghost use Rattle.shunt_blocks.specs.defs.Shapes.{IsWithinTrains, IsOnTrack, IsInRange};
-ghost use Rattle.shunt_picture.specs.defs.Told.{kinds_of, names, is_marked, faults_of, told_of, track_name, loose_of, loose_at, looses_of};
+ghost use Rattle.shunt_picture.specs.defs.Told.{kinds_of, names, is_marked, faults_of, told_of, track_name, track_words, loose_words, loose_of, loose_with, loose_at, looses_of};
 
 use crate::records::{Loose, Told};
+use crate::text::Text;
+use crate::words::{faults_words, push_label, push_time};
 use shunt_audit::types::Finding;
-use shunt_base::{Name, TypeId};
-use shunt_blocks::{Block, Park, stay};
+use shunt_base::{Minute, Name, TypeId};
+use shunt_blocks::{Block, Park, block_cost, block_length, stay};
 use shunt_instance::Instance;
 use shunt_lists::Items;
 use std::alloc::{AllocError, Global};
@@ -92,8 +94,12 @@ pub(crate) fn told_of(
     Ok(Told {
         id: block.id,
         arr,
+        p: block.p,
         dep,
+        q: block.q,
         kinds: Items::from_vec(kinds),
+        length: block_length(instance, block),
+        cost: block_cost(instance, block),
         faults: Items::from_vec(faults),
     })
 }
@@ -117,6 +123,61 @@ fn track_name(
     }
 }
 
+// Where a loose block is parked.
+pub(crate) fn push_track(text: &mut Text, track: &Option<Name>) -> Result<(), AllocError>
+    ensures { OnOk result (text.new ≡ text.old ++ track_words track.now) }
+{
+    match track {
+        None => Ok(()),
+        Some(name) => {
+            text.push(b" on ")?;
+            text.push(name.bytes())
+        }
+    }
+}
+
+// A loose block's label, and the minutes of its trains.
+#[tactic(auto, unfolding(crate::specs::defs::Told::loose_words))]
+fn loose_words(
+    alloc: Global,
+    told: &Told,
+    enter: Minute,
+    leave: Minute,
+    track: &Option<Name>,
+) -> Result<Vec<u8>, AllocError>
+    ensures { IfOk result (λ v. v.items ≡ loose_words told.now enter leave track.now) }
+{
+    let mut text = Text::new(alloc);
+    push_label(&mut text, told)?;
+    text.push(b" ")?;
+    push_time(&mut text, enter.number())?;
+    text.push(b" ")?;
+    push_time(&mut text, leave.number())?;
+    push_track(&mut text, track)?;
+    Ok(text.into_bytes())
+}
+
+fn loose_with(
+    alloc: Global,
+    told: Told,
+    enter: Minute,
+    leave: Minute,
+    track: Option<Name>,
+) -> Result<Loose, AllocError>
+    ensures { IfOk result (λ l. l ≡ loose_with told enter leave track) }
+{
+    let words = loose_words(alloc, &told, enter, leave, &track)?;
+    let marks = faults_words(alloc, told.faults.as_slice())?;
+    Ok(Loose {
+        told,
+        enter,
+        leave,
+        track,
+        words: Items::from_vec(words),
+        marks: Items::from_vec(marks),
+    })
+}
+
 fn loose_of(
     alloc: Global,
     instance: &Instance,
@@ -128,12 +189,9 @@ fn loose_of(
 {
     let told = told_of(alloc, instance, findings, block)?;
     let track = track_name(alloc, instance, block.park)?;
-    Ok(Loose {
-        told,
-        enter: instance.arrive(block.arr).minute,
-        leave: instance.depart(block.dep).minute,
-        track,
-    })
+    let enter = instance.arrive(block.arr).minute;
+    let leave = instance.depart(block.dep).minute;
+    loose_with(alloc, told, enter, leave, track)
 }
 
 // Adds a block that has no stay.

@@ -1,10 +1,10 @@
 -- How lanes are drawn.
 use Rattle.std.specs.Prelude.{ℕ, ◌+◌, ◌-◌, ◌*◌, ◌/◌, ◌%◌, min, max, Bool, List, [], ◌++◌, codes, decimal, if◌then◌else◌}
 use Rattle.std.specs.List.{flat_map}
-use Rattle.shunt_picture.specs.declared.svg.Area.{Area}
+use Rattle.shunt_picture.specs.declared.records.Kind.{Kind}
 use Rattle.shunt_picture.specs.declared.records.Level.{Level}
 use Rattle.shunt_picture.specs.declared.records.Lane.{Lane}
-use Rattle.shunt_picture.specs.defs.Svg.{rectangle, stroke, opened, closed, words_at}
+use Rattle.shunt_picture.specs.defs.Svg.{rectangle, stroke, words_at}
 use Rattle.shunt_picture.specs.defs.Words.{x_of}
 use Rattle.shunt_picture.specs.defs.BarTexts.{bar_text}
 
@@ -46,18 +46,22 @@ load_text from right l = load_over from right (base_of l) l ++ full_text right (
 
 -- the letter of an end at which the track is open
 unfoldable pub end_text : Bool → ℕ → List ℕ → List ℕ
-end_text is_open y word = if is_open then words_at (codes "end") 138 y word else []
+end_text is_open y word = if is_open then words_at (codes "end") 7 138 y word else []
 
 -- its open ends
 unfoldable pub ends_text : Lane → List ℕ
 ends_text l = end_text l.head.side_a (l.top + 9) (codes "A") ++ end_text l.head.side_b (l.top + rows_high l + 3) (codes "B")
 
+-- a length
+unfoldable pub length_words : ℕ → List ℕ
+length_words n = decimal n ++ codes " dm"
+
 -- its name, its length, and its open ends
 unfoldable pub head_text : Lane → List ℕ
-head_text l = words_at (codes "name") 6 (l.top + 12) l.head.name ++ opened (codes "small") 6 (l.top + 26) ++ decimal l.head.length ++ codes " dm" ++ closed ++ ends_text l
+head_text l = words_at (codes "name") 7 6 (l.top + 12) l.head.name ++ words_at (codes "small") 6 6 (l.top + 26) (length_words l.head.length) ++ ends_text l
 
 unfoldable pub ground_text : ℕ → Lane → List ℕ
 ground_text right l = rectangle (codes "lane") (l.track.0 % 2) (record { x = 0; y = l.top; width = right; height = rows_high l + 32 })
 
-unfoldable pub lane_text : ℕ → ℕ → Lane → List ℕ
-lane_text from right l = ground_text right l ++ load_text from right l ++ head_text l ++ flat_map (bar_text from l) l.bars
+unfoldable pub lane_text : ℕ → ℕ → List Kind → Lane → List ℕ
+lane_text from right kinds l = ground_text right l ++ load_text from right l ++ head_text l ++ flat_map (bar_text from kinds l) l.bars

@@ -23,6 +23,10 @@ comes_or_goes minute s = (s.enter.minute == minute) || (s.leave.minute == minute
 abbrev pub is_event : List Stay → ℕ → Bool
 is_event stays minute = list_any (comes_or_goes minute) stays
 
--- the load at each of that many minutes from one on at which a stay begins or ends
+-- whether the load is told at a minute: it is the first one, or a stay begins or ends there
+abbrev pub is_shown : List Stay → ℕ → ℕ → Bool
+is_shown stays first minute = (minute == first) || is_event stays minute
+
+-- the load at the first of that many minutes from one on, and at each at which a stay begins or ends
 abbrev pub levels_of : List Stay → ℕ → ℕ → List Level
-levels_of stays from count = map (level_at stays) (filter (is_event stays) (range_with_len from count))
+levels_of stays from count = map (level_at stays) (filter (is_shown stays from) (range_with_len from count))

@@ -1,5 +1,5 @@
 -- The stays on a track, and the rows in which they stand.
-use Rattle.std.specs.Prelude.{◌≡◌, ℕ, ◌+◌, ◌<◌, ◌≤◌, ◌==◌, List, Option, Some, None, if◌then◌else◌}
+use Rattle.std.specs.Prelude.{◌≡◌, ℕ, ◌+◌, ◌<◌, ◌≤◌, ◌==◌, max, Bool, false, List, Option, Some, None, if◌then◌else◌}
 use Rattle.std.specs.List.{filter_map}
 use Rattle.shunt_base.specs.declared.ids.Side.{Side}
 use Rattle.shunt_base.specs.declared.ids.Side.TheVariants.{A, B}
@@ -26,6 +26,12 @@ standings_on night track blocks = filter_map (standing_on night track) blocks
 -- two that have one row don't stand at one time: the first leaves before the second enters
 abbrev pub AreApart : Seat → Seat → Type 0
 AreApart s t = s.row ≡ t.row → s.standing.stay.leave.minute ≤ t.standing.stay.enter.minute
+
+-- of two that have one row the first enters first, and where rows show no order there are 70 minutes more for its marks, from the first
+-- minute of the picture on
+pub record HaveRoom (from : ℕ) (is_ordered : Bool) (s t : Seat) : Type 0 where
+  pub first : s.row ≡ t.row → s.standing.stay.enter.minute ≤ t.standing.stay.enter.minute
+  pub marks : is_ordered ≡ false → s.row ≡ t.row → max s.standing.stay.enter.minute from + 70 ≤ t.standing.stay.enter.minute
 
 -- a row is nearer an end than another: rows are counted from the A end
 abbrev pub IsBeyond : Side → ℕ → ℕ → Type 0

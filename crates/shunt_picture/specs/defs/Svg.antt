@@ -1,5 +1,5 @@
 -- Pieces of SVG.
-use Rattle.std.specs.Prelude.{ℕ, List, ◌++◌, codes, decimal}
+use Rattle.std.specs.Prelude.{ℕ, ◌*◌, ◌==◌, min, List, [], ◌++◌, length, codes, decimal, if◌then◌else◌}
 use Rattle.shunt_picture.specs.declared.svg.Area.{Area}
 
 -- ` NAME='VALUE'`
@@ -14,15 +14,21 @@ rectangle class number a = codes "<rect class='" ++ class ++ decimal number ++ c
 unfoldable pub stroke : List ℕ → Area → List ℕ
 stroke class a = codes "<path class='" ++ class ++ codes "' d='M" ++ decimal a.x ++ codes " " ++ decimal a.y ++ codes "h" ++ decimal a.width ++ codes "v" ++ decimal a.height ++ codes "'/>\n"
 
--- words of a class at a place, and their end
-unfoldable pub opened : List ℕ → ℕ → ℕ → List ℕ
-opened class x y = codes "<text class='" ++ class ++ codes "'" ++ attribute (codes "x") x ++ attribute (codes "y") y ++ codes ">"
+-- how wide words are drawn, with that many pixels for a byte: the text itself says so, whatever letters a browser has
+abbrev pub wide : ℕ → List ℕ → ℕ
+wide unit words = unit * min (length words) 200
 
-unfoldable pub closed : List ℕ
-closed = codes "</text>\n"
+-- the beginning of words of a class at a place, that are so wide
+unfoldable pub opened : List ℕ → ℕ → ℕ → ℕ → List ℕ
+opened class x y width = codes "<text class='" ++ class ++ codes "'" ++ attribute (codes "x") x ++ attribute (codes "y") y ++ attribute (codes "textLength") width ++ codes ">"
 
-unfoldable pub words_at : List ℕ → ℕ → ℕ → List ℕ → List ℕ
-words_at class x y words = opened class x y ++ words ++ closed
+-- such words
+unfoldable pub element : List ℕ → ℕ → ℕ → ℕ → List ℕ → List ℕ
+element class unit x y words = opened class x y (wide unit words) ++ words ++ codes "</text>\n"
+
+-- nothing where there are none
+unfoldable pub words_at : List ℕ → ℕ → ℕ → ℕ → List ℕ → List ℕ
+words_at class unit x y words = if length words == 0 then [] else element class unit x y words
 
 -- a small triangle at the corner of a bar
 unfoldable pub corner : ℕ → ℕ → List ℕ → List ℕ

@@ -4,4 +4,4 @@ use Rattle.shunt_picture.specs.defs.LaneTexts.{lane_text}
 use Rattle.shunt_picture.proofs.drawing.push_lanes.Given as goal
 
 abbrev pub invariant-loop-lane : goal.invariant-loop-lane
-invariant-loop-lane l = l.text ++ flat_map (lane_text l.from l.right) (drop l.lane-index l.lanes) ≡ l.fn.text ++ flat_map (lane_text l.from l.right) l.lanes
+invariant-loop-lane l = l.text ++ flat_map (lane_text l.from l.right l.kinds) (drop l.lane-index l.lanes) ≡ l.fn.text ++ flat_map (lane_text l.from l.right l.kinds) l.lanes

@@ -29,13 +29,15 @@ returns-clause-lane c =
     let night = c.args.instance.now in
     let findings = c.args.findings.now in
     let seats = c.in_ok-seats.seats.items in
-    lane_is night findings c.args.blocks.now c.args.from c.args.to c.first_row.result c.last_row.result c.args.top c.args.track c.in_ok-head.head
+    lane_is night findings c.args.blocks.now c.args.from c.args.to c.first_row.result c.last_row.result c.args.top c.is_empty.result c.args.track c.in_ok-head.head
     c.in_ok-standings.standings.items seats c.in_ok-stays.stays.items c.from_vec.result c.from_vec-2.result
     c.in_ok-head.ensures
     c.in_ok-standings.ensures.same
     c.in_ok-standings.ensures.order
     (c.in_ok-seats.ensures.same ∙ c.deref.ensures.value)
     c.in_ok-seats.ensures.apart
+    c.is_empty.ensures
+    c.in_ok-seats.ensures.room
     (λ none. c.in_ok-seats.ensures.order (c.is_empty.ensures ∙ ap (λ (f : List Finding). length f == 0) none))
     (subst (λ (l : List Seat). All (λ s. c.first_row.result ≤ s.row) l) c.deref-5.ensures.value c.first_row.ensures.least)
     (subst (λ (l : List Seat). All (λ s. s.row ≤ c.last_row.result) l) c.deref-6.ensures.value c.last_row.ensures.greatest)

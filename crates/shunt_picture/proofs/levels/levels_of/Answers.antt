@@ -1,5 +1,5 @@
 use Rattle.std.proofs.Common.{◌-◌, ap, ◌∙◌, arith}
-use Rattle.shunt_picture.specs.defs.Levels.{is_event, level_at, levels_of}
+use Rattle.shunt_picture.specs.defs.Levels.{is_shown, level_at, levels_of}
 use Rattle.shunt_picture.proofs.Ranges.{mapped_noted}
 use Rattle.shunt_picture.proofs.levels.levels_of.Goals as goal
 
@@ -11,7 +11,7 @@ loop-minute-preserved c =
     record {
       from = omega (arith, from);
       to = omega (arith, from, to, lt);
-      levels = mapped_noted (level_at c.args.stays.now) (is_event c.args.stays.now) c.args.from (c.loop-minute.minute - c.args.from) _ c.loop-minute.minute c.loop-minute.levels.items c.note_level.new.levels.items (omega (arith, from)) (omega (arith, from)) c.loop-minute.invariant.levels c.in_ok-note_level.ensures;
+      levels = mapped_noted (level_at c.args.stays.now) (is_shown c.args.stays.now c.args.from) c.args.from (c.loop-minute.minute - c.args.from) _ c.loop-minute.minute c.loop-minute.levels.items c.note_level.new.levels.items (omega (arith, from)) (omega (arith, from)) c.loop-minute.invariant.levels c.in_ok-note_level.ensures;
     }
 
 pub returns : goal.returns

@@ -1,4 +1,4 @@
-use Rattle.std.proofs.Common.{◌+◌, ◌*◌, ℕ, List, All, map, length, refl, sym, subst, ap, ◌∙◌}
+use Rattle.std.proofs.Common.{◌≤◌, arith, ◌+◌, ◌*◌, ℕ, List, All, map, length, refl, sym, subst, ap, ◌∙◌}
 use Rattle.std.specs.List.{range_with_len}
 use Rattle.shunt_instance.specs.declared.records.Station.{Station}
 use Rattle.shunt_blocks.specs.declared.records.Block.{Block}
@@ -10,7 +10,11 @@ use Rattle.shunt_picture.specs.defs.Told.{looses_of}
 use Rattle.shunt_picture.specs.defs.Marks.{arrive_mark, depart_mark}
 use Rattle.shunt_picture.specs.defs.Lanes.{IsLaneOf}
 use Rattle.shunt_picture.specs.defs.Pictures.{kind_of}
-use Rattle.shunt_picture.specs.defs.Layouts.{lines_high, trains_high, AreStacked, AreTrainRows}
+use Rattle.shunt_picture.specs.defs.Layouts.{kind_width, loose_width, lines_high, trains_high, end_of, AreStacked, AreTrainRows}
+use Rattle.shunt_picture.specs.declared.records.Kind.{Kind}
+use Rattle.shunt_picture.specs.declared.records.Loose.{Loose}
+use Rattle.shunt_picture.specs.defs.Svg.{wide}
+use Rattle.shunt_picture.proofs.Widest.{title_ended}
 use Rattle.shunt_picture.proofs.making.picture.Goals as goal
 
 pub returns-clause-plan : goal.returns-clause-plan
@@ -43,20 +47,52 @@ returns-clause-plan c =
 pub returns-clause-layout : goal.returns-clause-layout
 returns-clause-layout c =
     let from = c.first_hour-from.result in
-    let columns = c.columns_of-columns.result in
-    let arrive_top = 40 + c.lines_high-arrive_top.result in
+    let kind_columns = c.columns_of-kind_columns.result in
+    let loose_columns = c.columns_of-loose_columns.result in
+    let arrive_top = 64 + c.lines_high-arrive_top.result in
     let depart_top = arrive_top + c.rows_high.result + 8 in
     let lanes_top = depart_top + c.rows_high-2.result + 22 in
     let bottom = c.in_ok-stack.stack.bottom in
     record {
-      columns = c.columns_of-columns.ensures;
+      kind_columns = c.columns_of-kind_columns.ensures;
+      loose_columns = c.columns_of-loose_columns.ensures;
       arrive_rows = subst (λ (rows : List ℕ). AreTrainRows from c.from_vec-2.result rows) (sym c.from_vec-3.ensures)
           (subst (λ (ts : List TrainMark). AreTrainRows from ts c.in_ok-arrive_rows.arrive_rows.items) (c.deref.ensures.value ∙ sym c.from_vec-2.ensures) c.in_ok-arrive_rows.ensures);
       depart_rows = subst (λ (rows : List ℕ). AreTrainRows from c.from_vec-4.result rows) (sym c.from_vec-5.ensures)
           (subst (λ (ts : List TrainMark). AreTrainRows from ts c.in_ok-depart_rows.depart_rows.items) (c.deref-2.ensures.value ∙ sym c.from_vec-4.ensures) c.in_ok-depart_rows.ensures);
-      arrive_top = ap (λ n. 40 + n) (c.lines_high-arrive_top.ensures.exact ∙ ap (λ n. lines_high n columns) (c.len.ensures ∙ c.in_ok-kinds.kinds.ok.0 ∙ ap length (sym c.from_vec.ensures)));
-      depart_top = ap (λ n. arrive_top + n + 8) (c.rows_high.ensures.exact ∙ ap trains_high (c.deref-3.ensures.value ∙ sym c.from_vec-3.ensures));
-      lanes_top = ap (λ n. depart_top + n + 22) (c.rows_high-2.ensures.exact ∙ ap trains_high (c.deref-4.ensures.value ∙ sym c.from_vec-5.ensures));
+      arrive_top = ap (λ n. 64 + n) (c.lines_high-arrive_top.ensures.exact ∙ ap (λ n. lines_high n kind_columns) (c.len.ensures ∙ c.in_ok-kinds.kinds.ok.0 ∙ ap length (sym c.from_vec.ensures)));
+      depart_top = ap (λ n. arrive_top + n + 8) (c.rows_high.ensures.exact ∙ ap trains_high (c.deref-4.ensures.value ∙ sym c.from_vec-3.ensures));
+      lanes_top = ap (λ n. depart_top + n + 22) (c.rows_high-2.ensures.exact ∙ ap trains_high (c.deref-5.ensures.value ∙ sym c.from_vec-5.ensures));
       lanes = subst (λ (ls : List Lane). AreStacked lanes_top ls bottom) (sym c.from_vec-6.ensures) c.in_ok-stack.ensures.stacked;
-      height = ap (λ n. bottom + n + 40) (c.lines_high.ensures.exact ∙ ap (λ n. lines_high n columns) (c.len-2.ensures ∙ c.in_ok-loose.loose.ok.0 ∙ ap length (sym c.from_vec-7.ensures)));
+      height = ap (λ n. bottom + n + 40) (c.lines_high.ensures.exact ∙ ap (λ n. lines_high n loose_columns) (c.len-2.ensures ∙ c.in_ok-loose.loose.ok.0 ∙ ap length (sym c.from_vec-7.ensures)));
+    }
+
+pub returns-clause-inside : goal.returns-clause-inside
+returns-clause-inside c =
+    let from = c.first_hour-from.result in
+    let width = c.trains_end-width.result in
+    let far = c.trains_end-width.ensures.least in
+    let words = c.words_end-least.ensures in
+    let lists = c.furthest.ensures in
+    let right = c.right_of-right.ensures.exact in
+    let words_far = words.least in
+    let lists_far = lists.first in
+    let kinds_far = lists.second in
+    let looses_far = lists.third in
+    let kinds_end : c.lines_end-kinds_end.result ≤ width = omega (arith, far, words_far, kinds_far) in
+    let looses_end : c.lines_end-looses_end.result ≤ width = omega (arith, far, words_far, looses_far) in
+    let title_far = words.title in
+    let bars_far = words.bars in
+    let marks_far = words.marks in
+    let title_end : 6 + wide 9 c.deref-7.result.now ≤ width = omega (arith, far, title_far) in
+    record {
+      hours = omega (arith, far, words_far, lists_far, right);
+      arrive = subst (λ (ts : List TrainMark). All (λ t. end_of from t ≤ width) ts) (c.deref-8.ensures.value ∙ sym c.from_vec-2.ensures) c.trains_end-width.ensures.arrive;
+      depart = subst (λ (ts : List TrainMark). All (λ t. end_of from t ≤ width) ts) (c.deref-9.ensures.value ∙ sym c.from_vec-4.ensures) c.trains_end-width.ensures.depart;
+      kinds = subst (λ (ks : List Kind). All (λ k. kind_width k ≤ c.kinds_room-kind_room.result) ks) (c.deref-3.ensures.value ∙ sym c.from_vec.ensures) c.kinds_room-kind_room.ensures.each;
+      looses = subst (λ (ls : List Loose). All (λ l. loose_width l ≤ c.looses_room-loose_room.result) ls) (c.deref-6.ensures.value ∙ sym c.from_vec-7.ensures) c.looses_room-loose_room.ensures.each;
+      kind_lines = subst (λ n. n ≤ width) c.lines_end-kinds_end.ensures kinds_end;
+      loose_lines = subst (λ n. n ≤ width) c.lines_end-looses_end.ensures looses_end;
+      title = title_ended width _ _ _ _ _ c.deref-7.result.now c.in_ok-name.ensures (c.deref-7.ensures.value ∙ c.in_ok-title.ensures) title_end;
+      notes = (omega (arith, far, bars_far), omega (arith, far, marks_far));
     }

@@ -1,8 +1,0 @@
-use Rattle.std.proofs.Common.{◌≡◌, ◌++◌, ◌+◌, ◌*◌, drop}
-use Rattle.std.specs.Prelude.{slice_index_or}
-use Rattle.shunt_picture.specs.defs.Words.{each_from}
-use Rattle.shunt_picture.specs.defs.PictureTexts.{train_text}
-use Rattle.shunt_picture.proofs.drawing.push_trains.Given as goal
-
-abbrev pub invariant-loop-i : goal.invariant-loop-i
-invariant-loop-i l = l.text ++ each_from (λ entry t. train_text l.from (l.top + 12 * slice_index_or l.rows entry 0) l.kind t) l.i (drop l.i l.trains) ≡ l.fn.text ++ each_from (λ entry t. train_text l.from (l.top + 12 * slice_index_or l.rows entry 0) l.kind t) 0 l.trains

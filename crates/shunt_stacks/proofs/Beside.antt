@@ -242,27 +242,26 @@ module _ (laws : EventLaws) (night : Night) (i : IsInstance night) (stack : Stac
 -- ---- the value where the block comes
 
 module _ (laws : TieLaws) (night : Night) (i : IsInstance night) (stack : Stack) (events : ℕ) (entry leave : ℕ → ℕ) (num : IsNumbering night events entry leave)
-    (path : List Block) (all : All (IsBlockButId night) path) (apart : ShareNothing night path) (b : Block) (free : IsFreeAt night path b) (of : is_of stack b.park ≡ true) (c : Case) (blocks : List Block) (are : AreFreeOf night path c stack blocks)
-    (n y room : ℕ) (past : leave (position_from night (shape_of b)) + 1 ≤ y) (le : y ≤ entry (unit_from night (shape_of b)) + n) where
+    (path : List Block) (all : All (IsBlockButId night) path) (apart : ShareNothing night path) (b : Block) (free : IsFreeAt night path b) (of : is_of stack b.park ≡ true) (c : Case) (blocks : List Block) (are : AreFreeOf night path c stack blocks) where
   abbrev block_span : Span
   block_span = span_of night entry leave (λ z. pos 0) b
 
-  abbrev before : List Span
+  abbrev pub before : List Span
   before = fixed_spans night entry leave (blocks_of stack path)
 
-  abbrev after : List Span
+  abbrev pub after : List Span
   after = fixed_spans night entry leave (blocks_of stack (path ++ b ∷ []))
 
-  abbrev before_free : List Span
+  abbrev pub before_free : List Span
   before_free = free_spans night entry leave c blocks
 
-  abbrev after_free : List Span
+  abbrev pub after_free : List Span
   after_free = free_spans night entry leave c (apart_of night b blocks)
 
   is_there : IsBlockButId night b
   is_there = is_block laws.places night path b free
 
-  own_before : AreOwn before before_free
+  pub own_before : AreOwn before before_free
   own_before = own_events laws night i stack events entry leave num path all apart c blocks are
 
   longer_all : All (IsBlockButId night) (path ++ b ∷ [])
@@ -271,27 +270,28 @@ module _ (laws : TieLaws) (night : Night) (i : IsInstance night) (stack : Stack)
   longer_apart : ShareNothing night (path ++ b ∷ [])
   longer_apart = joined_apart laws.places night path path (b ∷ []) apart (all_one (IsFreeAt night path) b free) (alone_apart night b) (part_itself night path)
 
-  own_after : AreOwn after after_free
+  pub own_after : AreOwn after after_free
   own_after =
       own_events laws night i stack events entry leave num (path ++ b ∷ []) longer_all longer_apart c (apart_of night b blocks) (lists_of_longer laws.places night path b free c stack blocks are)
 
-  span_there : IsSpan (span_of night entry leave (λ z. pos 0) b)
+  pub span_there : IsSpan (span_of night entry leave (λ z. pos 0) b)
   span_there = is_span laws.lists.events night i stack events entry leave num b is_there of
 
-  same_among : (x z r : ℕ) → z ≤ x + n → IsOutside x z (span_of night entry leave (λ w. pos 0) b) → best n after after_free x z r ≡ best n before before_free x z r
-  same_among x z r few out =
+  pub same_among : (n x z r : ℕ) → z ≤ x + n → IsOutside x z (span_of night entry leave (λ w. pos 0) b) → best n after after_free x z r ≡ best n before before_free x z r
+  same_among n x z r few out =
       sym (agreeing before before_free after after_free own_before own_after n x z r few (agree laws.lists.events night i stack events entry leave num path b free of c blocks are x z out))
 
-  abbrev test : Bool
-  test = nat_le block_span.past y && nat_le block_span.length room
+  module _ (n y room : ℕ) (past : leave (position_from night (shape_of b)) + 1 ≤ y) (le : y ≤ entry (unit_from night (shape_of b)) + n) where
+    abbrev test : Bool
+    test = nat_le block_span.past y && nat_le block_span.length room
 
-  pub value_at : best n (fixed_spans night entry leave (blocks_of stack (path ++ b ∷ []))) (free_spans night entry leave c (apart_of night b blocks)) (entry (unit_from night (shape_of b))) y room
-      ≡ best_with (best n (fixed_spans night entry leave (blocks_of stack path)) (free_spans night entry leave c blocks)) y room (span_of night entry leave (λ z. pos 0) b)
-  value_at =
-      at_fixed after after_free own_after n (entry (unit_from night (shape_of b))) y room block_span
-      (in_map (span_of night entry leave (λ z. pos 0)) (blocks_of stack (path ++ b ∷ [])) b (filter_to (λ (x : Block). is_of stack x.park) (path ++ b ∷ []) b (in_right path (b ∷ []) b (inl refl)) of))
-      refl (omega (arith, past, span_there.enters, span_there.stays, span_there.leaves)) le
-      ∙ ap (λ (o : Option ℤ). cond test (plus (Some (pos 0)) (plus o (best n after after_free block_span.past y room))) None)
-      (same_among block_span.inside block_span.until (room - block_span.length) (omega (arith, past, le, span_there.enters, span_there.leaves)) (inr (inl (omega arith, omega arith))))
-      ∙ ap (λ (o : Option ℤ). cond test (plus (Some (pos 0)) (plus (best n before before_free block_span.inside block_span.until (room - block_span.length)) o)) None)
-      (same_among block_span.past y room (omega (arith, le, span_there.enters, span_there.stays, span_there.leaves)) (inr (inr (omega arith))))
+    pub value_at : best n (fixed_spans night entry leave (blocks_of stack (path ++ b ∷ []))) (free_spans night entry leave c (apart_of night b blocks)) (entry (unit_from night (shape_of b))) y room
+        ≡ best_with (best n (fixed_spans night entry leave (blocks_of stack path)) (free_spans night entry leave c blocks)) y room (span_of night entry leave (λ z. pos 0) b)
+    value_at =
+        at_fixed after after_free own_after n (entry (unit_from night (shape_of b))) y room block_span
+        (in_map (span_of night entry leave (λ z. pos 0)) (blocks_of stack (path ++ b ∷ [])) b (filter_to (λ (x : Block). is_of stack x.park) (path ++ b ∷ []) b (in_right path (b ∷ []) b (inl refl)) of))
+        refl (omega (arith, past, span_there.enters, span_there.stays, span_there.leaves)) le
+        ∙ ap (λ (o : Option ℤ). cond test (plus (Some (pos 0)) (plus o (best n after after_free block_span.past y room))) None)
+        (same_among n block_span.inside block_span.until (room - block_span.length) (omega (arith, past, le, span_there.enters, span_there.leaves)) (inr (inl (omega arith, omega arith))))
+        ∙ ap (λ (o : Option ℤ). cond test (plus (Some (pos 0)) (plus (best n before before_free block_span.inside block_span.until (room - block_span.length)) o)) None)
+        (same_among n block_span.past y room (omega (arith, le, span_there.enters, span_there.stays, span_there.leaves)) (inr (inr (omega arith))))

@@ -135,7 +135,7 @@ with_down P Q R rest y room s parts both = at (nat_le s.past y && nat_le s.lengt
 
 -- ---- both ways
 
-find_start : (x : ℕ) (spans : List Span) → ((s : Span) × In s spans × (s.from ≡ x)) ⊎ ((s : Span) → In s spans → s.from ≡ x → ⊥)
+pub find_start : (x : ℕ) (spans : List Span) → ((s : Span) × In s spans × (s.from ≡ x)) ⊎ ((s : Span) → In s spans → s.from ≡ x → ⊥)
 find_start x [] = inr (λ s i e. i)
 find_start x (t ∷ spans) = ⊎_elim
     (λ e. inl (t, inl refl, e))

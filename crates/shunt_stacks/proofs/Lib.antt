@@ -22,3 +22,4 @@ mod Tied
 mod Numbered
 mod Around
 mod Beside
+mod Contexts

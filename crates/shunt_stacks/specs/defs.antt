@@ -5,3 +5,4 @@ pub mod Cases
 pub mod Bounds
 pub mod Spans
 pub mod Numbers
+pub mod Choices

@@ -16,11 +16,11 @@ ghost use Rattle.shunt_instance.specs.defs.Instance.{Night, IsInstance};
 ghost use Rattle.shunt_blocks.specs.declared.records.Shape.{Shape};
 ghost use Rattle.shunt_blocks.specs.declared.records.Block.{Block};
 ghost use Rattle.shunt_blocks.specs.declared.records.Park.{Park};
-ghost use Rattle.shunt_blocks.specs.defs.Shapes.{shape_of, AreRunsWithin, IsWithinTrains};
+ghost use Rattle.shunt_blocks.specs.defs.Shapes.{shape_of, begins_at, AreRunsWithin, IsWithinTrains};
 ghost use Rattle.shunt_blocks.specs.defs.Blocks.{IsOption, IsBlockButId};
 ghost use Rattle.shunt_blocks.specs.defs.Lists.{ShareNothing, RunsThrough, placed, IsFeasible, total_cost, track_lengths, stays_of};
 ghost use Rattle.shunt_blocks.specs.defs.Pins.{Keeps};
-ghost use Rattle.shunt_choices.specs.defs.Paths.{masks_of};
+ghost use Rattle.shunt_choices.specs.defs.Paths.{masks_of, next_of};
 ghost use Rattle.shunt_prices.specs.defs.Sums.{sum_z, IsWithin};
 ghost use Rattle.shunt_prices.specs.defs.Prices.{track_length};
 ghost use Rattle.shunt_prices.specs.defs.Limits.{IsCase, AreCases, case_at};
@@ -31,6 +31,7 @@ ghost use Rattle.shunt_stacks.specs.defs.Fillings.{gain, gain_of, IsFilling, IsS
 ghost use Rattle.shunt_stacks.specs.defs.Cases.{StackCasesHold};
 ghost use Rattle.shunt_stacks.specs.defs.Spans.{IsBy, Span, IsNest, AreOwn, AgreeWithin, IsOutside, gain_of_spans, best, best_step, best_with};
 ghost use Rattle.shunt_stacks.specs.defs.Numbers.{IsNumbering, entry_number, leave_number, span_of, fixed_spans, free_spans, AreFreeOf, apart_of};
+ghost use Rattle.shunt_stacks.specs.defs.Choices.{BeginsAt, IsAround};
 ghost use Rattle.shunt_stacks.specs.defs.Bounds.{AreStackGains, IsStackSum, IsChoiceSum, IsStackBound, IsChoiceBound};
 
 use shunt_blocks::laws::{
@@ -280,7 +281,8 @@ pub fn gains_by_events()
 
 /// If a path gets one more block of a stack, the stack's free blocks there are those that share nothing with it. Among events none of
 /// which are the new block's, the fixed and free spans are those of the path; so are the values of the recursion there, and the value at
-/// the block's own first event comes from the path's. So one table serves all choices at a path.
+/// the block's own first event comes from the path's. No free block comes before a path's next unit, so the events around its entry are
+/// the same for each choice of the stack there: what the stack gains then is one value for all of them, and one for each.
 pub fn choices_by_events()
     ensures blocks { (night : Night) (path blocks : List Block) (b : Block) (c : Case) (stack : Stack) → IsInstance night →
         IsFreeBlock night (masks_of night path) (shape_of b) b.park → AreFreeOf night path c stack blocks →
@@ -296,6 +298,11 @@ pub fn choices_by_events()
         let own = span_of night entry leave (λ z. pos 0) b in own.past ≤ y → y ≤ own.from + n →
         best n (fixed_spans night entry leave (blocks_of stack (path ++ b ∷ []))) (free_spans night entry leave c (apart_of night b blocks)) own.from y room ≡
         best_with (best n (fixed_spans night entry leave (blocks_of stack path)) (free_spans night entry leave c blocks)) y room own }
+    ensures first { (night : Night) (path : List Block) (b : Block) (u : ℕ) → IsInstance night → next_of (masks_of night path) ≡ Some u →
+        IsFreeBlock night (masks_of night path) (shape_of b) b.park → u ≤ begins_at night b }
+    ensures around { (night : Night) (path blocks : List Block) (b : Block) (c : Case) (stack : Stack) (events : ℕ) (entry leave : ℕ → ℕ) (u : ℕ) → IsInstance night →
+        All (IsBlockButId night) path → ShareNothing night path → IsNumbering night events entry leave → AreFreeOf night path c stack blocks →
+        next_of (masks_of night path) ≡ Some u → BeginsAt night path stack u b → IsAround night events entry leave c stack path blocks u }
 {
     instances();
     rooms_of_trains();

@@ -49,9 +49,13 @@ no_more name rest many e never n (front, f) =
     (λ le. le)
     (cases_lt many n)
 
--- one name more has no more than these
-pub names_more : {A : Type 0} (bytes : A → List ℕ) (names : List A) (i free now most : ℕ) (d : A) → i < length names → All (λ x. (n : ℕ) → EndsWith (bytes x) (part_endings n) → n < free) (take i names) →
-    ((n : ℕ) → EndsWith (bytes (get_or names i d)) (part_endings n) → n ≤ most) → free ≤ now → most + 1 ≤ now → All (λ x. (n : ℕ) → EndsWith (bytes x) (part_endings n) → n < now) (take (i + 1) names)
+-- a name has fewer endings
+abbrev pub HasFewer : ℕ → List ℕ → Type 0
+HasFewer m name = (n : ℕ) → EndsWith name (part_endings n) → n < m
+
+-- one name more has fewer than these
+pub names_more : {A : Type 0} (bytes : A → List ℕ) (names : List A) (i free now most : ℕ) (d : A) → i < length names → All (λ x. HasFewer free (bytes x)) (take i names)
+    → ((n : ℕ) → EndsWith (bytes (get_or names i d)) (part_endings n) → n ≤ most) → free ≤ now → most + 1 ≤ now → All (λ x. HasFewer now (bytes x)) (take (i + 1) names)
 names_more bytes names i free now most d lt before here a b =
-    let P : ℕ → _ → Type 0 = λ m x. (n : ℕ) → EndsWith (bytes x) (part_endings n) → n < m in
+    let P : ℕ → _ → Type 0 = λ m x. HasFewer m (bytes x) in
     All-more (P now) names i d lt (All-weaker (P free) (P now) (λ x h n e. omega (arith, h n e, a)) (take i names) before) (λ n e. omega (arith, here n e, b))

@@ -1,3 +1,4 @@
+mod Asked
 mod Writes
 mod Commands
 mod Ending

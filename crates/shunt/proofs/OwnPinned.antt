@@ -11,7 +11,6 @@ use Rattle.shunt_inputs.specs.declared.answers.Outcome.TheVariants as outcome
 use Rattle.shunt_inputs.specs.declared.pins.Pinned.{Pinned}
 use Rattle.shunt_inputs.specs.defs.Inputs.{stated_certificate, stated_pinned, stated_plan, then_stated}
 use Rattle.shunt_judging.specs.defs.Pinned.{IsPinProved, PinChecked, pin_check_in, stated_over_pins, stated_pin_check}
-use Rattle.shunt_judging.proofs.PinFiles.{over_is}
 use Rattle.shunt_planning.specs.defs.Planned.{certificate_file, plan_file}
 use Rattle.shunt.specs.declared.running.Status.{Status}
 use Rattle.shunt.specs.declared.running.Status.TheVariants as status
@@ -24,6 +23,14 @@ use Rattle.shunt.proofs.OwnPlans.{both_known}
 use Rattle.shunt.proofs.PinChecks.{parts}
 use Rattle.shunt.proofs.Planned.{UsableLaw, pinned_search, pinned_answers}
 use Rattle.shunt.proofs.Searched.{Finds, finds}
+
+abbrev stated_for : Night → List Block → Plan → Certificate → PinChecked
+stated_for night pins plan certificate = record { night = night; pins = pins; plan = plan; certificate = certificate }
+
+over_is : (night : Night) (pins : List Block) (p k : List ℕ) (plan : Plan) (certificate : Certificate) → stated_plan night p ≡ Ok plan → stated_certificate night k ≡ Ok certificate → stated_over_pins night pins p k ≡ Ok (stated_for night pins plan certificate)
+over_is night pins p k plan certificate a b =
+    ap (λ r. then_stated r (λ (q : Plan). then_stated (stated_certificate night k) (λ c. Ok (stated_for night pins q c)))) a
+    ∙ ap (λ r. then_stated r (λ c. Ok (stated_for night pins plan c))) b
 
 checked_over : (s t i p k : List ℕ) (x : Pinned) (y : PinChecked) → stated_pinned s t i ≡ Ok x → stated_over_pins x.instance x.pins p k ≡ Ok y → stated_pin_check s t i p k ≡ Ok y
 unfolding stated_pin_check

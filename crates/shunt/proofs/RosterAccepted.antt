@@ -17,12 +17,11 @@ use Rattle.shunt.specs.declared.running.Status.TheVariants as status
 use Rattle.shunt.specs.defs.Words.{Drivers, Roster, IsUsable}
 use Rattle.shunt_inputs.specs.defs.Names.{AreNames}
 use Rattle.shunt_throat.specs.defs.Shared.{Sharable, stated_sharing, sharing_in, IsShared}
-use Rattle.shunt_inputs.specs.defs.Inputs.{stated_roster}
-use Rattle.shunt_throat.specs.defs.Rostered.{rostering_in}
+use Rattle.shunt_inputs.specs.defs.Inputs.{stated_roster, then_stated}
+use Rattle.shunt_throat.specs.defs.Rostered.{Rosterable, rostering_in, stated_rostering}
 use Rattle.shunt_inputs.specs.defs.Replies.{Reply}
 use Rattle.shunt_inputs.specs.defs.Writes.{written}
 use Rattle.shunt.specs.defs.Ends.{Seen, Ends, Yields}
-use Rattle.shunt_throat.proofs.DriversFiles.{rosterable, then_roster}
 use Rattle.shunt.proofs.Exactly.{has_reply, reply_at}
 use Rattle.shunt.proofs.Rostered.{DriverLaws, done_there}
 use Rattle.shunt_inputs.proofs.Seeing.{extend}
@@ -33,6 +32,15 @@ use Rattle.shunt_inputs.proofs.Stated.{stated_again}
 pub record RosterTexts : Type 0 where
   pub again : (moves : List Event) (duties : List Duty) → IsRoster moves duties → ReadsAsRoster moves duties (text_of_rows (rows_of duties))
   pub short : (moves : List Event) (duties : List Duty) → IsRoster moves duties → length (text_of_rows (rows_of duties)) ≤ 27209
+
+abbrev rosterable : Sharable → List Duty → Rosterable
+rosterable x duties = record { night = x.night; plan = x.plan; crew = x.crew; duties = duties }
+
+then_roster : (s t p c d : List ℕ) (x : Sharable) (duties : List Duty) → stated_sharing s t p c ≡ Ok x → stated_roster x.night x.plan d ≡ Ok duties → stated_rostering s t p c d ≡ Ok (rosterable x duties)
+unfolding stated_rostering
+then_roster s t p c d x duties a e =
+    ap (λ r. then_stated r (λ (y : Sharable). then_stated (stated_roster y.night y.plan d) (λ ds. Ok (rosterable y ds)))) a
+    ∙ ap (λ r. then_stated r (λ ds. Ok (rosterable x ds))) e
 
 pub both_here : {A : Type 0} (o p : Option A) (x y : A) (R : A → A → Type 0) → o ≡ Some x → p ≡ Some y → BothTold o p R → R x y
 both_here o p x y R e f h = subst (λ q. BothTold (Some x) q R) f (subst (λ q. BothTold q p R) e h)

@@ -8,14 +8,17 @@ ghost use Rattle.shunt.specs.defs.Words.{call_of, inputs_of, IsUsable};
 ghost use Rattle.shunt.specs.defs.Replies.{IsReplyOver};
 
 use crate::words::Command;
-use shunt_dispatch::{reply_to_delay, reply_to_follow, reply_to_sheet};
-use shunt_drawing::reply_to_draw;
-use shunt_exchange::{reply_to_report, reply_to_upgrade};
-use shunt_inputs::{Answer, Halt};
-use shunt_judging::{reply_to_audit, reply_to_check, reply_to_check_pinned, reply_to_replay};
-use shunt_planning::{reply_to_match, reply_to_pinned, reply_to_plan};
+use shunt_dispatch::{Delay, Follow, Sheet};
+use shunt_drawing::Draw;
+use shunt_exchange::{Report, Upgrade};
+use shunt_inputs::{
+    Answer, CertificateFile, CrewFile, EditsFile, Halt, NightFiles, PinnedFiles, PlanFile,
+    RosterFile, SheetFile, StationFile, Then, TimetableFile, ZonesFile, reply,
+};
+use shunt_judging::{Audit, Check, CheckPinned, Replay};
+use shunt_planning::{Match, reply_to_pinned, reply_to_plan};
 use shunt_store::Store;
-use shunt_throat::{reply_to_drivers, reply_to_roster, reply_to_zones};
+use shunt_throat::{Drivers, Meetings, Roster};
 use shunt_trial::reply_to_trial;
 use std::alloc::Global;
 
@@ -34,27 +37,45 @@ pub fn answer_to<S: Store>(
     ensures cause { HasCause Halt.Fault (S.faults store.old) (S.faults store.new) result }
 {
     match command {
-        Command::Match(first, second) => reply_to_match(alloc, store, first, second),
-        Command::Follow(station, sheet) => reply_to_follow(alloc, store, station, sheet),
-        Command::Audit(first, second, third) => reply_to_audit(alloc, store, first, second, third),
-        Command::Delay(first, second, third) => reply_to_delay(alloc, store, first, second, third),
-        Command::Report(first, second, third) => {
-            reply_to_report(alloc, store, first, second, third)
+        Command::Match(station, timetable) => {
+            reply(alloc, store, &NightFiles(station, timetable), &Match)
         }
-        Command::Check(first, second, third, fourth) => {
-            reply_to_check(alloc, store, first, second, third, fourth)
+        Command::Follow(station, sheet) => {
+            let inputs = Then(StationFile(station), SheetFile(sheet));
+            reply(alloc, store, &inputs, &Follow)
         }
-        Command::Zones(first, second, third, zones) => {
-            reply_to_zones(alloc, store, first, second, third, zones)
+        Command::Audit(station, timetable, plan) => {
+            let inputs = Then(NightFiles(station, timetable), PlanFile(plan));
+            reply(alloc, store, &inputs, &Audit)
         }
-        Command::Sheet(first, second, third, sheet) => {
-            reply_to_sheet(alloc, store, first, second, third, sheet)
+        Command::Delay(station, timetable, plan) => {
+            let inputs = Then(NightFiles(station, timetable), PlanFile(plan));
+            reply(alloc, store, &inputs, &Delay)
         }
-        Command::Draw(first, second, third, picture) => {
-            reply_to_draw(alloc, store, first, second, third, picture)
+        Command::Report(station, timetable, plan) => {
+            let inputs = Then(NightFiles(station, timetable), PlanFile(plan));
+            reply(alloc, store, &inputs, &Report)
         }
-        Command::Upgrade(first, second, station, timetable) => {
-            reply_to_upgrade(alloc, store, first, second, station, timetable)
+        Command::Check(station, timetable, plan, certificate) => {
+            let inputs = Then(NightFiles(station, timetable), PlanFile(plan));
+            let inputs = Then(inputs, CertificateFile(certificate));
+            reply(alloc, store, &inputs, &Check)
+        }
+        Command::Zones(station, timetable, plan, zones) => {
+            let inputs = Then(NightFiles(station, timetable), PlanFile(plan));
+            reply(alloc, store, &Then(inputs, ZonesFile(zones)), &Meetings)
+        }
+        Command::Sheet(station, timetable, plan, sheet) => {
+            let inputs = Then(NightFiles(station, timetable), PlanFile(plan));
+            reply(alloc, store, &inputs, &Sheet(sheet))
+        }
+        Command::Draw(station, timetable, plan, picture) => {
+            let inputs = Then(NightFiles(station, timetable), PlanFile(plan));
+            reply(alloc, store, &inputs, &Draw(picture))
+        }
+        Command::Upgrade(station, timetable, new_station, new_timetable) => {
+            let inputs = Then(StationFile(station), TimetableFile(timetable));
+            reply(alloc, store, &inputs, &Upgrade(new_station, new_timetable))
         }
         Command::Trial(number, units, nodes, first, second, plan, certificate) => {
             Ok(reply_to_trial(
@@ -68,20 +89,36 @@ pub fn answer_to<S: Store>(
                 certificate,
             )?)
         }
-        Command::Drivers(first, second, third, crew, roster) => {
-            reply_to_drivers(alloc, store, first, second, third, crew, roster)
+        Command::Drivers(station, timetable, plan, crew, roster) => {
+            let inputs = Then(NightFiles(station, timetable), PlanFile(plan));
+            reply(
+                alloc,
+                store,
+                &Then(inputs, CrewFile(crew)),
+                &Drivers(roster),
+            )
         }
-        Command::Roster(first, second, third, crew, roster) => {
-            reply_to_roster(alloc, store, first, second, third, crew, roster)
+        Command::Roster(station, timetable, plan, crew, roster) => {
+            let inputs = Then(NightFiles(station, timetable), PlanFile(plan));
+            let inputs = Then(Then(inputs, CrewFile(crew)), RosterFile(roster));
+            reply(alloc, store, &inputs, &Roster)
         }
-        Command::CheckPinned(first, second, pins, plan, certificate) => {
-            reply_to_check_pinned(alloc, store, first, second, pins, plan, certificate)
+        Command::CheckPinned(station, timetable, pins, plan, certificate) => {
+            let inputs = Then(PinnedFiles(station, timetable, pins), PlanFile(plan));
+            let inputs = Then(inputs, CertificateFile(certificate));
+            reply(alloc, store, &inputs, &CheckPinned)
         }
-        Command::Replay(first, second, third, fourth, fifth) => {
-            reply_to_replay(alloc, store, first, second, third, fourth, fifth)
+        Command::Replay(station, timetable, plan, edits, new_plan) => {
+            let inputs = Then(NightFiles(station, timetable), PlanFile(plan));
+            reply(
+                alloc,
+                store,
+                &Then(inputs, EditsFile(edits)),
+                &Replay(new_plan),
+            )
         }
-        Command::MakePlan(first, second, nodes, plan, certificate) => {
-            reply_to_plan(alloc, store, first, second, nodes, plan, certificate)
+        Command::MakePlan(station, timetable, nodes, plan, certificate) => {
+            reply_to_plan(alloc, store, station, timetable, nodes, plan, certificate)
         }
         Command::MakePinned(first, second, pins, nodes, plan, certificate) => {
             reply_to_pinned(alloc, store, first, second, pins, nodes, plan, certificate)

@@ -1,40 +1,15 @@
 // The answer of `follow`.
-ghost use Rattle.std.specs.Prelude.{◌≡◌, IfOk, [], ◌∷◌, Option};
-ghost use Rattle.shunt_store.specs.defs.Files.{Closed, Files};
-ghost use Rattle.shunt_store.specs.defs.Causes.{HasCause};
-ghost use Rattle.shunt_inputs.specs.defs.Views.{HearsFirst, IsView};
+ghost use Rattle.std.specs.Prelude.{◌≡◌, IfOk};
 ghost use Rattle.shunt_sheet.specs.defs.SheetFormat.{AreOrders};
-ghost use Rattle.shunt_inputs.specs.defs.Inputs.{Holding};
-ghost use Rattle.shunt_inputs.specs.defs.Replies.{Decided, reply_of};
-ghost use Rattle.shunt_inputs.specs.defs.Halts.{Replies};
-ghost use Rattle.shunt_dispatch.specs.defs.Followed.{IsFollowed, followed_outcome, stated_following};
+ghost use Rattle.shunt_inputs.specs.defs.Replies.{reply_of};
+ghost use Rattle.shunt_dispatch.specs.defs.Followed.{IsFollowed, followed_outcome};
 
-use shunt_inputs::{Answer, Halt, Outcome, load_sheet, load_station};
+use shunt_inputs::{Answer, Outcome, Question, SheetFile, StationFile, Then};
 use shunt_instance::Station;
+use shunt_lists::Items;
 use shunt_report::followed_text;
 use shunt_sheet::{Followed, Order, follow};
-use shunt_store::Store;
 use std::alloc::{AllocError, Global};
-
-/// The answer of `follow`: reads and judges its files, and says what following the orders comes to.
-pub fn reply_to_follow<S: Store>(
-    alloc: Global,
-    store: &mut S,
-    station: &str,
-    sheet: &str,
-) -> Result<Answer, Halt>
-    requires { S.stage store.old ≡ Closed }
-    ensures told { (view : Option Files) → IsView (S.told store.old) (S.heard store.old) (S.heard store.new) view → Holding view station.now (λ s. Holding view sheet.now (λ o. Replies reply_of result (Decided (stated_following s o) IsFollowed))) }
-    ensures first { HearsFirst (station.now ∷ sheet.now ∷ []) (S.heard store.old) (S.heard store.new) }
-    ensures files { S.told store.new ≡ S.told store.old }
-    ensures stored { S.stored store.new ≡ S.stored store.old }
-    ensures closed { S.stage store.new ≡ Closed }
-    ensures cause { HasCause Halt.Fault (S.faults store.old) (S.faults store.new) result }
-{
-    let station = load_station(alloc, store, station)?;
-    let orders = load_sheet(alloc, store, &station, sheet)?;
-    Ok(follow_answer(alloc, &station, &orders.into_vec())?)
-}
 
 // How orders end that come to this.
 fn outcome_of_following(followed: &Followed) -> Outcome
@@ -61,4 +36,21 @@ fn follow_answer(
         writes: Vec::new(alloc),
         text: followed_text(alloc, orders, &followed)?,
     })
+}
+
+/// The question of `follow`: what following orders comes to.
+#[derive(Clone, Copy, Drop)]
+pub struct Follow;
+
+impl<'n> Question<Then<StationFile<'n>, SheetFile<'n>>> for Follow {
+    ghost answers = { λ _ x. IsFollowed (record { station = x.0; orders = x.1 }) };
+
+    fn answer(&self, alloc: Global, value: (Station, Items<Order>)) -> Result<Answer, AllocError>
+        requires { AreOrders value.0 value.1 }
+        ensures { IfOk result (λ a. IsFollowed (record { station = value.0; orders = value.1 }) (reply_of a)) }
+    {
+        let (station, orders) = value;
+        let orders = orders.into_vec();
+        follow_answer(alloc, &station, &orders)
+    }
 }

@@ -5,6 +5,6 @@ mod delaying;
 mod following;
 mod ordering;
 
-pub use delaying::reply_to_delay;
-pub use following::reply_to_follow;
-pub use ordering::reply_to_sheet;
+pub use delaying::Delay;
+pub use following::Follow;
+pub use ordering::Sheet;

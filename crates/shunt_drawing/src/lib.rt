@@ -3,4 +3,4 @@
 
 mod drawing;
 
-pub use drawing::reply_to_draw;
+pub use drawing::Draw;

@@ -4,5 +4,5 @@
 mod reporting;
 mod upgrading;
 
-pub use reporting::reply_to_report;
-pub use upgrading::reply_to_upgrade;
+pub use reporting::Report;
+pub use upgrading::Upgrade;

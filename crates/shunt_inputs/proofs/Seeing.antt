@@ -3,7 +3,7 @@ use Rattle.std.proofs.Common.{◌≡◌, ◌≢◌, ℕ, ◌<◌, ◌≤◌, inl
 use Rattle.shunt_rows.specs.defs.Records.{records_of}
 use Rattle.std.proofs.lemmas.Bool.{lt-leb}
 use Rattle.std.proofs.lemmas.List.{length-replicate}
-use Rattle.std.specs.Result.{IsErrOf, IsErrAnd}
+use Rattle.std.specs.Result.{IsErrAnd}
 use Rattle.std.specs.Prelude.{IfSome, IsErr, nat_le, replicate, unwrap_or, if◌then◌else◌}
 use Rattle.std.specs.Global.{Global}
 use Rattle.std.specs.List.{AllByRecursion}
@@ -18,14 +18,10 @@ use Rattle.shunt_inputs.specs.declared.loading.Halt.{Halt}
 use Rattle.shunt_inputs.specs.declared.loading.Halt.TheVariants as halt
 use Rattle.shunt_inputs.specs.defs.Names.{AreNames}
 use Rattle.shunt_inputs.specs.defs.Inputs.{Agrees, Holding, most_bytes_of, stated_by, value_or, then_stated}
-use Rattle.shunt_inputs.specs.defs.Replies.{Reply, Decided, refusal}
-use Rattle.shunt_inputs.specs.defs.Halts.{IfInput, Loads, LoadsBytes, Replies}
+use Rattle.shunt_inputs.specs.defs.Halts.{IfInput, Loads, LoadsBytes}
+use Rattle.shunt_inputs.specs.defs.Reading.{HoldingTexts}
 
 -- ---- one file
-
--- the same files, seen later
-pub holding_at : (told now : Option Files) (name : List ℕ) (P : List ℕ → Type 0) → now ≡ told → Holding now name P → Holding told name P
-holding_at told now name P same h = subst (λ t. Holding t name P) same h
 
 pub some_bytes : (told : Option Files) (name : List ℕ) (P : List ℕ → Type 0) → ((b : List ℕ) → P b) → Holding told name P
 some_bytes None name P all = ([], tt, all [])
@@ -79,9 +75,6 @@ fails (Err f) e h = ap Err h.1
 pub loads_failed : {X : Type 0} (r : Result X Halt) (e : Halt) (stated : Result X (List ℕ)) → FailsWith r e → Loads {X = X} (Err e) stated → Loads r stated
 loads_failed r e stated h l = subst (λ q. Loads q stated) (sym (fails r e h)) l
 
-pub replies_failed : {A : Type 0} (view : A → Reply) (r : Result A Halt) (e : Halt) (P : Reply → Type 0) → FailsWith r e → Replies view (Err e) P → Replies view r P
-replies_failed view r e P h l = subst (λ q. Replies view q P) (sym (fails r e h)) l
-
 abbrev pub err_of : (B : Type 0) → Halt → Result B Halt
 err_of B e = Err e
 
@@ -95,25 +88,7 @@ cause_failed {A = A} {B = B} before mid now r e h le cause = record {
     fault_of : err_of A e ≡ err_of A halt.Fault → err_of B e ≡ err_of B halt.Fault
     fault_of same = ap (err_of B) (let one : e ≡ halt.Fault = cc in one)
 
-pub later_still : (a b c : ℕ) → a ≤ b → b ≤ c → a ≤ c
-later_still a b c le more = omega (arith, le, more)
-
--- ---- from what was loaded to the reply
-
-pub halted : {X A : Type 0} (view : A → Reply) (h : Halt) (first : Result X (List ℕ)) (P : X → Reply → Type 0) → Loads {X = X} (Err h) first → Replies view (Err h) (Decided first P)
-halted view (halt.Input text) first P e = subst (λ f. Decided f P (refusal text.items)) (sym e) refl
-halted view halt.Fault first P e = tt
-halted view halt.Memory first P e = tt
-
-pub answered : {X : Type 0} (r : Reply) (first : Result X (List ℕ)) (x : X) (P : X → Reply → Type 0) → first ≡ Ok x → P x r → Decided first P r
-answered r first x P e p = subst (λ f. Decided f P r) (sym e) p
-
 -- ---- from what single files hold to all files
-
--- the fact holds of what these names hold, one after the other
-abbrev pub HoldingAll : Option Files → List (List ℕ) → (List (List ℕ) → Type 0) → Type 0
-HoldingAll told [] P = P []
-HoldingAll told (n ∷ ns) P = Holding told n (λ b. HoldingAll told ns (λ bs. P (b ∷ bs)))
 
 -- files that hold this at the name, and what they held at all others
 pub extend : (files : Files) (name bytes : List ℕ) (ns : List (List ℕ)) → AllByRecursion (λ m. name ≢ m) ns → map (content (finmap.insert files name bytes)) ns ≡ map (content files) ns
@@ -122,22 +97,20 @@ extend files name bytes (n ∷ ns) ne =
     let here : content (finmap.insert files name bytes) n ≡ content files n = ap (λ o. unwrap_or o []) (same_elsewhere files name bytes n (λ e. ne.0 (sym e))) in
     ap (λ c. c ∷ map (content (finmap.insert files name bytes)) ns) here ∙ ap (λ cs. content files n ∷ cs) (extend files name bytes ns ne.1)
 
-seen_untold : (ns : List (List ℕ)) (P : List (List ℕ) → Type 0) → AreNames ns → HoldingAll None ns P → (files : Files) × P (map (content files) ns)
-seen_untold [] P are p = (finmap.empty, p)
-seen_untold (n ∷ ns) P are (b, is, h) =
-    let rest = seen_untold ns (λ bs. P (b ∷ bs)) are.2 h in
+-- files that hold these texts under these names
+made_of : (ns texts : List (List ℕ)) → AreNames ns → length texts ≡ length ns → (files : Files) × (map (content files) ns ≡ texts)
+made_of [] [] are e = (finmap.empty, refl)
+made_of [] (b ∷ texts) are e = absurd (omega (arith, e))
+made_of (n ∷ ns) [] are e = absurd (omega (arith, e))
+made_of (n ∷ ns) (b ∷ texts) are e =
+    let rest = made_of ns texts are.2 (omega (arith, e)) in
     let new = finmap.insert rest.0 n b in
     let here : content new n ≡ b = ap (λ o. unwrap_or o []) (get_here rest.0 n b) in
-    let same : map (content new) (n ∷ ns) ≡ b ∷ map (content rest.0) ns = ap (λ c. c ∷ map (content new) ns) here ∙ ap (λ cs. b ∷ cs) (extend rest.0 n b ns are.1) in
-    (new, subst P (sym same) rest.1)
+    (new, ap (λ c. c ∷ map (content new) ns) here ∙ ap (λ cs. b ∷ cs) (extend rest.0 n b ns are.1 ∙ rest.1))
 
-seen_told : (known : Files) (ns : List (List ℕ)) (P : List (List ℕ) → Type 0) → HoldingAll (Some known) ns P → P (map (content known) ns)
-seen_told known [] P p = p
-seen_told known (n ∷ ns) P (b, is, h) = subst (λ c. P (c ∷ map (content known) ns)) is (seen_told known ns (λ bs. P (b ∷ bs)) h)
-
-pub seen_all : (told : Option Files) (ns : List (List ℕ)) (P : List (List ℕ) → Type 0) → AreNames ns → HoldingAll told ns P → (files : Files) × Agrees told files × P (map (content files) ns)
-seen_all None ns P are h = let s = seen_untold ns P are h in (s.0, tt, s.1)
-seen_all (Some known) ns P are h = (known, refl, seen_told known ns P h)
+pub seen_texts : (told : Option Files) (ns : List (List ℕ)) (P : List (List ℕ) → Type 0) → AreNames ns → HoldingTexts told ns P → (files : Files) × Agrees told files × P (map (content files) ns)
+seen_texts None ns P are (texts, held, p) = let files = made_of ns texts are held.0 in (files.0, tt, subst P (sym files.1) p)
+seen_texts (Some known) ns P are (texts, held, p) = (known, refl, subst P held.1 p)
 
 -- the first of some names that can be used can be used
 all_front : {X : Type 0} (P : X → Type 0) (xs ys : List X) → AllByRecursion P (xs ++ ys) → AllByRecursion P xs

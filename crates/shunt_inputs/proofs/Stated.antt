@@ -1,18 +1,15 @@
 -- What is stated is well formed, and one step's answer after another's.
-use Rattle.std.proofs.Common.{◌≡◌, ◌≤◌, ℕ, List, length, Some, subst, sym, ap, ◌∙◌, Ok, Err, arith, inl, inr, refl, ⊎_elim, Bool, true, false, Result}
+use Rattle.std.proofs.Common.{◌≡◌, ◌≤◌, ℕ, List, length, Some, subst, ap, ◌∙◌, Ok, Err, arith, inl, inr, refl, ⊎_elim, Bool, true, false, Result}
 use Rattle.std.proofs.lemmas.Bool.{le-leb}
-use Rattle.std.specs.Prelude.{◌⊎◌, None, if◌then◌else◌, nat_le}
+use Rattle.std.specs.Prelude.{None, if◌then◌else◌, nat_le}
 use Rattle.shunt_rows.specs.defs.Formats.{Format, reading}
 use Rattle.shunt_rows.specs.defs.Records.{records_of}
 use Rattle.shunt_report.specs.declared.words.FileWord.{FileWord}
 use Rattle.shunt_report.specs.declared.words.FileWord.TheVariants as word
 use Rattle.shunt_report.specs.defs.Texts.{input_of}
 use Rattle.shunt_inputs.specs.defs.Inputs.{most_bytes_of, value_or, stated, then_stated, stated_station, stated_timetable, stated_night, stated_plan, stated_plans, stated_pins, stated_pinned}
-use Rattle.shunt_inputs.specs.defs.Replies.{Reply, Decided, refusal}
 use Rattle.shunt_rows.specs.declared.fault.RowFault.{RowFault}
 use Rattle.shunt_instance.specs.defs.Instance.{Night, night_of, IsInstance}
-use Rattle.shunt_instance.specs.declared.records.Station.{Station}
-use Rattle.shunt_instance.specs.declared.records.Timetable.{Timetable}
 use Rattle.shunt_instance.proofs.Orders.{night_is, closed}
 use Rattle.shunt_blocks.specs.declared.records.Block.{Block}
 use Rattle.shunt_blocks.specs.defs.Lists.{AreInRange}
@@ -27,10 +24,8 @@ use Rattle.shunt_timetable.specs.defs.TimetableFormat.{timetable_format}
 use Rattle.shunt_timetable.proofs.Formed.{timetable_formed}
 use Rattle.shunt_inputs.specs.declared.loading.Halt.{Halt}
 use Rattle.shunt_inputs.specs.declared.pins.Pinned.{Pinned}
-use Rattle.shunt_inputs.specs.defs.Halts.{Replies}
 use Rattle.shunt_store.specs.defs.Causes.{HasCause}
 use Rattle.shunt_inputs.specs.declared.loading.Halt.TheVariants as halt
-use Rattle.shunt_inputs.proofs.Seeing.{err_of}
 
 ok_value : {X : Type 0} (file : FileWord) (x : Result X RowFault) (v : X) → value_or file x ≡ Ok v → x ≡ Ok v
 ok_value file (Ok y) v e = cc
@@ -64,12 +59,6 @@ plan_stated s t p y e =
     let made : (first.0, second.0) ≡ y = cc (second.2) in
     subst (λ (z : Night × Plan). IsInstance z.0 × IsPlanInRange z.0 z.1) made (night_stated s t first.0 first.1, plan_formed first.0 (records_of p) second.0 (stated_value word.Plan (plan_format first.0) p second.0 second.1))
 
-pub night_read : (s t : List ℕ) (station : Station) (timetable : Timetable) (night : Night) → stated_station s ≡ Ok station → stated_timetable station t ≡ Ok timetable → night ≡ night_of station timetable → stated_night s t ≡ Ok night
-night_read s t station timetable night a b is =
-    ap (λ r. then_stated r (λ x. then_stated (stated_timetable x t) (λ y. Ok (night_of x y)))) a
-    ∙ ap (λ r. then_stated r (λ y. Ok (night_of station y))) b
-    ∙ ap Ok (sym is)
-
 pub plans_are : (s t p : List ℕ) (night : Night) (plan : Plan) → stated_night s t ≡ Ok night → stated_plan night p ≡ Ok plan → stated_plans s t p ≡ Ok (night, plan)
 plans_are s t p night plan a b =
     ap (λ r. then_stated r (λ n. then_stated (stated_plan n p) (λ q. Ok (n, q)))) a ∙ ap (λ r. then_stated r (λ q. Ok (night, q))) b
@@ -83,20 +72,6 @@ pins_stated s t p x e =
     let second = parted (stated_pins first.0 p) _ x first.2 in
     let made : pinned_of first.0 second.0 ≡ x = cc (second.2) in
     subst (λ (z : Pinned). IsInstance z.instance × AreInRange z.instance z.pins) made (night_stated s t first.0 first.1, pins_formed first.0 (records_of p) second.0 (stated_value word.Pins (pins_format first.0) p second.0 second.1))
-
-pub pins_are : (s t p : List ℕ) (night : Night) (pins : List Block) → stated_night s t ≡ Ok night → stated_pins night p ≡ Ok pins → stated_pinned s t p ≡ Ok (pinned_of night pins)
-pins_are s t p night pins a b =
-    ap (λ r. then_stated r (λ n. then_stated (stated_pins n p) (λ q. Ok (pinned_of n q)))) a ∙ ap (λ r. then_stated r (λ q. Ok (pinned_of night q))) b
-
--- what ended well failed for no cause
-abbrev pub ended_well : (A : Type 0) → A → Result A Halt
-ended_well A a = Ok a
-
-pub cause_done : {A : Type 0} (before now : ℕ) (a : A) → before ≤ now → HasCause halt.Fault before now (ended_well A a)
-cause_done {A = A} before now a le = record {
-  later = le;
-  failed = λ is. absurd (let h : ended_well A a ≡ err_of A halt.Fault = is in cc);
-}
 
 -- a later step's cause is one of the whole
 pub cause_later : {A : Type 0} (before mid now : ℕ) (r : Result A Halt) → before ≤ mid → HasCause halt.Fault mid now r → HasCause halt.Fault before now r

@@ -1,321 +1,118 @@
-// The input files of the commands.
-ghost use Rattle.std.specs.Prelude.{◌≡◌, ℕ, List, Result, IfOk};
-ghost use Rattle.shunt_instance.specs.defs.Wellformed.{IsStation, IsTimetable};
-ghost use Rattle.shunt_plan.specs.defs.Edits.{AreTurns, edits_format};
-ghost use Rattle.shunt_blocks.specs.defs.Lists.{AreInRange};
-ghost use Rattle.shunt_plan.specs.defs.PinsFormat.{pins_format};
-ghost use Rattle.shunt_plan.specs.defs.PlanFormat.{plan_format};
-ghost use Rattle.shunt_plan.specs.defs.Plans.{IsPlanInRange};
-ghost use Rattle.shunt_proof.specs.defs.CertificateFormat.{certificate_format};
-ghost use Rattle.shunt_proof.specs.defs.Certificates.{IsCertificate};
+// Input files, one by one and one after the other.
+ghost use Rattle.std.specs.Prelude.{◌≡◌, ℕ, List, [], Result, Ok, Option, IfOk};
+ghost use Rattle.shunt_store.specs.defs.Files.{Closed, Files};
+ghost use Rattle.shunt_store.specs.defs.Causes.{HasCause};
+ghost use Rattle.shunt_instance.specs.defs.Instance.{Night};
 ghost use Rattle.shunt_report.specs.declared.words.FileWord.{FileWord};
-ghost use Rattle.shunt_report.specs.declared.words.FileWord.TheVariants as words;
 ghost use Rattle.shunt_rows.specs.declared.fault.RowFault.{RowFault};
-ghost use Rattle.shunt_rows.specs.defs.Formats.{reading};
 ghost use Rattle.shunt_rows.specs.defs.Given.{Gives};
-ghost use Rattle.shunt_station.specs.defs.Stating.{station_format};
-ghost use Rattle.shunt_timetable.specs.defs.TimetableFormat.{timetable_format};
-ghost use Rattle.shunt_drivers.specs.defs.CrewFormat.{crew_format, IsCrew};
-ghost use Rattle.shunt_drivers.specs.defs.RosterFormat.{roster_format, IsRoster};
-ghost use Rattle.shunt_sheet.specs.defs.SheetFormat.{sheet_format, AreOrders};
-ghost use Rattle.shunt_zones.specs.defs.Moves.{moves_of};
-ghost use Rattle.shunt_zones.specs.defs.ZonesFormat.{zones_format, IsZones};
+ghost use Rattle.shunt_inputs.specs.defs.Halts.{Loads};
+ghost use Rattle.shunt_inputs.specs.defs.Reading.{HearsFor, HoldingTexts, Input, names_in};
+ghost use Rattle.shunt_inputs.specs.defs.Views.{IsView};
 
-use shunt_blocks::Block;
-use shunt_drivers::{Crew, Duty, read_crew, read_roster};
-use shunt_instance::{Instance, Station, Timetable};
-use shunt_lists::Items;
-use shunt_plan::{Plan, Turn, read_edits, read_pins, read_plan};
-use shunt_proof::{Certificate, read_certificate};
+use crate::loading::Halt;
+use shunt_instance::Instance;
 use shunt_report::FileWord;
 use shunt_rows::{ReadError, Row};
-use shunt_sheet::{Order, read_sheet};
-use shunt_station::read_station;
-use shunt_timetable::read_timetable;
-use shunt_zones::{Zones, read_zones};
+use shunt_store::Store;
 use std::alloc::Global;
 
-/// An input file, over what was read before it.
-pub trait InputFile {
-    type Value;
+/// Input files that are read and judged one after the other, and what they state together.
+pub trait Inputs {
+    type Value: Drop;
+
+    /// Which files they are, in the order in which they are read.
+    ghost inputs: { Self → List Input };
+
+    /// What their texts state together, or the line for the first of them that isn't accepted.
+    ghost states: { Self → List (List ℕ) → Result Self.Value (List ℕ) };
+
+    /// What is read is well formed.
+    ghost formed: { Self.Value → Type 0 };
+
+    /// Reads them in their order, up to the first that isn't accepted.
+    fn load<S: Store>(&self, alloc: Global, store: &mut S) -> Result<Self::Value, Halt>
+        requires { S.stage store.old ≡ Closed }
+        ensures told { (view : Option Files) → IsView (S.told store.old) (S.heard store.old) (S.heard store.new) view → HoldingTexts view (names_in (inputs self.now)) (λ texts. Loads result (states self.now texts)) }
+        ensures heard { HearsFor (inputs self.now) (S.heard store.old) (S.heard store.new) result }
+        ensures formed { IfOk result formed }
+        ensures files { S.told store.new ≡ S.told store.old }
+        ensures stored { S.stored store.new ≡ S.stored store.old }
+        ensures closed { S.stage store.new ≡ Closed }
+        ensures cause { HasCause Halt.Fault (S.faults store.old) (S.faults store.new) result };
+}
+
+/// An input file by its name, over what was read before it.
+pub trait InputFile<I: Inputs> {
+    type Value: Drop;
 
     /// Which of the files it is.
     ghost word: { FileWord };
 
-    /// What records state in its format, or their first fault.
-    ghost states: { Self → List (List (List ℕ)) → Result Self.Value RowFault };
+    ghost name: { Self → List ℕ };
 
-    /// What was read before is well formed.
-    ghost ready: { Self → Type 0 };
+    /// What records state in its format, or their first fault.
+    ghost states: { I.Value → List (List (List ℕ)) → Result Self.Value RowFault };
 
     /// What is read is well formed.
-    ghost formed: { Self → Self.Value → Type 0 };
+    ghost formed: { I.Value → Self.Value → Type 0 };
 
     fn word(&self) -> FileWord
         ensures { result ≡ word };
 
+    fn name(&self) -> &str
+        ensures { result.now ≡ name self.now };
+
     /// Reads the value of the records.
-    fn read(&self, alloc: Global, rows: &Vec<Row>) -> Result<Self::Value, ReadError>
-        requires { ready self.now }
-        ensures stated { Gives (λ x. x) result (states self.now rows.now.items) }
-        ensures formed { IfOk result (formed self.now) };
+    fn read(
+        &self,
+        alloc: Global,
+        over: &I::Value,
+        rows: &Vec<Row>,
+    ) -> Result<Self::Value, ReadError>
+        requires { I.formed over.now }
+        ensures stated { Gives (λ x. x) result (states over.now rows.now.items) }
+        ensures formed { IfOk result (formed over.now) };
 }
 
-/// A station file.
+/// What was read of a night, and perhaps more.
+pub trait HasNight {
+    ghost night: { Self → Night };
+
+    fn night(&self) -> &Instance
+        ensures { result.now ≡ night self.now };
+}
+
+impl HasNight for Instance {
+    ghost night = { λ n. n };
+
+    fn night(&self) -> &Instance {
+        self
+    }
+}
+
+impl<X: HasNight, Y> HasNight for (X, Y) {
+    ghost night = { λ x. X.night x.0 };
+
+    fn night(&self) -> &Instance {
+        self.0.night()
+    }
+}
+
+/// No input file.
 #[derive(Clone, Copy, Drop)]
-pub struct StationFile;
+pub struct NoFiles;
 
-impl InputFile for StationFile {
-    type Value = Station;
+impl Inputs for NoFiles {
+    type Value = ();
 
-    ghost word = { words.Station };
+    ghost inputs = { λ _. [] };
 
-    ghost states = { λ _ rows. reading station_format rows };
+    ghost states = { λ _ _. Ok tt };
 
-    ghost ready = { λ _. Unit {0} };
+    ghost formed = { λ _. Unit {0} };
 
-    ghost formed = { λ _ s. IsStation s };
-
-    fn word(&self) -> FileWord {
-        FileWord::Station
-    }
-
-    fn read(&self, alloc: Global, rows: &Vec<Row>) -> Result<Station, ReadError> {
-        read_station(alloc, rows)
-    }
-}
-
-/// A timetable file over a station.
-#[derive(Clone, Copy, Drop)]
-pub struct TimetableFile<'s> {
-    pub station: &'s Station,
-}
-
-impl InputFile for TimetableFile<'_> {
-    type Value = Timetable;
-
-    ghost word = { words.Timetable };
-
-    ghost states = { λ f rows. reading (timetable_format f.station.now) rows };
-
-    ghost ready = { λ f. IsStation f.station.now };
-
-    ghost formed = { λ f t. IsTimetable f.station.now t };
-
-    fn word(&self) -> FileWord {
-        FileWord::Timetable
-    }
-
-    fn read(&self, alloc: Global, rows: &Vec<Row>) -> Result<Timetable, ReadError> {
-        read_timetable(alloc, self.station, rows)
-    }
-}
-
-/// A plan file over an instance.
-#[derive(Clone, Copy, Drop)]
-pub struct PlanFile<'i> {
-    pub instance: &'i Instance,
-}
-
-impl InputFile for PlanFile<'_> {
-    type Value = Plan;
-
-    ghost word = { words.Plan };
-
-    ghost states = { λ f rows. reading (plan_format f.instance.now) rows };
-
-    ghost ready = { λ _. Unit {0} };
-
-    ghost formed = { λ f p. IsPlanInRange f.instance.now p };
-
-    fn word(&self) -> FileWord {
-        FileWord::Plan
-    }
-
-    fn read(&self, alloc: Global, rows: &Vec<Row>) -> Result<Plan, ReadError> {
-        read_plan(alloc, self.instance, rows)
-    }
-}
-
-/// A certificate file over an instance.
-#[derive(Clone, Copy, Drop)]
-pub struct CertificateFile<'i> {
-    pub instance: &'i Instance,
-}
-
-impl InputFile for CertificateFile<'_> {
-    type Value = Certificate;
-
-    ghost word = { words.Certificate };
-
-    ghost states = { λ f rows. reading (certificate_format f.instance.now) rows };
-
-    ghost ready = { λ _. Unit {0} };
-
-    ghost formed = { λ f c. IsCertificate f.instance.now c };
-
-    fn word(&self) -> FileWord {
-        FileWord::Certificate
-    }
-
-    fn read(&self, alloc: Global, rows: &Vec<Row>) -> Result<Certificate, ReadError> {
-        read_certificate(alloc, self.instance, rows)
-    }
-}
-
-/// A zones file over a station.
-#[derive(Clone, Copy, Drop)]
-pub struct ZonesFile<'s> {
-    pub station: &'s Station,
-}
-
-impl InputFile for ZonesFile<'_> {
-    type Value = Zones;
-
-    ghost word = { words.Zones };
-
-    ghost states = { λ f rows. reading (zones_format f.station.now) rows };
-
-    ghost ready = { λ f. IsStation f.station.now };
-
-    ghost formed = { λ f z. IsZones f.station.now z };
-
-    fn word(&self) -> FileWord {
-        FileWord::Zones
-    }
-
-    fn read(&self, alloc: Global, rows: &Vec<Row>) -> Result<Zones, ReadError> {
-        read_zones(alloc, self.station, rows)
-    }
-}
-
-/// A sheet file over a station.
-#[derive(Clone, Copy, Drop)]
-pub struct SheetFile<'s> {
-    pub station: &'s Station,
-}
-
-impl InputFile for SheetFile<'_> {
-    type Value = Items<Order>;
-
-    ghost word = { words.Sheet };
-
-    ghost states = { λ f rows. reading (sheet_format f.station.now) rows };
-
-    ghost ready = { λ f. IsStation f.station.now };
-
-    ghost formed = { λ f orders. AreOrders f.station.now orders };
-
-    fn word(&self) -> FileWord {
-        FileWord::Sheet
-    }
-
-    fn read(&self, alloc: Global, rows: &Vec<Row>) -> Result<Items<Order>, ReadError> {
-        Ok(Items::from_vec(read_sheet(alloc, self.station, rows)?))
-    }
-}
-
-/// A crew file over a station.
-#[derive(Clone, Copy, Drop)]
-pub struct CrewFile<'s> {
-    pub station: &'s Station,
-}
-
-impl InputFile for CrewFile<'_> {
-    type Value = Crew;
-
-    ghost word = { words.Crew };
-
-    ghost states = { λ f rows. reading (crew_format f.station.now) rows };
-
-    ghost ready = { λ f. IsStation f.station.now };
-
-    ghost formed = { λ f c. IsCrew f.station.now c };
-
-    fn word(&self) -> FileWord {
-        FileWord::Crew
-    }
-
-    fn read(&self, alloc: Global, rows: &Vec<Row>) -> Result<Crew, ReadError> {
-        read_crew(alloc, self.station, rows)
-    }
-}
-
-/// A roster file over the moves of a plan.
-#[derive(Clone, Copy, Drop)]
-pub struct RosterFile<'i> {
-    pub instance: &'i Instance,
-    pub plan: &'i Plan,
-}
-
-impl InputFile for RosterFile<'_> {
-    type Value = Items<Duty>;
-
-    ghost word = { words.Roster };
-
-    ghost states = { λ f rows. reading (roster_format (moves_of f.instance.now f.plan.now.blocks)) rows };
-
-    ghost ready = { λ f. IsPlanInRange f.instance.now f.plan.now };
-
-    ghost formed = { λ f duties. IsRoster (moves_of f.instance.now f.plan.now.blocks) duties };
-
-    fn word(&self) -> FileWord {
-        FileWord::Roster
-    }
-
-    fn read(&self, alloc: Global, rows: &Vec<Row>) -> Result<Items<Duty>, ReadError> {
-        Ok(Items::from_vec(read_roster(alloc, self.instance, self.plan, rows)?))
-    }
-}
-
-/// A pins file over an instance.
-#[derive(Clone, Copy, Drop)]
-pub struct PinsFile<'i> {
-    pub instance: &'i Instance,
-}
-
-impl InputFile for PinsFile<'_> {
-    type Value = Items<Block>;
-
-    ghost word = { words.Pins };
-
-    ghost states = { λ f rows. reading (pins_format f.instance.now) rows };
-
-    ghost ready = { λ _. Unit {0} };
-
-    ghost formed = { λ f pins. AreInRange f.instance.now pins };
-
-    fn word(&self) -> FileWord {
-        FileWord::Pins
-    }
-
-    fn read(&self, alloc: Global, rows: &Vec<Row>) -> Result<Items<Block>, ReadError> {
-        Ok(Items::from_vec(read_pins(alloc, self.instance, rows)?))
-    }
-}
-
-/// An edits file over an instance.
-#[derive(Clone, Copy, Drop)]
-pub struct EditsFile<'i> {
-    pub instance: &'i Instance,
-}
-
-impl InputFile for EditsFile<'_> {
-    type Value = Items<Turn>;
-
-    ghost word = { words.Edits };
-
-    ghost states = { λ f rows. reading (edits_format f.instance.now) rows };
-
-    ghost ready = { λ _. Unit {0} };
-
-    ghost formed = { λ f turns. AreTurns f.instance.now turns };
-
-    fn word(&self) -> FileWord {
-        FileWord::Edits
-    }
-
-    fn read(&self, alloc: Global, rows: &Vec<Row>) -> Result<Items<Turn>, ReadError> {
-        Ok(Items::from_vec(read_edits(alloc, self.instance, rows)?))
+    fn load<S: Store>(&self, _alloc: Global, _store: &mut S) -> Result<(), Halt> {
+        Ok(())
     }
 }

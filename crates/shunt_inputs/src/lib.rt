@@ -1,18 +1,23 @@
-//! The input files of the commands: reading and judging each, and what a command then answers.
+//! The input files of the commands: reading and judging them one after the other, and what a command then answers.
 #![tactic(auto)]
 
 mod answers;
+mod chains;
+mod files;
 mod inputs;
+mod judging;
 mod loading;
+mod nights;
 mod pins;
+mod questions;
+mod stations;
 
 pub use answers::{Answer, FileText, Outcome, one_file};
-pub use inputs::{
-    CertificateFile, CrewFile, EditsFile, InputFile, PinsFile, PlanFile, RosterFile, SheetFile,
-    StationFile, TimetableFile, ZonesFile,
-};
-pub use loading::{
-    Halt, load_certificate, load_crew, load_edits, load_input, load_instance, load_pins, load_plan,
-    load_roster, load_sheet, load_station, load_timetable, load_zones,
-};
-pub use pins::{Pinned, load_pinned, pins_answer};
+pub use chains::Then;
+pub use files::{CertificateFile, CrewFile, EditsFile, PinsFile, PlanFile, ZonesFile};
+pub use inputs::{HasNight, InputFile, Inputs, NoFiles};
+pub use loading::Halt;
+pub use nights::{CrewFiles, NightFiles, PlanFiles, RosterFile};
+pub use pins::{Pinned, PinnedFiles, pins_answer};
+pub use questions::{Question, reply};
+pub use stations::{SheetFile, StationFile, TimetableFile};

@@ -1,17 +1,18 @@
 // The pins of a night, and what is told of pins that aren't usable.
-ghost use Rattle.std.specs.Prelude.{◌≡◌, All, filter, not, IfOk, [], ◌∷◌, Option, OnOk};
-ghost use Rattle.shunt_store.specs.defs.Files.{Closed, Files};
-ghost use Rattle.shunt_store.specs.defs.Causes.{HasCause};
-ghost use Rattle.shunt_inputs.specs.defs.Views.{Hears, HearsFirst, IsView};
+ghost use Rattle.std.specs.Prelude.{◌≡◌, All, filter, not, get_or, IfOk, [], ◌∷◌};
 ghost use Rattle.shunt_blocks.specs.defs.Lists.{AreInRange};
 ghost use Rattle.shunt_audit.specs.defs.Findings.{IsOfNight};
 ghost use Rattle.shunt_audit.specs.defs.Pins.{is_bare, pin_findings};
-ghost use Rattle.shunt_inputs.specs.defs.Halts.{Loads};
-ghost use Rattle.shunt_inputs.specs.defs.Inputs.{Holding, stated_pinned};
+ghost use Rattle.shunt_report.specs.declared.words.FileWord.TheVariants as words;
+ghost use Rattle.shunt_inputs.specs.defs.Inputs.{stated_pinned};
 ghost use Rattle.shunt_inputs.specs.defs.Pins.{PinFaults};
 
 use crate::answers::{Answer, Outcome};
-use crate::loading::{Halt, load_instance, load_pins};
+use crate::chains::Then;
+use crate::files::PinsFile;
+use crate::inputs::{HasNight, Inputs};
+use crate::loading::Halt;
+use crate::nights::NightFiles;
 use shunt_audit::findings_of;
 use shunt_audit::laws::pins as usable_pins;
 use shunt_audit::types::Finding;
@@ -30,27 +31,32 @@ pub struct Pinned {
     pub pins: Items<Block>,
 }
 
-/// Reads and judges the station file, then the timetable file over it, and then the pins file over both.
-pub fn load_pinned<S: Store>(
-    alloc: Global,
-    store: &mut S,
-    station: &str,
-    timetable: &str,
-    pins: &str,
-) -> Result<Pinned, Halt>
-    requires { S.stage store.old ≡ Closed }
-    ensures told { (view : Option Files) → IsView (S.told store.old) (S.heard store.old) (S.heard store.new) view → Holding view station.now (λ s. Holding view timetable.now (λ t. Holding view pins.now (λ p. Loads result (stated_pinned s t p)))) }
-    ensures heard { OnOk result (Hears (station.now ∷ timetable.now ∷ pins.now ∷ []) (S.heard store.old) (S.heard store.new)) }
-    ensures first { HearsFirst (station.now ∷ timetable.now ∷ pins.now ∷ []) (S.heard store.old) (S.heard store.new) }
-    ensures in_range { IfOk result (λ x. AreInRange x.instance x.pins) }
-    ensures files { S.told store.new ≡ S.told store.old }
-    ensures stored { S.stored store.new ≡ S.stored store.old }
-    ensures closed { S.stage store.new ≡ Closed }
-    ensures cause { HasCause Halt.Fault (S.faults store.old) (S.faults store.new) result }
-{
-    let instance = load_instance(alloc, store, station, timetable)?;
-    let pins = load_pins(alloc, store, &instance, pins)?;
-    Ok(Pinned { instance, pins })
+impl HasNight for Pinned {
+    ghost night = { λ x. x.instance };
+
+    fn night(&self) -> &Instance {
+        &self.instance
+    }
+}
+
+/// The station file and the timetable file of a night, and the file of pins in it.
+#[derive(Clone, Copy, Drop)]
+pub struct PinnedFiles<'n>(pub &'n str, pub &'n str, pub &'n str);
+
+impl Inputs for PinnedFiles<'_> {
+    type Value = Pinned;
+
+    ghost inputs = { λ f. (words.Station, f.0.now) ∷ (words.Timetable, f.1.now) ∷ (words.Pins, f.2.now) ∷ [] };
+
+    ghost states = { λ _ texts. stated_pinned (get_or texts 0 []) (get_or texts 1 []) (get_or texts 2 []) };
+
+    ghost formed = { λ x. AreInRange x.instance x.pins };
+
+    fn load<S: Store>(&self, alloc: Global, store: &mut S) -> Result<Pinned, Halt> {
+        let files = Then(NightFiles(self.0, self.1), PinsFile(self.2));
+        let (instance, pins) = files.load(alloc, store)?;
+        Ok(Pinned { instance, pins })
+    }
 }
 
 // Whether it is a unit or a position that no block has.

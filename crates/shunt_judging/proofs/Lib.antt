@@ -1,5 +1,2 @@
 pub mod Turned
 mod Answered
-pub mod CheckFiles
-mod ReplayFiles
-pub mod PinFiles

@@ -7,7 +7,7 @@ mod pinning;
 mod replaying;
 mod turning;
 
-pub use auditing::{fault_answer, outcome_of, reply_to_audit};
-pub use checking::reply_to_check;
-pub use pinning::reply_to_check_pinned;
-pub use replaying::reply_to_replay;
+pub use auditing::{Audit, fault_answer, outcome_of};
+pub use checking::Check;
+pub use pinning::CheckPinned;
+pub use replaying::Replay;

@@ -1,29 +1,25 @@
 // The answer of `check-pinned`.
-ghost use Rattle.std.specs.Prelude.{◌≡◌, IfOk, [], ◌∷◌, Option};
-ghost use Rattle.shunt_store.specs.defs.Files.{Closed, Files};
-ghost use Rattle.shunt_store.specs.defs.Causes.{HasCause};
-ghost use Rattle.shunt_inputs.specs.defs.Views.{HearsFirst, IsView};
+ghost use Rattle.std.specs.Prelude.{◌≡◌, IfOk};
 ghost use Rattle.shunt_blocks.specs.defs.Lists.{AreInRange};
 ghost use Rattle.shunt_blocks.specs.defs.Pins.{AreUsable, Keeps};
 ghost use Rattle.shunt_plan.specs.defs.Plans.{IsPlanInRange};
 ghost use Rattle.shunt_proof.specs.defs.Certificates.{IsCertificate};
-ghost use Rattle.shunt_inputs.specs.defs.Inputs.{Holding};
-ghost use Rattle.shunt_inputs.specs.defs.Replies.{Decided, reply_of, says};
-ghost use Rattle.shunt_inputs.specs.defs.Halts.{Replies};
+ghost use Rattle.shunt_inputs.specs.defs.Replies.{reply_of, says};
 ghost use Rattle.shunt_report.specs.defs.PlanTexts.{lost_of};
 ghost use Rattle.shunt_inputs.specs.declared.answers.Outcome.TheVariants as outcome;
-ghost use Rattle.shunt_judging.specs.defs.Pinned.{IsPinChecked, IsPinVerdict, stated_over_pins, stated_pin_check};
+ghost use Rattle.shunt_judging.specs.defs.Pinned.{IsPinChecked, IsPinVerdict};
 
 use crate::checking::outcome_of_verdict;
 use shunt_blocks::Block;
 use shunt_checker::check_pinned;
-use shunt_inputs::{Answer, Halt, Outcome, load_certificate, load_pinned, load_plan, pins_answer};
+use shunt_inputs::{
+    Answer, CertificateFile, Outcome, Pinned, PinnedFiles, PlanFile, Question, Then, pins_answer,
+};
 use shunt_instance::Instance;
 use shunt_plan::{Plan, lost_pin};
 use shunt_proof::Certificate;
 use shunt_report::laws::verdicts;
 use shunt_report::{lost_text, verdict_text};
-use shunt_store::Store;
 use std::alloc::{AllocError, Global};
 
 // The answer of `check-pinned` on a plan that doesn't keep this pin.
@@ -82,49 +78,26 @@ fn check_pinned_answer(
     }
 }
 
-// The answer of `check-pinned` where the night and the pins are accepted.
-fn reply_over_pins<S: Store>(
-    alloc: Global,
-    store: &mut S,
-    instance: &Instance,
-    pins: &[Block],
-    plan: &str,
-    certificate: &str,
-) -> Result<Answer, Halt>
-    requires closed { S.stage store.old ≡ Closed }
-    requires pins { AreInRange instance.now pins.now }
-    ensures told { (view : Option Files) → IsView (S.told store.old) (S.heard store.old) (S.heard store.new) view → Holding view plan.now (λ p. Holding view certificate.now (λ k. Replies reply_of result (Decided (stated_over_pins instance.now pins.now p k) IsPinChecked))) }
-    ensures first { HearsFirst (plan.now ∷ certificate.now ∷ []) (S.heard store.old) (S.heard store.new) }
-    ensures files { S.told store.new ≡ S.told store.old }
-    ensures stored { S.stored store.new ≡ S.stored store.old }
-    ensures closed { S.stage store.new ≡ Closed }
-    ensures cause { HasCause Halt.Fault (S.faults store.old) (S.faults store.new) result }
-{
-    let plan = load_plan(alloc, store, instance, plan)?;
-    let certificate = load_certificate(alloc, store, instance, certificate)?;
-    Ok(check_pinned_answer(alloc, instance, pins, &plan, &certificate)?)
-}
+/// The question of `check-pinned`: whether the pins are usable, whether the plan keeps them, and whether the certificate proves its bound
+/// over all plans that do.
+#[derive(Clone, Copy, Drop)]
+pub struct CheckPinned;
 
-/// The answer of `check-pinned`: reads and judges its files, and says whether the pins are usable, whether the plan keeps them, and whether
-/// the certificate proves its bound over all plans that do.
-pub fn reply_to_check_pinned<S: Store>(
-    alloc: Global,
-    store: &mut S,
-    station: &str,
-    timetable: &str,
-    pins: &str,
-    plan: &str,
-    certificate: &str,
-) -> Result<Answer, Halt>
-    requires { S.stage store.old ≡ Closed }
-    ensures told { (view : Option Files) → IsView (S.told store.old) (S.heard store.old) (S.heard store.new) view → Holding view station.now (λ s. Holding view timetable.now (λ t. Holding view pins.now (λ i. Holding view plan.now (λ p. Holding view certificate.now (λ k. Replies reply_of result (Decided (stated_pin_check s t i p k) IsPinChecked)))))) }
-    ensures first { HearsFirst (station.now ∷ timetable.now ∷ pins.now ∷ plan.now ∷ certificate.now ∷ []) (S.heard store.old) (S.heard store.new) }
-    ensures files { S.told store.new ≡ S.told store.old }
-    ensures stored { S.stored store.new ≡ S.stored store.old }
-    ensures closed { S.stage store.new ≡ Closed }
-    ensures cause { HasCause Halt.Fault (S.faults store.old) (S.faults store.new) result }
-{
-    let pinned = load_pinned(alloc, store, station, timetable, pins)?;
-    let pins = pinned.pins.as_slice();
-    reply_over_pins(alloc, store, &pinned.instance, pins, plan, certificate)
+impl<'n> Question<Then<Then<PinnedFiles<'n>, PlanFile<'n>>, CertificateFile<'n>>> for CheckPinned {
+    ghost answers = { λ _ x. IsPinChecked (record { night = x.0.0.instance; pins = x.0.0.pins; plan = x.0.1; certificate = x.1 }) };
+
+    fn answer(
+        &self,
+        alloc: Global,
+        value: ((Pinned, Plan), Certificate),
+    ) -> Result<Answer, AllocError>
+        requires pins { AreInRange value.0.0.instance value.0.0.pins }
+        requires plan { IsPlanInRange value.0.0.instance value.0.1 }
+        requires certificate { IsCertificate value.0.0.instance value.1 }
+        ensures { IfOk result (λ a. IsPinChecked (record { night = value.0.0.instance; pins = value.0.0.pins; plan = value.0.1; certificate = value.1 }) (reply_of a)) }
+    {
+        let ((pinned, plan), certificate) = value;
+        let pins = pinned.pins.as_slice();
+        check_pinned_answer(alloc, &pinned.instance, pins, &plan, &certificate)
+    }
 }

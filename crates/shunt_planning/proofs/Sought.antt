@@ -28,11 +28,12 @@ use Rattle.shunt_inputs.specs.declared.loading.Halt.{Halt}
 use Rattle.shunt_inputs.specs.declared.loading.Halt.TheVariants as halt
 use Rattle.shunt_inputs.specs.defs.Names.{AreNames}
 use Rattle.shunt_inputs.specs.defs.Inputs.{Agrees}
-use Rattle.shunt_inputs.specs.defs.Replies.{Reply, refusal, reply_of}
+use Rattle.shunt_inputs.specs.defs.Replies.{Decided, Reply, refusal, reply_of}
 use Rattle.shunt_inputs.specs.defs.Writes.{written, with_first, Known, Stays, HasFirst, Leads}
 use Rattle.shunt_inputs.specs.defs.Halts.{Loads}
+use Rattle.shunt_inputs.specs.defs.Reading.{HoldingTexts}
 use Rattle.shunt_inputs.proofs.Leading.{none_first}
-use Rattle.shunt_inputs.proofs.Seeing.{FailsWith, HoldingAll, answered, fails, front_names, halted, seen_all}
+use Rattle.shunt_inputs.proofs.Seeing.{FailsWith, fails, front_names, seen_texts}
 use Rattle.shunt_planning.specs.defs.Matched.{IsShortBeside}
 use Rattle.shunt_planning.specs.defs.Planned.{IsPlanned, IsSoughtOver, Lacks, certificate_file, plan_file, search_outcome}
 use Rattle.shunt_planning.specs.defs.Begun.{IsOver, IsFound}
@@ -154,24 +155,24 @@ module _ {X : Type 0} (view : Option Files) (old : Known) (ns ms : List (List �
   in_files files = stated (map (content files) ns)
 
   -- what holds of the contents of all input files
-  over : (Q : List (List ℕ) → Type 0) → HoldingAll view ns Q → (files : Files) × Agrees view files × Q (map (content files) ns)
-  over Q h = seen_all view ns Q (front_names ns ms names) h
+  over : (Q : List (List ℕ) → Type 0) → HoldingTexts view ns Q → (files : Files) × Agrees view files × Q (map (content files) ns)
+  over Q h = seen_texts view ns Q (front_names ns ms names) h
 
-  pub refused_over : (new : Known) (r : Result Answer Halt) (e : Halt) → FailsWith r e → Stays old new → HoldingAll view ns (λ bs. Loads {X = X} (Err e) (stated bs)) → Leads (IsOver view in_files P) old new r
+  pub refused_over : (new : Known) (r : Result Answer Halt) (e : Halt) → FailsWith r e → Stays old new → HoldingTexts view ns (λ bs. Loads {X = X} (Err e) (stated bs)) → Leads (IsOver view in_files P) old new r
   refused_over new r e is same h = subst (Leads (IsOver view in_files P) old new) (sym (fails r e is)) (at e (over (λ bs. Loads {X = X} (Err e) (stated bs)) h))
     where
       at : (e : Halt) → (files : Files) × Agrees view files × Loads {X = X} (Err e) (in_files files) → Leads (IsOver view in_files P) old new (Err e)
-      at (halt.Input text) g = none_first (IsOver view in_files P) old new (refusal text.items) same (g.0, g.1, halted {A = Answer} reply_of (halt.Input text) (in_files g.0) P g.2)
+      at (halt.Input text) g = none_first (IsOver view in_files P) old new (refusal text.items) same (g.0, g.1, subst (λ (s : Result X (List ℕ)). Decided s P (refusal text.items)) (sym g.2) refl)
       at halt.Fault g = same
       at halt.Memory g = same
 
-  module _ (x : X) (mid new : Known) (same : Stays old mid) (states : HoldingAll view ns (λ bs. stated bs ≡ Ok x)) where
+  module _ (x : X) (mid new : Known) (same : Stays old mid) (states : HoldingTexts view ns (λ bs. stated bs ≡ Ok x)) where
     handed : (r : Reply) → HasFirst (P x) mid new r → HasFirst (IsOver view in_files P) old new r
     handed r h =
         let g = over (λ bs. stated bs ≡ Ok x) states in
         record {
           first = h.first;
-          reply = (g.0, g.1, answered (with_first h.first r) (in_files g.0) x P g.2 h.reply);
+          reply = (g.0, g.1, subst (λ (s : Result X (List ℕ)). Decided s P (with_first h.first r)) (sym g.2) h.reply);
           files = subst (λ o. BothTold o new.files (λ a b. b ≡ written h.first a)) same.0 h.files;
           stored = subst (λ o. BothTold o new.stored (λ a b. b ≡ a ++ h.first)) same.1 h.stored;
         }

@@ -5,5 +5,5 @@ mod pairing;
 mod planning;
 mod searching;
 
-pub use pairing::reply_to_match;
+pub use pairing::Match;
 pub use planning::{reply_to_pinned, reply_to_plan};

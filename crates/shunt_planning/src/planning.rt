@@ -18,7 +18,7 @@ ghost use Rattle.shunt_planning.specs.defs.Begun.{IsPinnedOver, IsPlannedOver};
 use crate::searching::search_answer;
 use shunt_blocks::Block;
 use shunt_choices::{Covered, Path};
-use shunt_inputs::{Answer, Halt, Outcome, load_instance, load_pinned, pins_answer};
+use shunt_inputs::{Answer, Halt, Inputs, NightFiles, Outcome, PinnedFiles, pins_answer};
 use shunt_instance::Instance;
 use shunt_matching::laws::{masks_alike, one_shortage};
 use shunt_matching::types::Shortage;
@@ -211,7 +211,7 @@ pub fn reply_to_plan<S: Store>(
     ensures closed { S.stage store.new ≡ Closed }
     ensures cause { HasCause Halt.Fault (S.faults store.old) (S.faults store.new) result }
 {
-    let instance = load_instance(alloc, store, station, timetable)?;
+    let instance = NightFiles(station, timetable).load(alloc, store)?;
     night_answer(alloc, store, &instance, nodes, plan, certificate)
 }
 
@@ -236,7 +236,7 @@ pub fn reply_to_pinned<S: Store>(
     ensures closed { S.stage store.new ≡ Closed }
     ensures cause { HasCause Halt.Fault (S.faults store.old) (S.faults store.new) result }
 {
-    let pinned = load_pinned(alloc, store, station, timetable, pins)?;
+    let pinned = PinnedFiles(station, timetable, pins).load(alloc, store)?;
     let pins = pinned.pins.as_slice();
     pinned_answer(
         alloc,

@@ -1,4 +1,1 @@
-mod ZonesFiles
-pub mod DriversFiles
-mod RosterFiles
 mod SharedDuties

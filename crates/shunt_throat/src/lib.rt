@@ -5,6 +5,6 @@ mod passing;
 mod rostering;
 mod sharing;
 
-pub use passing::reply_to_zones;
-pub use rostering::reply_to_roster;
-pub use sharing::reply_to_drivers;
+pub use passing::Meetings;
+pub use rostering::Roster;
+pub use sharing::Drivers;

@@ -1,46 +1,17 @@
 // The answer of `zones`.
-ghost use Rattle.std.specs.Prelude.{◌≡◌, IfOk, [], ◌∷◌, Option};
-ghost use Rattle.shunt_store.specs.defs.Files.{Closed, Files};
-ghost use Rattle.shunt_store.specs.defs.Causes.{HasCause};
-ghost use Rattle.shunt_inputs.specs.defs.Views.{HearsFirst, IsView};
+ghost use Rattle.std.specs.Prelude.{◌≡◌, IfOk};
 ghost use Rattle.shunt_plan.specs.defs.Plans.{IsPlanInRange};
 ghost use Rattle.shunt_zones.specs.defs.ZonesFormat.{IsZones};
-ghost use Rattle.shunt_inputs.specs.defs.Inputs.{Holding};
-ghost use Rattle.shunt_throat.specs.defs.Passed.{stated_passing, IsPassed, meets_outcome};
-ghost use Rattle.shunt_inputs.specs.defs.Replies.{Decided, reply_of};
-ghost use Rattle.shunt_inputs.specs.defs.Halts.{Replies};
+ghost use Rattle.shunt_throat.specs.defs.Passed.{IsPassed, meets_outcome};
+ghost use Rattle.shunt_inputs.specs.defs.Replies.{reply_of};
 
-use shunt_inputs::{Answer, Halt, Outcome, load_instance, load_plan, load_zones};
+use shunt_inputs::{Answer, Outcome, PlanFiles, Question, Then, ZonesFile};
 use shunt_instance::Instance;
 use shunt_plan::Plan;
 use shunt_report::laws::meets as meets_are_told;
 use shunt_report::zones_text;
-use shunt_store::Store;
 use shunt_zones::{Meet, Zones, loads, meets};
 use std::alloc::{AllocError, Global};
-
-/// The answer of `zones`: reads and judges its files, and says which moves meet.
-pub fn reply_to_zones<S: Store>(
-    alloc: Global,
-    store: &mut S,
-    station: &str,
-    timetable: &str,
-    plan: &str,
-    zones: &str,
-) -> Result<Answer, Halt>
-    requires { S.stage store.old ≡ Closed }
-    ensures told { (view : Option Files) → IsView (S.told store.old) (S.heard store.old) (S.heard store.new) view → Holding view station.now (λ s. Holding view timetable.now (λ t. Holding view plan.now (λ p. Holding view zones.now (λ z. Replies reply_of result (Decided (stated_passing s t p z) IsPassed))))) }
-    ensures first { HearsFirst (station.now ∷ timetable.now ∷ plan.now ∷ zones.now ∷ []) (S.heard store.old) (S.heard store.new) }
-    ensures files { S.told store.new ≡ S.told store.old }
-    ensures stored { S.stored store.new ≡ S.stored store.old }
-    ensures closed { S.stage store.new ≡ Closed }
-    ensures cause { HasCause Halt.Fault (S.faults store.old) (S.faults store.new) result }
-{
-    let instance = load_instance(alloc, store, station, timetable)?;
-    let plan = load_plan(alloc, store, &instance, plan)?;
-    let zones = load_zones(alloc, store, &instance, zones)?;
-    Ok(zones_answer(alloc, &instance, &plan, &zones)?)
-}
 
 // How the moves of a plan end that meet so.
 fn outcome_of_meets(meets: &[Meet]) -> Outcome
@@ -74,4 +45,21 @@ fn zones_answer(
         writes: Vec::new(alloc),
         text: zones_text(alloc, zones, &met, &passed)?,
     })
+}
+
+/// The question of `zones`: which moves of a plan meet in a zone of the throat, and how many pass each.
+#[derive(Clone, Copy, Drop)]
+pub struct Meetings;
+
+impl<'n> Question<Then<PlanFiles<'n>, ZonesFile<'n>>> for Meetings {
+    ghost answers = { λ _ x. IsPassed (record { night = x.0.0; plan = x.0.1; zones = x.1 }) };
+
+    fn answer(&self, alloc: Global, value: ((Instance, Plan), Zones)) -> Result<Answer, AllocError>
+        requires plan { IsPlanInRange value.0.0 value.0.1 }
+        requires zones { IsZones value.0.0.station value.1 }
+        ensures { IfOk result (λ a. IsPassed (record { night = value.0.0; plan = value.0.1; zones = value.1 }) (reply_of a)) }
+    {
+        let ((instance, plan), zones) = value;
+        zones_answer(alloc, &instance, &plan, &zones)
+    }
 }

@@ -1,71 +1,19 @@
 // The answer of `roster`.
-ghost use Rattle.std.specs.Prelude.{◌≡◌, IfOk, option_map, [], ◌∷◌, Option};
-ghost use Rattle.shunt_store.specs.defs.Files.{Closed, Files};
-ghost use Rattle.shunt_store.specs.defs.Causes.{HasCause};
-ghost use Rattle.shunt_inputs.specs.defs.Views.{HearsFirst, IsView};
+ghost use Rattle.std.specs.Prelude.{◌≡◌, IfOk, option_map};
 ghost use Rattle.shunt_plan.specs.defs.Plans.{IsPlanInRange};
 ghost use Rattle.shunt_drivers.specs.defs.CrewFormat.{IsCrew};
 ghost use Rattle.shunt_drivers.specs.defs.RosterFormat.{IsRoster};
 ghost use Rattle.shunt_zones.specs.defs.Moves.{moves_of};
-ghost use Rattle.shunt_inputs.specs.defs.Inputs.{Holding, stated_roster};
-ghost use Rattle.shunt_throat.specs.defs.Rostered.{stated_rostering, IsRostered, roster_outcome};
-ghost use Rattle.shunt_inputs.specs.defs.Replies.{Decided, reply_of};
-ghost use Rattle.shunt_inputs.specs.defs.Halts.{Replies};
+ghost use Rattle.shunt_throat.specs.defs.Rostered.{IsRostered, roster_outcome};
+ghost use Rattle.shunt_inputs.specs.defs.Replies.{reply_of};
 
 use shunt_drivers::{Crew, Duty, RosterFault, roster_fault};
-use shunt_inputs::{Answer, Halt, Outcome, load_crew, load_instance, load_plan, load_roster};
+use shunt_inputs::{Answer, CrewFiles, Outcome, Question, RosterFile, Then};
 use shunt_instance::Instance;
+use shunt_lists::Items;
 use shunt_plan::Plan;
 use shunt_report::roster_text;
-use shunt_store::Store;
 use std::alloc::{AllocError, Global};
-
-/// The answer of `roster`: reads and judges its files, and tells the first fault of the roster.
-pub fn reply_to_roster<S: Store>(
-    alloc: Global,
-    store: &mut S,
-    station: &str,
-    timetable: &str,
-    plan: &str,
-    crew: &str,
-    roster: &str,
-) -> Result<Answer, Halt>
-    requires { S.stage store.old ≡ Closed }
-    ensures told { (view : Option Files) → IsView (S.told store.old) (S.heard store.old) (S.heard store.new) view → Holding view station.now (λ s. Holding view timetable.now (λ t. Holding view plan.now (λ p. Holding view crew.now (λ c. Holding view roster.now (λ d. Replies reply_of result (Decided (stated_rostering s t p c d) IsRostered)))))) }
-    ensures first { HearsFirst (station.now ∷ timetable.now ∷ plan.now ∷ crew.now ∷ roster.now ∷ []) (S.heard store.old) (S.heard store.new) }
-    ensures files { S.told store.new ≡ S.told store.old }
-    ensures stored { S.stored store.new ≡ S.stored store.old }
-    ensures closed { S.stage store.new ≡ Closed }
-    ensures cause { HasCause Halt.Fault (S.faults store.old) (S.faults store.new) result }
-{
-    let instance = load_instance(alloc, store, station, timetable)?;
-    let plan = load_plan(alloc, store, &instance, plan)?;
-    let crew = load_crew(alloc, store, &instance, crew)?;
-    reply_to_duties(alloc, store, &instance, &plan, &crew, roster)
-}
-
-// The answer of `roster` where all its files but the roster are accepted.
-fn reply_to_duties<S: Store>(
-    alloc: Global,
-    store: &mut S,
-    instance: &Instance,
-    plan: &Plan,
-    crew: &Crew,
-    roster: &str,
-) -> Result<Answer, Halt>
-    requires closed { S.stage store.old ≡ Closed }
-    requires plan { IsPlanInRange instance.now plan.now }
-    requires crew { IsCrew instance.now.station crew.now }
-    ensures told { (view : Option Files) → IsView (S.told store.old) (S.heard store.old) (S.heard store.new) view → Holding view roster.now (λ d. Replies reply_of result (Decided (stated_roster instance.now plan.now d) (λ ds. IsRostered (record { night = instance.now; plan = plan.now; crew = crew.now; duties = ds })))) }
-    ensures first { HearsFirst (roster.now ∷ []) (S.heard store.old) (S.heard store.new) }
-    ensures files { S.told store.new ≡ S.told store.old }
-    ensures stored { S.stored store.new ≡ S.stored store.old }
-    ensures closed { S.stage store.new ≡ Closed }
-    ensures cause { HasCause Halt.Fault (S.faults store.old) (S.faults store.new) result }
-{
-    let duties = load_roster(alloc, store, instance, plan, roster)?.into_vec();
-    Ok(roster_answer(alloc, instance, plan, crew, &duties)?)
-}
 
 // How a roster ends that has this fault.
 fn outcome_of_fault(fault: Option<&RosterFault>) -> Outcome
@@ -96,4 +44,27 @@ fn roster_answer(
         writes: Vec::new(alloc),
         text: roster_text(alloc, duties, fault.as_ref())?,
     })
+}
+
+/// The question of `roster`: what is at fault with duties of a plan's moves.
+#[derive(Clone, Copy, Drop)]
+pub struct Roster;
+
+impl<'n> Question<Then<CrewFiles<'n>, RosterFile<'n>>> for Roster {
+    ghost answers = { λ _ x. IsRostered (record { night = x.0.0.0; plan = x.0.0.1; crew = x.0.1; duties = x.1 }) };
+
+    fn answer(
+        &self,
+        alloc: Global,
+        value: (((Instance, Plan), Crew), Items<Duty>),
+    ) -> Result<Answer, AllocError>
+        requires plan { IsPlanInRange value.0.0.0 value.0.0.1 }
+        requires crew { IsCrew value.0.0.0.station value.0.1 }
+        requires duties { IsRoster (moves_of value.0.0.0 value.0.0.1.blocks) value.1 }
+        ensures { IfOk result (λ a. IsRostered (record { night = value.0.0.0; plan = value.0.0.1; crew = value.0.1; duties = value.1 }) (reply_of a)) }
+    {
+        let (((instance, plan), crew), duties) = value;
+        let duties = duties.into_vec();
+        roster_answer(alloc, &instance, &plan, &crew, &duties)
+    }
 }

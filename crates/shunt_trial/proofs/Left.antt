@@ -18,10 +18,9 @@ use Rattle.shunt_proof.specs.defs.Certificates.{IsCertificate}
 use Rattle.shunt_proof.proofs.Lengths.{text_short}
 use Rattle.shunt_report.specs.declared.words.FileWord.TheVariants as word
 use Rattle.shunt_inputs.specs.defs.Names.{AreNames}
-use Rattle.shunt_inputs.specs.defs.Inputs.{stated_certificate, stated_night, stated_plan}
-use Rattle.shunt_inputs.proofs.Stated.{stated_again}
-use Rattle.shunt_judging.specs.defs.Checked.{Checkable, check_in}
-use Rattle.shunt_judging.proofs.CheckFiles.{check_is}
+use Rattle.shunt_inputs.specs.defs.Inputs.{stated_certificate, stated_night, stated_plan, then_stated}
+use Rattle.shunt_inputs.proofs.Stated.{plans_are, stated_again}
+use Rattle.shunt_judging.specs.defs.Checked.{Checkable, check_in, stated_check}
 use Rattle.shunt_planning.specs.defs.Planned.{certificate_file, plan_file}
 use Rattle.shunt_trial.specs.defs.Rehearsed.{with_both}
 
@@ -99,6 +98,12 @@ module _ (ns : List (List ℕ)) (p k : List ℕ) (names : AreNames (ns ++ p ∷ 
 
 abbrev pub checkable : Night → Plan → Certificate → Checkable
 checkable night plan certificate = record { night = night; plan = plan; certificate = certificate }
+
+check_is : (s t p k : List ℕ) (night : Night) (plan : Plan) (certificate : Certificate) → stated_night s t ≡ Ok night → stated_plan night p ≡ Ok plan → stated_certificate night k ≡ Ok certificate → stated_check s t p k ≡ Ok (checkable night plan certificate)
+unfolding stated_check
+check_is s t p k night plan certificate a b d =
+    ap (λ r. then_stated r (λ (x : Night × Plan). then_stated (stated_certificate x.0 k) (λ c. Ok (checkable x.0 x.1 c)))) (plans_are s t p night plan a b)
+    ∙ ap (λ r. then_stated r (λ c. Ok (checkable night plan c))) d
 
 module _ (laws : TextLaws) (s t p k : List ℕ) (names : AreNames (s ∷ t ∷ p ∷ k ∷ [])) (a : Files) (night : Night) (of_night : IsInstance night) (plan : Plan) (c : Certificate) where
   abbrev here : Files

@@ -30,13 +30,13 @@ use Rattle.shunt_inputs.specs.declared.answers.Outcome.{Outcome}
 use Rattle.shunt_inputs.specs.declared.answers.Outcome.TheVariants as outcome
 use Rattle.shunt_inputs.specs.declared.loading.Halt.{Halt}
 use Rattle.shunt_inputs.specs.declared.loading.Halt.TheVariants as halt
-use Rattle.shunt_inputs.specs.defs.Halts.{Replies}
-use Rattle.shunt_inputs.specs.defs.Inputs.{Holding, stated_night, stated_plans, stated_certificate, plans_in}
+use Rattle.shunt_inputs.specs.defs.Inputs.{Agrees, stated_night, stated_plans, stated_certificate, plans_in, then_stated}
 use Rattle.shunt_inputs.specs.defs.Replies.{Reply, Decided, pair_of, refusal, reply_of}
 use Rattle.shunt_inputs.specs.defs.Writes.{written, with_first, Known, known, HasFirst, Leads}
+use Rattle.shunt_inputs.proofs.Held.{decided_over}
 use Rattle.shunt_inputs.proofs.Stated.{parted}
 use Rattle.shunt_judging.specs.defs.Audited.{IsAudited, audit_outcome}
-use Rattle.shunt_judging.specs.defs.Checked.{Checkable, stated_check, IsChecked, check_outcome}
+use Rattle.shunt_judging.specs.defs.Checked.{Checkable, check_in, stated_check, IsChecked, check_outcome}
 use Rattle.shunt_planning.specs.defs.Planned.{IsPlanned, IsSought, search_outcome}
 use Rattle.shunt_planning.specs.defs.Begun.{IsPlannedOver}
 use Rattle.shunt_trial.specs.defs.Rehearsed.{IsNightIn, with_both, AreFit, IsProvedIn, IsSure}
@@ -108,10 +108,6 @@ no_input_found : (fs : List Finding) → outcome.Input ≡ audit_outcome fs → 
 no_input_found [] e = let h : outcome.Input ≡ outcome.Done = e in cc
 no_input_found (f ∷ fs) e = let h : outcome.Input ≡ outcome.Findings = e in cc
 
--- what holds of the bytes of a file that is told holds of what it holds
-at_content : (files : Files) (name : List ℕ) (P : List ℕ → Type 0) → Holding (Some files) name P → P (content files name)
-at_content files name P h = subst P h.1 h.2
-
 module _ (files : Files) (s t p k : List ℕ) (x : Checkable) (is : IsProvedIn s t p k files x) where
   its_plan : plans_in s t p files ≡ Ok (x.night, x.plan)
   unfolding stated_check
@@ -121,25 +117,25 @@ module _ (files : Files) (s t p k : List ℕ) (x : Checkable) (is : IsProvedIn s
       let made : record { night = first.0.0; plan = first.0.1; certificate = second.0 } ≡ x = cc (second.2) in
       first.1 ∙ ap (λ (y : Checkable). Ok (y.night, y.plan)) made
 
-  audited : (r : Result Answer Halt) → Holding (Some files) s (λ u. Holding (Some files) t (λ v. Holding (Some files) p (λ w. Replies reply_of r (Decided (stated_plans u v w) IsAudited)))) → Replies reply_of r (IsAudited (x.night, x.plan))
-  audited r told =
-      let first = at_content files s (λ u. Holding (Some files) t (λ v. Holding (Some files) p (λ w. Replies reply_of r (Decided (stated_plans u v w) IsAudited)))) told in
-      let second = at_content files t (λ v. Holding (Some files) p (λ w. Replies reply_of r (Decided (stated_plans (content files s) v w) IsAudited))) first in
-      let third = at_content files p (λ w. Replies reply_of r (Decided (stated_plans (content files s) (content files t) w) IsAudited)) second in
-      subst (λ (y : Result (Night × Plan) (List ℕ)). Replies reply_of r (Decided y IsAudited)) its_plan third
+  -- over the files of the store
+  abbrev AuditedOver : Reply → Type 0
+  AuditedOver r = (fs : Files) × Agrees (Some files) fs × Decided (plans_in s t p fs) IsAudited r
 
-  pub audit_sure : (r : Result Answer Halt) → (IsErrOf r halt.Fault → ⊥) → Holding (Some files) s (λ u. Holding (Some files) t (λ v. Holding (Some files) p (λ w. Replies reply_of r (Decided (stated_plans u v w) IsAudited)))) → IsSure r
-  audit_sure r fault told = at r fault (audited r told)
-    where
-      at : (r : Result Answer Halt) → (IsErrOf r halt.Fault → ⊥) → Replies reply_of r (IsAudited (x.night, x.plan)) → IsSure r
-      at (Ok a) fault h = tt
-      at (Err (halt.Input text)) fault h = absurd (no_input_found h.findings (ap (λ (r : Reply). r.outcome) h.reply))
-      at (Err halt.Fault) fault h = absurd (fault refl)
-      at (Err halt.Memory) fault h = tt
+  audited : (r : Reply) → AuditedOver r → IsAudited (x.night, x.plan) r
+  audited r (fs, same, told) = subst (λ (y : Result (Night × Plan) (List ℕ)). Decided y IsAudited r) its_plan (subst (λ (f : Files). Decided (plans_in s t p f) IsAudited r) (sym same) told)
 
-  pub audit_told : FoundNone → (r : Result Answer Halt) (a : Answer) → r ≡ Ok a → Holding (Some files) s (λ u. Holding (Some files) t (λ v. Holding (Some files) p (λ w. Replies reply_of r (Decided (stated_plans u v w) IsAudited)))) → a.text.items ≡ findings_of x.night [] (total_cost x.night x.plan.blocks)
-  audit_told law r a ok told =
-      let its : IsAudited (x.night, x.plan) (reply_of a) = subst (λ (y : Result Answer Halt). Replies reply_of y (IsAudited (x.night, x.plan))) ok (audited r told) in
+  pub audit_sure : (old new : Known) (r : Result Answer Halt) → (IsErrOf r halt.Fault → ⊥) → Leads AuditedOver old new r → IsSure r
+  audit_sure old new (Ok a) fault leads = tt
+  audit_sure old new (Err (halt.Input text)) fault leads =
+      let its = audited (with_first leads.first (refusal text.items)) leads.reply in
+      absurd (no_input_found its.findings (ap (λ (r : Reply). r.outcome) its.reply))
+  audit_sure old new (Err halt.Fault) fault leads = absurd (fault refl)
+  audit_sure old new (Err halt.Memory) fault leads = tt
+
+  pub audit_told : FoundNone → (old new : Known) (r : Result Answer Halt) (a : Answer) → r ≡ Ok a → Leads AuditedOver old new r → a.text.items ≡ findings_of x.night [] (total_cost x.night x.plan.blocks)
+  audit_told law old new r a ok leads =
+      let led : HasFirst AuditedOver old new (reply_of a) = subst (λ (y : Result Answer Halt). Leads AuditedOver old new y) ok leads in
+      let its = audited (with_first led.first (reply_of a)) led.reply in
       let same = only_plan x.night x.plan its.findings is.in_range.blocks its.told.in_order its.told.exactly in
       let none = (law x.night x.plan is.formed is.in_range.blocks).1 (is.proved.feasible, is.proved.states) in
       ap (λ (q : Reply). q.text) its.reply ∙ ap (λ (fs : List Finding). findings_of x.night fs (total_cost x.night x.plan.blocks)) (same ∙ none)
@@ -163,29 +159,30 @@ bound_told x (verdict.Accepted bound) h accepts = ap verdict.Accepted h.answers.
 bound_told x (verdict.Rejected row r) h accepts = absurd accepts
 
 module _ (files : Files) (s t p k : List ℕ) (x : Checkable) (is : IsProvedIn s t p k files x) where
-  abbrev IsTold : Result Answer Halt → Type 0
-  IsTold r = Holding (Some files) s (λ u. Holding (Some files) t (λ v. Holding (Some files) p (λ w. Holding (Some files) k (λ z. Replies reply_of r (Decided (stated_check u v w z) IsChecked)))))
+  -- over the files of the store
+  abbrev CheckedOver : Reply → Type 0
+  CheckedOver r = (fs : Files) × Agrees (Some files) fs
+      × Decided (then_stated (plans_in s t p fs) (λ y. then_stated (stated_certificate y.0 (content fs k)) (λ c. Ok (y, c)))) (λ (v : (Night × Plan) × Certificate). IsChecked (record { night = v.0.0; plan = v.0.1; certificate = v.1 })) r
 
-  checked : (r : Result Answer Halt) → IsTold r → Replies reply_of r (IsChecked x)
-  checked r told =
-      let first = at_content files s (λ u. Holding (Some files) t (λ v. Holding (Some files) p (λ w. Holding (Some files) k (λ z. Replies reply_of r (Decided (stated_check u v w z) IsChecked))))) told in
-      let second = at_content files t (λ v. Holding (Some files) p (λ w. Holding (Some files) k (λ z. Replies reply_of r (Decided (stated_check (content files s) v w z) IsChecked)))) first in
-      let third = at_content files p (λ w. Holding (Some files) k (λ z. Replies reply_of r (Decided (stated_check (content files s) (content files t) w z) IsChecked))) second in
-      let fourth = at_content files k (λ z. Replies reply_of r (Decided (stated_check (content files s) (content files t) (content files p) z) IsChecked)) third in
-      subst (λ (y : Result Checkable (List ℕ)). Replies reply_of r (Decided y IsChecked)) is.stated fourth
+  checked : (r : Reply) → CheckedOver r → IsChecked x r
+  unfolding stated_check
+  checked r (fs, same, told) =
+      let made : Night × Plan → Certificate → Checkable = λ y c. record { night = y.0; plan = y.1; certificate = c } in
+      let all : Decided (check_in s t p k fs) IsChecked r = decided_over (plans_in s t p fs) (λ y. stated_certificate y.0 (content fs k)) made IsChecked r told in
+      subst (λ (y : Result Checkable (List ℕ)). Decided y IsChecked r) is.stated (subst (λ (f : Files). Decided (check_in s t p k f) IsChecked r) (sym same) all)
 
-  pub check_sure : (r : Result Answer Halt) → (IsErrOf r halt.Fault → ⊥) → IsTold r → IsSure r
-  check_sure r fault told = at r fault (checked r told)
-    where
-      at : (r : Result Answer Halt) → (IsErrOf r halt.Fault → ⊥) → Replies reply_of r (IsChecked x) → IsSure r
-      at (Ok a) fault h = tt
-      at (Err (halt.Input text)) fault h = absurd (no_input_told h.verdict (ap (λ (r : Reply). r.outcome) h.reply))
-      at (Err halt.Fault) fault h = absurd (fault refl)
-      at (Err halt.Memory) fault h = tt
+  pub check_sure : (old new : Known) (r : Result Answer Halt) → (IsErrOf r halt.Fault → ⊥) → Leads CheckedOver old new r → IsSure r
+  check_sure old new (Ok a) fault leads = tt
+  check_sure old new (Err (halt.Input text)) fault leads =
+      let its = checked (with_first leads.first (refusal text.items)) leads.reply in
+      absurd (no_input_told its.verdict (ap (λ (r : Reply). r.outcome) its.reply))
+  check_sure old new (Err halt.Fault) fault leads = absurd (fault refl)
+  check_sure old new (Err halt.Memory) fault leads = tt
 
-  pub check_told : Judges → (r : Result Answer Halt) (a : Answer) → r ≡ Ok a → IsTold r → a.text.items ≡ verdict_of x.night x.certificate (verdict.Accepted x.certificate.bound)
-  check_told law r a ok told =
-      let its : IsChecked x (reply_of a) = subst (λ (y : Result Answer Halt). Replies reply_of y (IsChecked x)) ok (checked r told) in
+  pub check_told : Judges → (old new : Known) (r : Result Answer Halt) (a : Answer) → r ≡ Ok a → Leads CheckedOver old new r → a.text.items ≡ verdict_of x.night x.certificate (verdict.Accepted x.certificate.bound)
+  check_told law old new r a ok leads =
+      let led : HasFirst CheckedOver old new (reply_of a) = subst (λ (y : Result Answer Halt). Leads CheckedOver old new y) ok leads in
+      let its = checked (with_first led.first (reply_of a)) led.reply in
       let accepts = (law x.night [] x.plan x.certificate its.verdict is.formed is.in_range (keeps_none x.plan.blocks) is.statable its.told).1 is.proved in
       ap (λ (q : Reply). q.text) its.reply ∙ ap (verdict_of x.night x.certificate) (bound_told x its.verdict its.told accepts)
 

@@ -17,8 +17,8 @@ ghost use Rattle.shunt_trial.specs.defs.Rehearsed.{IsNightIn, with_both, AreFit,
 use crate::holding::put_all;
 use shunt_audit::laws::plan_findings;
 use shunt_checker::laws::reasons;
-use shunt_inputs::{Answer, Halt};
-use shunt_judging::{reply_to_audit, reply_to_check};
+use shunt_inputs::{Answer, CertificateFile, Halt, NightFiles, PlanFile, Then, reply};
+use shunt_judging::{Audit, Check};
 use shunt_plan::laws::texts_of_plans;
 use shunt_planning::reply_to_plan;
 use shunt_proof::text_laws::texts_of_certificates;
@@ -71,13 +71,15 @@ fn audit_in(
     certificate: &str,
 ) -> Result<Vec<u8>, AllocError>
     requires closed { store.old.stage ≡ Closed }
+    requires names { AreNames (station.now ∷ timetable.now ∷ plan.now ∷ certificate.now ∷ []) }
     requires proved { (x : Checkable) × IsProvedIn station.now timetable.now plan.now certificate.now store.old.files x }
     ensures told { IfOk result (λ text. (x : Checkable) → IsProvedIn station.now timetable.now plan.now certificate.now store.old.files x → text.items ≡ findings_of x.night [] (total_cost x.night x.plan.blocks)) }
     ensures files { store.new.files ≡ store.old.files }
     ensures closed { store.new.stage ≡ Closed }
 {
     plan_findings();
-    let answer = sure(reply_to_audit(alloc, store, station, timetable, plan))?;
+    let inputs = Then(NightFiles(station, timetable), PlanFile(plan));
+    let answer = sure(reply(alloc, store, &inputs, &Audit))?;
     Ok(answer.text)
 }
 
@@ -91,13 +93,16 @@ fn check_in(
     certificate: &str,
 ) -> Result<Vec<u8>, AllocError>
     requires closed { store.old.stage ≡ Closed }
+    requires names { AreNames (station.now ∷ timetable.now ∷ plan.now ∷ certificate.now ∷ []) }
     requires proved { (x : Checkable) × IsProvedIn station.now timetable.now plan.now certificate.now store.old.files x }
     ensures told { IfOk result (λ text. (x : Checkable) → IsProvedIn station.now timetable.now plan.now certificate.now store.old.files x → text.items ≡ verdict_of x.night x.certificate (verdict.Accepted x.certificate.bound)) }
     ensures files { store.new.files ≡ store.old.files }
     ensures closed { store.new.stage ≡ Closed }
 {
     reasons();
-    let answer = sure(reply_to_check(alloc, store, station, timetable, plan, certificate))?;
+    let plan_files = Then(NightFiles(station, timetable), PlanFile(plan));
+    let inputs = Then(plan_files, CertificateFile(certificate));
+    let answer = sure(reply(alloc, store, &inputs, &Check))?;
     Ok(answer.text)
 }
 
@@ -111,6 +116,7 @@ fn judge_in(
     certificate: &str,
 ) -> Result<Vec<u8>, AllocError>
     requires closed { store.old.stage ≡ Closed }
+    requires names { AreNames (station.now ∷ timetable.now ∷ plan.now ∷ certificate.now ∷ []) }
     requires proved { (x : Checkable) × IsProvedIn station.now timetable.now plan.now certificate.now store.old.files x }
     ensures told { IfOk result (λ text. (x : Checkable) → IsProvedIn station.now timetable.now plan.now certificate.now store.old.files x → text.items ≡ findings_of x.night [] (total_cost x.night x.plan.blocks) ++ verdict_of x.night x.certificate (verdict.Accepted x.certificate.bound)) }
     ensures files { store.new.files ≡ store.old.files }

@@ -13,10 +13,6 @@ abbrev pub written : List (List ℕ × List ℕ) → Files → Files
 written [] files = files
 written (w ∷ ws) files = written ws (map.insert files w.0 w.1)
 
--- some of these files were written, whole and in their order: where one is as it was, so are those after it
-abbrev pub MayWrite : List (List ℕ × List ℕ) → Files → Files → Type 0
-MayWrite ws old new = (k : ℕ) × (new ≡ written (take k ws) old)
-
 -- a reply that writes these first
 abbrev pub with_first : List (List ℕ × List ℕ) → Reply → Reply
 with_first first r = record { outcome = r.outcome; writes = first ++ r.writes; text = r.text }

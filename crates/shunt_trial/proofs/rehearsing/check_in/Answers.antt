@@ -4,10 +4,10 @@ use Rattle.shunt_trial.proofs.rehearsing.check_in.Goals as goal
 
 pub sure-requires : goal.sure-requires
 sure-requires c =
-    check_sure c.args.store.now.files c.args.station.now c.args.timetable.now c.args.plan.now c.args.certificate.now c.requires.proved.0 c.requires.proved.1 c.reply_to_check.result
-    (no_fault c.reply_to_check.result c.reply_to_check.ensures.cause) (c.reply_to_check.ensures.told _ (inl refl))
+    check_sure c.args.store.now.files c.args.station.now c.args.timetable.now c.args.plan.now c.args.certificate.now c.requires.proved.0 c.requires.proved.1 _ _ c.reply.result
+    (no_fault c.reply.result c.reply.ensures.cause) (c.reply.ensures.leads _ (inl refl))
 
 pub returns-clause-told : goal.returns-clause-told
 returns-clause-told c = λ x is.
-    check_told c.args.store.now.files c.args.station.now c.args.timetable.now c.args.plan.now c.args.certificate.now x is c.reasons.ensures.verdict c.reply_to_check.result c.in_ok-answer.answer
-    c.in_ok-answer.ensures (c.reply_to_check.ensures.told _ (inl refl))
+    check_told c.args.store.now.files c.args.station.now c.args.timetable.now c.args.plan.now c.args.certificate.now x is c.reasons.ensures.verdict _ _ c.reply.result c.in_ok-answer.answer
+    c.in_ok-answer.ensures (c.reply.ensures.leads _ (inl refl))

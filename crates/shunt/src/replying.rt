@@ -10,10 +10,10 @@ ghost use Rattle.shunt.specs.defs.Replies.{IsReplyOver};
 use crate::words::Command;
 use shunt_dispatch::{Delay, Follow, Sheet};
 use shunt_drawing::Draw;
-use shunt_exchange::{Report, Upgrade};
+use shunt_exchange::{Report, TrainFiles, Upgrade};
 use shunt_inputs::{
     Answer, CertificateFile, CrewFile, EditsFile, Halt, NightFiles, PinnedFiles, PlanFile,
-    RosterFile, SheetFile, StationFile, Then, TimetableFile, ZonesFile, reply,
+    RosterFile, SheetFile, StationFile, Then, ZonesFile, reply,
 };
 use shunt_judging::{Audit, Check, CheckPinned, Replay};
 use shunt_planning::{Match, reply_to_pinned, reply_to_plan};
@@ -74,7 +74,7 @@ pub fn answer_to<S: Store>(
             reply(alloc, store, &inputs, &Draw(picture))
         }
         Command::Upgrade(station, timetable, new_station, new_timetable) => {
-            let inputs = Then(StationFile(station), TimetableFile(timetable));
+            let inputs = TrainFiles(station, timetable);
             reply(alloc, store, &inputs, &Upgrade(new_station, new_timetable))
         }
         Command::Trial(number, units, nodes, first, second, plan, certificate) => {

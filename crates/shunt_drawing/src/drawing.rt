@@ -13,26 +13,39 @@ use shunt_plan::Plan;
 use shunt_report::findings_text;
 use std::alloc::{AllocError, Global};
 
+// The picture of a plan, what is wrong with it, and what it costs.
+fn draw_answer(
+    alloc: Global,
+    instance: &Instance,
+    plan: &Plan,
+    file: &str,
+) -> Result<Answer, AllocError>
+    requires { IsPlanInRange instance.now plan.now }
+    ensures { IfOk result (λ a. IsDrawn file.now (instance.now, plan.now) (reply_of a)) }
+{
+    let found = audit(alloc, instance, plan)?;
+    let findings = found.findings.as_slice();
+    let shown = picture(alloc, instance, plan)?;
+    let bytes = picture_text(alloc, &shown)?;
+    Ok(Answer {
+        outcome: outcome_of(findings),
+        writes: one_file(alloc, file, bytes)?,
+        text: findings_text(alloc, instance, findings, found.cost)?,
+    })
+}
+
 /// The question of `draw`, by the name of the picture: the picture of a plan, what is wrong with it, and what it costs.
 #[derive(Clone, Copy, Drop)]
 pub struct Draw<'n>(pub &'n str);
 
 impl<'n, I: Inputs<Value = Instance>> Question<Then<I, PlanFile<'n>>> for Draw<'n> {
-    ghost answers = { λ q x. IsDrawn q.0.now x };
+    ghost answers = { λ q x. IsDrawn q.0.now (x.0, x.1) };
 
     fn answer(&self, alloc: Global, value: (Instance, Plan)) -> Result<Answer, AllocError>
-        requires { IsPlanInRange value.0 value.1 }
-        ensures { IfOk result (λ a. IsDrawn self.now.0.now value (reply_of a)) }
+        requires plan { IsPlanInRange value.0 value.1 }
+        ensures { IfOk result (λ a. IsDrawn self.now.0.now (value.0, value.1) (reply_of a)) }
     {
         let (instance, plan) = value;
-        let found = audit(alloc, &instance, &plan)?;
-        let findings = found.findings.as_slice();
-        let shown = picture(alloc, &instance, &plan)?;
-        let bytes = picture_text(alloc, &shown)?;
-        Ok(Answer {
-            outcome: outcome_of(findings),
-            writes: one_file(alloc, self.0, bytes)?,
-            text: findings_text(alloc, &instance, findings, found.cost)?,
-        })
+        draw_answer(alloc, &instance, &plan, self.0)
     }
 }

@@ -5,4 +5,4 @@ mod reporting;
 mod upgrading;
 
 pub use reporting::Report;
-pub use upgrading::Upgrade;
+pub use upgrading::{TrainFiles, Upgrade};

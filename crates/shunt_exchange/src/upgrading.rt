@@ -1,12 +1,20 @@
 // The answer of `upgrade`.
-ghost use Rattle.std.specs.Prelude.{◌≡◌, [], ◌∷◌, map, IfOk};
+ghost use Rattle.std.specs.Prelude.{◌≡◌, [], ◌∷◌, map, get_or, IfOk};
 ghost use Rattle.shunt_instance.specs.defs.Wellformed.{IsStation, IsTimetable};
+ghost use Rattle.shunt_report.specs.declared.words.FileWord.TheVariants as words;
+ghost use Rattle.shunt_rows.specs.defs.Formats.{reading};
+ghost use Rattle.shunt_timetable.specs.defs.TimetableFormat.{timetable_format};
+ghost use Rattle.shunt_inputs.specs.defs.Inputs.{stated_by, stated_station};
+ghost use Rattle.shunt_inputs.specs.defs.Reading.{stated_over};
 ghost use Rattle.shunt_inputs.specs.defs.Replies.{pair_of, reply_of};
 ghost use Rattle.shunt_exchange.specs.defs.Upgraded.{IsUpgraded};
 
-use shunt_inputs::{Answer, FileText, Outcome, Question, StationFile, Then, TimetableFile};
+use shunt_inputs::{
+    Answer, FileText, Halt, Inputs, Outcome, Question, StationFile, Then, TimetableFile,
+};
 use shunt_instance::{Station, Timetable};
 use shunt_station::write_station;
+use shunt_store::Store;
 use shunt_timetable::write_timetable;
 use std::alloc::{AllocError, Global};
 
@@ -28,11 +36,29 @@ fn two_files(alloc: Global, first: FileText, second: FileText) -> Result<Vec<Fil
     Ok(writes)
 }
 
+/// A station file, and a timetable file over it, by their names.
+#[derive(Clone, Copy, Drop)]
+pub struct TrainFiles<'n>(pub &'n str, pub &'n str);
+
+impl Inputs for TrainFiles<'_> {
+    type Value = (Station, Timetable);
+
+    ghost inputs = { λ f. (words.Station, f.0.now) ∷ (words.Timetable, f.1.now) ∷ [] };
+
+    ghost states = { λ _ texts. stated_over 1 (λ first. stated_station (get_or first 0 [])) (λ s. stated_by words.Timetable (λ rows. reading (timetable_format s) rows)) texts };
+
+    ghost formed = { λ x. IsStation x.0 × IsTimetable x.0 x.1 };
+
+    fn load<S: Store>(&self, alloc: Global, store: &mut S) -> Result<(Station, Timetable), Halt> {
+        Then(StationFile(self.0), TimetableFile(self.1)).load(alloc, store)
+    }
+}
+
 /// The question of `upgrade`, by the names of the new files: a station and its timetable, written in version 2.
 #[derive(Clone, Copy, Drop)]
 pub struct Upgrade<'n>(pub &'n str, pub &'n str);
 
-impl<'n> Question<Then<StationFile<'n>, TimetableFile<'n>>> for Upgrade<'n> {
+impl<'n> Question<TrainFiles<'n>> for Upgrade<'_> {
     ghost answers = { λ q x. IsUpgraded q.0.now q.1.now (record { station = x.0; timetable = x.1 }) };
 
     fn answer(&self, alloc: Global, value: (Station, Timetable)) -> Result<Answer, AllocError>

@@ -9,6 +9,25 @@ use shunt_matching::{MatchError, first_fit};
 use shunt_report::{pairs_text, shortage_text};
 use std::alloc::{AllocError, Global};
 
+// Which unit becomes which position, or why none can.
+fn match_answer(alloc: Global, instance: &Instance) -> Result<Answer, AllocError>
+    ensures { IfOk result (λ a. IsMatched instance.now (reply_of a)) }
+{
+    match first_fit(alloc, instance) {
+        Ok(matching) => Ok(Answer {
+            outcome: Outcome::Done,
+            writes: Vec::new(alloc),
+            text: pairs_text(alloc, instance, &matching)?,
+        }),
+        Err(MatchError::Short(shortage)) => Ok(Answer {
+            outcome: Outcome::NoMatching,
+            writes: Vec::new(alloc),
+            text: shortage_text(alloc, instance, &shortage)?,
+        }),
+        Err(MatchError::Memory) => Err(AllocError),
+    }
+}
+
 /// The question of `match`: which unit becomes which position, or why none can.
 #[derive(Clone, Copy, Drop)]
 pub struct Match;
@@ -19,18 +38,6 @@ impl<I: Inputs<Value = Instance>> Question<I> for Match {
     fn answer(&self, alloc: Global, value: Instance) -> Result<Answer, AllocError>
         ensures { IfOk result (λ a. IsMatched value (reply_of a)) }
     {
-        match first_fit(alloc, &value) {
-            Ok(matching) => Ok(Answer {
-                outcome: Outcome::Done,
-                writes: Vec::new(alloc),
-                text: pairs_text(alloc, &value, &matching)?,
-            }),
-            Err(MatchError::Short(shortage)) => Ok(Answer {
-                outcome: Outcome::NoMatching,
-                writes: Vec::new(alloc),
-                text: shortage_text(alloc, &value, &shortage)?,
-            }),
-            Err(MatchError::Memory) => Err(AllocError),
-        }
+        match_answer(alloc, &value)
     }
 }

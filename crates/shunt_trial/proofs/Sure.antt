@@ -108,6 +108,15 @@ no_input_found : (fs : List Finding) → outcome.Input ≡ audit_outcome fs → 
 no_input_found [] e = let h : outcome.Input ≡ outcome.Done = e in cc
 no_input_found (f ∷ fs) e = let h : outcome.Input ≡ outcome.Findings = e in cc
 
+-- what is written first and before nothing is nothing
+none_first : (first rest : List (List ℕ × List ℕ)) → first ++ rest ≡ [] → first ≡ []
+none_first [] rest e = refl
+none_first (w ∷ first) rest e = let h : w ∷ (first ++ rest) ≡ [] = e in cc
+
+-- and leaves the files as they were
+unwritten : (files now : Files) (first : List (List ℕ × List ℕ)) → first ≡ [] → now ≡ written first files → now ≡ files
+unwritten files now first none e = subst (λ ws. now ≡ written ws files) none e
+
 module _ (files : Files) (s t p k : List ℕ) (x : Checkable) (is : IsProvedIn s t p k files x) where
   its_plan : plans_in s t p files ≡ Ok (x.night, x.plan)
   unfolding stated_check
@@ -123,6 +132,16 @@ module _ (files : Files) (s t p k : List ℕ) (x : Checkable) (is : IsProvedIn s
 
   audited : (r : Reply) → AuditedOver r → IsAudited (x.night, x.plan) r
   audited r (fs, same, told) = subst (λ (y : Result (Night × Plan) (List ℕ)). Decided y IsAudited r) its_plan (subst (λ (f : Files). Decided (plans_in s t p f) IsAudited r) (sym same) told)
+
+  pub audit_keeps : (now : Files) (before after : Option Entries) (r : Result Answer Halt) → Leads AuditedOver (known (Some files) before) (known (Some now) after) r → now ≡ files
+  audit_keeps now before after (Ok a) leads =
+      let its = audited (with_first leads.first (reply_of a)) leads.reply in
+      unwritten files now leads.first (none_first leads.first (reply_of a).writes (ap (λ (r : Reply). r.writes) its.reply)) leads.files
+  audit_keeps now before after (Err (halt.Input text)) leads =
+      let its = audited (with_first leads.first (refusal text.items)) leads.reply in
+      unwritten files now leads.first (none_first leads.first [] (ap (λ (r : Reply). r.writes) its.reply)) leads.files
+  audit_keeps now before after (Err halt.Fault) leads = cc (leads.0)
+  audit_keeps now before after (Err halt.Memory) leads = cc (leads.0)
 
   pub audit_sure : (old new : Known) (r : Result Answer Halt) → (IsErrOf r halt.Fault → ⊥) → Leads AuditedOver old new r → IsSure r
   audit_sure old new (Ok a) fault leads = tt
@@ -170,6 +189,16 @@ module _ (files : Files) (s t p k : List ℕ) (x : Checkable) (is : IsProvedIn s
       let made : Night × Plan → Certificate → Checkable = λ y c. record { night = y.0; plan = y.1; certificate = c } in
       let all : Decided (check_in s t p k fs) IsChecked r = decided_over (plans_in s t p fs) (λ y. stated_certificate y.0 (content fs k)) made IsChecked r told in
       subst (λ (y : Result Checkable (List ℕ)). Decided y IsChecked r) is.stated (subst (λ (f : Files). Decided (check_in s t p k f) IsChecked r) (sym same) all)
+
+  pub check_keeps : (now : Files) (before after : Option Entries) (r : Result Answer Halt) → Leads CheckedOver (known (Some files) before) (known (Some now) after) r → now ≡ files
+  check_keeps now before after (Ok a) leads =
+      let its = checked (with_first leads.first (reply_of a)) leads.reply in
+      unwritten files now leads.first (none_first leads.first (reply_of a).writes (ap (λ (r : Reply). r.writes) its.reply)) leads.files
+  check_keeps now before after (Err (halt.Input text)) leads =
+      let its = checked (with_first leads.first (refusal text.items)) leads.reply in
+      unwritten files now leads.first (none_first leads.first [] (ap (λ (r : Reply). r.writes) its.reply)) leads.files
+  check_keeps now before after (Err halt.Fault) leads = cc (leads.0)
+  check_keeps now before after (Err halt.Memory) leads = cc (leads.0)
 
   pub check_sure : (old new : Known) (r : Result Answer Halt) → (IsErrOf r halt.Fault → ⊥) → Leads CheckedOver old new r → IsSure r
   check_sure old new (Ok a) fault leads = tt

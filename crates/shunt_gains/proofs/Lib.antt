@@ -1,0 +1,4 @@
+mod Known
+mod Small
+mod Stepped
+mod Listed

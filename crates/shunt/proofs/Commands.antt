@@ -15,7 +15,6 @@ use Rattle.shunt_inputs.specs.declared.answers.Answer.{Answer}
 use Rattle.shunt_inputs.specs.declared.loading.Halt.{Halt}
 use Rattle.shunt_judging.specs.defs.Checked.{stated_check, IsChecked}
 use Rattle.shunt_inputs.specs.defs.Halts.{Replies}
-use Rattle.shunt_inputs.proofs.Seeing.{front_names, seen_all}
 use Rattle.shunt.specs.defs.Replies.{IsReply}
 use Rattle.shunt_judging.specs.defs.Pinned.{stated_pin_check, IsPinChecked}
 use Rattle.shunt_judging.specs.defs.Replayed.{stated_turns, IsReplayed}

@@ -14,7 +14,7 @@ use Rattle.shunt_sheet.specs.declared.records.Order.{Order}
 use Rattle.shunt_inputs.specs.declared.answers.Answer.{Answer}
 use Rattle.shunt_inputs.specs.declared.loading.Halt.{Halt}
 use Rattle.shunt_inputs.specs.declared.pins.Pinned.{Pinned}
-use Rattle.shunt_inputs.specs.defs.Inputs.{pinned_in, plans_in, stated_certificate, stated_crew, stated_edits, stated_plan, stated_roster, stated_sheet, stated_station, stated_timetable, stated_zones, then_stated}
+use Rattle.shunt_inputs.specs.defs.Inputs.{pinned_in, plans_in, stated_certificate, stated_crew, stated_edits, stated_other, stated_plan, stated_roster, stated_sheet, stated_station, stated_timetable, stated_zones, then_stated}
 use Rattle.shunt_inputs.specs.defs.Names.{AreNames}
 use Rattle.shunt_inputs.specs.defs.Replies.{Reply, Decided}
 use Rattle.shunt_inputs.specs.defs.Writes.{Known, Leads}
@@ -27,9 +27,10 @@ use Rattle.shunt_judging.specs.defs.Replayed.{Replayable, stated_turns, IsReplay
 use Rattle.shunt_throat.specs.defs.Passed.{Passable, stated_passing, IsPassed}
 use Rattle.shunt_throat.specs.defs.Rostered.{Rosterable, stated_rostering, IsRostered}
 use Rattle.shunt_throat.specs.defs.Shared.{Sharable, stated_sharing, IsShared}
+use Rattle.shunt_dispatch.specs.defs.Compared.{Comparable, stated_comparison, IsCompared}
 use Rattle.shunt_dispatch.specs.defs.Followed.{Followable, IsFollowed}
 use Rattle.shunt_exchange.specs.defs.Upgraded.{Upgradable, IsUpgraded}
-use Rattle.shunt.specs.defs.Words.{Call, Match, Follow, Audit, Delay, Report, Check, Zones, Sheet, Draw, Upgrade, Trial, Drivers, Roster, CheckPinned, Replay, MakePlan, MakePinned, IsUsable, inputs_of}
+use Rattle.shunt.specs.defs.Words.{Call, Match, Follow, Audit, Delay, Report, Check, Compare, Zones, Sheet, Draw, Upgrade, Trial, Drivers, Roster, CheckPinned, Replay, MakePlan, MakePinned, IsUsable, inputs_of}
 use Rattle.shunt.specs.defs.Replies.{IsReply, IsReplyOver}
 
 -- what leads to an answer over the files leads to one of the command
@@ -44,6 +45,7 @@ inputs_usable (Audit s t p) u = u
 inputs_usable (Delay s t p) u = u
 inputs_usable (Report s t p) u = u
 inputs_usable (Check s t p k) u = u
+inputs_usable (Compare s t p o) u = u
 inputs_usable (Zones s t p z) u = u
 inputs_usable (Sheet s t p n) u = front_names (s ∷ t ∷ p ∷ []) (n ∷ []) u
 inputs_usable (Draw s t p n) u = front_names (s ∷ t ∷ p ∷ []) (n ∷ []) u
@@ -71,6 +73,13 @@ checkable x certificate = record { night = x.0; plan = x.1; certificate = certif
 pub checked_over : (files : Files) (s t p k : List ℕ) (r : Reply) → Beside (plans_in s t p files) (λ x. stated_certificate x.0 (content files k)) (λ (v : (Night × Plan) × Certificate). IsChecked (checkable v.0 v.1)) r → IsReply (Check s t p k) files r
 unfolding stated_check
 checked_over files s t p k r h = decided_over (plans_in s t p files) (λ x. stated_certificate x.0 (content files k)) checkable IsChecked r h
+
+abbrev comparable : Night × Plan → Plan → Comparable
+comparable x other = record { night = x.0; plan = x.1; other = other }
+
+pub compared_over : (files : Files) (s t p o : List ℕ) (r : Reply) → Beside (plans_in s t p files) (λ x. stated_other x.0 (content files o)) (λ (v : (Night × Plan) × Plan). IsCompared (comparable v.0 v.1)) r → IsReply (Compare s t p o) files r
+unfolding stated_comparison
+compared_over files s t p o r h = decided_over (plans_in s t p files) (λ x. stated_other x.0 (content files o)) comparable IsCompared r h
 
 abbrev passable : Night × Plan → ThroatZones → Passable
 passable x zones = record { night = x.0; plan = x.1; zones = zones }

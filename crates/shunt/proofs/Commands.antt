@@ -6,7 +6,7 @@ use Rattle.std.specs.Fmt.{decimal}
 use Rattle.std.specs.Str.Parse.{digits_value}
 use Rattle.shunt_base.proofs.Decimal.{value_again}
 use Rattle.shunt_store.specs.defs.Files.{Files}
-use Rattle.shunt.specs.defs.Words.{Call, Match, Follow, Audit, Delay, Report, Check, Zones, Sheet, Draw, Upgrade, Trial, Drivers, Roster, CheckPinned, Replay, MakePlan, MakePinned, IsUsable, words_of}
+use Rattle.shunt.specs.defs.Words.{Call, Match, Follow, Audit, Delay, Report, Check, Compare, Zones, Sheet, Draw, Upgrade, Trial, Drivers, Roster, CheckPinned, Replay, MakePlan, MakePinned, IsUsable, words_of}
 use Rattle.shunt_throat.specs.defs.Shared.{stated_sharing, IsShared}
 use Rattle.shunt_inputs.specs.defs.Inputs.{Agrees, stated_night, stated_plans, Holding}
 use Rattle.shunt_judging.specs.defs.Audited.{IsAudited}
@@ -47,6 +47,7 @@ asked (w ∷ s ∷ t ∷ []) = if bytes_eq w (codes "match") then Some (Match s 
 asked (w ∷ s ∷ t ∷ p ∷ []) = if bytes_eq w (codes "audit") then Some (Audit s t p) else if bytes_eq w (codes "delay") then Some (Delay s t p) else if bytes_eq w (codes "report") then Some (Report s t p) else None
 asked (w ∷ s ∷ t ∷ p ∷ k ∷ []) =
     if bytes_eq w (codes "check") then Some (Check s t p k)
+    else if bytes_eq w (codes "compare") then Some (Compare s t p k)
     else if bytes_eq w (codes "zones") then Some (Zones s t p k)
     else if bytes_eq w (codes "sheet") then Some (Sheet s t p k)
     else if bytes_eq w (codes "draw") then Some (Draw s t p k)
@@ -73,6 +74,7 @@ asked_is (Audit s t p) u = refl
 asked_is (Delay s t p) u = refl
 asked_is (Report s t p) u = refl
 asked_is (Check s t p k) u = refl
+asked_is (Compare s t p o) u = refl
 asked_is (Zones s t p z) u = refl
 asked_is (Sheet s t p n) u = refl
 asked_is (Draw s t p n) u = refl

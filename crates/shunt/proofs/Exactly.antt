@@ -24,7 +24,7 @@ use Rattle.shunt_inputs.specs.declared.answers.Outcome.TheVariants as outcome
 use Rattle.shunt_inputs.specs.defs.Pins.{IsUnusable}
 use Rattle.shunt.specs.declared.running.Status.{Status}
 use Rattle.shunt.specs.declared.running.Status.TheVariants as status
-use Rattle.shunt.specs.defs.Words.{Call, Match, Follow, Audit, Delay, Report, Check, Zones, Sheet, Draw, Upgrade, Trial, Drivers, Roster, CheckPinned, Replay, MakePlan, MakePinned, outputs_of}
+use Rattle.shunt.specs.defs.Words.{Call, Match, Follow, Audit, Delay, Report, Check, Compare, Zones, Sheet, Draw, Upgrade, Trial, Drivers, Roster, CheckPinned, Replay, MakePlan, MakePinned, outputs_of}
 use Rattle.shunt.proofs.Writes.{in_some}
 use Rattle.shunt_inputs.specs.defs.Inputs.{Agrees}
 use Rattle.shunt.specs.defs.Inputs.{Value, stated_in, refused}
@@ -35,6 +35,8 @@ use Rattle.shunt_judging.specs.defs.Audited.{IsFaulty, audit_outcome}
 use Rattle.shunt_judging.specs.defs.Checked.{check_outcome}
 use Rattle.shunt_judging.specs.defs.Pinned.{PinChecked, IsLost, IsPinVerdict}
 use Rattle.shunt_dispatch.specs.defs.Delayed.{HasDelays}
+use Rattle.shunt_compare.specs.declared.records.Change.{Change}
+use Rattle.shunt_dispatch.specs.defs.Compared.{compared_outcome}
 use Rattle.shunt_dispatch.specs.defs.Followed.{followed_outcome}
 use Rattle.shunt_blocks.specs.declared.records.Block.{Block}
 use Rattle.shunt_plan.specs.declared.records.Plan.{Plan}
@@ -211,6 +213,11 @@ no_input_sought cost bound e = at (bound == cost) e
     at true e = let h : outcome.Done ≡ outcome.Input = e in cc
     at false e = let h : outcome.Unfinished ≡ outcome.Input = e in cc
 
+no_input_compared : (changes : List Change) (regrouped : List Block) → compared_outcome changes regrouped ≡ outcome.Input → ⊥
+no_input_compared [] [] e = let h : outcome.Done ≡ outcome.Input = e in cc
+no_input_compared (c ∷ changes) regrouped e = let h : outcome.Findings ≡ outcome.Input = e in cc
+no_input_compared [] (b ∷ regrouped) e = let h : outcome.Findings ≡ outcome.Input = e in cc
+
 no_input_followed : (f : Followed) → followed_outcome f ≡ outcome.Input → ⊥
 no_input_followed (answers.Through left) e = let h : outcome.Done ≡ outcome.Input = e in cc
 no_input_followed (answers.Blocked number) e = let h : outcome.Findings ≡ outcome.Input = e in cc
@@ -229,6 +236,9 @@ no_input (Match s t) night r (inl p) o = let e : outcome.Done ≡ outcome.Input 
 no_input (Match s t) night r (inr p) o = let e : outcome.NoMatching ≡ outcome.Input = sym (short_outcome night r p) ∙ o in cc
 no_input (Audit s t p) x r is o = no_input_found is.findings (sym (ap (λ (r : Reply). r.outcome) is.reply) ∙ o)
 no_input (Check s t p k) x r is o = no_input_told is.verdict (sym (ap (λ (r : Reply). r.outcome) is.reply) ∙ o)
+no_input (Compare s t p o) x r (inl f) e = let h : outcome.Findings ≡ outcome.Input = sym (faulty_outcome (x.night, x.plan) r f) ∙ e in cc
+no_input (Compare s t p o) x r (inr (inl f)) e = let h : outcome.Findings ≡ outcome.Input = sym (faulty_outcome (x.night, x.other) r f.faulty) ∙ e in cc
+no_input (Compare s t p o) x r (inr (inr d)) e = no_input_compared d.comparison.changes d.comparison.regrouped (sym (ap (λ (r : Reply). r.outcome) d.reply) ∙ e)
 no_input (Zones s t p z) x r is o = no_input_met (meets_in x.night x.zones x.plan) (sym (ap (λ (r : Reply). r.outcome) is) ∙ o)
 no_input (Drivers s t p c d) x r is o = let e : outcome.Done ≡ outcome.Input = sym (ap (λ (r : Reply). r.outcome) is.reply) ∙ o in cc
 no_input (Roster s t p c d) x r is o = no_input_fault (fault_in x.night x.crew x.plan x.duties) (sym (ap (λ (r : Reply). r.outcome) is) ∙ o)
@@ -281,6 +291,9 @@ own_writes (Match s t) night r name text (inl p) w = subst (λ (q : Reply). In (
 own_writes (Match s t) night r name text (inr p) w = subst (λ (q : Reply). In (name, text) q.writes) p.reply.2 w
 own_writes (Audit s t p) x r name text is w = subst (λ (q : Reply). In (name, text) q.writes) is.reply w
 own_writes (Check s t p k) x r name text is w = subst (λ (q : Reply). In (name, text) q.writes) is.reply w
+own_writes (Compare s t p o) x r name text (inl f) w = subst (λ (q : Reply). In (name, text) q.writes) f.reply w
+own_writes (Compare s t p o) x r name text (inr (inl f)) w = subst (λ (q : Reply). In (name, text) q.writes) f.faulty.reply w
+own_writes (Compare s t p o) x r name text (inr (inr d)) w = subst (λ (q : Reply). In (name, text) q.writes) d.reply w
 own_writes (Zones s t p z) x r name text is w = subst (λ (q : Reply). In (name, text) q.writes) is w
 own_writes (Drivers s t p c d) x r name text is w = one_write d _ name text (subst (λ (q : Reply). In {X = List ℕ × List ℕ} (name, text) q.writes) is.reply w)
 own_writes (Roster s t p c d) x r name text is w = subst (λ (q : Reply). In (name, text) q.writes) is w

@@ -8,6 +8,7 @@ pub mod Audits
 mod Replayed
 mod TurnLines
 mod Checked
+mod Compared
 mod Passed
 mod Shared
 mod Rostered

@@ -25,8 +25,9 @@ ghost use Rattle.shunt_choices.specs.defs.Choices.{partial_plans};
 ghost use Rattle.shunt_proof.specs.declared.records.Certificate.{Certificate};
 ghost use Rattle.shunt_exchange.specs.defs.Upgraded.{Upgradable, upgrade_in};
 ghost use Rattle.shunt_trial.specs.defs.Tried.{made_night, tried};
+ghost use Rattle.shunt_dispatch.specs.defs.Compared.{Comparable, comparison_in, AreAlike};
 ghost use Rattle.shunt_dispatch.specs.defs.Followed.{Followable, following_in, GoesThrough};
-ghost use Rattle.shunt.specs.defs.Words.{Call, Match, Follow, Audit, Delay, Report, Check, Zones, Sheet, Draw, Upgrade, Trial, Drivers, Roster, CheckPinned, Replay, MakePlan, MakePinned, IsUsable, outputs_of};
+ghost use Rattle.shunt.specs.defs.Words.{Call, Match, Follow, Audit, Delay, Report, Check, Compare, Zones, Sheet, Draw, Upgrade, Trial, Drivers, Roster, CheckPinned, Replay, MakePlan, MakePinned, IsUsable, outputs_of};
 ghost use Rattle.shunt_inputs.specs.declared.pins.Pinned.{Pinned};
 ghost use Rattle.shunt_inputs.specs.defs.Inputs.{Agrees, stated_night, pinned_in, plans_in};
 ghost use Rattle.shunt_judging.specs.defs.Checked.{Checkable, check_in, IsProved, BoundsAll};
@@ -46,6 +47,7 @@ ghost use Rattle.shunt.specs.defs.Ends.{Ends, Seen, known_of, CutInText, IsWhole
 use shunt_audit::laws;
 use shunt_audit::laws::findings;
 use shunt_checker::laws::reasons;
+use shunt_compare::laws::same_plans;
 use shunt_drivers::laws::{roster_fault_in_words, stated_values_are_formed, texts_of_rosters};
 use shunt_make::laws::made_nights;
 use shunt_plan::laws::texts_of_plans;
@@ -265,6 +267,29 @@ pub fn check_pinned_bounds_every_plan()
 pub fn check_pinned_completes()
     ensures { (s t i p k : List ℕ) (old new : Seen) (status : Status) (files : Files) (x : PinChecked) → old.files ≡ Some files → pin_check_in s t i p k files ≡ Ok x → (Rose old.store_faults new.store_faults → ⊥) → (Rose old.sink_faults new.sink_faults → ⊥) → Ends (CheckPinned s t i p k) old new status → (status ≡ Status.Done) ⊎ ((status ≡ Status.Findings) ⊎ (status ≡ Status.Memory)) }
 {}
+
+/// `compare` ends with `Done` exactly when the files are accepted, both plans are feasible and state their costs, and each keeps the
+/// other's blocks, whatever their ids; and with `Findings` exactly when they are accepted and it isn't so, unless the store, memory or
+/// the sink came first. It never ends with `NoMatching` or `Unfinished`.
+pub fn compare_done_exactly()
+    ensures done { (s t p o : List ℕ) (old new : Seen) (status : Status) (files : Files) (x : Comparable) → old.files ≡ Some files → comparison_in s t p o files ≡ Ok x → AreAlike x → Ends (Compare s t p o) old new status → (status ≡ Status.Done) ⊎ Yields status }
+    ensures done_only { (s t p o : List ℕ) (old new : Seen) → Ends (Compare s t p o) old new Status.Done → (files : Files) × Agrees old.files files × ((x : Comparable) × (comparison_in s t p o files ≡ Ok x) × AreAlike x) }
+    ensures findings { (s t p o : List ℕ) (old new : Seen) (status : Status) (files : Files) (x : Comparable) → old.files ≡ Some files → comparison_in s t p o files ≡ Ok x → (AreAlike x → ⊥) → Ends (Compare s t p o) old new status → (status ≡ Status.Findings) ⊎ Yields status }
+    ensures findings_only { (s t p o : List ℕ) (old new : Seen) → Ends (Compare s t p o) old new Status.Findings → (files : Files) × Agrees old.files files × ((x : Comparable) × (comparison_in s t p o files ≡ Ok x) × (AreAlike x → ⊥)) }
+    ensures no_matching { (s t p o : List ℕ) (old new : Seen) → Ends (Compare s t p o) old new Status.NoMatching → ⊥ }
+    ensures no_unfinished { (s t p o : List ℕ) (old new : Seen) → Ends (Compare s t p o) old new Status.Unfinished → ⊥ }
+{
+    laws::plan_findings();
+    same_plans();
+}
+
+/// If the files are accepted and neither the store nor the sink fails, `compare` ends with `Done`, `Findings` or `Memory`.
+pub fn compare_completes()
+    ensures { (s t p o : List ℕ) (old new : Seen) (status : Status) (files : Files) (x : Comparable) → old.files ≡ Some files → comparison_in s t p o files ≡ Ok x → (Rose old.store_faults new.store_faults → ⊥) → (Rose old.sink_faults new.sink_faults → ⊥) → Ends (Compare s t p o) old new status → (status ≡ Status.Done) ⊎ ((status ≡ Status.Findings) ⊎ (status ≡ Status.Memory)) }
+{
+    laws::plan_findings();
+    same_plans();
+}
 
 /// `zones` ends with `Done` exactly when the files are accepted and no two moves of the plan meet in a zone, and with `Findings` exactly
 /// where they are accepted and two do, unless the store, memory or the sink came first. It never ends with `NoMatching` or `Unfinished`.

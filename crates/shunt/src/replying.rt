@@ -8,12 +8,12 @@ ghost use Rattle.shunt.specs.defs.Words.{call_of, inputs_of, IsUsable};
 ghost use Rattle.shunt.specs.defs.Replies.{IsReplyOver};
 
 use crate::words::Command;
-use shunt_dispatch::{Delay, Follow, Sheet};
+use shunt_dispatch::{Compare, Delay, Follow, Sheet};
 use shunt_drawing::Draw;
 use shunt_exchange::{Report, TrainFiles, Upgrade};
 use shunt_inputs::{
-    Answer, CertificateFile, CrewFile, EditsFile, Halt, NightFiles, PinnedFiles, PlanFile,
-    RosterFile, SheetFile, StationFile, Then, ZonesFile, reply,
+    Answer, CertificateFile, CrewFile, EditsFile, Halt, NightFiles, OtherFile, PinnedFiles,
+    PlanFile, RosterFile, SheetFile, StationFile, Then, ZonesFile, reply,
 };
 use shunt_judging::{Audit, Check, CheckPinned, Replay};
 use shunt_planning::{Match, reply_to_pinned, reply_to_plan};
@@ -60,6 +60,10 @@ pub fn answer_to<S: Store>(
             let inputs = Then(NightFiles(station, timetable), PlanFile(plan));
             let inputs = Then(inputs, CertificateFile(certificate));
             reply(alloc, store, &inputs, &Check)
+        }
+        Command::Compare(station, timetable, plan, other) => {
+            let inputs = Then(NightFiles(station, timetable), PlanFile(plan));
+            reply(alloc, store, &Then(inputs, OtherFile(other)), &Compare)
         }
         Command::Zones(station, timetable, plan, zones) => {
             let inputs = Then(NightFiles(station, timetable), PlanFile(plan));

@@ -21,6 +21,8 @@ pub enum Command<'w> {
     Report(&'w str, &'w str, &'w str),
     /// `check STATION TIMETABLE PLAN CERT`
     Check(&'w str, &'w str, &'w str, &'w str),
+    /// `compare STATION TIMETABLE PLAN OTHER`
+    Compare(&'w str, &'w str, &'w str, &'w str),
     /// `zones STATION TIMETABLE PLAN ZONES`
     Zones(&'w str, &'w str, &'w str, &'w str),
     /// `sheet STATION TIMETABLE PLAN SHEET`
@@ -214,6 +216,9 @@ fn of_four_files<'w>(
     match word.as_str() {
         "check" if are_four_names(first, second, third, fourth) => {
             Some(Command::Check(first, second, third, fourth))
+        }
+        "compare" if are_four_names(first, second, third, fourth) => {
+            Some(Command::Compare(first, second, third, fourth))
         }
         "zones" if are_four_names(first, second, third, fourth) => {
             Some(Command::Zones(first, second, third, fourth))

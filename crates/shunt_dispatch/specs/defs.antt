@@ -2,3 +2,4 @@
 pub mod Delayed
 pub mod Ordered
 pub mod Followed
+pub mod Compared

@@ -54,6 +54,37 @@ where
     }
 }
 
+/// The file of another plan over a night.
+#[derive(Clone, Copy, Drop)]
+pub struct OtherFile<'n>(pub &'n str);
+
+impl<I: Inputs> InputFile<I> for OtherFile<'_>
+where
+    I::Value: HasNight,
+{
+    type Value = Plan;
+
+    ghost word = { words.Other };
+
+    ghost name = { λ f. f.0.now };
+
+    ghost states = { λ x rows. reading (plan_format (I.Value.night x)) rows };
+
+    ghost formed = { λ x p. IsPlanInRange (I.Value.night x) p };
+
+    fn word(&self) -> FileWord {
+        FileWord::Other
+    }
+
+    fn name(&self) -> &str {
+        self.0
+    }
+
+    fn read(&self, alloc: Global, over: &I::Value, rows: &Vec<Row>) -> Result<Plan, ReadError> {
+        read_plan(alloc, over.night(), rows)
+    }
+}
+
 /// A certificate file over a night.
 #[derive(Clone, Copy, Drop)]
 pub struct CertificateFile<'n>(pub &'n str);

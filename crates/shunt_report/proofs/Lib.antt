@@ -1,3 +1,4 @@
+mod Compared
 mod Events
 mod Lines
 mod OfNight

@@ -7,6 +7,7 @@ pub mod MoveTexts
 pub mod ZonesTexts
 pub mod DriversTexts
 pub mod DelaysTexts
+pub mod ComparisonTexts
 pub mod PlanTexts
 pub mod SheetTexts
 pub mod JsonTexts

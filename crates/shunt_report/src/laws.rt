@@ -12,10 +12,14 @@ ghost use Rattle.shunt_zones.specs.declared.records.Zones.{Zones};
 ghost use Rattle.shunt_zones.specs.defs.ZonesFormat.{IsZones};
 ghost use Rattle.shunt_zones.specs.defs.Meeting.{meets_in};
 ghost use Rattle.shunt_zones.specs.defs.Loading.{loads_in};
+ghost use Rattle.shunt_blocks.specs.defs.Lists.{IsFeasible};
+ghost use Rattle.shunt_compare.specs.declared.records.Comparison.{Comparison};
+ghost use Rattle.shunt_compare.specs.defs.Changes.{IsComparison};
+ghost use Rattle.shunt_report.specs.defs.ComparisonTexts.{IsComparisonOfNight};
 ghost use Rattle.shunt_report.specs.defs.VerdictTexts.{IsVerdictOfNight};
 ghost use Rattle.shunt_report.specs.defs.ZonesTexts.{IsMeetOf};
 
-use shunt_blocks::laws::stays_of_blocks;
+use shunt_blocks::laws::{places, stays_of_blocks};
 
 /// What the verdict on a certificate tells is of the night.
 pub fn verdicts()
@@ -30,4 +34,11 @@ pub fn meets()
 {
     // The call says what the stays of blocks are.
     stays_of_blocks();
+}
+
+/// What one feasible plan does otherwise than another is of the night.
+pub fn comparisons()
+    ensures { (night : Night) (was now : List Block) (c : Comparison) → IsFeasible night was → IsFeasible night now → IsComparison night was now c → IsComparisonOfNight night c }
+{
+    places();
 }

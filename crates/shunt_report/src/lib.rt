@@ -1,6 +1,7 @@
 //! Every text that the program prints.
 #![tactic(auto)]
 
+mod comparisons;
 mod delays;
 mod drivers;
 mod found;
@@ -16,6 +17,7 @@ mod verdicts;
 mod words;
 mod zones;
 
+pub use comparisons::comparison_text;
 pub use delays::delays_text;
 pub use drivers::{roster_text, sharing_text};
 pub use found::findings_text;

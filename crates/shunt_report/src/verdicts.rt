@@ -23,7 +23,11 @@ fn side_word(side: Side) -> &'static [u8]
     }
 }
 
-fn push_option(text: &mut Text, instance: &Instance, park: Option<Park>) -> Result<(), AllocError>
+pub(crate) fn push_option(
+    text: &mut Text,
+    instance: &Instance,
+    park: Option<Park>,
+) -> Result<(), AllocError>
     requires { IsOnTrack instance.now.station park }
     ensures { OnOk result (text.new ≡ text.old ++ option_words instance.now park) }
 {

@@ -3,13 +3,14 @@ use Rattle.std.specs.Prelude.{ℕ, List, Option, Result, Ok}
 use Rattle.shunt_store.specs.defs.Files.{Files, content}
 use Rattle.shunt_instance.specs.defs.Instance.{Night}
 use Rattle.shunt_plan.specs.declared.records.Plan.{Plan}
-use Rattle.shunt.specs.defs.Words.{Call, Match, Follow, Audit, Delay, Report, Check, Zones, Sheet, Draw, Upgrade, Trial, Drivers, Roster, CheckPinned, Replay, MakePlan, MakePinned}
+use Rattle.shunt.specs.defs.Words.{Call, Match, Follow, Audit, Delay, Report, Check, Compare, Zones, Sheet, Draw, Upgrade, Trial, Drivers, Roster, CheckPinned, Replay, MakePlan, MakePinned}
 use Rattle.shunt_judging.specs.defs.Checked.{Checkable, check_in}
 use Rattle.shunt_throat.specs.defs.Passed.{Passable, passing_in}
 use Rattle.shunt_throat.specs.defs.Shared.{Sharable, sharing_in}
 use Rattle.shunt_throat.specs.defs.Rostered.{Rosterable, rostering_in}
 use Rattle.shunt_judging.specs.defs.Pinned.{PinChecked, pin_check_in}
 use Rattle.shunt_judging.specs.defs.Replayed.{Replayable, turns_in}
+use Rattle.shunt_dispatch.specs.defs.Compared.{Comparable, comparison_in}
 use Rattle.shunt_dispatch.specs.defs.Followed.{Followable, following_in}
 use Rattle.shunt_exchange.specs.defs.Upgraded.{Upgradable, upgrade_in}
 use Rattle.std.specs.Result.{result_err}
@@ -24,6 +25,7 @@ Value (Audit s t p) = Night × Plan
 Value (Delay s t p) = Night × Plan
 Value (Report s t p) = Night × Plan
 Value (Check s t p k) = Checkable
+Value (Compare s t p o) = Comparable
 Value (Zones s t p z) = Passable
 Value (Sheet s t p n) = Night × Plan
 Value (Draw s t p n) = Night × Plan
@@ -44,6 +46,7 @@ stated_in (Audit s t p) files = plans_in s t p files
 stated_in (Delay s t p) files = plans_in s t p files
 stated_in (Report s t p) files = plans_in s t p files
 stated_in (Check s t p k) files = check_in s t p k files
+stated_in (Compare s t p o) files = comparison_in s t p o files
 stated_in (Zones s t p z) files = passing_in s t p z files
 stated_in (Sheet s t p n) files = plans_in s t p files
 stated_in (Draw s t p n) files = plans_in s t p files

@@ -1,7 +1,7 @@
 -- The defined answer of a command, over the contents of its files.
 use Rattle.std.specs.Prelude.{Option}
 use Rattle.shunt_store.specs.defs.Files.{Files}
-use Rattle.shunt.specs.defs.Words.{Call, Match, Follow, Audit, Delay, Report, Check, Zones, Sheet, Draw, Upgrade, Trial, Drivers, Roster, CheckPinned, Replay, MakePlan, MakePinned}
+use Rattle.shunt.specs.defs.Words.{Call, Match, Follow, Audit, Delay, Report, Check, Compare, Zones, Sheet, Draw, Upgrade, Trial, Drivers, Roster, CheckPinned, Replay, MakePlan, MakePinned}
 use Rattle.shunt.specs.defs.Inputs.{Value, stated_in}
 use Rattle.shunt_inputs.specs.defs.Inputs.{Agrees}
 use Rattle.shunt_inputs.specs.defs.Replies.{Reply, Decided}
@@ -11,6 +11,7 @@ use Rattle.shunt_judging.specs.defs.Audited.{IsAudited}
 use Rattle.shunt_judging.specs.defs.Checked.{IsChecked}
 use Rattle.shunt_judging.specs.defs.Pinned.{IsPinChecked}
 use Rattle.shunt_judging.specs.defs.Replayed.{IsReplayed}
+use Rattle.shunt_dispatch.specs.defs.Compared.{IsCompared}
 use Rattle.shunt_dispatch.specs.defs.Delayed.{IsDelayed}
 use Rattle.shunt_dispatch.specs.defs.Ordered.{IsOrdered}
 use Rattle.shunt_dispatch.specs.defs.Followed.{IsFollowed}
@@ -30,6 +31,7 @@ IsAnswer (Audit s t p) x r = IsAudited x r
 IsAnswer (Delay s t p) x r = IsDelayed x r
 IsAnswer (Report s t p) x r = IsReported x r
 IsAnswer (Check s t p k) x r = IsChecked x r
+IsAnswer (Compare s t p o) x r = IsCompared x r
 IsAnswer (Zones s t p z) x r = IsPassed x r
 IsAnswer (Sheet s t p n) x r = IsOrdered n x r
 IsAnswer (Draw s t p n) x r = IsDrawn n x r

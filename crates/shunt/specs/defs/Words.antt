@@ -17,6 +17,7 @@ pub data Call : Type 0 where
   Delay : List ℕ → List ℕ → List ℕ → Call
   Report : List ℕ → List ℕ → List ℕ → Call
   Check : List ℕ → List ℕ → List ℕ → List ℕ → Call
+  Compare : List ℕ → List ℕ → List ℕ → List ℕ → Call
   Zones : List ℕ → List ℕ → List ℕ → List ℕ → Call
   Sheet : List ℕ → List ℕ → List ℕ → List ℕ → Call
   Draw : List ℕ → List ℕ → List ℕ → List ℕ → Call
@@ -36,6 +37,7 @@ call_of (command.Audit s t p) = Audit s.now t.now p.now
 call_of (command.Delay s t p) = Delay s.now t.now p.now
 call_of (command.Report s t p) = Report s.now t.now p.now
 call_of (command.Check s t p k) = Check s.now t.now p.now k.now
+call_of (command.Compare s t p o) = Compare s.now t.now p.now o.now
 call_of (command.Zones s t p z) = Zones s.now t.now p.now z.now
 call_of (command.Sheet s t p n) = Sheet s.now t.now p.now n.now
 call_of (command.Draw s t p n) = Draw s.now t.now p.now n.now
@@ -56,6 +58,7 @@ words_of (Audit s t p) = codes "audit" ∷ s ∷ t ∷ p ∷ []
 words_of (Delay s t p) = codes "delay" ∷ s ∷ t ∷ p ∷ []
 words_of (Report s t p) = codes "report" ∷ s ∷ t ∷ p ∷ []
 words_of (Check s t p k) = codes "check" ∷ s ∷ t ∷ p ∷ k ∷ []
+words_of (Compare s t p o) = codes "compare" ∷ s ∷ t ∷ p ∷ o ∷ []
 words_of (Zones s t p z) = codes "zones" ∷ s ∷ t ∷ p ∷ z ∷ []
 words_of (Sheet s t p n) = codes "sheet" ∷ s ∷ t ∷ p ∷ n ∷ []
 words_of (Draw s t p n) = codes "draw" ∷ s ∷ t ∷ p ∷ n ∷ []
@@ -76,6 +79,7 @@ inputs_of (Audit s t p) = s ∷ t ∷ p ∷ []
 inputs_of (Delay s t p) = s ∷ t ∷ p ∷ []
 inputs_of (Report s t p) = s ∷ t ∷ p ∷ []
 inputs_of (Check s t p k) = s ∷ t ∷ p ∷ k ∷ []
+inputs_of (Compare s t p o) = s ∷ t ∷ p ∷ o ∷ []
 inputs_of (Zones s t p z) = s ∷ t ∷ p ∷ z ∷ []
 inputs_of (Sheet s t p n) = s ∷ t ∷ p ∷ []
 inputs_of (Draw s t p n) = s ∷ t ∷ p ∷ []
@@ -96,6 +100,7 @@ outputs_of (Audit s t p) = []
 outputs_of (Delay s t p) = []
 outputs_of (Report s t p) = []
 outputs_of (Check s t p k) = []
+outputs_of (Compare s t p o) = []
 outputs_of (Zones s t p z) = []
 outputs_of (Sheet s t p n) = n ∷ []
 outputs_of (Draw s t p n) = n ∷ []

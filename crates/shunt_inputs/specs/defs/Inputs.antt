@@ -68,6 +68,10 @@ stated_night s t = then_stated (stated_station s) (λ station. then_stated (stat
 abbrev pub stated_plan : Night → List ℕ → Result Plan (List ℕ)
 stated_plan night bytes = stated word.Plan (plan_format night) bytes
 
+-- the file of another plan over a night
+abbrev pub stated_other : Night → List ℕ → Result Plan (List ℕ)
+stated_other night bytes = stated word.Other (plan_format night) bytes
+
 -- the night that a station file and a timetable file state, and the plan that a plan file states in it, or the line for the first
 -- of them that isn't accepted
 abbrev pub stated_plans : List ℕ → List ℕ → List ℕ → Result (Night × Plan) (List ℕ)

@@ -51,6 +51,7 @@ abbrev pub file_word : FileWord → List ℕ
 file_word word.Station = codes "station"
 file_word word.Timetable = codes "timetable"
 file_word word.Plan = codes "plan"
+file_word word.Other = codes "other"
 file_word word.Edits = codes "edits"
 file_word word.Certificate = codes "certificate"
 file_word word.Pins = codes "pins"

@@ -1,7 +1,7 @@
 use Rattle.std.proofs.Common.{ap, refl, Ok}
 use Rattle.shunt_inputs.specs.defs.Writes.{known}
 use Rattle.shunt.specs.defs.Words.{call_of}
-use Rattle.shunt.proofs.Asked.{asked, checked_over, followed_over, inputs_named, passed_over, pin_checked_over, replayed_over, rostered_over, shared_over, upgraded_over}
+use Rattle.shunt.proofs.Asked.{asked, checked_over, compared_over, followed_over, inputs_named, passed_over, pin_checked_over, replayed_over, rostered_over, shared_over, upgraded_over}
 use Rattle.shunt.proofs.Firsts.{first_of, none_heard, pinned_leads, plain, planned_leads}
 use Rattle.shunt.proofs.Commands.{trial_answered}
 use Rattle.shunt.proofs.replying.answer_to.Goals as goal
@@ -59,6 +59,15 @@ returns-in-Check-clause-leads g c = λ view seen. asked _ _ _ view _ _ _ (ap cal
 
 pub returns-in-Check-clause-first : goal.returns-in-Check-clause-first
 returns-in-Check-clause-first g c = first_of _ _ _ _ (ap call_of c.in-Check.is) c.reply-in-Check.ensures.first
+
+pub reply-requires-in-Compare-clause-names : goal.reply-requires-in-Compare-clause-names
+reply-requires-in-Compare-clause-names g c = inputs_named _ _ (ap call_of c.in-Compare.is) c.requires.names
+
+pub returns-in-Compare-clause-leads : goal.returns-in-Compare-clause-leads
+returns-in-Compare-clause-leads g c = λ view seen. asked _ _ _ view _ _ _ (ap call_of c.in-Compare.is) (c.reply-in-Compare.ensures.leads view seen) (λ reply a. (a.0, a.1, compared_over a.0 _ _ _ _ reply a.2))
+
+pub returns-in-Compare-clause-first : goal.returns-in-Compare-clause-first
+returns-in-Compare-clause-first g c = first_of _ _ _ _ (ap call_of c.in-Compare.is) c.reply-in-Compare.ensures.first
 
 pub reply-requires-in-Zones-clause-names : goal.reply-requires-in-Zones-clause-names
 reply-requires-in-Zones-clause-names g c = inputs_named _ _ (ap call_of c.in-Zones.is) c.requires.names

@@ -1,0 +1,3 @@
+pub mod Placed
+mod Below
+mod Same

@@ -40,6 +40,7 @@ fn most_bytes(file: FileWord) -> u64
         FileWord::Station
         | FileWord::Timetable
         | FileWord::Plan
+        | FileWord::Other
         | FileWord::Edits
         | FileWord::Pins
         | FileWord::Zones

@@ -11,12 +11,14 @@ use Rattle.shunt_instance.specs.defs.Instance.{Night}
 use Rattle.shunt_blocks.specs.declared.records.Block.{Block}
 use Rattle.shunt_blocks.specs.defs.Lists.{RunsThrough, placed}
 use Rattle.shunt_choices.specs.defs.Choices.{Choice as PathChoice, IsChoiceAt}
-use Rattle.shunt_prices.specs.defs.Bounds.{IsCasesBound}
 use Rattle.shunt_proof.specs.declared.records.Node.{Node}
+use Rattle.shunt_proof.specs.declared.records.Version.{Version}
+use Rattle.shunt_proof.specs.declared.records.Version.TheVariants.{Prices}
 use Rattle.shunt_proof.specs.defs.Nodes.{node_at, FitsNode, Follows, StandsAfter, AreNodes, CanFollow}
-use Rattle.shunt_proof.specs.defs.Trees.{depth_at, nearest, parent, IsChildOf, choice_from, stated_choice, path_at, duals_at, best_before}
-use Rattle.shunt_proof.specs.defs.Proves.{Shows, IsListed, IsPlaced, IsRight}
-use Rattle.shunt_proof.specs.defs.Accepted.{IsLeanAt}
+use Rattle.shunt_proof.specs.defs.Trees.{depth_at, nearest, parent, IsChildOf, choice_from, stated_choice, path_at, duals_at}
+use Rattle.shunt_proof.specs.defs.Versions.{IsStepBoundIn}
+use Rattle.shunt_proof.specs.defs.Proves.{ShowsIn, IsListed, IsPlaced, IsRightIn}
+use Rattle.shunt_proof.specs.defs.Accepted.{IsLeanIn, IsLeanAt}
 use Rattle.shunt_proof.proofs.Depths.{nearest_low}
 use Rattle.shunt_proof.proofs.Locally.{shows_less}
 use Rattle.shunt_proof.proofs.Fronts.{node_front, depth_front, nearest_front, parent_front, duals_front, path_front, best_front, node_last}
@@ -92,35 +94,41 @@ module _ (nodes more : List Node) where
     placed_front k lt = (placed_to k lt, placed_from k lt)
 
     -- what is locally right stays so
-    pub right_more : (k : ℕ) (L : ℤ) → k < length nodes → IsRight night start nodes k L → IsRight night start (nodes ++ more) k L
-    right_more k L lt r = record { placed = λ some. placed_to k lt (r.placed some); shows = shown }
+    pub right_more : (version : Version) (k : ℕ) (L : ℤ) → k < length nodes → IsRightIn version night start nodes k L → IsRightIn version night start (nodes ++ more) k L
+    right_more version k L lt r = record { placed = λ some. placed_to k lt (r.placed some); shows = shown }
       where
-        wider : Shows night (path_at night start nodes k) (duals_at nodes k) (node_at nodes k).kind (IsListed night start (nodes ++ more) k) L
-        wider = shows_less night (path_at night start nodes k) (duals_at nodes k) (node_at nodes k).kind (IsListed night start nodes k) (IsListed night start (nodes ++ more) k) L L (λ c l. listed_more k c lt l) (omega (arith, ints)) r.shows
+        wider : ShowsIn version night (path_at night start nodes k) (duals_at nodes k) (node_at nodes k).kind (IsListed night start (nodes ++ more) k) L
+        wider = shows_less version night (path_at night start nodes k) (duals_at nodes k) (node_at nodes k).kind (IsListed night start nodes k) (IsListed night start (nodes ++ more) k) L L (λ c l. listed_more k c lt l) (omega (arith, ints)) r.shows
 
-        shown : Shows night (path_at night start (nodes ++ more) k) (duals_at (nodes ++ more) k) (node_at (nodes ++ more) k).kind (IsListed night start (nodes ++ more) k) L
+        shown : ShowsIn version night (path_at night start (nodes ++ more) k) (duals_at (nodes ++ more) k) (node_at (nodes ++ more) k).kind (IsListed night start (nodes ++ more) k) L
         shown =
-            subst (λ (p : List Block). Shows night p (duals_at (nodes ++ more) k) (node_at (nodes ++ more) k).kind (IsListed night start (nodes ++ more) k) L) (sym (path_front nodes more night start k lt))
-            (subst (λ (cs : List Case). Shows night (path_at night start nodes k) cs (node_at (nodes ++ more) k).kind (IsListed night start (nodes ++ more) k) L) (sym (duals_front nodes more k lt))
-            (subst (λ (n : Node). Shows night (path_at night start nodes k) (duals_at nodes k) n.kind (IsListed night start (nodes ++ more) k) L) (sym (node_front nodes more k lt)) wider))
+            subst (λ (p : List Block). ShowsIn version night p (duals_at (nodes ++ more) k) (node_at (nodes ++ more) k).kind (IsListed night start (nodes ++ more) k) L) (sym (path_front nodes more night start k lt))
+            (subst (λ (cs : List Case). ShowsIn version night (path_at night start nodes k) cs (node_at (nodes ++ more) k).kind (IsListed night start (nodes ++ more) k) L) (sym (duals_front nodes more k lt))
+            (subst (λ (n : Node). ShowsIn version night (path_at night start nodes k) (duals_at nodes k) n.kind (IsListed night start (nodes ++ more) k) L) (sym (node_front nodes more k lt)) wider))
 
     same_duals : (k : ℕ) → k < length nodes → duals_at (nodes ++ more) (parent (nodes ++ more) k) ≡ duals_at nodes (parent nodes k)
     same_duals k lt = ap (duals_at (nodes ++ more)) (parent_front nodes more k lt) ∙ duals_front nodes more (parent nodes k) (parent_low k lt)
 
-    abbrev Leans : List Block → List Case → ℕ → Type 0
-    Leans path cases best = (bound : ℤ) × IsCasesBound night path cases bound × (bound <ℤ pos best)
+    abbrev Leans : Version → List Block → List Block → List Case → ℕ → Type 0
+    Leans version above path cases best = (bound : ℤ) × IsStepBoundIn version night above path cases bound × (bound <ℤ pos best)
 
-    moved : (p q : List Block) (c d : List Case) (b e : ℕ) → p ≡ q → c ≡ d → b ≡ e → Leans p c b → Leans q d e
-    moved p q c d b e x y z l = subst (λ (w : List Block). Leans w d e) x (subst (λ (w : List Case). Leans p w e) y (subst (λ (w : ℕ). Leans p c w) z l))
+    moved : (version : Version) (o u p q : List Block) (c d : List Case) (b e : ℕ) → o ≡ u → p ≡ q → c ≡ d → b ≡ e → Leans version o p c b → Leans version u q d e
+    moved version o u p q c d b e w x y z l =
+        subst (λ (v : List Block). Leans version v q d e) w (subst (λ (v : List Block). Leans version o v d e) x (subst (λ (v : List Case). Leans version o p v e) y (subst (λ (v : ℕ). Leans version o p c v) z l)))
 
-    pub lean_front : (k : ℕ) → k < length nodes → IsLeanAt night start nodes k ↔ IsLeanAt night start (nodes ++ more) k
-    lean_front k lt =
+    -- what is lean stays so, and was so before
+    pub lean_more : (version : Version) (k : ℕ) → k < length nodes → IsLeanIn version night start nodes k ↔ IsLeanIn version night start (nodes ++ more) k
+    lean_more version k lt =
+        let u = up k lt in
         let p = path_front nodes more night start k lt in
         let d = same_duals k lt in
         let b = best_front nodes more night start k (omega (arith, lt)) in (
-          λ l. let m = moved (path_at night start nodes k) (path_at night start (nodes ++ more) k) (duals_at nodes (parent nodes k)) (duals_at (nodes ++ more) (parent (nodes ++ more) k)) (best_before night start nodes k) (best_before night start (nodes ++ more) k) (sym p) (sym d) (sym b) (l.bound, l.is, l.below) in record { bound = m.0; is = m.1; below = m.2 },
-          λ l. let m = moved (path_at night start (nodes ++ more) k) (path_at night start nodes k) (duals_at (nodes ++ more) (parent (nodes ++ more) k)) (duals_at nodes (parent nodes k)) (best_before night start (nodes ++ more) k) (best_before night start nodes k) p d b (l.bound, l.is, l.below) in record { bound = m.0; is = m.1; below = m.2 },
+          λ l. let m = moved version _ _ _ _ _ _ _ _ (sym u) (sym p) (sym d) (sym b) (l.bound, l.is, l.below) in record { bound = m.0; is = m.1; below = m.2 },
+          λ l. let m = moved version _ _ _ _ _ _ _ _ u p d b (l.bound, l.is, l.below) in record { bound = m.0; is = m.1; below = m.2 },
         )
+
+    pub lean_front : (k : ℕ) → k < length nodes → IsLeanAt night start nodes k ↔ IsLeanAt night start (nodes ++ more) k
+    lean_front k lt = lean_more Prices k lt
 
 -- ---- one more
 

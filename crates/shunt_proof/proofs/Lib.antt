@@ -4,6 +4,7 @@ pub mod Ancestors
 pub mod Children
 pub mod Bests
 pub mod Growing
+pub mod Decided
 pub mod Locally
 pub mod Costs
 pub mod Proved
@@ -11,6 +12,7 @@ pub mod Few
 pub mod Noted
 pub mod Starts
 pub mod Whole
+pub mod Stacked
 mod Examples
 pub mod CasesBack
 pub mod HeadsBack

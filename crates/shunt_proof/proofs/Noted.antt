@@ -9,9 +9,12 @@ use Rattle.shunt_blocks.specs.defs.Pins.{without_id}
 use Rattle.shunt_choices.specs.defs.Choices.{Choice as PathChoice, IsChoiceAt, longer_by}
 use Rattle.shunt_proof.specs.declared.records.Choice.{Choice}
 use Rattle.shunt_proof.specs.declared.records.Node.{Node}
+use Rattle.shunt_proof.specs.declared.records.Version.{Version}
+use Rattle.shunt_proof.specs.declared.records.Version.TheVariants.{Prices}
 use Rattle.shunt_proof.specs.defs.Nodes.{node_at, AreNodes}
 use Rattle.shunt_proof.specs.defs.Trees.{depth_at, nearest, parent, IsChildOf, choice_from, stated_choice, longer_with, path_at, cases_or, duals_at, best_with, best_before}
-use Rattle.shunt_proof.specs.defs.Accepted.{IsLeanAt}
+use Rattle.shunt_proof.specs.defs.Versions.{IsStepBoundIn}
+use Rattle.shunt_proof.specs.defs.Accepted.{IsLeanIn, IsLeanAt}
 use Rattle.shunt_prices.specs.defs.Bounds.{IsCasesBound}
 use Rattle.shunt_proof.specs.defs.Proves.{IsListed, IsPlaced}
 use Rattle.shunt_proof.proofs.Depths.{above, parent_found, its_child, child_path, child_duals}
@@ -73,18 +76,26 @@ last_best night start nodes n =
     ap (λ (m : Node). best_with m.kind (total_cost night (path_at night start (nodes ++ n ∷ []) (length nodes))) (best_before night start (nodes ++ n ∷ []) (length nodes))) (node_last nodes n)
     ∙ ap (λ (b : ℕ). best_with n.kind (total_cost night (path_at night start (nodes ++ n ∷ []) (length nodes))) b) (best_front nodes (n ∷ []) night start (length nodes) (omega arith))
 
--- it is lean where the bound of its path is below the best cost before it
-pub last_lean : (night : Night) (start : List Block) (nodes : List Node) (n : Node) (bound : ℤ) → AreNodes night (nodes ++ n ∷ []) → 1 ≤ length nodes
-    → IsCasesBound night (path_at night start (nodes ++ n ∷ []) (length nodes)) (duals_at nodes (nearest nodes (n.depth - 1) (length nodes))) bound → bound <ℤ pos (best_before night start nodes (length nodes))
-    → IsLeanAt night start (nodes ++ n ∷ []) (length nodes)
-last_lean night start nodes n bound h some is below =
+-- it is lean where the bound of its path by its parent's duals is below the best cost before it
+pub last_leans : (version : Version) (night : Night) (start : List Block) (nodes : List Node) (n : Node) (bound : ℤ) → AreNodes night (nodes ++ n ∷ []) → 1 ≤ length nodes
+    → IsStepBoundIn version night (take (length start + (n.depth - 1)) (path_at night start nodes (length nodes - 1))) (path_at night start (nodes ++ n ∷ []) (length nodes)) (duals_at nodes (nearest nodes (n.depth - 1) (length nodes))) bound
+    → bound <ℤ pos (best_before night start nodes (length nodes)) → IsLeanIn version night start (nodes ++ n ∷ []) (length nodes)
+last_leans version night start nodes n bound h some is below =
+    let own = path_at night start (nodes ++ n ∷ []) (length nodes) in
     let same : duals_at (nodes ++ n ∷ []) (parent (nodes ++ n ∷ []) (length nodes)) ≡ duals_at nodes (nearest nodes (n.depth - 1) (length nodes)) =
     ap (duals_at (nodes ++ n ∷ [])) (last_parent nodes n) ∙ duals_front nodes (n ∷ []) (nearest nodes (n.depth - 1) (length nodes)) (parent_in night nodes n h some) in
     record {
       bound = bound;
-      is = subst (λ (cs : List Case). IsCasesBound night (path_at night start (nodes ++ n ∷ []) (length nodes)) cs bound) (sym same) is;
+      is =
+          subst (λ (p : List Block). IsStepBoundIn version night p own (duals_at (nodes ++ n ∷ []) (parent (nodes ++ n ∷ []) (length nodes))) bound) (sym (parent_path night nodes n h some start))
+          (subst (λ (cs : List Case). IsStepBoundIn version night (above_last night nodes n h some start) own cs bound) (sym same) is);
       below = subst (λ (b : ℕ). bound <ℤ pos b) (sym (best_front nodes (n ∷ []) night start (length nodes) (omega arith))) below;
     }
+
+pub last_lean : (night : Night) (start : List Block) (nodes : List Node) (n : Node) (bound : ℤ) → AreNodes night (nodes ++ n ∷ []) → 1 ≤ length nodes
+    → IsCasesBound night (path_at night start (nodes ++ n ∷ []) (length nodes)) (duals_at nodes (nearest nodes (n.depth - 1) (length nodes))) bound → bound <ℤ pos (best_before night start nodes (length nodes))
+    → IsLeanAt night start (nodes ++ n ∷ []) (length nodes)
+last_lean night start nodes n bound h some is below = last_leans Prices night start nodes n bound h some is below
 
 -- ---- nodes that are known by their paths
 

@@ -1,6 +1,7 @@
 -- The definitions of this crate.
 pub mod Nodes
 pub mod Trees
+pub mod Versions
 pub mod Proves
 pub mod Accepted
 pub mod Certificates

@@ -18,9 +18,9 @@ ghost use Rattle.shunt_proof.specs.defs.Trees.{IsStart, depth_at, nearest, paren
 ghost use Rattle.shunt_proof.specs.defs.Proves.{Reaches, IsListed, IsPlaced, Proves, IsRight, AreRight};
 ghost use Rattle.shunt_proof.specs.defs.Accepted.{IsLeanAt, IsAccepted};
 
-use shunt_blocks::laws::{few_blocks, places};
-use shunt_choices::laws::{choices, held_choices, plans_counted, plans_grow};
-use shunt_prices::laws::{bounds, longer_paths, weak_duality, weights};
+use crate::version_laws::{bounds_by_version, proved_by_version, trees_by_version};
+use shunt_blocks::laws::few_blocks;
+use shunt_choices::laws::{choices, plans_counted, plans_grow};
 
 /// Depths rise by one at most, and only below a branch. So for each lesser depth there is a branch of it before a node, and each
 /// node but the root has a parent, whose path its own begins with and whose cases it has where it has none of its own.
@@ -120,7 +120,8 @@ pub fn trees()
     ensures reaches { (night : Night) (path : List Block) (cases : List Case) (bound L : ℤ) → IsCasesBound night path cases bound →
         Reaches night path cases L ↔ (L ≤ℤ bound) }
 {
-    bounds();
+    trees_by_version();
+    bounds_by_version();
 }
 
 /// There is one list of the pins in the order of their first units. It has the opening cost of the pins, a plan that keeps the pins
@@ -144,11 +145,7 @@ pub fn proved_bounds()
         AreNodes night c.nodes → ShareNothing night pins → IsAccepted night pins own stated c → IsFeasible night plan → Keeps plan pins →
         c.bound ≤ total_cost night plan }
 {
-    places();
-    held_choices();
-    longer_paths();
-    weak_duality();
-    weights();
+    proved_by_version();
 }
 
 /// If each node is placed, no two nodes have one path, whatever the ids; so a node lists a choice where some node has the path with
@@ -185,4 +182,5 @@ pub fn few_nodes()
     choices();
     plans_grow();
     plans_counted();
+    proved_by_version();
 }

@@ -12,11 +12,12 @@ mod records;
 pub mod text_laws;
 mod text_recorder;
 mod values;
+pub mod version_laws;
 mod writing;
 
 pub use draft::read_certificate;
 pub use list_recorder::ListRecorder;
 pub use recorder::{RecordError, Recorder};
-pub use records::{Certificate, Choice, Node, NodeDuals, NodeKind};
+pub use records::{Certificate, Choice, Node, NodeDuals, NodeKind, Version};
 pub use text_recorder::{TextRecorder, begin_certificate};
 pub use writing::write_certificate;

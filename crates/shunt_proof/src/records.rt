@@ -47,6 +47,15 @@ pub struct Node {
     pub duals: NodeDuals,
 }
 
+/// What the cases of nodes are asked for, and what they bound.
+#[derive(Clone, Copy, Debug, PartialEq, Eq, Drop)]
+pub enum Version {
+    /// Version 1: all options, and prices alone.
+    Prices,
+    /// Version 2: nothing of options that come and go by one side, and less what such blocks gain at most.
+    Stacks,
+}
+
 /// A tree of nodes in pre-order, the cost of a plan, and the bound that the tree shows.
 #[derive(Debug, Drop)]
 pub struct Certificate {

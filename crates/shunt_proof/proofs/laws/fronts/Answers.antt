@@ -1,3 +1,4 @@
+use Rattle.shunt_proof.specs.declared.records.Version.TheVariants.{Prices}
 use Rattle.shunt_proof.proofs.Fronts.{node_front, nearest_front, parent_front, path_front, duals_front, best_front}
 use Rattle.shunt_proof.proofs.Growing.{front_nodes, placed_front, lean_front, listed_more, right_more}
 use Rattle.shunt_proof.proofs.laws.fronts.Goals as goal
@@ -14,5 +15,5 @@ returns c = record {
   placed = λ night start nodes more k lt. placed_front nodes more night start k lt;
   lean = λ night start nodes more k lt. lean_front nodes more night start k lt;
   listed = λ night start nodes more k x lt l. listed_more nodes more night start k x lt l;
-  right = λ night start nodes more k L lt r. right_more nodes more night start k L lt r;
+  right = λ night start nodes more k L lt r. right_more nodes more night start Prices k L lt r;
 }

@@ -78,7 +78,7 @@ module _ (night : Night) (path : List Block) (cases : List Case) (best : ℕ) (c
             (its_choice i d i_in ∙ same_choice ∙ sym (its_choice j d within)),
       )
 
-module _ (night : Night) (formed_night : IsInstance night) (laws : CountLaws) (start : List Block) (stock : List (List Case)) (floor : ℕ) (nodes : List Node) (path : List Block) (left : List Pending) (t : Pending) (best : ℕ) (low : ℤ) (W : IsWalk night start stock floor nodes path (left ++ t ∷ []) best low) (n : Node) (c : Choice) (depth : length start + n.depth ≡ kept t.child + 1) (choice : n.choice ≡ Some c) (is : choice_from night (take (kept t.child) path) c ≡ choice_of t.child.block) (fits : FitsNode night n) (below : t.child.bound <ℤ pos best) where
+module _ (night : Night) (formed_night : IsInstance night) (laws : CountLaws) (start : List Block) (stock : List (List Case)) (floor : ℤ) (nodes : List Node) (path : List Block) (left : List Pending) (t : Pending) (best : ℕ) (low : ℤ) (W : IsWalk night start stock floor nodes path (left ++ t ∷ []) best low) (n : Node) (c : Choice) (depth : length start + n.depth ≡ kept t.child + 1) (choice : n.choice ≡ Some c) (is : choice_from night (take (kept t.child) path) c ≡ choice_of t.child.block) (fits : FitsNode night n) (below : t.child.bound <ℤ pos best) where
   abbrev Q : List Block
   Q = take (kept t.child) path
 
@@ -138,13 +138,13 @@ module _ (night : Night) (formed_night : IsInstance night) (laws : CountLaws) (s
   to_goal : longer_by Q (choice_from night Q c) ≡ goal
   to_goal = ap (λ (k : PathChoice). longer_by Q k) is ∙ longer_is Q t.child.block p.next.id
 
-  new_path : path_at night start more (length nodes) ≡ goal
+  pub new_path : path_at night start more (length nodes) ≡ goal
   new_path = last_path night nodes n formed W.some start
       ∙ ap (λ o. longer_with night (take (length start + (n.depth - 1)) (path_at night start nodes (length nodes - 1))) o) choice
       ∙ ap (λ (l : List Block). longer_by l (choice_from night l c)) (sym up)
       ∙ to_goal
 
-  new_size : length goal ≡ length start + n.depth
+  pub new_size : length goal ≡ length start + n.depth
   new_size = let long = length-append Q (t.child.block ∷ []) in omega (arith, long, kept_is, depth)
 
   -- ---- it is placed and lean
@@ -161,7 +161,7 @@ module _ (night : Night) (formed_night : IsInstance night) (laws : CountLaws) (s
       (λ past. subst (λ j. IsPlaced night start more j) (let e : length nodes ≡ k = omega (arith, past, lt, size) in e) new_placed)
       (cases_lt k (length nodes))
 
-  above_is : nearest nodes (n.depth - 1) (length nodes) ≡ t.parent
+  pub above_is : nearest nodes (n.depth - 1) (length nodes) ≡ t.parent
   above_is = let e : n.depth - 1 ≡ depth_at nodes t.parent = omega (arith, under) in ap (λ d. nearest nodes d (length nodes)) e ∙ p.last
 
   above_cases : duals_at nodes (nearest nodes (n.depth - 1) (length nodes)) ≡ duals_at nodes t.parent
@@ -180,7 +180,7 @@ module _ (night : Night) (formed_night : IsInstance night) (laws : CountLaws) (s
 
   -- ---- the other children of the stack
 
-  apart_from : (s : Pending) → In s left → IsApart s t
+  pub apart_from : (s : Pending) → In s left → IsApart s t
   apart_from s i =
       let at = place_of left s s i in
       let lt = at.1 in
@@ -193,7 +193,7 @@ module _ (night : Night) (formed_night : IsInstance night) (laws : CountLaws) (s
   same_front : (s : Pending) → kept s.child ≤ kept t.child → take (kept s.child) goal ≡ take (kept s.child) path
   same_front s le = take-append-le (kept s.child) Q (t.child.block ∷ []) (omega (arith, le, kept_is)) ∙ take_less (kept s.child) (kept t.child) path le
 
-  same_goal : (s : Pending) → kept s.child ≤ kept t.child → goal_of goal s.child ≡ goal_of path s.child
+  pub same_goal : (s : Pending) → kept s.child ≤ kept t.child → goal_of goal s.child ≡ goal_of path s.child
   same_goal s le = ap (λ (l : List Block). more_by l s.child.block) (same_front s le)
 
   other_goal : (s : Pending) → IsApart s t → goal ≢ goal_of path s.child
@@ -294,7 +294,7 @@ module _ (night : Night) (formed_night : IsInstance night) (laws : CountLaws) (s
 
   -- ---- the new node is a branch
 
-  module _ (kind : n.kind ≡ Branch) (place : ℕ) (in_stock : place < length stock) (own : cases_or n.duals (cases_in stock t.cases) ≡ cases_in stock place) (waiting : List Pending) (adds : AddsChildren night stock best goal (length nodes) place left waiting) (rise : OpensAbove night goal (cases_in stock place) best (pos floor)) (holds : CasesHold night goal (cases_in stock place)) (unfinished : IsSome (next_of (masks_of night goal))) where
+  module _ (kind : n.kind ≡ Branch) (place : ℕ) (in_stock : place < length stock) (own : cases_or n.duals (cases_in stock t.cases) ≡ cases_in stock place) (waiting : List Pending) (adds : AddsChildren night stock best goal (length nodes) place left waiting) (rise : OpensAbove night goal (cases_in stock place) best floor) (holds : CasesHold night goal (cases_in stock place)) (unfinished : IsSome (next_of (masks_of night goal))) where
     abbrev cases : List Case
     cases = cases_in stock place
 
@@ -307,10 +307,10 @@ module _ (night : Night) (formed_night : IsInstance night) (laws : CountLaws) (s
     C : AreChildren night goal cases best children
     C = adds.are
 
-    new_duals : duals_at more (length nodes) ≡ cases
+    pub new_duals : duals_at more (length nodes) ≡ cases
     new_duals = last_duals night nodes n formed W.some ∙ ap (λ (d : List Case). cases_or n.duals d) (above_cases ∙ sym p.cases) ∙ own
 
-    keeps_goal : (s : Pending) → In s added → kept s.child ≡ length goal
+    pub keeps_goal : (s : Pending) → In s added → kept s.child ≡ length goal
     keeps_goal s i = keeps_all night goal cases best children C added adds.adds.each s i
 
     front_is : (s : Pending) → In s added → take (kept s.child) goal ≡ goal
@@ -449,7 +449,7 @@ module _ (night : Night) (formed_night : IsInstance night) (laws : CountLaws) (s
 none_formed : (night : Night) → AreNodes night []
 none_formed night = record { each = λ k d lt. absurd (omega (arith, lt)); root = λ lt. absurd (omega (arith, lt)); follow = λ k lt. absurd (omega (arith, lt)) }
 
-module _ (night : Night) (start : List Block) (stock : List (List Case)) (floor : ℕ) (n : Node) (fits : FitsNode night n) (depth : n.depth ≡ 0) where
+module _ (night : Night) (start : List Block) (stock : List (List Case)) (floor : ℤ) (n : Node) (fits : FitsNode night n) (depth : n.depth ≡ 0) where
   abbrev alone : List Node
   alone = n ∷ []
 
@@ -465,7 +465,7 @@ module _ (night : Night) (start : List Block) (stock : List (List Case)) (floor 
   first_best : (k : NodeKind) → n.kind ≡ k → best_before night start alone 1 ≡ best_with k (total_cost night start) (opening_cost night start)
   first_best k e = ap (λ kd. best_with kd (total_cost night (path_at night start alone 0)) (opening_cost night start)) e ∙ ap (λ (l : List Block). best_with k (total_cost night l) (opening_cost night start)) root_at
 
-  module _ (best : ℕ) (low : ℤ) (opening : best ≤ opening_cost night start) (within : low ≤ℤ pos best) (kind : n.kind ≡ Branch) (place : ℕ) (in_stock : place < length stock) (own : cases_or n.duals [] ≡ cases_in stock place) (waiting : List Pending) (adds : AddsChildren night stock best start 0 place [] waiting) (above : OpensAbove night start (cases_in stock place) best (pos floor)) (holds : CasesHold night start (cases_in stock place)) (unfinished : IsSome (next_of (masks_of night start))) where
+  module _ (best : ℕ) (low : ℤ) (opening : best ≤ opening_cost night start) (within : low ≤ℤ pos best) (kind : n.kind ≡ Branch) (place : ℕ) (in_stock : place < length stock) (own : cases_or n.duals [] ≡ cases_in stock place) (waiting : List Pending) (adds : AddsChildren night stock best start 0 place [] waiting) (above : OpensAbove night start (cases_in stock place) best floor) (holds : CasesHold night start (cases_in stock place)) (unfinished : IsSome (next_of (masks_of night start))) where
     abbrev first_cases : List Case
     first_cases = cases_in stock place
 

@@ -8,8 +8,12 @@ mod Placed
 mod Nexts
 mod Yarding
 mod Offered
+mod Lifting
 mod Walked
 mod Arrived
+mod Steadied
+mod Passed
+mod Fronted
 mod NodesBelow
 mod Visits
 mod Waiting

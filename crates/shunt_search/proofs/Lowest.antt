@@ -1,4 +1,4 @@
--- The path of a child that is left is a partial plan, and costs of plans are at least what the bound at the root is.
+-- The path of a child that is left is a partial plan, and costs of plans are at least what a bound at the root is.
 use Rattle.std.specs.Prelude.{take, ◌≤ℤ◌}
 use Rattle.std.proofs.Common.{◌≡◌, ◌↔◌, ℕ, ◌<◌, ◌≤◌, List, length, ℤ, pos, sym, subst, arith, IsPermutation}
 use Rattle.std.proofs.lemmas.Int.{ints}
@@ -16,11 +16,10 @@ use Rattle.shunt_prices.specs.defs.Bounds.{IsCasesBound}
 use Rattle.shunt_proof.specs.declared.records.Node.{Node}
 use Rattle.shunt_proof.specs.defs.Nodes.{AreNodes}
 use Rattle.shunt_proof.specs.defs.Trees.{IsStart, path_at}
-use Rattle.shunt_proof.specs.defs.Proves.{IsPlaced}
+use Rattle.shunt_proof.specs.defs.Proves.{Reaches, IsPlaced}
 use Rattle.shunt_search.specs.declared.walking.Pending.{Pending}
 use Rattle.shunt_search.specs.defs.Yards.{choice_of, more_by, IsNextBlock}
 use Rattle.shunt_search.specs.defs.Walking.{kept, goal_of, IsWalk}
-use Rattle.shunt_search.specs.defs.Roots.{IsAbove}
 use Rattle.shunt_search.proofs.Offered.{longer_is}
 
 -- paths of nodes are partial plans, and grow by choices
@@ -38,7 +37,7 @@ open_partial grows night pins path b partial next through =
     subst (λ (l : List Block). IsPartialPlan night pins l) is ((grows night pins path (choice_of b) partial next.choice).1 (subst (λ (l : List Block). RunsThrough night (placed l)) (sym is) through))
 
 -- the path of a child that is left is a partial plan
-pub pending_plan : PartialLaw → GrowsLaw → (night : Night) → IsInstance night → (pins start : List Block) → AreUsable night pins → IsStart night pins start → (stock : List (List Case)) (floor : ℕ) (nodes : List Node) (path : List Block) (waiting : List Pending) (best : ℕ) (low : ℤ) (t : Pending)
+pub pending_plan : PartialLaw → GrowsLaw → (night : Night) → IsInstance night → (pins start : List Block) → AreUsable night pins → IsStart night pins start → (stock : List (List Case)) (floor : ℤ) (nodes : List Node) (path : List Block) (waiting : List Pending) (best : ℕ) (low : ℤ) (t : Pending)
     → IsWalk night start stock floor nodes path waiting best low → In t waiting → IsPartialPlan night pins (goal_of path t.child)
 pending_plan partial grows night i pins start usable begins stock floor nodes path waiting best low t walk there =
     let p = walk.pending t there in
@@ -46,23 +45,21 @@ pending_plan partial grows night i pins start usable begins stock floor nodes pa
     let here = subst (λ (l : List Block). IsPartialPlan night pins l) p.here parent in
     open_partial grows night pins (take (kept t.child) path) t.child.block here p.next p.through
 
--- a plan that keeps the pins costs at least what the bound at their path is
+-- a plan that keeps the pins costs at least what cases bound their path by
 abbrev pub CostLaw : Type 0
-CostLaw = (night : Night) (pins start : List Block) (cases : List Case) (floor : ℕ) (plan : List Block) → IsInstance night → AreUsable night pins → IsStart night pins start → AreCases night cases → CasesHold night start cases → IsAbove night start cases floor
-    → IsFeasible night plan → Keeps plan pins → floor ≤ total_cost night plan
+CostLaw = (night : Night) (pins start : List Block) (cases : List Case) (floor : ℤ) (plan : List Block) → IsInstance night → AreUsable night pins → IsStart night pins start → AreCases night cases → CasesHold night start cases → Reaches night start cases floor
+    → IsFeasible night plan → Keeps plan pins → floor ≤ℤ pos (total_cost night plan)
 
 -- what the laws of the crates below say
 pub record FloorLaws : Type 0 where
   pub keeps : (plan pins others : List Block) → IsPermutation pins others → Keeps plan pins → Keeps plan others
   pub begins : (night : Night) (pins start : List Block) → IsInstance night → AreUsable night pins → IsStart night pins start → IsPartialPlan night pins start
-  pub of_cases : (night : Night) (path : List Block) (cases : List Case) → 1 ≤ length cases → (bound : ℤ) × IsCasesBound night path cases bound
   pub dual : (night : Night) (plan path : List Block) (cases : List Case) (bound : ℤ) → IsInstance night → IsFeasible night plan → ShareNothing night path → Keeps plan path → AreCases night cases → CasesHold night path cases
       → IsCasesBound night path cases bound → bound ≤ℤ pos (total_cost night plan)
 
 pub cost : FloorLaws → CostLaw
-cost laws night pins start cases floor plan i usable begins are hold above feasible keeps =
-    let low = laws.of_cases night start cases are.some in
+cost laws night pins start cases floor plan i usable begins are hold reach feasible keeps =
     let whole = laws.begins night pins start i usable begins in
-    let bound = laws.dual night plan start cases low.0 i feasible whole.apart (laws.keeps plan pins start begins.same keeps) are hold low.1 in
-    let first = above low.0 low.1 in
-    omega (arith, ints, first, bound)
+    let bound = laws.dual night plan start cases reach.0 i feasible whole.apart (laws.keeps plan pins start begins.same keeps) are hold reach.1 in
+    let high = reach.2 in
+    omega (arith, ints, high, bound)

@@ -1,6 +1,6 @@
 -- What a search is when a child becomes a node.
 use Rattle.std.specs.Prelude.{All, sum_by, take, ◌<ℤ◌, ◌≤ℤ◌, Option, Some, None, IfSome, IsSome}
-use Rattle.std.proofs.Common.{◌≡◌, ◌≢◌, inl, ⊎_elim, ℕ, ◌+◌, ◌<◌, ◌≤◌, List, [], ◌∷◌, ◌++◌, length, ℤ, pos, refl, sym, subst, ap, ◌∙◌, arith}
+use Rattle.std.proofs.Common.{◌≡◌, ◌≢◌, ◌⊎◌, inl, inr, ⊎_elim, ℕ, ◌+◌, ◌<◌, ◌≤◌, List, [], ◌∷◌, ◌++◌, length, ℤ, pos, refl, sym, subst, ap, ◌∙◌, arith}
 use Rattle.std.proofs.lemmas.Int.{ints}
 use Rattle.std.proofs.lemmas.List.{length-append, length-take-le}
 use Rattle.std.proofs.lemmas.List.Sums.{sum_by-append, sum_by-cons}
@@ -23,21 +23,22 @@ use Rattle.shunt_proof.specs.defs.Nodes.{CanFollow}
 use Rattle.shunt_proof.specs.defs.Certificates.{own_cases, case_total}
 use Rattle.shunt_proof.specs.defs.Trees.{cases_or}
 use Rattle.shunt_proof.specs.defs.Proves.{Reaches}
+use Rattle.shunt_proof.proofs.Fronts.{duals_front}
 use Rattle.shunt_search.specs.declared.yard.Yard.{Yard}
 use Rattle.shunt_search.specs.declared.known.Known.{Known}
 use Rattle.shunt_search.specs.declared.walking.Pending.{Pending}
 use Rattle.shunt_search.specs.declared.noting.Noted.{Noted}
 use Rattle.shunt_search.specs.declared.noting.Noted.TheVariants as noted
 use Rattle.shunt_search.specs.declared.searching.Search.{Search}
-use Rattle.shunt_search.specs.defs.Roots.{IsFloor}
+use Rattle.shunt_search.specs.defs.Roots.{IsFloor, IsBase}
 use Rattle.shunt_search.specs.defs.Yards.{choice_of, IsYard, IsNextBlock}
 use Rattle.shunt_search.specs.defs.Walking.{kept, goal_of, cases_in, IsWalk, IsNodeOf, node_below, IsInStock, cases_of, AddsChildren, OpensAbove, KeepsCheaper, IsBest, Passes}
+use Rattle.shunt_search.specs.defs.Steady.{IsSteady}
 use Rattle.shunt_search.specs.defs.Searching.{IsSearch, IsReady, Arrives, Takes, Falls}
 use Rattle.shunt_search.proofs.Yarding.{MostLaw}
 use Rattle.shunt_search.proofs.Nexts.{at_unit}
-use Rattle.shunt_search.proofs.Walked.{lower}
 use Rattle.shunt_search.proofs.Visits.{NextLaw}
-use Rattle.shunt_search.proofs.Lowest.{PartialLaw, GrowsLaw, CostLaw, pending_plan}
+use Rattle.shunt_search.proofs.Lowest.{PartialLaw, GrowsLaw, pending_plan}
 
 -- no bound falls where a path gets a block more
 abbrev pub RiseLaw : Type 0
@@ -54,27 +55,40 @@ opens_above law night i t trail cases best least hold reach = λ c o.
     let le = reach.2 in
     omega (arith, ints, le, rises)
 
+-- how a walk stays steady
+pub record SteadyLaws : Type 0 where
+  pub branch : (night : Night) (start : List Block) (stock : List (List Case)) (floor : ℤ) (nodes : List Node) (path : List Block) (left waiting : List Pending) (t : Pending) (best : ℕ) (low : ℤ) (n : Node) (place : ℕ)
+      → IsInstance night → IsWalk night start stock floor nodes path (left ++ t ∷ []) best low → IsSteady night start nodes path (left ++ t ∷ []) best low → IsNodeOf night start path t.child n → t.child.bound <ℤ pos best → n.kind ≡ Branch
+      → cases_or n.duals (cases_in stock t.cases) ≡ cases_in stock place → place < length stock → AddsChildren night stock best (goal_of path t.child) (length nodes) place left waiting
+      → OpensAbove night (goal_of path t.child) (cases_in stock place) best t.child.bound → CasesHold night (goal_of path t.child) (cases_in stock place) → IsSome (next_of (masks_of night (goal_of path t.child)))
+      → IsSteady night start (nodes ++ n ∷ []) (goal_of path t.child) waiting best low
+  pub whole : (night : Night) (start : List Block) (stock : List (List Case)) (floor : ℤ) (nodes : List Node) (path : List Block) (left : List Pending) (t : Pending) (best now : ℕ) (low lower : ℤ) (n : Node)
+      → IsInstance night → IsWalk night start stock floor nodes path (left ++ t ∷ []) best low → IsSteady night start nodes path (left ++ t ∷ []) best low → IsNodeOf night start path t.child n → t.child.bound <ℤ pos best → n.kind ≡ Whole
+      → now ≤ best → lower ≤ℤ pos now → (lower ≡ low) ⊎ (lower ≡ pos now) → IsSteady night start (nodes ++ n ∷ []) (goal_of path t.child) left now lower
+  pub closed : (night : Night) (start : List Block) (stock : List (List Case)) (floor : ℤ) (nodes : List Node) (path : List Block) (waiting left : List Pending) (best : ℕ) (low now : ℤ)
+      → IsWalk night start stock floor nodes path waiting best low → IsSteady night start nodes path waiting best low → Passes waiting left low now → IsSteady night start nodes path left best now
+
 -- what the laws of the walk and of the crates below say
 pub record SearchLaws : Type 0 where
-  pub branch : (night : Night) (start : List Block) (stock : List (List Case)) (floor : ℕ) (nodes : List Node) (path : List Block) (left waiting : List Pending) (t : Pending) (best : ℕ) (low : ℤ) (n : Node) (place : ℕ)
+  pub branch : (night : Night) (start : List Block) (stock : List (List Case)) (floor : ℤ) (nodes : List Node) (path : List Block) (left waiting : List Pending) (t : Pending) (best : ℕ) (low : ℤ) (n : Node) (place : ℕ)
       → IsInstance night → IsWalk night start stock floor nodes path (left ++ t ∷ []) best low → IsNodeOf night start path t.child n → t.child.bound <ℤ pos best → n.kind ≡ Branch
       → cases_or n.duals (cases_in stock t.cases) ≡ cases_in stock place → place < length stock → AddsChildren night stock best (goal_of path t.child) (length nodes) place left waiting
-      → OpensAbove night (goal_of path t.child) (cases_in stock place) best (pos floor) → CasesHold night (goal_of path t.child) (cases_in stock place) → IsSome (next_of (masks_of night (goal_of path t.child)))
+      → OpensAbove night (goal_of path t.child) (cases_in stock place) best floor → CasesHold night (goal_of path t.child) (cases_in stock place) → IsSome (next_of (masks_of night (goal_of path t.child)))
       → IsWalk night start stock floor (nodes ++ n ∷ []) (goal_of path t.child) waiting best low
-  pub whole : (night : Night) (start : List Block) (stock : List (List Case)) (floor : ℕ) (nodes : List Node) (path : List Block) (left : List Pending) (t : Pending) (best now : ℕ) (low lower : ℤ) (n : Node)
+  pub whole : (night : Night) (start : List Block) (stock : List (List Case)) (floor : ℤ) (nodes : List Node) (path : List Block) (left : List Pending) (t : Pending) (best now : ℕ) (low lower : ℤ) (n : Node)
       → IsInstance night → IsWalk night start stock floor nodes path (left ++ t ∷ []) best low → IsNodeOf night start path t.child n → t.child.bound <ℤ pos best → n.kind ≡ Whole
       → now ≤ best → now ≤ total_cost night (goal_of path t.child) → lower ≤ℤ low → lower ≤ℤ pos now → next_of (masks_of night (goal_of path t.child)) ≡ None
       → IsWalk night start stock floor (nodes ++ n ∷ []) (goal_of path t.child) left now lower
-  pub follows : (night : Night) (start : List Block) (stock : List (List Case)) (floor : ℕ) (nodes : List Node) (path : List Block) (left : List Pending) (t : Pending) (best : ℕ) (low : ℤ) (n : Node)
+  pub follows : (night : Night) (start : List Block) (stock : List (List Case)) (floor : ℤ) (nodes : List Node) (path : List Block) (left : List Pending) (t : Pending) (best : ℕ) (low : ℤ) (n : Node)
       → IsInstance night → IsWalk night start stock floor nodes path (left ++ t ∷ []) best low → IsNodeOf night start path t.child n → t.child.bound <ℤ pos best → CanFollow nodes n
-  pub next : (night : Night) (start : List Block) (stock : List (List Case)) (floor : ℕ) (nodes : List Node) (path : List Block) (left : List Pending) (t : Pending) (best : ℕ) (low : ℤ)
+  pub next : (night : Night) (start : List Block) (stock : List (List Case)) (floor : ℤ) (nodes : List Node) (path : List Block) (left : List Pending) (t : Pending) (best : ℕ) (low : ℤ)
       → IsWalk night start stock floor nodes path (left ++ t ∷ []) best low → (length start ≤ kept t.child) × (kept t.child ≤ length path) × IsNextBlock night (take (kept t.child) path) t.child.block
-  pub hold : (night : Night) (start : List Block) (stock : List (List Case)) (floor : ℕ) (nodes : List Node) (path : List Block) (left : List Pending) (t : Pending) (best : ℕ) (low : ℤ)
+  pub hold : (night : Night) (start : List Block) (stock : List (List Case)) (floor : ℤ) (nodes : List Node) (path : List Block) (left : List Pending) (t : Pending) (best : ℕ) (low : ℤ)
       → IsWalk night start stock floor nodes path (left ++ t ∷ []) best low → (t.cases < length stock) × CasesHold night (goal_of path t.child) (cases_in stock t.cases) × Reaches night (goal_of path t.child) (cases_in stock t.cases) t.child.bound
   pub node : NextLaw
   pub kept_plan : (night : Night) (pins : List Block) (t : Trail) (old new : Known) → IsInstance night → IsTrailOf night t → IsPartialPlan night pins t.blocks
       → next_of t.covered ≡ None → position_total night ≡ unit_total night → IsBest night pins old.blocks.items old.cost → KeepsCheaper night t.blocks old new → IsBest night pins new.blocks.items new.cost
-  pub cost : CostLaw
+  pub steady : SteadyLaws
   pub rise : RiseLaw
   pub partial : PartialLaw
   pub grows : GrowsLaw
@@ -91,13 +105,21 @@ told_more (Some a) None nodes n m e is both = absurd both
 told_more (Some a) (Some b) nodes n m e is both = both ∙ ap (λ (l : List Node). l ++ n ∷ []) is ∙ ap (λ (x : Node). nodes ++ x ∷ []) e
 
 -- a walk whose parts are called otherwise
-pub same_walk : (night : Night) (start : List Block) (stock : List (List Case)) (floor : ℕ) (nodes : List Node) (path path_too : List Block) (waiting waiting_too : List Pending) (best best_too : ℕ) (low low_too : ℤ) → path_too ≡ path → waiting_too ≡ waiting → best_too ≡ best → low_too ≡ low
+pub same_walk : (night : Night) (start : List Block) (stock : List (List Case)) (floor : ℤ) (nodes : List Node) (path path_too : List Block) (waiting waiting_too : List Pending) (best best_too : ℕ) (low low_too : ℤ) → path_too ≡ path → waiting_too ≡ waiting → best_too ≡ best → low_too ≡ low
     → IsWalk night start stock floor nodes path waiting best low → IsWalk night start stock floor nodes path_too waiting_too best_too low_too
 same_walk night start stock floor nodes path path_too waiting waiting_too best best_too low low_too p w b l W =
     subst (λ (x : List Block). IsWalk night start stock floor nodes x waiting_too best_too low_too) (sym p)
     (subst (λ (x : List Pending). IsWalk night start stock floor nodes path x best_too low_too) (sym w)
     (subst (λ (x : ℕ). IsWalk night start stock floor nodes path waiting x low_too) (sym b)
     (subst (λ (x : ℤ). IsWalk night start stock floor nodes path waiting best x) (sym l) W)))
+
+pub same_steady : (night : Night) (start : List Block) (nodes : List Node) (path path_too : List Block) (waiting waiting_too : List Pending) (best best_too : ℕ) (low low_too : ℤ) → path_too ≡ path → waiting_too ≡ waiting → best_too ≡ best → low_too ≡ low
+    → IsSteady night start nodes path waiting best low → IsSteady night start nodes path_too waiting_too best_too low_too
+same_steady night start nodes path path_too waiting waiting_too best best_too low low_too p w b l S =
+    subst (λ (x : List Block). IsSteady night start nodes x waiting_too best_too low_too) (sym p)
+    (subst (λ (x : List Pending). IsSteady night start nodes path x best_too low_too) (sym w)
+    (subst (λ (x : ℕ). IsSteady night start nodes path waiting x low_too) (sym b)
+    (subst (λ (x : ℤ). IsSteady night start nodes path waiting best x) (sym l) S)))
 
 pub same_best : (night : Night) (pins : List Block) (k now : Known) → now ≡ k → IsBest night pins k.blocks.items k.cost → IsBest night pins now.blocks.items now.cost
 same_best night pins k now e h = subst (λ (x : Known). IsBest night pins x.blocks.items x.cost) (sym e) h
@@ -116,8 +138,8 @@ module _ (laws : SearchLaws) (night : Night) (i : IsInstance night) (units : uni
   abbrev goal : List Block
   goal = goal_of path t.child
 
-  abbrev floor : ℕ
-  floor = S.rooted.floor
+  abbrev floor : ℤ
+  floor = S.floor
 
   ready : (length S.start ≤ kept t.child) × (kept t.child ≤ length path) × IsNextBlock night (take (kept t.child) path) t.child.block
   ready = laws.next night S.start stock floor S.nodes path left t s.known.cost s.low S.walk
@@ -125,11 +147,22 @@ module _ (laws : SearchLaws) (night : Night) (i : IsInstance night) (units : uni
   inherited : (t.cases < length stock) × CasesHold night goal (cases_in stock t.cases) × Reaches night goal (cases_in stock t.cases) t.child.bound
   inherited = laws.hold night S.start stock floor S.nodes path left t s.known.cost s.low S.walk
 
-  above_floor : pos floor ≤ℤ t.child.bound
+  above_floor : floor ≤ℤ t.child.bound
   above_floor = (S.walk.pending t (in_right left (t ∷ []) t (inl refl))).above
 
-  lowest_at : (z : Search) → z.floor ≡ s.floor → IsFloor night S.start (cases_in stock 0) floor z.floor
-  lowest_at z e = subst (λ (x : ℤ). IsFloor night S.start (cases_in stock 0) floor x) (sym e) S.lowest
+  lowest_at : (z : Search) → z.floor ≡ s.floor → IsFloor night S.start (cases_in stock 0) S.rooted.floor z.floor
+  lowest_at z e = subst (λ (x : ℤ). IsFloor night S.start (cases_in stock 0) S.rooted.floor x) (sym e) S.lowest
+
+  -- the first node's cases stay where there is one node more
+  base_at : (z : Search) (n : Node) → z.floor ≡ s.floor → IsBase night pins S.start (S.nodes ++ n ∷ []) z.floor floor
+  base_at z n e =
+      let some = S.walk.some in
+      let first : 0 < length S.nodes = omega (arith, some) in
+      record {
+        least = subst (λ (x : ℤ). x ≤ℤ floor) (sym e) S.base.least;
+        root = λ bound is. S.base.root bound (subst (λ (d : List Case). IsCasesBound night S.start d bound) (duals_front S.nodes (n ∷ []) 0 first) is);
+        plans = S.base.plans;
+      }
 
   pins_kept : s.yard.path.pins ≤ kept t.child
   pins_kept = let le = ready.0 in let long = S.long in omega (arith, le, long)
@@ -189,14 +222,12 @@ module _ (laws : SearchLaws) (night : Night) (i : IsInstance night) (units : uni
       same_cost = ap (λ (k : Known). k.cost) a.known
 
       -- where it is a branch with these cases
-      with_cases : (at : ℕ) → at < length stock → IsInStock stock how → (node how).kind ≡ Branch → cases_or (node how).duals (cases_in stock t.cases) ≡ cases_in stock at → CasesHold night goal (cases_in stock at) → Reaches night goal (cases_in stock at) (pos floor)
+      with_cases : (at : ℕ) → at < length stock → IsInStock stock how → (node how).kind ≡ Branch → cases_or (node how).duals (cases_in stock t.cases) ≡ cases_in stock at → CasesHold night goal (cases_in stock at) → OpensAbove night goal (cases_in stock at) s.known.cost t.child.bound
           → IsSome (next_of (masks_of night goal)) → AddsChildren night stock s.known.cost goal s.count at left z.waiting.items → IsSearch night pins stock now count cases z.waiting.items z
-      with_cases at in_stock there kind own hold reach unfinished adds =
-          let here = subst (λ (l : List Block). CasesHold night l (cases_in stock at)) (sym a.path) hold in
-          let reach_here = subst (λ (l : List Block). Reaches night l (cases_in stock at) (pos floor)) (sym a.path) reach in
-          let rise = subst (λ (l : List Block). OpensAbove night l (cases_in stock at) s.known.cost (pos floor)) a.path (opens_above laws.rise night i z.yard.path a.yard.path (cases_in stock at) s.known.cost (pos floor) here reach_here) in
+      with_cases at in_stock there kind own hold rise unfinished adds =
+          let above : OpensAbove night goal (cases_in stock at) s.known.cost floor = (λ c o. (let le = rise c o in let low = above_floor in omega (arith, ints, le, low))) in
           let children = subst (λ (k : ℕ). AddsChildren night stock s.known.cost goal k at left z.waiting.items) parent adds in
-          let walk = laws.branch night S.start stock floor S.nodes path left z.waiting.items t s.known.cost s.low (node how) at i S.walk (is_node how there) below kind own in_stock children rise hold unfinished in
+          let walk = laws.branch night S.start stock floor S.nodes path left z.waiting.items t s.known.cost s.low (node how) at i S.walk (is_node how there) below kind own in_stock children above hold unfinished in
           record {
             start = S.start;
             nodes = nodes;
@@ -206,8 +237,12 @@ module _ (laws : SearchLaws) (night : Night) (i : IsInstance night) (units : uni
             stocked = S.stocked;
             rooted = S.rooted;
             lowest = lowest_at z a.floor;
+            floor = floor;
+            base = base_at z (node how) a.floor;
             walk = same_walk night S.start stock floor nodes goal z.yard.path.blocks z.waiting.items z.waiting.items s.known.cost z.known.cost s.low z.low a.path refl same_cost a.low walk;
-            high = subst (λ (x : ℤ). pos floor ≤ℤ x) (sym a.low) S.high;
+            steady = same_steady night S.start nodes goal z.yard.path.blocks z.waiting.items z.waiting.items s.known.cost z.known.cost s.low z.low a.path refl same_cost a.low
+                (laws.steady.branch night S.start stock floor S.nodes path left z.waiting.items t s.known.cost s.low (node how) at i S.walk S.steady (is_node how there) below kind own in_stock children rise hold unfinished);
+            high = subst (λ (x : ℤ). floor ≤ℤ x) (sym a.low) S.high;
             tells = told_more told now S.nodes _ _ (same_node how) S.tells both;
             many = counted;
             counted = let one = a.counted in let was = S.counted in omega (arith, one, was, more);
@@ -225,10 +260,14 @@ module _ (laws : SearchLaws) (night : Night) (i : IsInstance night) (units : uni
       → BothTold told now (λ x y. y ≡ x ++ node_below s.yard.path.pins t.child.block stock how ∷ []) → how ≢ noted.Whole → IsSearch night pins stock now count cases z.waiting.items z
   branch_search below z noted.Whole a now count cases more owns both not_whole = absurd (not_whole refl)
   branch_search below z noted.Same a now count cases more owns both not_whole =
-      with_cases below z noted.Same a now count cases more owns both t.cases inherited.0 tt refl refl inherited.1 (lower night goal (cases_in stock t.cases) t.child.bound (pos floor) above_floor inherited.2) a.is_noted a.opens
+      let own = cases_in stock t.cases in
+      let here = subst (λ (l : List Block). CasesHold night l own) (sym a.path) inherited.1 in
+      let reach = subst (λ (l : List Block). Reaches night l own t.child.bound) (sym a.path) inherited.2 in
+      let rise = subst (λ (l : List Block). OpensAbove night l own s.known.cost t.child.bound) a.path (opens_above laws.rise night i z.yard.path a.yard.path own s.known.cost t.child.bound here reach) in
+      with_cases below z noted.Same a now count cases more owns both t.cases inherited.0 tt refl refl inherited.1 rise a.is_noted a.opens
   branch_search below z (noted.Own place) a now count cases more owns both not_whole =
       let lifts = a.is_noted.1 in
-      with_cases below z (noted.Own place) a now count cases more owns both place lifts.there lifts.there refl refl lifts.hold (lower night goal (cases_in stock place) s.floor (pos floor) S.lowest.high lifts.reach) a.is_noted.0 a.opens
+      with_cases below z (noted.Own place) a now count cases more owns both place lifts.there lifts.there refl refl lifts.hold lifts.opens a.is_noted.0 a.opens
 
   pub whole_search : (below : t.child.bound <ℤ pos s.known.cost) (z w : Search) (a : Arrives night stock s z t noted.Whole left) (now : Option (List Node)) (count cases : ℕ) (more : count ≡ number + 1) (owns : cases ≡ owned + cases_of stock noted.Whole)
       → BothTold told now (λ x y. y ≡ x ++ node_below s.yard.path.pins t.child.block stock noted.Whole ∷ []) → Takes night z w → IsSearch night pins stock now count cases w.waiting.items w
@@ -247,7 +286,7 @@ module _ (laws : SearchLaws) (night : Night) (i : IsInstance night) (units : uni
       let walk = laws.whole night S.start stock floor S.nodes path left t s.known.cost w.known.cost s.low w.low (node noted.Whole) i S.walk (is_node noted.Whole tt) below refl less path_too falls second a.is_noted in
       let covers : next_of z.yard.path.covered ≡ None = ap (λ (m : Masks). next_of m) a.yard.path.covered ∙ ap (λ (l : List Block). next_of (masks_of night l)) a.path ∙ a.is_noted in
       let best = laws.kept_plan night pins z.yard.path z.known w.known i a.yard.path (subst (λ (l : List Block). IsPartialPlan night pins l) (sym a.path) plan) covers S.even (same_best night pins s.known z.known a.known S.best) cheaper in
-      let cost = laws.cost night pins S.start (cases_in stock 0) floor w.known.blocks.items i S.usable S.begins S.rooted.statable.within S.rooted.hold S.rooted.above best.feasible best.keeps in
+      let cost = S.base.plans w.known.blocks.items best.feasible best.keeps in
       let cost_is = best.cost in
       record {
         start = S.start;
@@ -258,7 +297,11 @@ module _ (laws : SearchLaws) (night : Night) (i : IsInstance night) (units : uni
         stocked = S.stocked;
         rooted = S.rooted;
         lowest = lowest_at w (takes.floor ∙ a.floor);
+        floor = floor;
+        base = base_at w (node noted.Whole) (takes.floor ∙ a.floor);
         walk = same_walk night S.start stock floor nodes goal w.yard.path.blocks left w.waiting.items w.known.cost w.known.cost w.low w.low path_is (takes.waiting ∙ a.opens) refl refl walk;
+        steady = same_steady night S.start nodes goal w.yard.path.blocks left w.waiting.items w.known.cost w.known.cost w.low w.low path_is (takes.waiting ∙ a.opens) refl refl
+            (laws.steady.whole night S.start stock floor S.nodes path left t s.known.cost w.known.cost s.low w.low (node noted.Whole) i S.walk S.steady (is_node noted.Whole tt) below refl less second (⊎_elim (λ e. inl (e ∙ low_is)) (λ e. inr e) takes.low.either));
         high = ⊎_elim
             (λ e. let was = S.high in omega (arith, ints, e, low_is, was))
             (λ e. omega (arith, ints, e, cost, cost_is))
@@ -279,9 +322,9 @@ module _ (laws : SearchLaws) (night : Night) (i : IsInstance night) (units : uni
       }
 
 -- children that are closed or passed over are no part of it
-pub closed_search : ((night : Night) (start : List Block) (stock : List (List Case)) (floor : ℕ) (nodes : List Node) (path : List Block) (waiting left : List Pending) (best : ℕ) (low now : ℤ) → IsWalk night start stock floor nodes path waiting best low → Passes waiting left low now → IsWalk night start stock floor nodes path left best now)
+pub closed_search : ((night : Night) (start : List Block) (stock : List (List Case)) (floor : ℤ) (nodes : List Node) (path : List Block) (waiting left : List Pending) (best : ℕ) (low now : ℤ) → IsWalk night start stock floor nodes path waiting best low → Passes waiting left low now → IsWalk night start stock floor nodes path left best now) → SteadyLaws
     → (night : Night) (pins : List Block) (stock : List (List Case)) (told : Option (List Node)) (number owned : ℕ) (waiting left : List Pending) (s z : Search) → IsSearch night pins stock told number owned waiting s → Falls s z waiting left → IsSearch night pins stock told number owned left z
-closed_search closed night pins stock told number owned waiting left s z S f =
+closed_search closed steady night pins stock told number owned waiting left s z S f =
     let p = f.passes in
     let same_cost : z.known.cost ≡ s.known.cost = ap (λ (k : Known). k.cost) f.known in
     record {
@@ -293,11 +336,15 @@ closed_search closed night pins stock told number owned waiting left s z S f =
       stocked = S.stocked;
       rooted = S.rooted;
       lowest = subst (λ (x : ℤ). IsFloor night S.start (cases_in stock 0) S.rooted.floor x) (sym f.floor) S.lowest;
-      walk = same_walk night S.start stock S.rooted.floor S.nodes s.yard.path.blocks z.yard.path.blocks left left s.known.cost z.known.cost z.low z.low (ap (λ (y : Yard). y.path.blocks) f.yard) refl same_cost refl
-          (closed night S.start stock S.rooted.floor S.nodes s.yard.path.blocks waiting left s.known.cost s.low z.low S.walk p);
+      floor = S.floor;
+      base = subst (λ (x : ℤ). IsBase night pins S.start S.nodes x S.floor) (sym f.floor) S.base;
+      walk = same_walk night S.start stock S.floor S.nodes s.yard.path.blocks z.yard.path.blocks left left s.known.cost z.known.cost z.low z.low (ap (λ (y : Yard). y.path.blocks) f.yard) refl same_cost refl
+          (closed night S.start stock S.floor S.nodes s.yard.path.blocks waiting left s.known.cost s.low z.low S.walk p);
+      steady = same_steady night S.start S.nodes s.yard.path.blocks z.yard.path.blocks left left s.known.cost z.known.cost z.low z.low (ap (λ (y : Yard). y.path.blocks) f.yard) refl same_cost refl
+          (steady.closed night S.start stock S.floor S.nodes s.yard.path.blocks waiting left s.known.cost s.low z.low S.walk S.steady p);
       high = ⊎_elim
-          (λ e. subst (λ (x : ℤ). pos S.rooted.floor ≤ℤ x) (sym e) S.high)
-          (λ found. subst (λ (x : ℤ). pos S.rooted.floor ≤ℤ x) (sym found.2) (S.walk.pending found.0 (subst (λ (l : List Pending). In found.0 l) (sym p.parts) (in_right left p.passed found.0 found.1))).above)
+          (λ e. subst (λ (x : ℤ). S.floor ≤ℤ x) (sym e) S.high)
+          (λ found. subst (λ (x : ℤ). S.floor ≤ℤ x) (sym found.2) (S.walk.pending found.0 (subst (λ (l : List Pending). In found.0 l) (sym p.parts) (in_right left p.passed found.0 found.1))).above)
           p.least;
       tells = S.tells;
       many = S.many;

@@ -60,7 +60,7 @@ pairs_append {X} R xs ys h k across i j d before within = ⊎_elim
     (cases_lt i (length xs))))
     (cases_lt j (length xs))
 
-module _ (night : Night) (start : List Block) (stock : List (List Case)) (floor : ℕ) (nodes : List Node) (path : List Block) (left passed : List Pending) (best : ℕ) (low : ℤ) (W : IsWalk night start stock floor nodes path (left ++ passed) best low) where
+module _ (night : Night) (start : List Block) (stock : List (List Case)) (floor : ℤ) (nodes : List Node) (path : List Block) (left passed : List Pending) (best : ℕ) (low : ℤ) (W : IsWalk night start stock floor nodes path (left ++ passed) best low) where
   -- what was known through a child whose bound is at least M is reached
   known_less : (M : ℤ) → ((t : Pending) → In t passed → M ≤ℤ t.child.bound) → (k : ℕ) → (c : PathChoice) → IsKnown night start nodes path (left ++ passed) k c
       → Reaches night (longer_by (path_at night start nodes k) c) (duals_at nodes k) M ⊎ IsKnown night start nodes path left k c
@@ -95,10 +95,10 @@ module _ (night : Night) (start : List Block) (stock : List (List Case)) (floor 
     cheap = W.cheap;
   }
 
-pub passes_on : (night : Night) (start : List Block) (stock : List (List Case)) (floor : ℕ) (nodes : List Node) (path : List Block) (waiting left : List Pending) (best : ℕ) (low now : ℤ) → IsWalk night start stock floor nodes path waiting best low → Passes waiting left low now → IsWalk night start stock floor nodes path left best now
+pub passes_on : (night : Night) (start : List Block) (stock : List (List Case)) (floor : ℤ) (nodes : List Node) (path : List Block) (waiting left : List Pending) (best : ℕ) (low now : ℤ) → IsWalk night start stock floor nodes path waiting best low → Passes waiting left low now → IsWalk night start stock floor nodes path left best now
 passes_on night start stock floor nodes path waiting left best low now W p = walk_left night start stock floor nodes path left p.passed best low (subst (λ (l : List Pending). IsWalk night start stock floor nodes path l best low) p.parts W) now p.falls p.closed
 
-pub ends_right : (night : Night) (start : List Block) (stock : List (List Case)) (floor : ℕ) (nodes : List Node) (path : List Block) (waiting : List Pending) (best : ℕ) (low M : ℤ) → IsWalk night start stock floor nodes path waiting best low → M ≤ℤ low → ((t : Pending) → In t waiting → M ≤ℤ t.child.bound) → AreRight night start nodes M
+pub ends_right : (night : Night) (start : List Block) (stock : List (List Case)) (floor : ℤ) (nodes : List Node) (path : List Block) (waiting : List Pending) (best : ℕ) (low M : ℤ) → IsWalk night start stock floor nodes path waiting best low → M ≤ℤ low → ((t : Pending) → In t waiting → M ≤ℤ t.child.bound) → AreRight night start nodes M
 ends_right night start stock floor nodes path waiting best low M W le closed k lt = record {
   placed = λ some. W.placed k some lt;
   shows = shows_turn night (path_at night start nodes k) (duals_at nodes k) (node_at nodes k).kind (IsKnown night start nodes path [] k) (IsListed night start nodes k) M M (omega (arith, ints))
@@ -190,7 +190,7 @@ branch_holds night path cases kind IsKnownThere L e h = holds (subst (λ kd. Sho
     holds : Shows night path cases Branch IsKnownThere L → CasesHold night path cases
     holds s = s.holds
 
-module _ (night : Night) (start : List Block) (stock : List (List Case)) (floor : ℕ) (nodes : List Node) (path : List Block) (left : List Pending) (t : Pending) (best : ℕ) (low : ℤ) (W : IsWalk night start stock floor nodes path (left ++ t ∷ []) best low) where
+module _ (night : Night) (start : List Block) (stock : List (List Case)) (floor : ℤ) (nodes : List Node) (path : List Block) (left : List Pending) (t : Pending) (best : ℕ) (low : ℤ) (W : IsWalk night start stock floor nodes path (left ++ t ∷ []) best low) where
   its : IsPending night start stock floor nodes path t
   its = W.pending t (in_right left (t ∷ []) t (inl refl))
 

@@ -21,28 +21,34 @@ use crate::listing::add_children;
 use crate::noting::cases_in;
 use crate::searching::{Search, take_whole};
 use crate::solved::SolveError;
+use crate::steadying::walks_stay_steady;
 use crate::visiting::{is_whole, root_place};
 use crate::walking::walks_begin;
 use shunt_blocks::Block;
 use shunt_instance::Instance;
-use shunt_prices::laws::bounds_rise;
+use shunt_prices::laws::{bounds, bounds_rise};
 use shunt_proof::laws::starts;
 use shunt_proof::{Node, NodeDuals, NodeKind, Recorder};
 use shunt_tree::ProposedTree;
 use std::alloc::Global;
 
-/// How a search begins: with a root that is whole, or with a branch whose children are all still to be walked to.
+/// How a search begins: with a root that is whole, or with a branch whose children are all still to be walked to. The first cases of the
+/// stock can be the root's.
 fn searches_begin()
+    ensures first { (night : Night) (pins : List OneBlock) (stock : List (List OneCase)) (s : OneSearch) → IsInstance night → IsFresh night pins stock s →
+        IsLifted night stock s.yard.path.blocks s.known.cost s.floor 0 }
     ensures whole { (night : Night) (pins : List OneBlock) (stock : List (List OneCase)) (told now : Option (List OneNode)) (count cases : ℕ) (s z w : OneSearch) →
         IsInstance night → IsFresh night pins stock s → TellsRoot whole_root told now → count ≡ 1 → cases ≡ 0 → Begins s z cases → z.waiting.items ≡ [] →
         next_of (masks_of night s.yard.path.blocks) ≡ None → Takes night z w → IsSearch night pins stock now count cases w.waiting.items w }
     ensures branch { (night : Night) (pins : List OneBlock) (stock : List (List OneCase)) (told now : Option (List OneNode)) (count cases : ℕ) (s z : OneSearch) (place : ℕ) →
-        IsInstance night → IsFresh night pins stock s → IsLifted night stock s.yard.path.blocks s.floor place → TellsRoot (branch_root (cases_in stock place)) told now → count ≡ 1 → cases ≡ length (cases_in stock place) →
+        IsInstance night → IsFresh night pins stock s → IsLifted night stock s.yard.path.blocks s.known.cost s.floor place → TellsRoot (branch_root (cases_in stock place)) told now → count ≡ 1 → cases ≡ length (cases_in stock place) →
         Begins s z cases → IsSome (next_of (masks_of night s.yard.path.blocks)) → AddsChildren night stock s.known.cost s.yard.path.blocks 0 place [] z.waiting.items → IsSearch night pins stock now count cases z.waiting.items z }
 {
     walks_begin();
+    walks_stay_steady();
     kept_plans();
     floors();
+    bounds();
     bounds_rise();
     starts();
 }
@@ -150,7 +156,7 @@ pub(crate) fn begin<R: Recorder>(
         take_whole(alloc, instance, search)?;
         return Ok(());
     }
-    let place = root_place(instance, tree, search);
+    let place = root_place(alloc, instance, tree, search)?;
     search.owned = cases_in(tree, place).len() as u32;
     note_branch(alloc, instance, tree, place, recorder)?;
     add_children(

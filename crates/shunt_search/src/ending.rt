@@ -12,6 +12,7 @@ ghost use Rattle.shunt_search.specs.defs.Searching.{IsSearch};
 ghost use Rattle.shunt_search.specs.defs.Endings.{IsLeft, IsDone, IsEnd};
 
 use crate::laws::all_plans;
+use crate::steadying::walks_stay_steady;
 use crate::walking::walks_go_on;
 use shunt_proof::laws::{best_costs, proved_bounds, starts, trees};
 
@@ -25,6 +26,7 @@ pub(crate) fn searches_end()
         number ≤ most → most ≤ 5000 → IsDone number most s.waiting.items s.known.cost s.low → IsEnd night pins most number plan b told }
 {
     walks_go_on();
+    walks_stay_steady();
     trees();
     starts();
     best_costs();

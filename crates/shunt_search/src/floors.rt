@@ -1,5 +1,5 @@
-// The costs of plans are at least what the bound at the root of a walk is.
-ghost use Rattle.std.specs.Prelude.{ℕ, ◌≤◌, List};
+// The costs of plans are at least what a bound at the root of a walk is.
+ghost use Rattle.std.specs.Prelude.{ℤ, pos, ◌≤ℤ◌, List};
 ghost use Rattle.shunt_base.specs.declared.duals.Case.{Case as OneCase};
 ghost use Rattle.shunt_instance.specs.defs.Instance.{Night, IsInstance};
 ghost use Rattle.shunt_blocks.specs.declared.records.Block.{Block as OneBlock};
@@ -8,18 +8,17 @@ ghost use Rattle.shunt_blocks.specs.defs.Pins.{AreUsable, Keeps};
 ghost use Rattle.shunt_prices.specs.defs.Limits.{AreCases};
 ghost use Rattle.shunt_prices.specs.defs.Cases.{CasesHold};
 ghost use Rattle.shunt_proof.specs.defs.Trees.{IsStart};
-ghost use Rattle.shunt_search.specs.defs.Roots.{IsAbove};
+ghost use Rattle.shunt_proof.specs.defs.Proves.{Reaches};
 
-use shunt_prices::laws::{bounds, weak_duality};
+use shunt_prices::laws::weak_duality;
 use shunt_proof::laws::starts;
 
-/// If the bound at the pins' path is at least a number, so is what a plan costs that keeps the pins.
+/// If cases bound the pins' path by this or more, so much is what a plan costs that keeps the pins.
 pub(crate) fn floors()
-    ensures { (night : Night) (pins start : List OneBlock) (cases : List OneCase) (floor : ℕ) (plan : List OneBlock) →
-        IsInstance night → AreUsable night pins → IsStart night pins start → AreCases night cases → CasesHold night start cases → IsAbove night start cases floor →
-        IsFeasible night plan → Keeps plan pins → floor ≤ total_cost night plan }
+    ensures { (night : Night) (pins start : List OneBlock) (cases : List OneCase) (floor : ℤ) (plan : List OneBlock) →
+        IsInstance night → AreUsable night pins → IsStart night pins start → AreCases night cases → CasesHold night start cases → Reaches night start cases floor →
+        IsFeasible night plan → Keeps plan pins → floor ≤ℤ pos (total_cost night plan) }
 {
     starts();
-    bounds();
     weak_duality();
 }

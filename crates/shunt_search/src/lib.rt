@@ -22,6 +22,7 @@ mod rooting;
 mod searching;
 mod solved;
 mod solving;
+mod steadying;
 mod tidying;
 mod visiting;
 mod walking;

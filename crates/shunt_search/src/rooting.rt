@@ -25,11 +25,11 @@ use shunt_instance::Instance;
 use shunt_prices::laws::{bounds, bounds_rise, longer_paths, weak_duality};
 use std::alloc::{AllocError, Global};
 
-/// Cases for the root of a tree, and the floor that the bounds of its nodes have to keep.
+/// Cases for the root of a tree, and the floor that the bounds of its children have to keep.
 #[derive(Drop)]
 pub struct Root {
     pub cases: Cases,
-    /// In cost units, at least the assignment bound and at most the bound of the root by its cases.
+    /// Their bound of the root in cost units, at least the assignment bound.
     pub floor: i64,
 }
 
@@ -121,8 +121,8 @@ fn root_of(instance: &Instance, path: &Path, cases: Cases) -> Root
     }
 }
 
-/// What is proposed, as cases for a root, where it holds at a path and bounds it no less than the floor of others there, which stays.
-fn if_better(instance: &Instance, path: &Path, mut known: Root, proposed: Cases) -> Option<Root>
+/// What is proposed, as cases for a root, where it holds at a path and bounds it no less than the floor of others there.
+fn if_better(instance: &Instance, path: &Path, known: Root, proposed: Cases) -> Option<Root>
     requires path { IsTrailOf instance.now path.now }
     requires known { IsRoot instance.now path.now.blocks known }
     requires cases { AreCases instance.now proposed }
@@ -138,8 +138,10 @@ fn if_better(instance: &Instance, path: &Path, mut known: Root, proposed: Cases)
     if more < known.floor {
         return None;
     }
-    known.cases = proposed;
-    Some(known)
+    Some(Root {
+        cases: proposed,
+        floor: more,
+    })
 }
 
 /// How many of a plan's blocks are unparked, and 160 where there are more.
@@ -153,8 +155,8 @@ fn unparked_in(blocks: &[Block]) -> u8 {
     unparked
 }
 
-/// Cases for the root of a tree: those that are proposed, parted near the number of unparked blocks of a good plan, over the bound of the
-/// assignment's duals as the floor; or others where these bound less. It needs that there is a matching. Err is want of memory.
+/// Cases for the root of a tree, with their bound as the floor: those that are proposed, parted near the number of unparked blocks of a good
+/// plan, where they bound no less than the duals of the assignment; or others where these bound less. It needs that there is a matching. Err is want of memory.
 pub(crate) fn root_cases(
     alloc: Global,
     instance: &Instance,

@@ -16,10 +16,10 @@ ghost use Rattle.shunt_search.specs.defs.Yards.{IsYard};
 ghost use Rattle.shunt_search.specs.defs.Walking.{node_below, cases_of, IsLesser};
 ghost use Rattle.shunt_search.specs.defs.Searching.{IsSearch, IsReady, Arrives, Takes, Falls, TellsOn};
 
-use crate::floors::floors;
 use crate::known::{Known, keep_cheaper, kept_plans};
 use crate::noting::{Noted, next_nodes};
 use crate::solved::SolveError;
+use crate::steadying::walks_stay_steady;
 use crate::visiting::visit;
 use crate::walking::{Pending, next_open, walks_go_on};
 use crate::yard::Yard;
@@ -43,7 +43,7 @@ pub struct Search {
     pub known: Known,
     /// The least of what the plan costs and the bounds of the children that were passed over.
     pub low: i64,
-    /// The bound of the pins by the first cases of the stock: no node's own cases bound it less.
+    /// The bound of the pins by the first cases of the stock: by no others of its own the root bounds a child less.
     pub floor: i64,
     /// Whether no child is passed over.
     pub plain: bool,
@@ -71,9 +71,9 @@ fn searches_go_on()
         IsSearch night pins stock told number owned waiting s → Falls s z waiting left → IsSearch night pins stock told number owned left z }
 {
     walks_go_on();
+    walks_stay_steady();
     next_nodes();
     kept_plans();
-    floors();
     bounds_rise();
     few_nodes();
     plans_grow();

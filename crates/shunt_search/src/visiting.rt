@@ -11,15 +11,18 @@ ghost use Rattle.shunt_search.specs.defs.Yards.{IsYard};
 ghost use Rattle.shunt_search.specs.defs.Walking.{cases_in, node_below, cases_of, place_of, IsInStock, IsLifted, IsNoted, Opens};
 ghost use Rattle.shunt_search.specs.defs.Searching.{IsStock, IsReady, Arrives};
 
+use crate::children::{Child, plan_children};
 use crate::listing::add_children;
 use crate::noting::{Noted, cases_in, go_to, next_nodes, note_below};
 use crate::searching::Search;
 use crate::solved::SolveError;
 use crate::walking::Pending;
+use crate::yard::Yard;
 use shunt_blocks::laws::few_blocks;
 use shunt_choices::Path;
-use shunt_dual::{cases_bound, cases_hold};
+use shunt_dual::cases_hold;
 use shunt_instance::Instance;
+use shunt_prices::laws::bounds;
 use shunt_proof::Recorder;
 use shunt_tree::ProposedTree;
 use std::alloc::{AllocError, Global};
@@ -35,35 +38,40 @@ pub(crate) fn is_whole(path: &Path) -> bool
     }
 }
 
-/// Whether a bound is a search's floor or more.
-fn is_above_floor(bound: i64, search: &Search) -> bool
-    ensures { result ≡ true → search.now.floor ≤ℤ bound }
+/// Whether each of these children is bounded by this or more.
+fn are_above(children: &[Child], least: i64) -> bool
+    ensures { IsTrue result → All (λ c. least ≤ℤ c.bound) children.now }
 {
-    let floor = search.floor;
-    if bound < floor {
-        return false;
-    }
-    true
+    children.iter().all(|child| child.bound >= least)
 }
 
-/// Whether the cases at a place of a stock hold at a search's path and bound it by its floor or more.
-fn lifts(instance: &Instance, tree: &ProposedTree, place: usize, search: &Search) -> bool
-    requires path { IsTrailOf instance.now search.now.yard.path }
+/// Whether the cases at a place of a stock hold at the yard's path, and bound each of its children by this or more. Err is want of
+/// memory.
+fn lifts(
+    alloc: Global,
+    instance: &Instance,
+    tree: &ProposedTree,
+    place: usize,
+    least: i64,
+    best: u64,
+    yard: &Yard,
+) -> Result<bool, AllocError>
+    requires yard { IsYard instance.now yard.now }
     requires stock { All (AreStatable instance.now) tree.now.stock.items }
-    ensures { IsTrue result → IsLifted instance.now tree.now.stock.items search.now.yard.path.blocks search.now.floor place }
+    requires best { best ≤ 1000000000000 }
+    ensures { IfOk result (λ yes. yes ≡ true → IsLifted instance.now tree.now.stock.items yard.now.path.blocks best least place) }
 {
+    // The call tells that a path has one bound by cases.
+    bounds();
     if place >= tree.stock.len() {
-        return false;
+        return Ok(false);
     }
     let cases = cases_in(tree, place);
-    if !cases_hold(instance, &search.yard.path, cases) {
-        return false;
+    if !cases_hold(instance, &yard.path, cases) {
+        return Ok(false);
     }
-    let bound = cases_bound(instance, &search.yard.path, cases);
-    if !is_above_floor(bound, search) {
-        return false;
-    }
-    true
+    let children = plan_children(alloc, instance, yard, cases, best)?;
+    Ok(are_above(&children, least))
 }
 
 /// The place in the stock of the cases that are proposed for a node.
@@ -84,48 +92,66 @@ fn count_cases(tree: &ProposedTree, how: Noted) -> u32
     }
 }
 
-/// The place in the stock of a root's cases: those that are proposed for it where they lift it, else the first.
-pub(crate) fn root_place(instance: &Instance, tree: &ProposedTree, search: &Search) -> usize
-    requires path { IsTrailOf instance.now search.now.yard.path }
+/// The place in the stock of a root's cases: those that are proposed for it, where they bound each child by the search's floor or more; else
+/// the first. Err is want of memory.
+pub(crate) fn root_place(
+    alloc: Global,
+    instance: &Instance,
+    tree: &ProposedTree,
+    search: &Search,
+) -> Result<usize, AllocError>
+    requires yard { IsYard instance.now search.now.yard }
     requires stock { All (AreStatable instance.now) tree.now.stock.items }
-    requires first { IsLifted instance.now tree.now.stock.items search.now.yard.path.blocks search.now.floor 0 }
-    ensures { IsLifted instance.now tree.now.stock.items search.now.yard.path.blocks search.now.floor result }
+    requires best { search.now.known.cost ≤ 1000000000000 }
+    requires first { IsLifted instance.now tree.now.stock.items search.now.yard.path.blocks search.now.known.cost search.now.floor 0 }
+    ensures { IfOk result (IsLifted instance.now tree.now.stock.items search.now.yard.path.blocks search.now.known.cost search.now.floor) }
 {
     let Some(place) = proposed_cases(tree, Some(0)) else {
-        return 0;
+        return Ok(0);
     };
-    let better = lifts(instance, tree, place, search);
+    let least = search.floor;
+    let best = search.known.cost;
+    let better = lifts(alloc, instance, tree, place, least, best, &search.yard)?;
     if !better {
-        return 0;
+        return Ok(0);
     }
-    place
+    Ok(place)
 }
 
-/// As what a search's path is noted: as a branch with cases of its own where those that are proposed lift it, and there is room for so
-/// many.
-fn noted_as(instance: &Instance, tree: &ProposedTree, hint: Option<usize>, search: &Search) -> Noted
-    requires path { IsTrailOf instance.now search.now.yard.path }
+/// As what a search's path is noted, which is that of a child: as a branch with cases of its own where those that are proposed bound each of
+/// its children by no less than its parent's bound it, and there is room for so many. Err is want of memory.
+fn noted_as(
+    alloc: Global,
+    instance: &Instance,
+    tree: &ProposedTree,
+    next: &Pending,
+    search: &Search,
+) -> Result<Noted, AllocError>
+    requires yard { IsYard instance.now search.now.yard }
     requires stock { All (AreStatable instance.now) tree.now.stock.items }
+    requires best { search.now.known.cost ≤ 1000000000000 }
     requires room { search.now.owned ≤ 8000 }
-    ensures noted { IsNoted instance.now tree.now.stock.items search.now.yard.path.blocks search.now.floor result }
-    ensures there { IsInStock tree.now.stock.items result }
-    ensures room { search.now.owned + cases_of tree.now.stock.items result ≤ 8000 }
+    ensures noted { IfOk result (IsNoted instance.now tree.now.stock.items search.now.yard.path.blocks search.now.known.cost next.now.child.bound) }
+    ensures there { IfOk result (IsInStock tree.now.stock.items) }
+    ensures room { IfOk result (λ how. search.now.owned + cases_of tree.now.stock.items how ≤ 8000) }
 {
     let whole = is_whole(&search.yard.path);
     if whole {
-        return Noted::Whole;
+        return Ok(Noted::Whole);
     }
-    let Some(place) = proposed_cases(tree, hint) else {
-        return Noted::Same;
+    let Some(place) = proposed_cases(tree, next.hint) else {
+        return Ok(Noted::Same);
     };
-    let better = lifts(instance, tree, place, search);
+    let least = next.child.bound;
+    let best = search.known.cost;
+    let better = lifts(alloc, instance, tree, place, least, best, &search.yard)?;
     if !better {
-        return Noted::Same;
+        return Ok(Noted::Same);
     }
     if cases_in(tree, place).len() as u32 > 8000 - search.owned {
-        return Noted::Same;
+        return Ok(Noted::Same);
     }
-    Noted::Own(place)
+    Ok(Noted::Own(place))
 }
 
 /// The place in the stock of a node's cases, where its parent's are at this one.
@@ -216,7 +242,7 @@ pub(crate) fn visit<R: Recorder>(
     instance.units();
     let pins = search.yard.path.pins();
     go_to(instance, &mut search.yard, &next.child);
-    let how = noted_as(instance, tree, next.hint, search);
+    let how = noted_as(alloc, instance, tree, next, search)?;
     let own = count_cases(tree, how);
     note_below(
         alloc,

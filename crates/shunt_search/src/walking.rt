@@ -36,10 +36,10 @@ pub struct Pending {
 
 /// How a walk begins: with the root, whose children are all still to be walked to, or which is whole.
 pub(crate) fn walks_begin()
-    ensures branch { (night : Night) (start : List OneBlock) (stock : List (List OneCase)) (floor : ℕ) (n : OneNode) (best : ℕ) (low : ℤ) (place : ℕ) (waiting : List OnePending) → FitsNode night n → n.depth ≡ 0 →
+    ensures branch { (night : Night) (start : List OneBlock) (stock : List (List OneCase)) (floor : ℤ) (n : OneNode) (best : ℕ) (low : ℤ) (place : ℕ) (waiting : List OnePending) → FitsNode night n → n.depth ≡ 0 →
         n.kind ≡ Branch → cases_or n.duals [] ≡ cases_in stock place → place < length stock → best ≤ opening_cost night start → low ≤ℤ pos best → AddsChildren night stock best start 0 place [] waiting →
-        OpensAbove night start (cases_in stock place) best (pos floor) → CasesHold night start (cases_in stock place) → IsSome (next_of (masks_of night start)) → IsWalk night start stock floor (n ∷ []) start waiting best low }
-    ensures whole { (night : Night) (start : List OneBlock) (stock : List (List OneCase)) (floor : ℕ) (n : OneNode) (best : ℕ) (low : ℤ) → FitsNode night n → n.depth ≡ 0 →
+        OpensAbove night start (cases_in stock place) best floor → CasesHold night start (cases_in stock place) → IsSome (next_of (masks_of night start)) → IsWalk night start stock floor (n ∷ []) start waiting best low }
+    ensures whole { (night : Night) (start : List OneBlock) (stock : List (List OneCase)) (floor : ℤ) (n : OneNode) (best : ℕ) (low : ℤ) → FitsNode night n → n.depth ≡ 0 →
         n.kind ≡ Whole → best ≤ opening_cost night start → best ≤ total_cost night start → low ≤ℤ pos best → next_of (masks_of night start) ≡ None → IsWalk night start stock floor (n ∷ []) start [] best low }
 {}
 
@@ -47,25 +47,25 @@ pub(crate) fn walks_begin()
 /// over. Its node can follow the others, its parent's cases are in the stock and hold at its path, and its bound is by them. If what is
 /// left isn't walked to, each node is locally right for what neither the low bound nor a bound that is left is below.
 pub(crate) fn walks_go_on()
-    ensures branch { (night : Night) (start : List OneBlock) (stock : List (List OneCase)) (floor : ℕ) (nodes : List OneNode) (path : List OneBlock) (left waiting : List OnePending) (t : OnePending) (best : ℕ) (low : ℤ) (n : OneNode) (place : ℕ) →
+    ensures branch { (night : Night) (start : List OneBlock) (stock : List (List OneCase)) (floor : ℤ) (nodes : List OneNode) (path : List OneBlock) (left waiting : List OnePending) (t : OnePending) (best : ℕ) (low : ℤ) (n : OneNode) (place : ℕ) →
         IsInstance night → IsWalk night start stock floor nodes path (left ++ t ∷ []) best low → IsNodeOf night start path t.child n → t.child.bound <ℤ pos best → n.kind ≡ Branch →
         cases_or n.duals (cases_in stock t.cases) ≡ cases_in stock place → place < length stock → AddsChildren night stock best (goal_of path t.child) (length nodes) place left waiting →
-        OpensAbove night (goal_of path t.child) (cases_in stock place) best (pos floor) →
+        OpensAbove night (goal_of path t.child) (cases_in stock place) best floor →
         CasesHold night (goal_of path t.child) (cases_in stock place) → IsSome (next_of (masks_of night (goal_of path t.child))) →
         IsWalk night start stock floor (nodes ++ n ∷ []) (goal_of path t.child) waiting best low }
-    ensures whole { (night : Night) (start : List OneBlock) (stock : List (List OneCase)) (floor : ℕ) (nodes : List OneNode) (path : List OneBlock) (left : List OnePending) (t : OnePending) (best now : ℕ) (low lower : ℤ) (n : OneNode) →
+    ensures whole { (night : Night) (start : List OneBlock) (stock : List (List OneCase)) (floor : ℤ) (nodes : List OneNode) (path : List OneBlock) (left : List OnePending) (t : OnePending) (best now : ℕ) (low lower : ℤ) (n : OneNode) →
         IsInstance night → IsWalk night start stock floor nodes path (left ++ t ∷ []) best low → IsNodeOf night start path t.child n → t.child.bound <ℤ pos best → n.kind ≡ Whole →
         now ≤ best → now ≤ total_cost night (goal_of path t.child) → lower ≤ℤ low → lower ≤ℤ pos now → next_of (masks_of night (goal_of path t.child)) ≡ None →
         IsWalk night start stock floor (nodes ++ n ∷ []) (goal_of path t.child) left now lower }
-    ensures follows { (night : Night) (start : List OneBlock) (stock : List (List OneCase)) (floor : ℕ) (nodes : List OneNode) (path : List OneBlock) (left : List OnePending) (t : OnePending) (best : ℕ) (low : ℤ) (n : OneNode) →
+    ensures follows { (night : Night) (start : List OneBlock) (stock : List (List OneCase)) (floor : ℤ) (nodes : List OneNode) (path : List OneBlock) (left : List OnePending) (t : OnePending) (best : ℕ) (low : ℤ) (n : OneNode) →
         IsInstance night → IsWalk night start stock floor nodes path (left ++ t ∷ []) best low → IsNodeOf night start path t.child n → t.child.bound <ℤ pos best → CanFollow nodes n }
-    ensures next { (night : Night) (start : List OneBlock) (stock : List (List OneCase)) (floor : ℕ) (nodes : List OneNode) (path : List OneBlock) (left : List OnePending) (t : OnePending) (best : ℕ) (low : ℤ) →
+    ensures next { (night : Night) (start : List OneBlock) (stock : List (List OneCase)) (floor : ℤ) (nodes : List OneNode) (path : List OneBlock) (left : List OnePending) (t : OnePending) (best : ℕ) (low : ℤ) →
         IsWalk night start stock floor nodes path (left ++ t ∷ []) best low → (length start ≤ kept t.child) × (kept t.child ≤ length path) × IsNextBlock night (take (kept t.child) path) t.child.block }
-    ensures hold { (night : Night) (start : List OneBlock) (stock : List (List OneCase)) (floor : ℕ) (nodes : List OneNode) (path : List OneBlock) (left : List OnePending) (t : OnePending) (best : ℕ) (low : ℤ) →
+    ensures hold { (night : Night) (start : List OneBlock) (stock : List (List OneCase)) (floor : ℤ) (nodes : List OneNode) (path : List OneBlock) (left : List OnePending) (t : OnePending) (best : ℕ) (low : ℤ) →
         IsWalk night start stock floor nodes path (left ++ t ∷ []) best low → (t.cases < length stock) × CasesHold night (goal_of path t.child) (cases_in stock t.cases) × Reaches night (goal_of path t.child) (cases_in stock t.cases) t.child.bound }
-    ensures closed { (night : Night) (start : List OneBlock) (stock : List (List OneCase)) (floor : ℕ) (nodes : List OneNode) (path : List OneBlock) (waiting left : List OnePending) (best : ℕ) (low now : ℤ) →
+    ensures closed { (night : Night) (start : List OneBlock) (stock : List (List OneCase)) (floor : ℤ) (nodes : List OneNode) (path : List OneBlock) (waiting left : List OnePending) (best : ℕ) (low now : ℤ) →
         IsWalk night start stock floor nodes path waiting best low → Passes waiting left low now → IsWalk night start stock floor nodes path left best now }
-    ensures right { (night : Night) (start : List OneBlock) (stock : List (List OneCase)) (floor : ℕ) (nodes : List OneNode) (path : List OneBlock) (waiting : List OnePending) (best : ℕ) (low bound : ℤ) →
+    ensures right { (night : Night) (start : List OneBlock) (stock : List (List OneCase)) (floor : ℤ) (nodes : List OneNode) (path : List OneBlock) (waiting : List OnePending) (best : ℕ) (low bound : ℤ) →
         IsWalk night start stock floor nodes path waiting best low → bound ≤ℤ low → ((t : OnePending) → In t waiting → bound ≤ℤ t.child.bound) → AreRight night start nodes bound }
 {
     few_blocks();

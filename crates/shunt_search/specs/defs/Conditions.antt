@@ -1,5 +1,5 @@
 -- The conditions on a plan and a certificate that a search has to meet, and which of them speak of its answer alone.
-use Rattle.std.specs.Prelude.{◌≡◌, ℕ, ◌<◌, ◌≤◌, List, length}
+use Rattle.std.specs.Prelude.{◌≡◌, ℕ, ◌<◌, ◌≤◌, ℤ, pos, ◌≤ℤ◌, List, take, length}
 use Rattle.shunt_instance.specs.defs.Instance.{Night}
 use Rattle.shunt_blocks.specs.declared.records.Block.{Block}
 use Rattle.shunt_blocks.specs.defs.Lists.{IsFeasible, placed, total_cost}
@@ -8,6 +8,7 @@ use Rattle.shunt_blocks.specs.defs.Polished.{IsPolished}
 use Rattle.shunt_choices.specs.defs.Paths.{AreInOrder}
 use Rattle.shunt_choices.specs.defs.Choices.{partial_plans}
 use Rattle.shunt_plan.specs.declared.records.Plan.{Plan}
+use Rattle.shunt_prices.specs.defs.Bounds.{IsCasesBound}
 use Rattle.shunt_dual.specs.defs.Assignments.{IsAssignmentBound}
 use Rattle.shunt_proof.specs.declared.records.NodeKind.TheVariants.{Whole}
 use Rattle.shunt_proof.specs.declared.records.Node.{Node}
@@ -15,11 +16,13 @@ use Rattle.shunt_proof.specs.declared.records.Certificate.{Certificate}
 use Rattle.shunt_proof.specs.declared.recorder.RecordError.{RecordError}
 use Rattle.shunt_proof.specs.declared.recorder.RecordError.TheVariants as record_errors
 use Rattle.shunt_proof.specs.defs.Nodes.{node_at}
-use Rattle.shunt_proof.specs.defs.Trees.{IsStart, path_at}
+use Rattle.shunt_proof.specs.defs.Trees.{IsStart, path_at, duals_at}
+use Rattle.shunt_proof.specs.defs.Proves.{Proves}
 use Rattle.shunt_proof.specs.defs.Accepted.{IsAccepted}
 use Rattle.shunt_search.specs.declared.solved.Solved.{Solved}
 use Rattle.shunt_search.specs.declared.solved.SolveError.{SolveError}
 use Rattle.shunt_search.specs.declared.solved.SolveError.TheVariants as errors
+use Rattle.shunt_search.specs.defs.Steady.{KeepBounds}
 
 -- 1: the plan is feasible, keeps the pins and states its cost
 pub record IsPlanFor (night : Night) (pins : List Block) (plan : Plan) : Type 0 where
@@ -54,13 +57,26 @@ pub record AreSpent (night : Night) (pins : List Block) (most nodes cost bound :
   pub all : bound < cost → nodes ≡ most
   pub optimal : partial_plans night pins < most → bound ≡ cost
 
--- the eight conditions on a plan and a certificate, with at most that many nodes
+-- the bound is at least that of the pins' path by the root's cases, so nodes below never give away what the root bounds
+abbrev pub IsAboveRoot : Night → List Block → Certificate → Type 0
+IsAboveRoot night pins c = (start : List Block) (bound : ℤ) → IsStart night pins start → IsCasesBound night start (duals_at c.nodes 0) bound → bound ≤ℤ pos c.bound
+
+-- no node gives away a bound: the cases of each branch keep what its parent's bound, and each bound up to the cost that the first of the
+-- nodes prove by themselves is at most the certificate's
+pub record AreSteady (night : Night) (pins : List Block) (c : Certificate) : Type 0 where
+  pub keep : (start : List Block) → IsStart night pins start → KeepBounds night start c.nodes c.cost
+  pub fronts : (start : List Block) (m : ℕ) (L : ℤ) → IsStart night pins start → 1 ≤ m → L ≤ℤ pos c.cost → Proves night start (take m c.nodes) L 0 → L ≤ℤ pos c.bound
+
+-- the eight conditions on a plan and a certificate, with at most that many nodes; and the bound isn't below the root's, nor below what the
+-- first of the nodes prove
 pub record MeetConditions (night : Night) (pins : List Block) (most : ℕ) (plan : Plan) (c : Certificate) : Type 0 where
   pub plan_for : IsPlanFor night pins plan
   pub tidy : IsTidy night pins plan
   pub cheap : IsCheap night pins plan c.nodes
   pub accepted : IsAccepted night pins plan.blocks plan.cost c
   pub above : IsAboveAssignment night c.bound
+  pub above_root : IsAboveRoot night pins c
+  pub steady : AreSteady night pins c
   pub spent : AreSpent night pins most (length c.nodes) c.cost c.bound
 
 -- those that speak of no node: 1, 2 and 5 to 8

@@ -1,12 +1,16 @@
--- The cases at the root of a tree, and bounds that are at least the assignment bound.
+-- The cases at the root of a tree, and bounds that are at least the assignment bound, and at least the root's.
 use Rattle.std.specs.Prelude.{ℕ, ℤ, pos, ◌≤ℤ◌, List}
 use Rattle.shunt_base.specs.declared.duals.Case.{Case}
 use Rattle.shunt_instance.specs.defs.Instance.{Night}
 use Rattle.shunt_blocks.specs.declared.records.Block.{Block}
+use Rattle.shunt_blocks.specs.defs.Lists.{IsFeasible, total_cost}
+use Rattle.shunt_blocks.specs.defs.Pins.{Keeps}
 use Rattle.shunt_prices.specs.defs.Cases.{CasesHold}
 use Rattle.shunt_prices.specs.defs.Bounds.{IsCasesBound}
 use Rattle.shunt_dual.specs.defs.Assignments.{IsAssignmentBound}
+use Rattle.shunt_proof.specs.declared.records.Node.{Node}
 use Rattle.shunt_proof.specs.defs.Nodes.{AreStatable}
+use Rattle.shunt_proof.specs.defs.Trees.{duals_at}
 use Rattle.shunt_proof.specs.defs.Proves.{Reaches}
 use Rattle.shunt_search.specs.declared.rooting.Root.{Root}
 
@@ -26,6 +30,13 @@ pub record AreRooted (night : Night) (path : List Block) (cases : List Case) : T
 pub record IsFloor (night : Night) (path : List Block) (cases : List Case) (assignment : ℕ) (floor : ℤ) : Type 0 where
   pub high : pos assignment ≤ℤ floor
   pub reach : Reaches night path cases floor
+
+-- a floor of what nodes show: it is at least another one, and at least each bound of the start by the first node's cases; and no plan that
+-- keeps the pins costs less
+pub record IsBase (night : Night) (pins start : List Block) (nodes : List Node) (other floor : ℤ) : Type 0 where
+  pub least : other ≤ℤ floor
+  pub root : (bound : ℤ) → IsCasesBound night start (duals_at nodes 0) bound → bound ≤ℤ floor
+  pub plans : (plan : List Block) → IsFeasible night plan → Keeps plan pins → floor ≤ℤ pos (total_cost night plan)
 
 -- cases for a root, with a floor
 pub record IsRoot (night : Night) (path : List Block) (r : Root) : Type 0 where

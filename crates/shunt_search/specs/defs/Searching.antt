@@ -1,5 +1,5 @@
 -- What holds while a tree is searched.
-use Rattle.std.specs.Prelude.{◌≡◌, ℕ, ◌+◌, ◌<◌, ◌≤◌, true, pos, ◌≤ℤ◌, All, List, [], ◌∷◌, ◌++◌, take, length, Option, None, IfSome}
+use Rattle.std.specs.Prelude.{◌≡◌, ℕ, ◌+◌, ◌<◌, ◌≤◌, true, ℤ, pos, ◌≤ℤ◌, All, List, [], ◌∷◌, ◌++◌, take, length, Option, None, IfSome}
 use Rattle.shunt_store.specs.defs.Files.{BothTold}
 use Rattle.shunt_base.specs.declared.duals.Case.{Case}
 use Rattle.shunt_instance.specs.defs.Instance.{Night, unit_total, position_total}
@@ -17,7 +17,8 @@ use Rattle.shunt_search.specs.declared.noting.Noted.{Noted}
 use Rattle.shunt_search.specs.declared.searching.Search.{Search}
 use Rattle.shunt_search.specs.defs.Yards.{IsYard, IsNextBlock}
 use Rattle.shunt_search.specs.defs.Walking.{kept, goal_of, cases_in, node_below, IsInStock, cases_of, place_of, IsNoted, Opens, IsLesser, Passes, IsWalk, KeepsCheaper, IsBest}
-use Rattle.shunt_search.specs.defs.Roots.{AreRooted, IsFloor}
+use Rattle.shunt_search.specs.defs.Steady.{IsSteady}
+use Rattle.shunt_search.specs.defs.Roots.{AreRooted, IsFloor, IsBase}
 
 -- a stock of cases that a file can state, the root's first
 pub record IsStock (night : Night) (stock : List (List Case)) : Type 0 where
@@ -25,8 +26,8 @@ pub record IsStock (night : Night) (stock : List (List Case)) : Type 0 where
   pub each : All (AreStatable night) stock
 
 -- some nodes are a walk from the pins to the yard's path, with these children left: they are the nodes that are told, where any are told,
--- and that many, with that many cases of their own; the floor is at least the assignment bound, and at most the bound of the pins by the first
--- cases of the stock; and the low bound is the best cost where the walk is plain
+-- and that many, with that many cases of their own; what they show is at least the bound of the pins by the root's cases, and at least the
+-- search's floor, which isn't below the assignment bound; and the low bound is the best cost where the walk is plain
 pub record IsSearch (night : Night) (pins : List Block) (stock : List (List Case)) (told : Option (List Node)) (number owned : ℕ) (waiting : List Pending) (s : Search) : Type 0 where
   pub start : List Block
   pub nodes : List Node
@@ -36,8 +37,11 @@ pub record IsSearch (night : Night) (pins : List Block) (stock : List (List Case
   pub stocked : IsStock night stock
   pub rooted : AreRooted night start (cases_in stock 0)
   pub lowest : IsFloor night start (cases_in stock 0) rooted.floor s.floor
-  pub walk : IsWalk night start stock rooted.floor nodes s.yard.path.blocks waiting s.known.cost s.low
-  pub high : pos rooted.floor ≤ℤ s.low
+  pub floor : ℤ
+  pub base : IsBase night pins start nodes s.floor floor
+  pub walk : IsWalk night start stock floor nodes s.yard.path.blocks waiting s.known.cost s.low
+  pub steady : IsSteady night start nodes s.yard.path.blocks waiting s.known.cost s.low
+  pub high : floor ≤ℤ s.low
   pub tells : IfSome told (λ now. now ≡ nodes)
   pub many : number ≡ length nodes
   pub counted : s.count ≡ number
@@ -63,7 +67,7 @@ pub record Arrives (night : Night) (stock : List (List Case)) (s z : Search) (t 
   pub path : z.yard.path.blocks ≡ goal_of s.yard.path.blocks t.child
   pub pins : z.yard.path.pins ≡ s.yard.path.pins
   pub yard : IsYard night z.yard
-  pub is_noted : IsNoted night stock (goal_of s.yard.path.blocks t.child) s.floor how
+  pub is_noted : IsNoted night stock (goal_of s.yard.path.blocks t.child) s.known.cost t.child.bound how
   pub opens : Opens night stock s.known.cost (goal_of s.yard.path.blocks t.child) s.count (place_of how t.cases) left z.waiting.items
   pub known : z.known ≡ s.known
   pub low : z.low ≡ s.low

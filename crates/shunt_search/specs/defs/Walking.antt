@@ -39,7 +39,7 @@ cases_in stock place = slice_index_or stock place []
 
 -- a child of a noted branch that gives a partial plan and is no node yet: its parent's cases are at this place of the stock, and its bound
 -- by them isn't below the floor
-pub record IsPending (night : Night) (start : List Block) (stock : List (List Case)) (floor : ℕ) (nodes : List Node) (path : List Block) (t : Pending) : Type 0 where
+pub record IsPending (night : Night) (start : List Block) (stock : List (List Case)) (floor : ℤ) (nodes : List Node) (path : List Block) (t : Pending) : Type 0 where
   pub there : t.parent < length nodes
   pub branch : (node_at nodes t.parent).kind ≡ Branch
   pub here : path_at night start nodes t.parent ≡ take (kept t.child) path
@@ -50,7 +50,7 @@ pub record IsPending (night : Night) (start : List Block) (stock : List (List Ca
   pub place : t.cases < length stock
   pub cases : cases_in stock t.cases ≡ duals_at nodes t.parent
   pub bound : IsCasesBound night (goal_of path t.child) (duals_at nodes t.parent) t.child.bound
-  pub above : pos floor ≤ℤ t.child.bound
+  pub above : floor ≤ℤ t.child.bound
   pub new : (j : ℕ) → j < length nodes → path_at night start nodes j ≢ goal_of path t.child
 
 -- the later one is walked to first: it keeps as much or more, and it is another child
@@ -67,7 +67,7 @@ IsWalked nodes k = ((node_at nodes k).kind ≡ Branch) ⊎ ((node_at nodes k).ki
 
 -- the nodes show the low bound, which isn't above the best cost, but for the children that are still to be walked to, the next one at
 -- the end; the last node has this path
-pub record IsWalk (night : Night) (start : List Block) (stock : List (List Case)) (floor : ℕ) (nodes : List Node) (path : List Block) (waiting : List Pending) (best : ℕ) (low : ℤ) : Type 0 where
+pub record IsWalk (night : Night) (start : List Block) (stock : List (List Case)) (floor : ℤ) (nodes : List Node) (path : List Block) (waiting : List Pending) (best : ℕ) (low : ℤ) : Type 0 where
   pub formed : AreNodes night nodes
   pub some : 1 ≤ length nodes
   pub here : path ≡ path_at night start nodes (length nodes - 1)
@@ -129,17 +129,17 @@ cases_of stock noted.Whole = 0
 cases_of stock noted.Same = 0
 cases_of stock (noted.Own place) = length (cases_in stock place)
 
--- the cases at a place of a stock hold at a path, and bound it by this or more
-pub record IsLifted (night : Night) (stock : List (List Case)) (path : List Block) (least : ℤ) (place : ℕ) : Type 0 where
+-- the cases at a place of a stock hold at a path, and bound each next block that is open there by this or more
+pub record IsLifted (night : Night) (stock : List (List Case)) (path : List Block) (best : ℕ) (least : ℤ) (place : ℕ) : Type 0 where
   pub there : place < length stock
   pub hold : CasesHold night path (cases_in stock place)
-  pub reach : Reaches night path (cases_in stock place) least
+  pub opens : OpensAbove night path (cases_in stock place) best least
 
 -- a path is noted as whole, or as a branch, with cases of its own where they lift it
-abbrev pub IsNoted : Night → List (List Case) → List Block → ℤ → Noted → Type 0
-IsNoted night stock path least noted.Whole = next_of (masks_of night path) ≡ None
-IsNoted night stock path least noted.Same = IsSome (next_of (masks_of night path))
-IsNoted night stock path least (noted.Own place) = IsSome (next_of (masks_of night path)) × IsLifted night stock path least place
+abbrev pub IsNoted : Night → List (List Case) → List Block → ℕ → ℤ → Noted → Type 0
+IsNoted night stock path best least noted.Whole = next_of (masks_of night path) ≡ None
+IsNoted night stock path best least noted.Same = IsSome (next_of (masks_of night path))
+IsNoted night stock path best least (noted.Own place) = IsSome (next_of (masks_of night path)) × IsLifted night stock path best least place
 
 -- these children have come to those that wait, as those of the node with this number, whose cases are at this place of the stock
 pub record Adds (children : List Child) (parent place : ℕ) (old new : List Pending) : Type 0 where

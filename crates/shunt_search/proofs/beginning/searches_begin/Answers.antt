@@ -1,4 +1,4 @@
-use Rattle.shunt_search.proofs.Begun.{BeginLaws, whole_begins, branch_begins}
+use Rattle.shunt_search.proofs.Begun.{BeginLaws, first_lifts, whole_begins, branch_begins}
 use Rattle.shunt_search.proofs.beginning.searches_begin.Goals as goal
 
 pub returns : goal.returns
@@ -9,10 +9,14 @@ returns c =
       kept_plan = c.kept_plans.ensures;
       opening = c.starts.ensures.opening;
       partial = c.starts.ensures.partial;
+      steady = c.walks_stay_steady.ensures.root;
       cost = c.floors.ensures;
       rise = c.bounds_rise.ensures.bound;
+      of_cases = c.bounds.ensures.of_cases;
+      one_of_cases = c.bounds.ensures.one_of_cases;
     } in
     record {
+      first = λ night pins stock s i f. first_lifts laws.rise night i pins stock s f;
       whole = λ night pins stock told now count cases s z w i f tells first none begins empty covers takes. whole_begins laws night i pins stock told now count cases s f first z w tells none begins empty covers takes;
       branch = λ night pins stock told now count cases s z place i f lifts tells first owns begins unfinished adds. branch_begins laws night i pins stock told now count cases s f first z place lifts tells owns begins unfinished adds;
     }

@@ -6,7 +6,6 @@ returns c =
     let laws : FloorLaws = record {
       keeps = c.starts.ensures.keeps;
       begins = c.starts.ensures.partial;
-      of_cases = c.bounds.ensures.of_cases;
       dual = c.weak_duality.ensures.cases;
     } in
-    λ night pins start cases floor plan i usable begins are hold above feasible keeps. cost laws night pins start cases floor plan i usable begins are hold above feasible keeps
+    λ night pins start cases floor plan i usable begins are hold reach feasible keeps. cost laws night pins start cases floor plan i usable begins are hold reach feasible keeps

@@ -20,3 +20,6 @@ returns-in_default-clause-search g c =
 
 pub returns-in_default-clause-tells : goal.returns-in_default-clause-tells
 returns-in_default-clause-tells g c = tells_same (g.R.Recorder.told c.args.recorder.now)
+
+pub returns-in_default-clause-keeps : goal.returns-in_default-clause-keeps
+returns-in_default-clause-keeps g c = g.R.Recorder.keeps_same _

@@ -1,8 +1,9 @@
-use Rattle.shunt_search.proofs.Searched.{SearchLaws, is_ready, whole_search, branch_search, closed_search}
+use Rattle.shunt_search.proofs.Searched.{SearchLaws, SteadyLaws, is_ready, whole_search, branch_search, closed_search}
 use Rattle.shunt_search.proofs.searching.searches_go_on.Goals as goal
 
 pub returns : goal.returns
 returns c =
+    let steady : SteadyLaws = record { branch = c.walks_stay_steady.ensures.branch; whole = c.walks_stay_steady.ensures.whole; closed = c.walks_stay_steady.ensures.closed } in
     let laws : SearchLaws = record {
       branch = c.walks_go_on.ensures.branch;
       whole = c.walks_go_on.ensures.whole;
@@ -11,7 +12,7 @@ returns c =
       hold = c.walks_go_on.ensures.hold;
       node = c.next_nodes.ensures;
       kept_plan = c.kept_plans.ensures;
-      cost = c.floors.ensures;
+      steady = steady;
       rise = c.bounds_rise.ensures.bound;
       partial = c.few_nodes.ensures.partial;
       grows = c.plans_grow.ensures.grows;
@@ -23,5 +24,5 @@ returns c =
           branch_search laws night i (c.unit_numbers.ensures.units_few night i) pins stock told number owned left t s h below z how arrives now count cases more owns both not_whole;
       whole = λ night pins stock told now number count owned cases left t s z w i h below arrives more owns both takes.
           whole_search laws night i (c.unit_numbers.ensures.units_few night i) pins stock told number owned left t s h below z w arrives now count cases more owns both takes;
-      closed = λ night pins stock told number owned waiting left s z h falls. closed_search c.walks_go_on.ensures.closed night pins stock told number owned waiting left s z h falls;
+      closed = λ night pins stock told number owned waiting left s z h falls. closed_search c.walks_go_on.ensures.closed steady night pins stock told number owned waiting left s z h falls;
     }

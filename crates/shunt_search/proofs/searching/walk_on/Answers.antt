@@ -50,3 +50,6 @@ returns-in_err-more-clause-keeps g c = g.R.Recorder.keeps_on _ _ _ c.walk.invari
 
 pub returns-then-not-more-clause-keeps : goal.returns-then-not-more-clause-keeps
 returns-then-not-more-clause-keeps g c = g.R.Recorder.keeps_on _ _ _ c.walk.invariant.keeps c.advance.ensures.keeps
+
+pub returns-then-not-more-clause-own : goal.returns-then-not-more-clause-own
+returns-then-not-more-clause-own g c = λ night. (let a = c.walk.invariant.own night in let b = c.advance.ensures.own night in (λ h. a.0 (b.0 h), λ h. b.1 (a.1 h)))

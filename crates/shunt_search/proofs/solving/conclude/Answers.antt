@@ -34,6 +34,13 @@ returns-clause-bound g c =
     c.in_ok-plan.ensures.plan c.in_ok-plan.ensures.tidy (low_enough night c.in_ok-plan.plan.blocks c.deref.result.now c.args.search.known.blocks.items c.args.search.known.cost c.deref.ensures.value c.in_ok-plan.ensures.cheaper c.requires.search.1.best.cost) c.requires.most c.requires.few c.requires.done in
     end.for_plans
 
+pub finish-requires-clause-bound : goal.finish-requires-clause-bound
+finish-requires-clause-bound g c =
+    let night = c.args.instance.now in
+    let end = c.searches_end.ensures.end night c.args.pins.now c.requires.search.0 (g.R.Recorder.told c.args.recorder.now) (g.R.Recorder.number c.args.recorder.now) (g.R.Recorder.cases c.args.recorder.now) c.args.nodes c.bound_left-bound.result c.args.search c.in_ok-plan.plan c.units.ensures.formed c.requires.search.1 c.bound_left-bound.ensures
+    c.in_ok-plan.ensures.plan c.in_ok-plan.ensures.tidy (low_enough night c.in_ok-plan.plan.blocks c.deref.result.now c.args.search.known.blocks.items c.args.search.known.cost c.deref.ensures.value c.in_ok-plan.ensures.cheaper c.requires.search.1.best.cost) c.requires.most c.requires.few c.requires.done in
+    end.shown.stated.bound
+
 pub returns-clause-within : goal.returns-clause-within
 returns-clause-within g c =
     let night = c.args.instance.now in

@@ -23,13 +23,13 @@ note_below-requires-clause-fits g c =
     let next = c.args.next.now.child in
     let pins = c.args.search.now.yard.path.pins in
     let most = few_path c.few_blocks.ensures.most night c.go_to.new.yard.path c.units.result c.go_to.ensures.yard.path c.units.ensures.exact c.units.ensures.few in
-    subst (λ n. FitsNode night (node_below n next.block stock c.noted_as-how.result)) (sym c.pins-pins.ensures)
-    (fits night path next c.requires.ready.next c.next_nodes.ensures c.units.ensures.formed stock c.requires.stocked.each c.noted_as-how.result c.noted_as-how.ensures.there pins c.requires.yard.pins (deep night path next c.requires.ready.next pins c.requires.ready.pins) (few night path next c.requires.ready.next pins c.go_to.new.yard.path.blocks c.go_to.ensures.path most))
+    subst (λ n. FitsNode night (node_below n next.block stock c.in_ok-how.how)) (sym c.pins-pins.ensures)
+    (fits night path next c.requires.ready.next c.next_nodes.ensures c.units.ensures.formed stock c.requires.stocked.each c.in_ok-how.how c.in_ok-how.ensures.there pins c.requires.yard.pins (deep night path next c.requires.ready.next pins c.requires.ready.pins) (few night path next c.requires.ready.next pins c.go_to.new.yard.path.blocks c.go_to.ensures.path most))
 
 pub note_below-requires-clause-place : goal.note_below-requires-clause-place
 note_below-requires-clause-place g c =
-    subst (λ n. IfSome (g.R.Recorder.told c.args.recorder.now) (λ nodes. CanFollow nodes (node_below n c.args.next.now.child.block c.args.tree.now.stock.items c.noted_as-how.result))) (sym c.pins-pins.ensures)
-    (c.requires.ready.place c.noted_as-how.result c.noted_as-how.ensures.there)
+    subst (λ n. IfSome (g.R.Recorder.told c.args.recorder.now) (λ nodes. CanFollow nodes (node_below n c.args.next.now.child.block c.args.tree.now.stock.items c.in_ok-how.how))) (sym c.pins-pins.ensures)
+    (c.requires.ready.place c.in_ok-how.how c.in_ok-how.ensures.there)
 
 pub returns-clause-arrives : goal.returns-clause-arrives
 returns-clause-arrives g c =
@@ -37,13 +37,13 @@ returns-clause-arrives g c =
       path = ap (λ (z : Yard). z.path.blocks) c.list_children.ensures.yard ∙ c.go_to.ensures.path;
       pins = ap (λ (z : Yard). z.path.pins) c.list_children.ensures.yard ∙ c.go_to.ensures.pins;
       yard = subst (λ (z : Yard). IsYard c.args.instance.now z) (sym c.list_children.ensures.yard) c.go_to.ensures.yard;
-      is_noted = subst (λ (l : List Block). IsNoted c.args.instance.now c.args.tree.now.stock.items l c.args.search.now.floor c.noted_as-how.result) c.go_to.ensures.path c.noted_as-how.ensures.noted;
-      opens = subst (λ (l : List Block). Opens c.args.instance.now c.args.tree.now.stock.items c.args.search.now.known.cost l c.args.search.now.count (place_of c.noted_as-how.result c.args.next.now.cases) c.args.search.now.waiting.items c.list_children.new.search.waiting.items) c.go_to.ensures.path c.in_ok-list_children.ensures.opens;
+      is_noted = subst (λ (l : List Block). IsNoted c.args.instance.now c.args.tree.now.stock.items l c.args.search.now.known.cost c.args.next.now.child.bound c.in_ok-how.how) c.go_to.ensures.path c.in_ok-how.ensures.noted;
+      opens = subst (λ (l : List Block). Opens c.args.instance.now c.args.tree.now.stock.items c.args.search.now.known.cost l c.args.search.now.count (place_of c.in_ok-how.how c.args.next.now.cases) c.args.search.now.waiting.items c.list_children.new.search.waiting.items) c.go_to.ensures.path c.in_ok-list_children.ensures.opens;
       known = c.list_children.ensures.known;
       low = c.list_children.ensures.low;
       floor = c.list_children.ensures.floor;
       plain = c.list_children.ensures.plain;
       counted = let same = c.list_children.ensures.count in omega (arith, same);
       cases_counted = let same = c.list_children.ensures.owned in let own = c.count_cases-own.ensures in omega (arith, same, own);
-      room = let same = c.list_children.ensures.owned in let own = c.count_cases-own.ensures in let room = c.noted_as-how.ensures.room in omega (arith, same, own, room);
+      room = let same = c.list_children.ensures.owned in let own = c.count_cases-own.ensures in let room = c.in_ok-how.ensures.room in omega (arith, same, own, room);
     }

@@ -1,53 +1,48 @@
--- What is known stays right when a gain comes to it.
-use Rattle.std.specs.Prelude.{cond, Option, Some, IfSome, Bool, true, false, ℤ, List}
-use Rattle.std.specs.Ordering.{nat_cmp}
+-- Rows that are known stay right when one comes to them, and a row grows by the gain at the event before.
+use Rattle.std.specs.Prelude.{cond, Option, Some, None, IfSome, Vec, Bool, true, false, ℤ, List}
 use Rattle.std.specs.BTreeMap.{BTreeMap, get, is_at, Updates}
+use Rattle.std.specs.Option.{option_copied}
 use Rattle.std.specs.Map.{lookup}
-use Rattle.std.proofs.Common.{◌≡◌, ℕ, ◌<◌, refl, sym, subst, arith}
+use Rattle.std.proofs.Common.{Bor, ◌≡◌, ℕ, ◌+◌, ◌-◌, ◌<◌, ◌≤◌, length, slice_index_or, refl, sym, subst, arith}
+use Rattle.std.proofs.lemmas.List.{get_or_default}
 use Rattle.std.proofs.lemmas.Bool.Decides.{nat_tests}
 use Rattle.shunt_stacks.specs.defs.Spans.{Span}
-use Rattle.shunt_gains.specs.defs.Tables.{IsGain, AreGains, key}
+use Rattle.shunt_gains.specs.declared.rows.RowKey.{RowKey}
+use Rattle.shunt_gains.specs.defs.Tables.{IsGain, AreBefore, IsRow, AreRows, row_cmp}
 
-pick : (P : Option ℤ → Type 0) (t : Bool) (g : Option ℤ) (o : Option (Option ℤ)) → (t ≡ true → P g) → IfSome o P → IfSome (cond t (Some g) o) P
+pick : {A : Type 0} (P : A → Type 0) (t : Bool) (g : A) (o : Option A) → (t ≡ true → P g) → IfSome o P → IfSome (cond t (Some g) o) P
 pick P true g o sure other = sure refl
 pick P false g o sure other = other
 
-same_key : (k q : ℕ) → is_at (nat_cmp k) q ≡ true → k ≡ q
-same_key k q e = grind (arith, nat_tests)
+same_parts : (k q : RowKey) → is_at (row_cmp k) q ≡ true → (k.end ≡ q.end) × (k.room ≡ q.room)
+same_parts k q e = grind (arith, nat_tests)
 
-same_x : (x y room a b r : ℕ) → y < 65536 → room < 4294967296 → b < 65536 → r < 4294967296 → key x y room ≡ key a b r → x ≡ a
-same_x x y room a b r ly lr lb lq e = omega (arith, e)
+module _ (fixed free : List Span) where
+  moved : (k q : RowKey) (gains : List (Option ℤ)) → (k.end ≡ q.end) × (k.room ≡ q.room) → IsRow fixed free k.end k.room gains → IsRow fixed free q.end q.room gains
+  moved k q gains e is = subst (λ (r : ℕ). IsRow fixed free q.end r gains) e.1 (subst (λ (y : ℕ). IsRow fixed free y k.room gains) e.0 is)
 
-same_y : (x y room b r : ℕ) → room < 4294967296 → r < 4294967296 → key x y room ≡ key x b r → y ≡ b
-same_y x y room b r lr lq e = omega (arith, e)
+  pub kept : {A : Type 0} (m n : BTreeMap RowKey (Vec (Option ℤ) A)) (k : RowKey) (row : Vec (Option ℤ) A) → Updates row_cmp m n k (Some row) →
+      IsRow fixed free k.end k.room row.items → AreRows fixed free m → AreRows fixed free n
+  kept {A = A} m n k row updates is known q =
+      subst (λ (o : Option (Vec (Option ℤ) A)). IfSome o (λ v. IsRow fixed free q.end q.room v.items)) (sym (updates.0 q))
+      (pick (λ v. IsRow fixed free q.end q.room v.items) (is_at (row_cmp k) q) row (get row_cmp m q) (λ e. moved k q row.items (same_parts k q e) is) (known q))
 
-same_room : (x y room r : ℕ) → key x y room ≡ key x y r → room ≡ r
-same_room x y room r e = omega (arith, e)
+  pub same_known : {A : Type 0} (m n : BTreeMap RowKey (Vec (Option ℤ) A)) → n.entries ≡ m.entries → AreRows fixed free m → AreRows fixed free n
+  same_known {A = A} m n e known q =
+      subst (λ (es : List (RowKey × Vec (Option ℤ) A)). IfSome (lookup (is_at (row_cmp q)) es) (λ v. IsRow fixed free q.end q.room v.items)) (sym e) (known q)
 
-module _ (fixed free : List Span) (g : Option ℤ) where
-  moved_room : (x y room r : ℕ) → key x y room ≡ key x y r → IsGain fixed free x y room g → IsGain fixed free x y r g
-  moved_room x y room r e h = subst (λ (k : ℕ). IsGain fixed free x y k g) (same_room x y room r e) h
+  -- in a row that goes down to an event, or behind it, stands the gain from there on
+  pub in_row : (x y room : ℕ) (row : List (Option ℤ)) (back : ℕ) → AreBefore fixed free y room row → back + x ≡ y → x ≤ y → back < length row →
+      (d : Option ℤ) → IsGain fixed free x y room (slice_index_or row back d)
+  in_row x y room row back each e le lt d = subst (IsGain fixed free x y room) (get_or_default row back None d lt)
+      (subst (λ (w : ℕ). IsGain fixed free w y room (slice_index_or row back None)) (omega (arith, e)) (each back lt (omega (arith, e))))
 
-  moved_y : (x y room b r : ℕ) → room < 4294967296 → r < 4294967296 → key x y room ≡ key x b r → y ≡ b → IsGain fixed free x y room g → IsGain fixed free x b r g
-  moved_y x y room b r lr lq e f h = moved_room x b room r (subst (λ (k : ℕ). key x k room ≡ key x b r) f e) (subst (λ (k : ℕ). IsGain fixed free x k room g) f h)
+  -- the row that is known at a key
+  pub at_key : {A : Type 0} (rows : BTreeMap RowKey (Vec (Option ℤ) A)) (k : RowKey) (row : Vec (Option ℤ) A) → get row_cmp rows k ≡ Some row → AreRows fixed free rows →
+      IsRow fixed free k.end k.room row.items
+  at_key rows k row e known = subst (λ o. IfSome o (λ v. IsRow fixed free k.end k.room v.items)) e (known k)
 
-  moved_x : (x y room a b r : ℕ) → room < 4294967296 → r < 4294967296 → x ≡ a → key a y room ≡ key a b r → y ≡ b →
-      IsGain fixed free x y room g → IsGain fixed free a b r g
-  moved_x x y room a b r lr lq f d u h = moved_y a y room b r lr lq d u (subst (λ (k : ℕ). IsGain fixed free k y room g) f h)
-
-  moved : (x y room a b r : ℕ) → y < 65536 → room < 4294967296 → b < 65536 → r < 4294967296 → key x y room ≡ key a b r → IsGain fixed free x y room g → IsGain fixed free a b r g
-  moved x y room a b r ly lr lb lq e h =
-      let f = same_x x y room a b r ly lr lb lq e in
-      let d = subst (λ (k : ℕ). key k y room ≡ key a b r) f e in
-      moved_x x y room a b r lr lq f d (same_y a y room b r lr lq d) h
-
-  pub kept : (m n : BTreeMap ℕ (Option ℤ)) (x y room : ℕ) → y < 65536 → room < 4294967296 → Updates nat_cmp m n (key x y room) (Some g) →
-      IsGain fixed free x y room g → AreGains fixed free m → AreGains fixed free n
-  kept m n x y room ly lr updates is known a b r la lb lq =
-      subst (λ (o : Option (Option ℤ)). IfSome o (IsGain fixed free a b r)) (sym (updates.0 (key a b r)))
-      (pick (IsGain fixed free a b r) (is_at (nat_cmp (key x y room)) (key a b r)) g (get nat_cmp m (key a b r))
-      (λ e. moved x y room a b r ly lr lb lq (same_key (key x y room) (key a b r) e) is) (known a b r la lb lq))
-
-pub same_known : (fixed free : List Span) (m n : BTreeMap ℕ (Option ℤ)) → n.entries ≡ m.entries → AreGains fixed free m → AreGains fixed free n
-same_known fixed free m n e known a b r la lb lq =
-    subst (λ (es : List (ℕ × Option ℤ)). IfSome (lookup (is_at (nat_cmp (key a b r))) es) (IsGain fixed free a b r)) (sym e) (known a b r la lb lq)
+pub copied_some : {X : Type 0} (P : X → Type 0) (at : X → X) (o : Option (Bor X)) (r : Option X) → r ≡ option_copied o → IfSome o (λ x. x.now ≡ at x.now) →
+    ((d : X) → P (at d)) → IfSome r P
+copied_some P at None r e h f = subst (λ o. IfSome o P) (sym e) tt
+copied_some P at (Some b) r e h f = subst (λ o. IfSome o P) (sym e) (subst P (sym h) (f b.now))

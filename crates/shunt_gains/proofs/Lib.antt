@@ -2,3 +2,4 @@ mod Known
 mod Small
 mod Stepped
 mod Listed
+mod Ordered

@@ -20,6 +20,7 @@ pub struct Piece {
 /// The fixed and the free pieces of a stack, as they were given and by event.
 #[derive(Drop)]
 pub(crate) struct Pieces {
+    pub alloc: Global,
     pub fixed: Vec<Piece>,
     pub free: Vec<Piece>,
     pub fixed_at: Vec<Vec<Piece>>,
@@ -77,6 +78,7 @@ impl Pieces {
         let fixed_at = by_event(alloc, &fixed, events)?;
         let free_at = by_event(alloc, &free, events)?;
         Ok(Pieces {
+            alloc,
             fixed,
             free,
             fixed_at,

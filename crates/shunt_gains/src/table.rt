@@ -4,15 +4,16 @@ ghost use Rattle.shunt_stacks.specs.defs.Spans.{AreOwn};
 ghost use Rattle.shunt_gains.specs.defs.Tables.{spans_of, AreSmall, IsTable, IsTableOf, IsGain, fixed_of, free_of, events_of};
 
 use crate::pieces::{Piece, Pieces};
+use crate::rows::{RowKey, Rows};
 use crate::values::value;
 use std::alloc::{AllocError, Global};
 use std::collections::BTreeMap;
 
-/// The fixed and free pieces of a stack, with the gains that are known already.
+/// The fixed and free pieces of a stack, with the rows of gains that are known already.
 #[derive(Drop)]
 pub struct Table {
     pieces: Pieces,
-    known: BTreeMap<u64, Option<i64>>,
+    rows: Rows,
 }
 
 impl Table {
@@ -34,19 +35,19 @@ impl Table {
         let pieces = Pieces::new(alloc, fixed, free, events)?;
         Ok(Table {
             pieces,
-            known: BTreeMap::new(alloc),
+            rows: BTreeMap::new(alloc),
         })
     }
 
     /// The greatest gain over the events from x on and before y with a room in dm. None where the fixed pieces don't go.
     ///
-    /// What was found once is looked up. Err is want of memory.
+    /// Gains with one end and one room are found together, once. Err is want of memory.
     pub fn best(&mut self, x: u16, y: u16, room: u32) -> Result<Option<i64>, AllocError>
         requires table { IsTable self.old }
         requires end { y ≤ events_of self.old }
         ensures table { IsTableOf (fixed_of self.old) (free_of self.old) (events_of self.old) self.new }
         ensures best { IfOk result (IsGain (fixed_of self.old) (free_of self.old) x y room) }
     {
-        value(&self.pieces, &mut self.known, x, y, room)
+        value(&self.pieces, &mut self.rows, x, RowKey { end: y, room })
     }
 }

@@ -1,44 +1,14 @@
-// The greatest gain by recursion over the events, with what is known already.
-ghost use Rattle.std.specs.Prelude.{◌≡◌, ◌⊎◌, ℕ, ◌+◌, ◌<◌, ◌≤◌, map, length, IfOk, IfSome, OnOk, Some, Option, ℤ, List};
-ghost use Rattle.std.specs.Ordering.{nat_cmp};
-ghost use Rattle.std.specs.BTreeMap.{get};
+// The greatest gain by recursion over the events, row by row.
+ghost use Rattle.std.specs.Prelude.{◌≡◌, ◌⊎◌, ℕ, ◌+◌, ◌<◌, ◌≤◌, map, length, IfOk, IfSome, Some};
 ghost use Rattle.shunt_lists.specs.defs.Members.{In};
 ghost use Rattle.shunt_prices.specs.defs.Sums.{IsWithin};
 ghost use Rattle.shunt_stacks.specs.defs.Spans.{Span, greater, plus, greatest_of, best, best_with};
-ghost use Rattle.shunt_gains.specs.defs.Tables.{span_of, spans_of, spans_at, ArePieces, IsGain, AreGains, key, fixed_in, free_in, events_in};
+ghost use Rattle.shunt_gains.specs.defs.Tables.{span_of, spans_of, spans_at, ArePieces, IsGain, AreBefore, IsRow, AreRows, fixed_in, free_in, events_in};
 
 use crate::pieces::{Piece, Pieces, list_at};
+use crate::rows::{Row, RowKey, Rows, found, remember};
 use shunt_stacks::laws::nests;
 use std::alloc::AllocError;
-use std::collections::BTreeMap;
-
-/// One number for a part of the events and a room.
-fn key(x: u16, y: u16, room: u32) -> u64
-    ensures { result ≡ key x y room }
-{
-    (u64::from(x) * 65536 + u64::from(y)) * 4294967296 + u64::from(room)
-}
-
-/// The gain that is known for a part of the events and a room.
-fn found(known: &BTreeMap<u64, Option<i64>>, x: u16, y: u16, room: u32) -> Option<Option<i64>>
-    ensures { result ≡ get nat_cmp known.now (key x y room) }
-{
-    known.get(&key(x, y, room)).copied()
-}
-
-/// Keeps the gain for a part of the events and a room.
-fn remember(
-    known: &mut BTreeMap<u64, Option<i64>>,
-    x: u16,
-    y: u16,
-    room: u32,
-    gain: Option<i64>,
-) -> Result<(), AllocError>
-    ensures { (fixed free : List Span) → AreGains fixed free known.old → IsGain fixed free x y room gain → AreGains fixed free known.new }
-{
-    known.insert(key(x, y, room), gain)?;
-    Ok(())
-}
 
 /// The greater of two gains, where there are such.
 fn greater(one: Option<i64>, other: Option<i64>) -> Option<i64>
@@ -63,33 +33,34 @@ fn plus(gain: i64, inside: Option<i64>, behind: Option<i64>) -> Option<i64>
     Some(gain + (inside + behind))
 }
 
-/// The greatest gain with a piece, where it is gone before the end and no longer than the room.
+/// The greatest gain with a piece, where it is gone before the end and no longer than the room. The row has the gains from the events
+/// behind the piece's first one on.
 #[cycle(values)]
 fn with_piece(
     pieces: &Pieces,
-    known: &mut BTreeMap<u64, Option<i64>>,
+    rows: &mut Rows,
+    row: &[Option<i64>],
     piece: Piece,
-    y: u16,
-    room: u32,
+    key: RowKey,
 ) -> Result<Option<i64>, AllocError>
     requires pieces { ArePieces pieces.now }
-    requires known { AreGains (fixed_in pieces.now) (free_in pieces.now) known.old }
-    requires end { y ≤ events_in pieces.now }
+    requires rows { AreRows (fixed_in pieces.now) (free_in pieces.now) rows.old }
+    requires end { key.end ≤ events_in pieces.now }
     requires piece { In (span_of piece) (fixed_in pieces.now) ⊎ In (span_of piece) (free_in pieces.now) }
-    ensures known { AreGains (fixed_in pieces.now) (free_in pieces.now) known.new }
-    ensures is { IfOk result (λ g. (n : ℕ) → y ≤ piece.from + n → g ≡ best_with (best n (fixed_in pieces.now) (free_in pieces.now)) y room (span_of piece)) }
+    requires row { AreBefore (fixed_in pieces.now) (free_in pieces.now) key.end key.room row.now }
+    requires long { key.end ≤ piece.from + length row.now }
+    ensures rows { AreRows (fixed_in pieces.now) (free_in pieces.now) rows.new }
+    ensures is { IfOk result (λ g. (n : ℕ) → key.end ≤ piece.from + n → g ≡ best_with (best n (fixed_in pieces.now) (free_in pieces.now)) key.end key.room (span_of piece)) }
 {
-    if piece.past > y || piece.length > room {
+    if piece.past > key.end || piece.length > key.room {
         return Ok(None);
     }
-    let inside = value(
-        pieces,
-        known,
-        piece.inside,
-        piece.until,
-        room - piece.length,
-    )?;
-    let behind = value(pieces, known, piece.past, y, room)?;
+    let behind = row[usize::from(key.end - piece.past)];
+    let within = RowKey {
+        end: piece.until,
+        room: key.room - piece.length,
+    };
+    let inside = value(pieces, rows, piece.inside, within)?;
     Ok(plus(piece.gain, inside, behind))
 }
 
@@ -97,76 +68,97 @@ fn with_piece(
 #[cycle(values)]
 fn greatest(
     pieces: &Pieces,
-    known: &mut BTreeMap<u64, Option<i64>>,
+    rows: &mut Rows,
+    row: &[Option<i64>],
     without: Option<i64>,
     lists: &[Vec<Piece>],
     x: u16,
-    y: u16,
-    room: u32,
+    key: RowKey,
 ) -> Result<Option<i64>, AllocError>
     requires pieces { ArePieces pieces.now }
-    requires known { AreGains (fixed_in pieces.now) (free_in pieces.now) known.old }
-    requires start { x < y }
-    requires end { y ≤ events_in pieces.now }
+    requires rows { AreRows (fixed_in pieces.now) (free_in pieces.now) rows.old }
+    requires end { key.end ≤ events_in pieces.now }
     requires listed { x < length lists.now }
     requires ours { (s : Span) → In s (spans_at lists.now x) → (In s (fixed_in pieces.now) ⊎ In s (free_in pieces.now)) × (s.from ≡ x) }
-    ensures known { AreGains (fixed_in pieces.now) (free_in pieces.now) known.new }
-    ensures is { IfOk result (λ g. (n : ℕ) → y ≤ x + n →
-        g ≡ greater without (greatest_of (map (best_with (best n (fixed_in pieces.now) (free_in pieces.now)) y room) (spans_at lists.now x)))) }
+    requires row { AreBefore (fixed_in pieces.now) (free_in pieces.now) key.end key.room row.now }
+    requires long { key.end ≤ x + length row.now }
+    ensures rows { AreRows (fixed_in pieces.now) (free_in pieces.now) rows.new }
+    ensures is { IfOk result (λ g. (n : ℕ) → key.end ≤ x + n →
+        g ≡ greater without (greatest_of (map (best_with (best n (fixed_in pieces.now) (free_in pieces.now)) key.end key.room) (spans_at lists.now x)))) }
 {
     let mut gain = without;
     'pieces: for piece in list_at(lists, x) {
-        gain = greater(gain, with_piece(pieces, known, *piece, y, room)?);
+        gain = greater(gain, with_piece(pieces, rows, row, *piece, key)?);
     }
     Ok(gain)
 }
 
-/// The greatest gain from an event on, by those from later events on.
+/// The greatest gain from an event on, by the row of those from the events behind it on.
 #[cycle(values)]
 fn step(
     pieces: &Pieces,
-    known: &mut BTreeMap<u64, Option<i64>>,
+    rows: &mut Rows,
+    row: &[Option<i64>],
     x: u16,
-    y: u16,
-    room: u32,
+    key: RowKey,
 ) -> Result<Option<i64>, AllocError>
     requires pieces { ArePieces pieces.now }
-    requires known { AreGains (fixed_in pieces.now) (free_in pieces.now) known.old }
-    requires start { x < y }
-    requires end { y ≤ events_in pieces.now }
-    ensures known { AreGains (fixed_in pieces.now) (free_in pieces.now) known.new }
-    ensures is { IfOk result (IsGain (fixed_in pieces.now) (free_in pieces.now) x y room) }
+    requires rows { AreRows (fixed_in pieces.now) (free_in pieces.now) rows.old }
+    requires start { x < key.end }
+    requires end { key.end ≤ events_in pieces.now }
+    requires row { AreBefore (fixed_in pieces.now) (free_in pieces.now) key.end key.room row.now }
+    requires long { key.end ≤ x + length row.now }
+    ensures rows { AreRows (fixed_in pieces.now) (free_in pieces.now) rows.new }
+    ensures is { IfOk result (IsGain (fixed_in pieces.now) (free_in pieces.now) x key.end key.room) }
 {
     nests();
     if !list_at(&pieces.fixed_at, x).is_empty() {
-        return greatest(pieces, known, None, &pieces.fixed_at, x, y, room);
+        return greatest(pieces, rows, row, None, &pieces.fixed_at, x, key);
     }
-    let without = value(pieces, known, x + 1, y, room)?;
-    greatest(pieces, known, without, &pieces.free_at, x, y, room)
+    let without = row[usize::from(key.end - x - 1)];
+    greatest(pieces, rows, row, without, &pieces.free_at, x, key)
 }
 
-/// The greatest gain over the events from x on and before y with this room, which is found once.
+/// The row of an end and a room.
+#[cycle(values)]
+fn filled(pieces: &Pieces, rows: &mut Rows, key: RowKey) -> Result<Row, AllocError>
+    requires pieces { ArePieces pieces.now }
+    requires rows { AreRows (fixed_in pieces.now) (free_in pieces.now) rows.old }
+    requires end { key.end ≤ events_in pieces.now }
+    ensures rows { AreRows (fixed_in pieces.now) (free_in pieces.now) rows.new }
+    ensures is { IfOk result (λ v. IsRow (fixed_in pieces.now) (free_in pieces.now) key.end key.room v.items) }
+{
+    let mut row = Vec::with_capacity(pieces.alloc, usize::from(key.end) + 1)?;
+    row.push(Some(0))?;
+    'events: for back in 0..key.end {
+        let gain = step(pieces, rows, &row, key.end - 1 - back, key)?;
+        row.push(gain)?;
+    }
+    Ok(row)
+}
+
+/// The greatest gain over the events from x on with an end and a room, whose row is found once.
 #[cycle(values)]
 pub(crate) fn value(
     pieces: &Pieces,
-    known: &mut BTreeMap<u64, Option<i64>>,
+    rows: &mut Rows,
     x: u16,
-    y: u16,
-    room: u32,
+    key: RowKey,
 ) -> Result<Option<i64>, AllocError>
     requires pieces { ArePieces pieces.now }
-    requires known { AreGains (fixed_in pieces.now) (free_in pieces.now) known.old }
-    requires end { y ≤ events_in pieces.now }
-    ensures known { AreGains (fixed_in pieces.now) (free_in pieces.now) known.new }
-    ensures is { IfOk result (IsGain (fixed_in pieces.now) (free_in pieces.now) x y room) }
+    requires rows { AreRows (fixed_in pieces.now) (free_in pieces.now) rows.old }
+    requires end { key.end ≤ events_in pieces.now }
+    ensures rows { AreRows (fixed_in pieces.now) (free_in pieces.now) rows.new }
+    ensures is { IfOk result (IsGain (fixed_in pieces.now) (free_in pieces.now) x key.end key.room) }
 {
-    if y <= x {
+    if key.end <= x {
         return Ok(Some(0));
     }
-    if let Some(gain) = found(known, x, y, room) {
+    if let Some(gain) = found(rows, x, key) {
         return Ok(gain);
     }
-    let gain = step(pieces, known, x, y, room)?;
-    remember(known, x, y, room, gain)?;
+    let row = filled(pieces, rows, key)?;
+    let gain = row[usize::from(key.end - x)];
+    remember(rows, key, row)?;
     Ok(gain)
 }

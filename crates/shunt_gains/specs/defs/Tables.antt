@@ -1,12 +1,14 @@
 -- Tables of a stack's gains: their spans, and what they know.
-use Rattle.std.specs.Prelude.{◌≡◌, ◌⊎◌, ℕ, ◌+◌, ◌*◌, ◌<◌, ◌≤◌, ℤ, map, List, [], length, slice_index_or, Vec, Option, IfSome}
-use Rattle.std.specs.Ordering.{nat_cmp}
+use Rattle.std.specs.Prelude.{◌≡◌, ◌⊎◌, ℕ, ◌+◌, ◌-◌, ◌<◌, ◌≤◌, ℤ, map, List, [], length, slice_index_or, Vec, Option, None, IfSome}
+use Rattle.std.specs.declared.cmp.Ordering.{Ordering}
+use Rattle.std.specs.Ordering.{ordering_then, nat_cmp}
 use Rattle.std.specs.BTreeMap.{BTreeMap, get}
 use Rattle.shunt_lists.specs.defs.Members.{In}
 use Rattle.shunt_prices.specs.defs.Sums.{IsWithin}
 use Rattle.shunt_stacks.specs.defs.Spans.{Span, AreOwn, coming_at, best}
 use Rattle.shunt_gains.specs.declared.pieces.Piece.{Piece}
 use Rattle.shunt_gains.specs.declared.pieces.Pieces.{Pieces}
+use Rattle.shunt_gains.specs.declared.rows.RowKey.{RowKey}
 use Rattle.shunt_gains.specs.declared.table.Table.{Table}
 
 -- what a piece takes of the events, with its length and its gain
@@ -51,13 +53,22 @@ pub record ArePieces (p : Pieces) : Type 0 where
 abbrev pub IsGain : List Span → List Span → ℕ → ℕ → ℕ → Option ℤ → Type 0
 IsGain fixed free x y room g = (n : ℕ) → y ≤ x + n → g ≡ best n fixed free x y room
 
--- one number for a part of the events and a room
-abbrev pub key : ℕ → ℕ → ℕ → ℕ
-key x y room = (x * 65536 + y) * 4294967296 + room
+-- the order of the keys of rows: by end, then by room
+abbrev pub row_cmp : RowKey → RowKey → Ordering
+row_cmp k l = ordering_then (nat_cmp k.end l.end) (nat_cmp k.room l.room)
 
--- each gain that is known is the greatest
-abbrev pub AreGains : List Span → List Span → BTreeMap ℕ (Option ℤ) → Type 0
-AreGains fixed free known = (x y room : ℕ) → x < 65536 → y < 65536 → room < 4294967296 → IfSome (get nat_cmp known (key x y room)) (IsGain fixed free x y room)
+-- each of these is the greatest gain before an event y with this room: from y itself on, from the event before it on, and so on
+abbrev pub AreBefore : List Span → List Span → ℕ → ℕ → List (Option ℤ) → Type 0
+AreBefore fixed free y room gains = (back : ℕ) → back < length gains → back ≤ y → IsGain fixed free (y - back) y room (slice_index_or gains back None)
+
+-- all of these, from y itself down to the first event
+pub record IsRow (fixed free : List Span) (y room : ℕ) (gains : List (Option ℤ)) : Type 0 where
+  pub long : length gains ≡ y + 1
+  pub each : AreBefore fixed free y room gains
+
+-- each row that is known is that of its end and its room
+abbrev pub AreRows : {A : Type 0} → List Span → List Span → BTreeMap RowKey (Vec (Option ℤ) A) → Type 0
+AreRows fixed free rows = (k : RowKey) → IfSome (get row_cmp rows k) (λ v. IsRow fixed free k.end k.room v.items)
 
 -- the table's spans, and the number of its events
 abbrev pub fixed_of : Table → List Span
@@ -69,10 +80,10 @@ free_of t = free_in t.pieces
 abbrev pub events_of : Table → ℕ
 events_of t = events_in t.pieces
 
--- a table whose pieces are listed and whose known gains are right
+-- a table whose pieces are listed and whose rows are right
 pub record IsTable (t : Table) : Type 0 where
   pub pieces : ArePieces t.pieces
-  pub known : AreGains (fixed_of t) (free_of t) t.known
+  pub rows : AreRows (fixed_of t) (free_of t) t.rows
 
 -- a table of these spans and so many events
 pub record IsTableOf (fixed free : List Span) (events : ℕ) (t : Table) : Type 0 where

@@ -193,8 +193,8 @@ fn add_shapes(
     Ok(())
 }
 
-/// All shapes of uncovered units and positions.
-fn all_shapes(
+/// All shapes of uncovered units and positions. Err is want of memory.
+pub fn all_shapes(
     alloc: Global,
     instance: &Instance,
     covered: &Covered,

@@ -5,6 +5,7 @@
 mod asking;
 mod assigning;
 mod bounds;
+mod gaining;
 mod holding;
 pub mod laws;
 mod longer;
@@ -18,8 +19,10 @@ pub mod types;
 mod ways;
 mod weighing;
 
+pub use asking::all_shapes;
 pub use assigning::{Assigned, assign};
 pub use bounds::{bound, cases_bound};
+pub use gaining::gain;
 pub use holding::{cases_hold, duals_hold};
 pub use longer::{PathSums, longer_bound, path_sums};
 pub use raising::raise_prices;

@@ -1,0 +1,3 @@
+mod Taken
+mod Listed
+mod Tabled

@@ -1,0 +1,9 @@
+//! What stacks gain at a path in a case: their pieces, their tables, and the gains of all stacks.
+#![tactic(auto)]
+
+mod ends;
+mod pieces;
+mod tables;
+
+pub use ends::{Stack, stacks};
+pub use tables::{stack_gain, stack_table};

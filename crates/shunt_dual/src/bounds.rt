@@ -171,7 +171,7 @@ fn sum_at(instance: &Instance, path: &Path, from: u8, to: u8, multiplier: i64, d
 }
 
 /// A sum divided by 1000 and rounded up.
-pub(crate) fn bound_of(sum: i64) -> i64
+pub fn bound_of(sum: i64) -> i64
     requires { IsWithin 4100000000000000000 sum }
     ensures { IsBoundOf sum result }
 {
@@ -201,8 +201,8 @@ fn from_of(cases: &Cases, k: usize) -> u8
     cases.get(before).to + 1
 }
 
-/// The sum at a path of the case with a number.
-pub(crate) fn case_sum(instance: &Instance, path: &Path, cases: &Cases, k: usize) -> i64
+/// The sum at a path of the case with a number, in thousandths of a cost unit. It takes no memory.
+pub fn case_sum(instance: &Instance, path: &Path, cases: &Cases, k: usize) -> i64
     requires path { IsTrailOf instance.now path.now }
     requires cases { AreCases instance.now cases.now }
     requires there { k < length cases.now }

@@ -1,10 +1,13 @@
 -- Pieces that are listed one after another, and stacks track by track.
 use Rattle.std.specs.Prelude.{◌↔◌, IsTrue, map, filter, ◌<ℤ◌, ◌≤ℤ◌, true, false}
-use Rattle.std.proofs.Common.{◌≡◌, ℕ, suc, ◌+◌, Bool, List, [], ◌∷◌, ◌++◌, ℤ, pos, refl, sym, subst, ap, ◌∙◌, arith}
+use Rattle.std.proofs.Common.{◌≡◌, ℕ, suc, ◌+◌, Bool, List, [], ◌∷◌, ◌++◌, ℤ, pos, refl, sym, subst, ap, ◌∙◌, arith, ◌<◌, length, take, get_or}
 use Rattle.std.proofs.lemmas.Int.{ints}
 use Rattle.std.proofs.lemmas.Bool.{false≢true}
-use Rattle.std.proofs.lemmas.List.{map-append}
+use Rattle.std.proofs.lemmas.List.{map-append, take_more}
 use Rattle.std.proofs.lemmas.List.Elements.{filter-append}
+use Rattle.std.specs.List.{AllZip}
+use Rattle.shunt_lists.specs.defs.Members.{In}
+use Rattle.shunt_lists.proofs.Members.{in_map, in_place}
 use Rattle.shunt_base.specs.declared.duals.Case.{Case}
 use Rattle.shunt_instance.specs.declared.records.Station.{Station}
 use Rattle.shunt_instance.specs.defs.Words.{is_open_at}
@@ -20,7 +23,8 @@ use Rattle.shunt_stacks.specs.defs.Spans.{Span}
 use Rattle.shunt_stacks.specs.defs.Numbers.{span_of}
 use Rattle.shunt_gains.specs.declared.pieces.Piece.{Piece}
 use Rattle.shunt_gains.specs.defs.Tables.{spans_of, span_of as piece_span}
-use Rattle.shunt_fillings.specs.defs.Pieces.{ends_of, block_on, Brings}
+use Rattle.shunt_fillings.specs.declared.ends.Stack.{Stack as OurStack}
+use Rattle.shunt_fillings.specs.defs.Pieces.{seen, all_seen, ends_of, block_on, Brings}
 
 one_on : (i : ℕ) → suc i ≡ i + 1
 one_on i = omega arith
@@ -70,3 +74,20 @@ module _ (night : Night) (c : Case) (stack : Stack) (s : Shape) (b : Block) (e :
   pub same_span : (entry leave : ℕ → ℕ) (p : Piece) (g : ℤ) → g ≡ gain night c b → piece_span p ≡ span_of night entry leave (λ z. g) b →
       piece_span p ≡ span_of night entry leave (gain night c) (block_on stack s)
   same_span entry leave p g own h = h ∙ (ap (λ (z : ℤ). span_of night entry leave (λ d. z) b) own ∙ ap (λ (d : Block). span_of night entry leave (gain night c) d) e)
+
+-- ---- the gains of all stacks
+
+pub one_after : {A B : Type 0} (R : A → B → Type 0) (xs : List A) (ys : List B) (x : A) (y : B) → AllZip R xs ys → R x y → AllZip R (xs ++ x ∷ []) (ys ++ y ∷ [])
+one_after R [] [] x y h r = (r, tt)
+one_after R [] (z ∷ ys) x y h r = absurd h
+one_after R (w ∷ xs) [] x y h r = absurd h
+one_after R (w ∷ xs) (z ∷ ys) x y h r = (h.0, one_after R xs ys x y h.1 r)
+
+pub gains_after : (R : Stack → ℤ → Type 0) (stacks : List OurStack) (i : ℕ) (d : OurStack) (old new : List ℤ) (g : ℤ) → i < length stacks → new ≡ old ++ g ∷ [] →
+    AllZip R (all_seen (take i stacks)) old → R (seen (get_or stacks i d)) g → AllZip R (all_seen (take (i + 1) stacks)) new
+gains_after R stacks i d old new g lt e before own = subst (λ (zs : List ℤ). AllZip R (all_seen (take (i + 1) stacks)) zs) (sym e)
+    (subst (λ (ks : List Stack). AllZip R ks (old ++ g ∷ [])) (sym (ap all_seen (take_more stacks i d lt) ∙ map-append seen (take i stacks) (get_or stacks i d ∷ [])))
+    (one_after R (all_seen (take i stacks)) old (seen (get_or stacks i d)) g before own))
+
+pub seen_in : (stacks : List OurStack) (i : ℕ) (d : OurStack) (all : List Stack) → i < length stacks → all_seen stacks ≡ all → In (seen (get_or stacks i d)) all
+seen_in stacks i d all lt e = subst (λ (ks : List Stack). In (seen (get_or stacks i d)) ks) e (in_map seen stacks (get_or stacks i d) (in_place stacks i d lt))

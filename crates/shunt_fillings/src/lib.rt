@@ -2,8 +2,10 @@
 #![tactic(auto)]
 
 mod ends;
+mod gains;
 mod pieces;
 mod tables;
 
 pub use ends::{Stack, stacks};
+pub use gains::all_gains;
 pub use tables::{stack_gain, stack_table};

@@ -52,11 +52,7 @@ fn push_regrouped(text: &mut Text, instance: &Instance, block: Block) -> Result<
     text.push(b"\n")
 }
 
-fn push_changes(
-    text: &mut Text,
-    instance: &Instance,
-    changes: &[Change],
-) -> Result<(), AllocError>
+fn push_changes(text: &mut Text, instance: &Instance, changes: &[Change]) -> Result<(), AllocError>
     requires { All (IsChangeOfNight instance.now) changes.now }
     ensures { OnOk result (text.new ≡ text.old ++ flat_map (change_line instance.now) changes.now) }
 {

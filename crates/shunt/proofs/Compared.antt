@@ -95,16 +95,21 @@ module _ (none : FoundNone) (compares : Compares) (y : Comparable) (f : IsFormed
   ends_as r (inr (inl h)) = inr (faulty_outcome (y.night, y.other) r h.faulty, λ alike. found y.other r f.other h.faulty alike.other_clean)
   ends_as r (inr (inr d)) = ⊎_elim
       (λ e. inl (compared_is y r d ∙ e, let same = law.0 (done_nothing d.comparison.changes d.comparison.regrouped e) in record { clean = of_plan; other_clean = of_other; keeps = same.0; kept = same.1 }))
-      (λ e. inr (compared_is y r d ∙ e, λ alike. let nothing = law.1 (alike.keeps, alike.kept) in
-          let no : outcome.Done ≡ outcome.Findings = sym (nothing_done d.comparison.changes d.comparison.regrouped nothing.0 nothing.1) ∙ e in cc))
+      (λ e. inr (
+        compared_is y r d ∙ e,
+        λ alike. let nothing = law.1 (alike.keeps, alike.kept) in
+            let no : outcome.Done ≡ outcome.Findings = sym (nothing_done d.comparison.changes d.comparison.regrouped nothing.0 nothing.1) ∙ e in cc,
+      ))
       (either d.comparison.changes d.comparison.regrouped)
     where
-    of_plan : IsClean (y.night, y.plan)
-    of_plan = clean y.plan f.plan d.none
-    of_other : IsClean (y.night, y.other)
-    of_other = clean y.other f.other d.other_none
-    law : ((d.comparison.changes ≡ []) × (d.comparison.regrouped ≡ [])) ↔ (Keeps y.plan.blocks y.other.blocks × Keeps y.other.blocks y.plan.blocks)
-    law = compares y.night y.plan.blocks y.other.blocks d.comparison f.night of_plan.0 of_other.0 d.told
+      of_plan : IsClean (y.night, y.plan)
+      of_plan = clean y.plan f.plan d.none
+
+      of_other : IsClean (y.night, y.other)
+      of_other = clean y.other f.other d.other_none
+
+      law : ((d.comparison.changes ≡ []) × (d.comparison.regrouped ≡ [])) ↔ (Keeps y.plan.blocks y.other.blocks × Keeps y.other.blocks y.plan.blocks)
+      law = compares y.night y.plan.blocks y.other.blocks d.comparison f.night of_plan.0 of_other.0 d.told
 
 -- ---- exactly when each comes
 

@@ -61,15 +61,10 @@ fn comparison_answer(
 pub struct Compare;
 
 impl<'n, I: Inputs<Value = Instance>> Question<Then<Then<I, PlanFile<'n>>, OtherFile<'n>>>
-    for Compare
-{
+    for Compare {
     ghost answers = { λ _ x. IsCompared (record { night = x.0.0; plan = x.0.1; other = x.1 }) };
 
-    fn answer(
-        &self,
-        alloc: Global,
-        value: ((Instance, Plan), Plan),
-    ) -> Result<Answer, AllocError>
+    fn answer(&self, alloc: Global, value: ((Instance, Plan), Plan)) -> Result<Answer, AllocError>
         requires plan { IsPlanInRange value.0.0 value.0.1 }
         requires other { IsPlanInRange value.0.0 value.1 }
         ensures { IfOk result (λ a. IsCompared (record { night = value.0.0; plan = value.0.1; other = value.1 }) (reply_of a)) }

@@ -14,9 +14,7 @@ mod stations;
 
 pub use answers::{Answer, FileText, Outcome, one_file};
 pub use chains::Then;
-pub use files::{
-    CertificateFile, CrewFile, EditsFile, OtherFile, PinsFile, PlanFile, ZonesFile,
-};
+pub use files::{CertificateFile, CrewFile, EditsFile, OtherFile, PinsFile, PlanFile, ZonesFile};
 pub use inputs::{HasNight, InputFile, Inputs, NoFiles};
 pub use loading::Halt;
 pub use nights::{CrewFiles, NightFiles, PlanFiles, RosterFile};

@@ -1,6 +1,6 @@
 -- What the first of some nodes prove, all prove; and they prove no more than what is left.
 use Rattle.std.specs.Prelude.{map, ℤ, pos, ◌≤ℤ◌, Option, Some, None, unwrap_or}
-use Rattle.std.proofs.Common.{◌≡◌, ◌≢◌, inl, inr, ⊎_elim, ℕ, zero, suc, ◌+◌, ◌<◌, ◌≤◌, List, ◌++◌, length, take, drop, refl, sym, subst, ap, ◌∙◌, arith}
+use Rattle.std.proofs.Common.{◌≡◌, ◌≢◌, inl, ⊎_elim, ℕ, zero, suc, ◌<◌, ◌≤◌, List, ◌++◌, length, take, drop, sym, subst, ap, ◌∙◌, arith}
 use Rattle.std.proofs.lemmas.Int.{ints}
 use Rattle.std.proofs.lemmas.Bool.{cases_lt}
 use Rattle.std.proofs.lemmas.List.{length-append, length-take, take-append-drop}
@@ -18,16 +18,16 @@ use Rattle.shunt_proof.specs.declared.records.NodeKind.{NodeKind}
 use Rattle.shunt_proof.specs.declared.records.NodeKind.TheVariants.{Branch, Whole}
 use Rattle.shunt_proof.specs.declared.records.Node.{Node}
 use Rattle.shunt_proof.specs.defs.Nodes.{node_at, AreNodes}
-use Rattle.shunt_proof.specs.defs.Trees.{depth_at, parent, IsChildOf, choice_from, stated_choice, longer_with, path_at, duals_at, best_before}
-use Rattle.shunt_proof.specs.defs.Proves.{Reaches, ShowsWhole, ShowsByChoices, Shows, IsListed, IsPlaced, IsRight, AreRight}
+use Rattle.shunt_proof.specs.defs.Trees.{parent, choice_from, stated_choice, longer_with, path_at, duals_at, best_before}
+use Rattle.shunt_proof.specs.defs.Proves.{ShowsWhole, ShowsByChoices, Shows, IsListed, IsPlaced, AreRight}
 use Rattle.shunt_proof.proofs.Depths.{parent_found, child_later, child_path}
 use Rattle.shunt_proof.proofs.Fronts.{node_front, duals_front, path_front}
 use Rattle.shunt_proof.proofs.Growing.{front_nodes, right_more}
 use Rattle.shunt_proof.proofs.Few.{CountLaws, longer, one_path}
 use Rattle.shunt_search.specs.declared.walking.Pending.{Pending}
-use Rattle.shunt_search.specs.defs.Yards.{choice_of, more_by}
-use Rattle.shunt_search.specs.defs.Walking.{kept, goal_of, IsWalked, IsPending, IsWalk}
-use Rattle.shunt_search.specs.defs.Steady.{AreNoWorse, KeepBounds, IsPassed, IsSteady}
+use Rattle.shunt_search.specs.defs.Yards.{choice_of}
+use Rattle.shunt_search.specs.defs.Walking.{kept, goal_of, IsWalked, IsWalk}
+use Rattle.shunt_search.specs.defs.Steady.{KeepBounds, IsSteady}
 use Rattle.shunt_search.proofs.Offered.{longer_is}
 use Rattle.shunt_search.proofs.Lifting.{OneLaw}
 use Rattle.shunt_search.proofs.Walked.{lower}

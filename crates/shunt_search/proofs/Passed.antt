@@ -10,11 +10,10 @@ use Rattle.shunt_lists.proofs.Members.{in_left, in_right, in_cases}
 use Rattle.shunt_base.specs.declared.duals.Case.{Case}
 use Rattle.shunt_instance.specs.defs.Instance.{Night}
 use Rattle.shunt_blocks.specs.declared.records.Block.{Block}
-use Rattle.shunt_choices.specs.defs.Choices.{Choice as PathChoice, IsChoiceAt, longer_by}
+use Rattle.shunt_choices.specs.defs.Choices.{IsChoiceAt, longer_by}
 use Rattle.shunt_prices.specs.defs.Bounds.{IsCasesBound}
 use Rattle.shunt_proof.specs.declared.records.Node.{Node}
-use Rattle.shunt_proof.specs.defs.Nodes.{node_at}
-use Rattle.shunt_proof.specs.defs.Trees.{depth_at, nearest, path_at, duals_at}
+use Rattle.shunt_proof.specs.defs.Trees.{depth_at, nearest, path_at}
 use Rattle.shunt_proof.proofs.Ancestors.{front_path}
 use Rattle.shunt_proof.proofs.Depths.{nearest_here, nearest_before, nearest_low}
 use Rattle.shunt_proof.proofs.Fronts.{node_front, duals_front, path_front}

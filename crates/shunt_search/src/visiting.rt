@@ -3,7 +3,7 @@ ghost use Rattle.std.specs.Prelude.{◌≡◌, ◌≢◌, ◌↔◌, ◌∷◌, 
 ghost use Rattle.shunt_store.specs.defs.Causes.{HasCause};
 ghost use Rattle.shunt_store.specs.defs.Files.{BothTold};
 ghost use Rattle.shunt_instance.specs.defs.Instance.{Night};
-ghost use Rattle.shunt_choices.specs.defs.Paths.{IsTrailOf, next_of};
+ghost use Rattle.shunt_choices.specs.defs.Paths.{next_of};
 ghost use Rattle.shunt_matching.specs.declared.types.Shortage.{Shortage as OneShortage};
 ghost use Rattle.shunt_proof.specs.defs.Nodes.{AreStatable};
 ghost use Rattle.shunt_proof.specs.defs.Recording.{Open, Failed};

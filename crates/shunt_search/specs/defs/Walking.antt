@@ -16,7 +16,7 @@ use Rattle.shunt_proof.specs.declared.records.Choice.{Choice}
 use Rattle.shunt_proof.specs.declared.records.Node.{Node}
 use Rattle.shunt_proof.specs.defs.Nodes.{node_at, FitsNode, AreNodes}
 use Rattle.shunt_proof.specs.defs.Trees.{depth_at, nearest, choice_from, path_at, duals_at, best_before}
-use Rattle.shunt_proof.specs.defs.Proves.{Reaches, Shows, IsListed, IsPlaced}
+use Rattle.shunt_proof.specs.defs.Proves.{Shows, IsListed, IsPlaced}
 use Rattle.shunt_proof.specs.defs.Accepted.{AreLean}
 use Rattle.shunt_search.specs.declared.children.Child.{Child}
 use Rattle.shunt_search.specs.declared.known.Known.{Known}

@@ -1,11 +1,3 @@
-use Rattle.std.proofs.Common.{◌≡◌, ℕ, ◌<◌, ◌≤◌, ℤ, length, List, arith}
-use Rattle.shunt_blocks.specs.declared.records.Block.{Block}
-use Rattle.shunt_blocks.specs.defs.Lists.{total_cost}
-use Rattle.shunt_instance.specs.defs.Instance.{Night}
-use Rattle.shunt_proof.specs.declared.records.NodeKind.TheVariants.{Whole}
-use Rattle.shunt_proof.specs.declared.records.Node.{Node}
-use Rattle.shunt_proof.specs.defs.Nodes.{node_at}
-use Rattle.shunt_proof.specs.defs.Trees.{path_at}
 use Rattle.shunt_proof.proofs.Few.{CountLaws}
 use Rattle.shunt_search.specs.defs.Walking.{cases_in}
 use Rattle.shunt_search.proofs.Passed.{steady_closed}

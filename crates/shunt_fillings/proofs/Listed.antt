@@ -91,3 +91,9 @@ gains_after R stacks i d old new g lt e before own = subst (λ (zs : List ℤ). 
 
 pub seen_in : (stacks : List OurStack) (i : ℕ) (d : OurStack) (all : List Stack) → i < length stacks → all_seen stacks ≡ all → In (seen (get_or stacks i d)) all
 seen_in stacks i d all lt e = subst (λ (ks : List Stack). In (seen (get_or stacks i d)) ks) e (in_map seen stacks (get_or stacks i d) (in_place stacks i d lt))
+
+pub zip_long : {A B : Type 0} (R : A → B → Type 0) (xs : List A) (ys : List B) → AllZip R xs ys → length ys ≡ length xs
+zip_long R [] [] h = refl
+zip_long R [] (y ∷ ys) h = absurd h
+zip_long R (x ∷ xs) [] h = absurd h
+zip_long R (x ∷ xs) (y ∷ ys) h = ap suc (zip_long R xs ys h.1)

@@ -4,8 +4,10 @@
 mod ends;
 mod gains;
 mod pieces;
+mod sums;
 mod tables;
 
 pub use ends::{Stack, stacks};
 pub use gains::all_gains;
+pub use sums::stack_sum;
 pub use tables::{stack_gain, stack_table};

@@ -1,10 +1,10 @@
 -- The numbers of a night's events rise in their order.
-use Rattle.std.proofs.Common.{◌≡◌, ⊎_elim, ℕ, ◌+◌, ◌-◌, ◌<◌, ◌≤◌, List, [], ◌∷◌, ◌++◌, ◌∙◌, length, take, get_or, ap, sym, subst, arith}
+use Rattle.std.proofs.Common.{◌≡◌, ⊎_elim, ℕ, ◌+◌, ◌<◌, ◌≤◌, List, [], ◌∷◌, ◌++◌, ◌∙◌, length, take, get_or, ap, sym, subst, arith}
 use Rattle.std.proofs.lemmas.Bool.{cases_lt}
 use Rattle.std.proofs.lemmas.List.{get_or_append_left, get_or_push, length-append}
 use Rattle.shunt_instance.specs.declared.records.Train.{Train}
 use Rattle.shunt_instance.specs.defs.Words.{train_at, unit_count}
-use Rattle.shunt_instance.specs.defs.Instance.{Night, IsInstance, IsOrderedNight, IsUnitAt, IsPositionAt, unit_at, position_at, unit_total, position_total, first_position}
+use Rattle.shunt_instance.specs.defs.Instance.{Night, IsOrderedNight, IsUnitAt, IsPositionAt, unit_at, position_at, unit_total, position_total, first_position}
 use Rattle.shunt_stacks.specs.defs.Numbers.{arrives, departs, LeavesBefore, IsNumbering}
 use Rattle.shunt_gains.specs.declared.numbers.Events.{Events}
 use Rattle.shunt_gains.specs.defs.Events.{IsGoneBy, IsComeBefore, IsEntryNumber, IsLeaveNumber, AreEntries, AreLeaves, AreEvents, entry_of, leave_of, places_before}

@@ -4,7 +4,7 @@ use Rattle.std.specs.Prelude.{All}
 use Rattle.std.proofs.lemmas.Int.{ints}
 use Rattle.std.proofs.lemmas.List.Elements.{All-cons, All-nil, All-append}
 use Rattle.shunt_prices.specs.defs.Sums.{IsWithin}
-use Rattle.std.proofs.Common.{◌≡◌, [], ◌∷◌, ◌++◌, sym, subst, arith, slice_index_or}
+use Rattle.std.proofs.Common.{◌≡◌, [], ◌∷◌, sym, subst, arith, slice_index_or}
 use Rattle.shunt_base.specs.declared.ids.Side.TheVariants.{A}
 use Rattle.shunt_stacks.specs.defs.Fillings.{IsStackGain}
 use Rattle.shunt_stacks.specs.defs.Stacks.{stacks}

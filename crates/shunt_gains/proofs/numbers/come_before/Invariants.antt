@@ -1,4 +1,4 @@
-use Rattle.std.proofs.Common.{ℕ, ◌<◌, ◌≤◌}
+use Rattle.std.proofs.Common.{ℕ, ◌<◌}
 use Rattle.shunt_stacks.specs.defs.Numbers.{arrives}
 use Rattle.shunt_gains.proofs.numbers.come_before.Given as goal
 

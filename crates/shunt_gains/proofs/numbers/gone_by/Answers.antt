@@ -1,5 +1,4 @@
-use Rattle.std.proofs.Common.{◌≤◌, ◌<◌, arith}
-use Rattle.shunt_stacks.specs.defs.Numbers.{departs, arrives}
+use Rattle.std.proofs.Common.{arith}
 use Rattle.shunt_gains.proofs.Ordered.{OrderLaws, gone_at}
 use Rattle.shunt_gains.proofs.numbers.gone_by.Goals as goal
 

@@ -1,5 +1,5 @@
 use Rattle.std.specs.Option.{option_copied}
-use Rattle.std.proofs.Common.{ap, sym, ◌∙◌, ◌<◌, length, slice_index_or, ◌≡◌, List, Option, ℤ, subst, arith}
+use Rattle.std.proofs.Common.{ap, sym, ◌∙◌, slice_index_or, List, Option, ℤ, subst, arith}
 use Rattle.shunt_gains.specs.defs.Tables.{IsGain}
 use Rattle.shunt_gains.proofs.Known.{at_key, in_row, copied_some}
 use Rattle.shunt_gains.proofs.rows.found.Goals as goal

@@ -1,4 +1,3 @@
-use Rattle.std.specs.Prelude.{Some}
 use Rattle.shunt_gains.proofs.Known.{kept}
 use Rattle.shunt_gains.proofs.rows.remember.Goals as goal
 

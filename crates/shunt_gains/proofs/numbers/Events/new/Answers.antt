@@ -1,4 +1,3 @@
-use Rattle.std.proofs.Common.{◌≤◌}
 use Rattle.shunt_gains.proofs.Ordered.{OrderLaws, all_numbers}
 use Rattle.shunt_gains.proofs.numbers.Events.new.Goals as goal
 

@@ -1,3 +1,4 @@
 mod Taken
 mod Listed
 mod Tabled
+mod Opened

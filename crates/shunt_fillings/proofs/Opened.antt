@@ -1,0 +1,90 @@
+-- The least bound of sums, from those before a number to one more.
+use Rattle.std.specs.Prelude.{true, ◌==◌, ◌||◌, nat_le, ◌≤ℤ◌}
+use Rattle.std.proofs.Common.{◌≡◌, ◌⊎◌, inl, inr, ⊎_elim, ℕ, ◌+◌, ◌<◌, ◌≤◌, List, length, get_or, ℤ, pos, subst, arith}
+use Rattle.std.proofs.lemmas.Int.{ints}
+use Rattle.std.proofs.lemmas.Bool.{cases_lt, cases_eq}
+use Rattle.std.proofs.lemmas.Bool.Decides.{nat_tests}
+use Rattle.shunt_base.specs.declared.duals.Case.{Case}
+use Rattle.shunt_blocks.specs.declared.records.Block.{Block}
+use Rattle.shunt_prices.specs.defs.Limits.{case_at}
+use Rattle.shunt_prices.specs.defs.Bounds.{IsBoundOf, IsOpenAt, unparked_in}
+use Rattle.shunt_prices.proofs.Signed.{bound_rises}
+use Rattle.shunt_stacks.specs.defs.Bounds.{IsLeastBound}
+use Rattle.shunt_fillings.specs.defs.Least.{IsLeastBelow}
+
+-- two bounds of one sum
+one_bound : (sum bound other : ℤ) → IsBoundOf sum bound → IsBoundOf sum other → bound ≤ℤ other
+one_bound sum bound other h k = bound_rises sum sum bound other (omega (arith, ints)) h k
+
+either_test : (a b p q : ℕ) → ((a == b) || nat_le p q) ≡ true → (a ≡ b) ⊎ (p ≤ q)
+either_test a b p q e = ⊎_elim (λ (h : a ≡ b). inl h) (λ (ne : a ≡ b → ⊥). inr (grind (arith, nat_tests))) (cases_eq a b)
+
+last_test : (a b p q : ℕ) → a ≡ b → ((a == b) || nat_le p q) ≡ true
+last_test a b p q e = grind (arith, nat_tests)
+
+few_test : (a b p q : ℕ) → p ≤ q → ((a == b) || nat_le p q) ≡ true
+few_test a b p q le = grind (arith, nat_tests)
+
+module _ (path : List Block) (cases : List Case) (sums : List ℤ) (k : ℕ) (least : ℤ) where
+  pub closed : (case_at cases k).to < unparked_in path → IsLeastBelow cases path sums k least → IsLeastBelow cases path sums (k + 1) least
+  closed many h = record {
+    number = h.number;
+    opens = h.opens;
+    is = h.is;
+    least = λ j other one opens is. h.least j other (narrow j one opens) opens is;
+  }
+    where
+      narrow : (j : ℕ) → (j < k + 1) ⊎ (j + 1 ≡ length cases) → IsOpenAt cases path j → (j < k) ⊎ (j + 1 ≡ length cases)
+      narrow j (inr e) opens = inr e
+      narrow j (inl lt) opens = ⊎_elim
+          (λ (less : j < k). inl less)
+          (λ (past : k ≤ j). ⊎_elim
+          (λ (e : j + 1 ≡ length cases). inr e)
+          (λ (le : unparked_in path ≤ (case_at cases j).to).
+          let same : j ≡ k = omega arith in
+          let le_k : unparked_in path ≤ (case_at cases k).to = subst (λ (i : ℕ). unparked_in path ≤ (case_at cases i).to) same le in
+          absurd (omega (arith, le_k, many)))
+          (either_test (j + 1) (length cases) (unparked_in path) (case_at cases j).to opens.opens))
+          (cases_lt j k)
+
+  module _ (bound : ℤ) (here : IsBoundOf (get_or sums k (pos 0)) bound) (h : IsLeastBelow cases path sums k least) where
+    at_most : (new : ℤ) → new ≤ℤ bound → new ≤ℤ least → (j : ℕ) (other : ℤ) → (j < k + 1) ⊎ (j + 1 ≡ length cases) → IsOpenAt cases path j → IsBoundOf (get_or sums j (pos 0)) other → new ≤ℤ other
+    at_most new le low j other (inr e) opens is = omega (arith, ints, low, h.least j other (inr e) opens is)
+    at_most new le low j other (inl lt) opens is = ⊎_elim
+        (λ (less : j < k). omega (arith, ints, low, h.least j other (inl less) opens is))
+        (λ (past : k ≤ j).
+        let same : j ≡ k = omega arith in
+        omega (arith, ints, le, one_bound (get_or sums k (pos 0)) bound other here (subst (λ (i : ℕ). IsBoundOf (get_or sums i (pos 0)) other) same is)))
+        (cases_lt j k)
+
+    pub taken : k < length cases → unparked_in path ≤ (case_at cases k).to → bound ≤ℤ least → IsLeastBelow cases path sums (k + 1) bound
+    taken lt few le = record {
+      number = k;
+      opens = record { there = lt; opens = few_test (k + 1) (length cases) (unparked_in path) (case_at cases k).to few };
+      is = here;
+      least = at_most bound (omega (arith, ints)) le;
+    }
+
+    pub kept : least ≤ℤ bound → IsLeastBelow cases path sums (k + 1) least
+    kept le = record { number = h.number; opens = h.opens; is = h.is; least = at_most least le (omega (arith, ints)) }
+
+pub last_first : (path : List Block) (cases : List Case) (sums : List ℤ) (last : ℕ) (bound : ℤ) → last + 1 ≡ length cases → IsBoundOf (get_or sums last (pos 0)) bound → IsLeastBelow cases path sums 0 bound
+last_first path cases sums last bound e is = record {
+  number = last;
+  opens = record { there = omega arith; opens = last_test (last + 1) (length cases) (unparked_in path) (case_at cases last).to e };
+  is = is;
+  least = λ j other one opens h. ⊎_elim
+      (λ (lt : j < 0). absurd (omega arith))
+      (λ (f : j + 1 ≡ length cases).
+      let same : j ≡ last = omega arith in
+      one_bound (get_or sums last (pos 0)) bound other is (subst (λ (i : ℕ). IsBoundOf (get_or sums i (pos 0)) other) same h))
+      one;
+}
+
+pub all_of : (path : List Block) (cases : List Case) (sums : List ℤ) (k : ℕ) (bound : ℤ) → length cases ≤ k + 1 → IsLeastBelow cases path sums k bound → IsLeastBound cases path sums bound
+all_of path cases sums k bound le h = record {
+  number = h.number;
+  opens = h.opens;
+  is = h.is;
+  least = λ j other opens is. h.least j other (⊎_elim (λ (lt : j < k). inl lt) (λ (past : k ≤ j). let e : j + 1 ≡ length cases = omega (arith, opens.there) in inr e) (cases_lt j k)) opens is;
+}

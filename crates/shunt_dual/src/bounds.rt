@@ -183,7 +183,7 @@ pub fn bound_of(sum: i64) -> i64
 }
 
 /// How many blocks are unparked.
-pub(crate) fn unparked_in(blocks: &[Block]) -> usize
+pub fn unparked_in(blocks: &[Block]) -> usize
     ensures { result ≡ unparked_in blocks.now }
 {
     blocks.iter().filter(|b| b.park.is_none()).count()

@@ -21,7 +21,7 @@ mod weighing;
 
 pub use asking::all_shapes;
 pub use assigning::{Assigned, assign};
-pub use bounds::{bound, bound_of, case_sum, cases_bound};
+pub use bounds::{bound, bound_of, case_sum, cases_bound, unparked_in};
 pub use gaining::gain;
 pub use holding::{cases_hold, duals_hold};
 pub use longer::{PathSums, longer_bound, path_sums};

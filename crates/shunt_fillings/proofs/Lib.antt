@@ -2,3 +2,4 @@ mod Taken
 mod Listed
 mod Tabled
 mod Opened
+mod Summed

@@ -11,5 +11,5 @@ mod tables;
 pub use bounds::least_bound;
 pub use ends::{Stack, stacks};
 pub use gains::all_gains;
-pub use sums::stack_sum;
+pub use sums::{stack_bound, stack_sum};
 pub use tables::{stack_gain, stack_table};

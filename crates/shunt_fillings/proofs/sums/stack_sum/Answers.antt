@@ -24,8 +24,8 @@ added_up-requires-clause-few c =
 pub added_up-requires-clause-gains : goal.added_up-requires-clause-gains
 added_up-requires-clause-gains c = subst (All (IsWithin 319999999999680)) (sym c.deref.ensures.value) c.in_ok-gains.ensures.small
 
-pub returns : goal.returns
-returns c =
+pub returns-clause-exact : goal.returns-clause-exact
+returns-clause-exact c =
     let night = c.args.instance.now in
     let sum = c.case_sum-sum.ensures in
     let less = c.added_up.ensures in
@@ -34,4 +34,13 @@ returns c =
       gains = c.deref.result.now;
       are = subst (λ (k : Case). AreStackGains night c.args.path.now.blocks k c.deref.result.now) (sym (got c.args.cases.now c.args.k c.get-case.result.now c.get-case.ensures)) own;
       is = omega (arith, ints, sum.exact, sum.small.low, sum.small.high, less.exact, less.small.low, less.small.high);
+    }
+
+pub returns-clause-small : goal.returns-clause-small
+returns-clause-small c =
+    let sum = c.case_sum-sum.ensures in
+    let less = c.added_up.ensures in
+    record {
+      low = omega (arith, ints, sum.small.low, sum.small.high, less.small.low, less.small.high);
+      high = omega (arith, ints, sum.small.low, sum.small.high, less.small.low, less.small.high);
     }

@@ -1,0 +1,29 @@
+use mir.Syntax.{w64}
+use Rattle.std.specs.Prelude.{All}
+use Rattle.std.proofs.Common.{length, sym, subst, ap, ◌∙◌}
+use Rattle.std.proofs.lemmas.Int.{to_z-of_z}
+use Rattle.shunt_prices.specs.defs.Sums.{IsWithin}
+use Rattle.shunt_prices.specs.defs.Bounds.{unparked_in}
+use Rattle.shunt_stacks.specs.defs.Bounds.{IsStackBound}
+use Rattle.shunt_fillings.specs.defs.Least.{AreStackSums}
+use Rattle.shunt_fillings.proofs.sums.stack_bound.Goals as goal
+
+pub least_bound-requires-clause-long : goal.least_bound-requires-clause-long
+least_bound-requires-clause-long c = ap length c.deref.ensures.value ∙ c.in_ok-sums.ensures.long
+
+pub least_bound-requires-clause-small : goal.least_bound-requires-clause-small
+least_bound-requires-clause-small c = subst (All (IsWithin 4100000000000000000)) (sym c.deref.ensures.value) c.in_ok-sums.ensures.small
+
+pub returns : goal.returns
+returns c =
+    let night = c.args.instance.now in
+    let path = c.args.path.now.blocks in
+    let cases = c.args.cases.now in
+    let are = subst (AreStackSums night path cases (length cases)) (sym c.deref.ensures.value) c.in_ok-sums.ensures in
+    let unparked = c.unparked_in-unparked.ensures ∙ ap unparked_in c.blocks-2.ensures in
+    subst (IsStackBound night path cases) (sym (to_z-of_z w64 c.least_bound.result (record { sfits = c.least_bound.type_inv })))
+    (record {
+      sums = c.deref.result.now;
+      are = λ k opens. are.each k opens.there;
+      least = c.least_bound.ensures path unparked;
+    })

@@ -1,0 +1,6 @@
+use Rattle.shunt_picture.proofs.Chained.{on_ok, add}
+use Rattle.shunt_page.proofs.page_texts.push_script_b.Goals as goal
+
+pub returns : goal.returns
+unfolding Rattle.shunt_page.specs.defs.PageTexts.script_b
+returns c = on_ok c.push-2.result _ _ c.push-2.ensures (λ last. add _ _ _ _ _ c.in_ok-push.ensures last)

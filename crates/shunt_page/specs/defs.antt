@@ -1,0 +1,11 @@
+-- The definitions of this crate.
+pub mod Told
+pub mod Standing
+pub mod Orders
+pub mod Parts
+pub mod Findings
+pub mod Departs
+pub mod Pages
+pub mod Cells
+pub mod RowTexts
+pub mod PageTexts

@@ -30,7 +30,7 @@ use Rattle.shunt_throat.specs.defs.Shared.{Sharable, stated_sharing, IsShared}
 use Rattle.shunt_dispatch.specs.defs.Compared.{Comparable, stated_comparison, IsCompared}
 use Rattle.shunt_dispatch.specs.defs.Followed.{Followable, IsFollowed}
 use Rattle.shunt_exchange.specs.defs.Upgraded.{Upgradable, IsUpgraded}
-use Rattle.shunt.specs.defs.Words.{Call, Match, Follow, Audit, Delay, Report, Check, Compare, Zones, Sheet, Draw, Upgrade, Trial, Drivers, Roster, CheckPinned, Replay, MakePlan, MakePinned, IsUsable, inputs_of}
+use Rattle.shunt.specs.defs.Words.{Call, Match, Follow, Audit, Delay, Report, Check, Compare, Zones, Sheet, Draw, Page, Upgrade, Trial, Drivers, Roster, CheckPinned, Replay, MakePlan, MakePinned, IsUsable, inputs_of}
 use Rattle.shunt.specs.defs.Replies.{IsReply, IsReplyOver}
 
 -- what leads to an answer over the files leads to one of the command
@@ -49,6 +49,7 @@ inputs_usable (Compare s t p o) u = u
 inputs_usable (Zones s t p z) u = u
 inputs_usable (Sheet s t p n) u = front_names (s ∷ t ∷ p ∷ []) (n ∷ []) u
 inputs_usable (Draw s t p n) u = front_names (s ∷ t ∷ p ∷ []) (n ∷ []) u
+inputs_usable (Page s t p n) u = front_names (s ∷ t ∷ p ∷ []) (n ∷ []) u
 inputs_usable (Upgrade s t n m) u = front_names (s ∷ t ∷ []) (n ∷ m ∷ []) u
 inputs_usable (Trial n u m s t p k) v = tt
 inputs_usable (Drivers s t p c d) u = front_names (s ∷ t ∷ p ∷ c ∷ []) (d ∷ []) u

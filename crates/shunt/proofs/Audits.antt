@@ -13,12 +13,13 @@ use Rattle.shunt_inputs.specs.declared.answers.Outcome.{Outcome}
 use Rattle.shunt_inputs.specs.declared.answers.Outcome.TheVariants as outcome
 use Rattle.shunt.specs.declared.running.Status.{Status}
 use Rattle.shunt.specs.declared.running.Status.TheVariants as status
-use Rattle.shunt.specs.defs.Words.{Call, Audit, Draw}
+use Rattle.shunt.specs.defs.Words.{Call, Audit, Draw, Page}
 use Rattle.shunt_inputs.specs.defs.Inputs.{Agrees, stated_plans, plans_in}
 use Rattle.shunt_inputs.specs.defs.Replies.{Reply, Decided}
 use Rattle.shunt.specs.defs.Replies.{IsReply}
 use Rattle.shunt_judging.specs.defs.Audited.{IsAudited, IsClean, audit_outcome}
 use Rattle.shunt_drawing.specs.defs.Drawn.{IsDrawn}
+use Rattle.shunt_drawing.specs.defs.Paged.{IsPaged}
 use Rattle.shunt.specs.defs.Ends.{Seen, Ends, Yields, the_status}
 use Rattle.shunt.proofs.Exactly.{decides, has_reply, completes, reply_at, EndsAs}
 use Rattle.shunt_inputs.proofs.Stated.{plan_stated}
@@ -80,6 +81,9 @@ audit_judges s t p files r is = judged_by IsAudited (λ y r a. record { findings
 
 pub draw_judges : (s t p n : List ℕ) → Judges (Draw s t p n) s t p
 draw_judges s t p n files r is = judged_by (IsDrawn n) (λ y r d. record { findings = d.findings; told = d.told; outcome = d.outcome }) (plans_in s t p files) r is
+
+pub page_judges : (s t p n : List ℕ) → Judges (Page s t p n) s t p
+page_judges s t p n files r is = judged_by (IsPaged n) (λ y r d. record { findings = d.findings; told = d.told; outcome = d.outcome }) (plans_in s t p files) r is
 
 -- an outcome of an accepted plan is that of its findings
 record Tells (x : Result (Night × Plan) (List ℕ)) (o : Outcome) : Type 0 where

@@ -6,7 +6,7 @@ use Rattle.std.specs.Fmt.{decimal}
 use Rattle.std.specs.Str.Parse.{digits_value}
 use Rattle.shunt_base.proofs.Decimal.{value_again}
 use Rattle.shunt_store.specs.defs.Files.{Files}
-use Rattle.shunt.specs.defs.Words.{Call, Match, Follow, Audit, Delay, Report, Check, Compare, Zones, Sheet, Draw, Upgrade, Trial, Drivers, Roster, CheckPinned, Replay, MakePlan, MakePinned, IsUsable, words_of}
+use Rattle.shunt.specs.defs.Words.{Call, Match, Follow, Audit, Delay, Report, Check, Compare, Zones, Sheet, Draw, Page, Upgrade, Trial, Drivers, Roster, CheckPinned, Replay, MakePlan, MakePinned, IsUsable, words_of}
 use Rattle.shunt_throat.specs.defs.Shared.{stated_sharing, IsShared}
 use Rattle.shunt_inputs.specs.defs.Inputs.{Agrees, stated_night, stated_plans, Holding}
 use Rattle.shunt_judging.specs.defs.Audited.{IsAudited}
@@ -51,6 +51,7 @@ asked (w ∷ s ∷ t ∷ p ∷ k ∷ []) =
     else if bytes_eq w (codes "zones") then Some (Zones s t p k)
     else if bytes_eq w (codes "sheet") then Some (Sheet s t p k)
     else if bytes_eq w (codes "draw") then Some (Draw s t p k)
+    else if bytes_eq w (codes "page") then Some (Page s t p k)
     else if bytes_eq w (codes "upgrade") then Some (Upgrade s t p k)
     else None
 asked (w ∷ s ∷ t ∷ p ∷ e ∷ n ∷ []) =
@@ -78,6 +79,7 @@ asked_is (Compare s t p o) u = refl
 asked_is (Zones s t p z) u = refl
 asked_is (Sheet s t p n) u = refl
 asked_is (Draw s t p n) u = refl
+asked_is (Page s t p n) u = refl
 asked_is (Upgrade s t n m) u = refl
 asked_is (Trial n x m s t p k) u =
     let small = u.1 in

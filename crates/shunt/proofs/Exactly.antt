@@ -24,7 +24,7 @@ use Rattle.shunt_inputs.specs.declared.answers.Outcome.TheVariants as outcome
 use Rattle.shunt_inputs.specs.defs.Pins.{IsUnusable}
 use Rattle.shunt.specs.declared.running.Status.{Status}
 use Rattle.shunt.specs.declared.running.Status.TheVariants as status
-use Rattle.shunt.specs.defs.Words.{Call, Match, Follow, Audit, Delay, Report, Check, Compare, Zones, Sheet, Draw, Upgrade, Trial, Drivers, Roster, CheckPinned, Replay, MakePlan, MakePinned, outputs_of}
+use Rattle.shunt.specs.defs.Words.{Call, Match, Follow, Audit, Delay, Report, Check, Compare, Zones, Sheet, Draw, Page, Upgrade, Trial, Drivers, Roster, CheckPinned, Replay, MakePlan, MakePinned, outputs_of}
 use Rattle.shunt.proofs.Writes.{in_some}
 use Rattle.shunt_inputs.specs.defs.Inputs.{Agrees}
 use Rattle.shunt.specs.defs.Inputs.{Value, stated_in, refused}
@@ -255,6 +255,7 @@ no_input (Delay s t p) x r (inr d) o = let e : outcome.Done ≡ outcome.Input = 
 no_input (Sheet s t p n) x r (inl f) o = let e : outcome.Findings ≡ outcome.Input = sym (faulty_outcome x r f) ∙ o in cc
 no_input (Sheet s t p n) x r (inr d) o = let e : outcome.Done ≡ outcome.Input = sym d.outcome ∙ o in cc
 no_input (Draw s t p n) x r is o = no_input_found is.findings (sym is.outcome ∙ o)
+no_input (Page s t p n) x r is o = no_input_found is.findings (sym is.outcome ∙ o)
 no_input (Report s t p) x r (inl f) o = let e : outcome.Findings ≡ outcome.Input = sym (faulty_outcome x r f) ∙ o in cc
 no_input (Report s t p) x r (inr d) o = let e : outcome.Done ≡ outcome.Input = sym (report_outcome x r d) ∙ o in cc
 no_input (Trial n u m s t p k) x r is o = let e : outcome.Done ≡ outcome.Input = sym (ap (λ (r : Reply). r.outcome) is.reply) ∙ o in cc
@@ -310,6 +311,7 @@ own_writes (Delay s t p) x r name text (inr d) w = subst (λ (q : Reply). In (na
 own_writes (Sheet s t p n) x r name text (inl f) w = absurd (subst (λ (q : Reply). In (name, text) q.writes) f.reply w)
 own_writes (Sheet s t p n) x r name text (inr d) w = one_write n _ name text (subst (λ (ws : List (List ℕ × List ℕ)). In {X = List ℕ × List ℕ} (name, text) ws) d.writes w)
 own_writes (Draw s t p n) x r name text is w = one_write n _ name text (subst (λ (ws : List (List ℕ × List ℕ)). In {X = List ℕ × List ℕ} (name, text) ws) is.writes w)
+own_writes (Page s t p n) x r name text is w = one_write n _ name text (subst (λ (ws : List (List ℕ × List ℕ)). In {X = List ℕ × List ℕ} (name, text) ws) is.writes w)
 own_writes (Report s t p) x r name text (inl f) w = subst (λ (q : Reply). In (name, text) q.writes) f.reply w
 own_writes (Report s t p) x r name text (inr d) w = subst (λ (q : Reply). In (name, text) q.writes) d.reply w
 own_writes (Trial n u m s t p k) x r name text is w = in_four s t p k _ _ _ _ name text (subst (λ (q : Reply). In {X = List ℕ × List ℕ} (name, text) q.writes) is.reply w)

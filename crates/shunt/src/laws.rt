@@ -27,7 +27,7 @@ ghost use Rattle.shunt_exchange.specs.defs.Upgraded.{Upgradable, upgrade_in};
 ghost use Rattle.shunt_trial.specs.defs.Tried.{made_night, tried};
 ghost use Rattle.shunt_dispatch.specs.defs.Compared.{Comparable, comparison_in, AreAlike};
 ghost use Rattle.shunt_dispatch.specs.defs.Followed.{Followable, following_in, GoesThrough};
-ghost use Rattle.shunt.specs.defs.Words.{Call, Match, Follow, Audit, Delay, Report, Check, Compare, Zones, Sheet, Draw, Upgrade, Trial, Drivers, Roster, CheckPinned, Replay, MakePlan, MakePinned, IsUsable, outputs_of};
+ghost use Rattle.shunt.specs.defs.Words.{Call, Match, Follow, Audit, Delay, Report, Check, Compare, Zones, Sheet, Draw, Page, Upgrade, Trial, Drivers, Roster, CheckPinned, Replay, MakePlan, MakePinned, IsUsable, outputs_of};
 ghost use Rattle.shunt_inputs.specs.declared.pins.Pinned.{Pinned};
 ghost use Rattle.shunt_inputs.specs.defs.Inputs.{Agrees, stated_night, pinned_in, plans_in};
 ghost use Rattle.shunt_judging.specs.defs.Checked.{Checkable, check_in, IsProved, BoundsAll};
@@ -343,6 +343,25 @@ pub fn draw_done_exactly()
 /// If the files are accepted and neither the store nor the sink fails, `draw` ends with `Done`, `Findings` or `Memory`.
 pub fn draw_completes()
     ensures { (s t p n : List ℕ) (old new : Seen) (status : Status) (files : Files) (x : Night × Plan) → old.files ≡ Some files → plans_in s t p files ≡ Ok x → (Rose old.store_faults new.store_faults → ⊥) → (Rose old.sink_faults new.sink_faults → ⊥) → Ends (Draw s t p n) old new status → (status ≡ Status.Done) ⊎ ((status ≡ Status.Findings) ⊎ (status ≡ Status.Memory)) }
+{}
+
+/// `page` ends with `Done` exactly when the files are accepted and the plan is feasible and states its cost, and with
+/// `Findings` exactly when they are accepted and it isn't so, unless the store, memory or the sink came first. It never ends
+/// with `NoMatching` or `Unfinished`.
+pub fn page_done_exactly()
+    ensures done { (s t p n : List ℕ) (old new : Seen) (status : Status) (files : Files) (x : Night × Plan) → old.files ≡ Some files → plans_in s t p files ≡ Ok x → IsClean x → Ends (Page s t p n) old new status → (status ≡ Status.Done) ⊎ Yields status }
+    ensures done_only { (s t p n : List ℕ) (old new : Seen) → Ends (Page s t p n) old new Status.Done → (files : Files) × Agrees old.files files × ((x : Night × Plan) × (plans_in s t p files ≡ Ok x) × IsClean x) }
+    ensures findings { (s t p n : List ℕ) (old new : Seen) (status : Status) (files : Files) (x : Night × Plan) → old.files ≡ Some files → plans_in s t p files ≡ Ok x → (IsClean x → ⊥) → Ends (Page s t p n) old new status → (status ≡ Status.Findings) ⊎ Yields status }
+    ensures findings_only { (s t p n : List ℕ) (old new : Seen) → Ends (Page s t p n) old new Status.Findings → (files : Files) × Agrees old.files files × ((x : Night × Plan) × (plans_in s t p files ≡ Ok x) × (IsClean x → ⊥)) }
+    ensures no_matching { (s t p n : List ℕ) (old new : Seen) → Ends (Page s t p n) old new Status.NoMatching → ⊥ }
+    ensures no_unfinished { (s t p n : List ℕ) (old new : Seen) → Ends (Page s t p n) old new Status.Unfinished → ⊥ }
+{
+    laws::plan_findings();
+}
+
+/// If the files are accepted and neither the store nor the sink fails, `page` ends with `Done`, `Findings` or `Memory`.
+pub fn page_completes()
+    ensures { (s t p n : List ℕ) (old new : Seen) (status : Status) (files : Files) (x : Night × Plan) → old.files ≡ Some files → plans_in s t p files ≡ Ok x → (Rose old.store_faults new.store_faults → ⊥) → (Rose old.sink_faults new.sink_faults → ⊥) → Ends (Page s t p n) old new status → (status ≡ Status.Done) ⊎ ((status ≡ Status.Findings) ⊎ (status ≡ Status.Memory)) }
 {}
 
 /// `follow` ends with `Done` exactly when the files are accepted and all orders can be followed, and with `Findings` exactly when they

@@ -9,7 +9,7 @@ ghost use Rattle.shunt.specs.defs.Replies.{IsReplyOver};
 
 use crate::words::Command;
 use shunt_dispatch::{Compare, Delay, Follow, Sheet};
-use shunt_drawing::Draw;
+use shunt_drawing::{Draw, Page};
 use shunt_exchange::{Report, TrainFiles, Upgrade};
 use shunt_inputs::{
     Answer, CertificateFile, CrewFile, EditsFile, Halt, NightFiles, OtherFile, PinnedFiles,
@@ -76,6 +76,10 @@ pub fn answer_to<S: Store>(
         Command::Draw(station, timetable, plan, picture) => {
             let inputs = Then(NightFiles(station, timetable), PlanFile(plan));
             reply(alloc, store, &inputs, &Draw(picture))
+        }
+        Command::Page(station, timetable, plan, page) => {
+            let inputs = Then(NightFiles(station, timetable), PlanFile(plan));
+            reply(alloc, store, &inputs, &Page(page))
         }
         Command::Upgrade(station, timetable, new_station, new_timetable) => {
             let inputs = TrainFiles(station, timetable);

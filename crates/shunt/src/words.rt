@@ -29,6 +29,8 @@ pub enum Command<'w> {
     Sheet(&'w str, &'w str, &'w str, &'w str),
     /// `draw STATION TIMETABLE PLAN PICTURE`
     Draw(&'w str, &'w str, &'w str, &'w str),
+    /// `page STATION TIMETABLE PLAN PAGE`
+    Page(&'w str, &'w str, &'w str, &'w str),
     /// `upgrade STATION TIMETABLE NEWSTATION NEWTIMETABLE`
     Upgrade(&'w str, &'w str, &'w str, &'w str),
     /// `trial NUMBER UNITS NODES STATION TIMETABLE PLAN CERT`
@@ -228,6 +230,9 @@ fn of_four_files<'w>(
         }
         "draw" if are_four_names(first, second, third, fourth) => {
             Some(Command::Draw(first, second, third, fourth))
+        }
+        "page" if are_four_names(first, second, third, fourth) => {
+            Some(Command::Page(first, second, third, fourth))
         }
         "upgrade" if are_four_names(first, second, third, fourth) => {
             Some(Command::Upgrade(first, second, third, fourth))

@@ -3,7 +3,7 @@ use Rattle.std.specs.Prelude.{ℕ, List, Option, Result, Ok}
 use Rattle.shunt_store.specs.defs.Files.{Files, content}
 use Rattle.shunt_instance.specs.defs.Instance.{Night}
 use Rattle.shunt_plan.specs.declared.records.Plan.{Plan}
-use Rattle.shunt.specs.defs.Words.{Call, Match, Follow, Audit, Delay, Report, Check, Compare, Zones, Sheet, Draw, Upgrade, Trial, Drivers, Roster, CheckPinned, Replay, MakePlan, MakePinned}
+use Rattle.shunt.specs.defs.Words.{Call, Match, Follow, Audit, Delay, Report, Check, Compare, Zones, Sheet, Draw, Page, Upgrade, Trial, Drivers, Roster, CheckPinned, Replay, MakePlan, MakePinned}
 use Rattle.shunt_judging.specs.defs.Checked.{Checkable, check_in}
 use Rattle.shunt_throat.specs.defs.Passed.{Passable, passing_in}
 use Rattle.shunt_throat.specs.defs.Shared.{Sharable, sharing_in}
@@ -29,6 +29,7 @@ Value (Compare s t p o) = Comparable
 Value (Zones s t p z) = Passable
 Value (Sheet s t p n) = Night × Plan
 Value (Draw s t p n) = Night × Plan
+Value (Page s t p n) = Night × Plan
 Value (Upgrade s t n m) = Upgradable
 Value (Trial n u m s t p k) = Unit {0}
 Value (Drivers s t p c d) = Sharable
@@ -50,6 +51,7 @@ stated_in (Compare s t p o) files = comparison_in s t p o files
 stated_in (Zones s t p z) files = passing_in s t p z files
 stated_in (Sheet s t p n) files = plans_in s t p files
 stated_in (Draw s t p n) files = plans_in s t p files
+stated_in (Page s t p n) files = plans_in s t p files
 stated_in (Upgrade s t n m) files = upgrade_in s t files
 stated_in (Trial n u m s t p k) files = Ok tt
 stated_in (Drivers s t p c d) files = sharing_in s t p c files

@@ -1,7 +1,7 @@
 -- The defined answer of a command, over the contents of its files.
 use Rattle.std.specs.Prelude.{Option}
 use Rattle.shunt_store.specs.defs.Files.{Files}
-use Rattle.shunt.specs.defs.Words.{Call, Match, Follow, Audit, Delay, Report, Check, Compare, Zones, Sheet, Draw, Upgrade, Trial, Drivers, Roster, CheckPinned, Replay, MakePlan, MakePinned}
+use Rattle.shunt.specs.defs.Words.{Call, Match, Follow, Audit, Delay, Report, Check, Compare, Zones, Sheet, Draw, Page, Upgrade, Trial, Drivers, Roster, CheckPinned, Replay, MakePlan, MakePinned}
 use Rattle.shunt.specs.defs.Inputs.{Value, stated_in}
 use Rattle.shunt_inputs.specs.defs.Inputs.{Agrees}
 use Rattle.shunt_inputs.specs.defs.Replies.{Reply, Decided}
@@ -16,6 +16,7 @@ use Rattle.shunt_dispatch.specs.defs.Delayed.{IsDelayed}
 use Rattle.shunt_dispatch.specs.defs.Ordered.{IsOrdered}
 use Rattle.shunt_dispatch.specs.defs.Followed.{IsFollowed}
 use Rattle.shunt_drawing.specs.defs.Drawn.{IsDrawn}
+use Rattle.shunt_drawing.specs.defs.Paged.{IsPaged}
 use Rattle.shunt_exchange.specs.defs.Reported.{IsReported}
 use Rattle.shunt_exchange.specs.defs.Upgraded.{IsUpgraded}
 use Rattle.shunt_trial.specs.defs.Tried.{IsTried}
@@ -35,6 +36,7 @@ IsAnswer (Compare s t p o) x r = IsCompared x r
 IsAnswer (Zones s t p z) x r = IsPassed x r
 IsAnswer (Sheet s t p n) x r = IsOrdered n x r
 IsAnswer (Draw s t p n) x r = IsDrawn n x r
+IsAnswer (Page s t p n) x r = IsPaged n x r
 IsAnswer (Upgrade s t n m) x r = IsUpgraded n m x r
 IsAnswer (Trial n u m s t p k) x r = IsTried n u m s t p k r
 IsAnswer (Drivers s t p c d) x r = IsShared d x r

@@ -21,6 +21,7 @@ pub data Call : Type 0 where
   Zones : List ℕ → List ℕ → List ℕ → List ℕ → Call
   Sheet : List ℕ → List ℕ → List ℕ → List ℕ → Call
   Draw : List ℕ → List ℕ → List ℕ → List ℕ → Call
+  Page : List ℕ → List ℕ → List ℕ → List ℕ → Call
   Upgrade : List ℕ → List ℕ → List ℕ → List ℕ → Call
   Trial : ℕ → ℕ → ℕ → List ℕ → List ℕ → List ℕ → List ℕ → Call
   Drivers : List ℕ → List ℕ → List ℕ → List ℕ → List ℕ → Call
@@ -41,6 +42,7 @@ call_of (command.Compare s t p o) = Compare s.now t.now p.now o.now
 call_of (command.Zones s t p z) = Zones s.now t.now p.now z.now
 call_of (command.Sheet s t p n) = Sheet s.now t.now p.now n.now
 call_of (command.Draw s t p n) = Draw s.now t.now p.now n.now
+call_of (command.Page s t p n) = Page s.now t.now p.now n.now
 call_of (command.Upgrade s t n m) = Upgrade s.now t.now n.now m.now
 call_of (command.Trial n u m s t p k) = Trial n u m s.now t.now p.now k.now
 call_of (command.Drivers s t p c d) = Drivers s.now t.now p.now c.now d.now
@@ -62,6 +64,7 @@ words_of (Compare s t p o) = codes "compare" ∷ s ∷ t ∷ p ∷ o ∷ []
 words_of (Zones s t p z) = codes "zones" ∷ s ∷ t ∷ p ∷ z ∷ []
 words_of (Sheet s t p n) = codes "sheet" ∷ s ∷ t ∷ p ∷ n ∷ []
 words_of (Draw s t p n) = codes "draw" ∷ s ∷ t ∷ p ∷ n ∷ []
+words_of (Page s t p n) = codes "page" ∷ s ∷ t ∷ p ∷ n ∷ []
 words_of (Upgrade s t n m) = codes "upgrade" ∷ s ∷ t ∷ n ∷ m ∷ []
 words_of (Trial n u m s t p k) = codes "trial" ∷ decimal n ∷ decimal u ∷ decimal m ∷ s ∷ t ∷ p ∷ k ∷ []
 words_of (Drivers s t p c d) = codes "drivers" ∷ s ∷ t ∷ p ∷ c ∷ d ∷ []
@@ -83,6 +86,7 @@ inputs_of (Compare s t p o) = s ∷ t ∷ p ∷ o ∷ []
 inputs_of (Zones s t p z) = s ∷ t ∷ p ∷ z ∷ []
 inputs_of (Sheet s t p n) = s ∷ t ∷ p ∷ []
 inputs_of (Draw s t p n) = s ∷ t ∷ p ∷ []
+inputs_of (Page s t p n) = s ∷ t ∷ p ∷ []
 inputs_of (Upgrade s t n m) = s ∷ t ∷ []
 inputs_of (Trial n u m s t p k) = []
 inputs_of (Drivers s t p c d) = s ∷ t ∷ p ∷ c ∷ []
@@ -104,6 +108,7 @@ outputs_of (Compare s t p o) = []
 outputs_of (Zones s t p z) = []
 outputs_of (Sheet s t p n) = n ∷ []
 outputs_of (Draw s t p n) = n ∷ []
+outputs_of (Page s t p n) = n ∷ []
 outputs_of (Upgrade s t n m) = n ∷ m ∷ []
 outputs_of (Trial n u m s t p k) = s ∷ t ∷ p ∷ k ∷ []
 outputs_of (Drivers s t p c d) = d ∷ []

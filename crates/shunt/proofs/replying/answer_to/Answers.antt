@@ -96,6 +96,15 @@ returns-in-Draw-clause-leads g c = λ view seen. asked _ _ _ view _ _ _ (ap call
 pub returns-in-Draw-clause-first : goal.returns-in-Draw-clause-first
 returns-in-Draw-clause-first g c = first_of _ _ _ _ (ap call_of c.in-Draw.is) c.reply-in-Draw.ensures.first
 
+pub reply-requires-in-Page-clause-names : goal.reply-requires-in-Page-clause-names
+reply-requires-in-Page-clause-names g c = inputs_named _ _ (ap call_of c.in-Page.is) c.requires.names
+
+pub returns-in-Page-clause-leads : goal.returns-in-Page-clause-leads
+returns-in-Page-clause-leads g c = λ view seen. asked _ _ _ view _ _ _ (ap call_of c.in-Page.is) (c.reply-in-Page.ensures.leads view seen) (λ reply a. a)
+
+pub returns-in-Page-clause-first : goal.returns-in-Page-clause-first
+returns-in-Page-clause-first g c = first_of _ _ _ _ (ap call_of c.in-Page.is) c.reply-in-Page.ensures.first
+
 pub reply-requires-in-Upgrade-clause-names : goal.reply-requires-in-Upgrade-clause-names
 reply-requires-in-Upgrade-clause-names g c = inputs_named _ _ (ap call_of c.in-Upgrade.is) c.requires.names
 

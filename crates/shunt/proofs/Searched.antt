@@ -108,7 +108,7 @@ module _ (bounds : Bounds) (pins : List Block) (m : ℕ) (p k : List ℕ) (night
   }
 
   pub stated : AreStated night pins is.plan is.certificate
-  stated = record { in_range = is.in_range; statable = is.statable; accepted = is.meet.accepted }
+  stated = record { in_range = is.in_range; statable = is.statable; accepted = is.meet.accepted; above_root = is.meet.above_root; steady = is.meet.steady }
 
   cost_is : is.certificate.cost ≡ is.plan.cost
   cost_is = is.meet.accepted.cost ∙ sym is.meet.accepted.states

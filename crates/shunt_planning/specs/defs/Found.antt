@@ -12,6 +12,7 @@ use Rattle.shunt_proof.specs.declared.records.Certificate.{Certificate}
 use Rattle.shunt_proof.specs.defs.Accepted.{IsAccepted}
 use Rattle.shunt_proof.specs.defs.Certificates.{IsCertificate}
 use Rattle.shunt_proof.specs.defs.Trees.{IsStart, path_at}
+use Rattle.shunt_search.specs.defs.Conditions.{IsAboveRoot, AreSteady}
 
 -- the plan is feasible, keeps the pins and states its cost, and every feasible plan of the night that keeps them costs at least the bound
 pub record IsBounded (night : Night) (pins : List Block) (plan : Plan) (bound : ℕ) : Type 0 where
@@ -25,11 +26,13 @@ abbrev pub IsCheapest : Night → List Block → Plan → Type 0
 IsCheapest night pins plan = IsBounded night pins plan plan.cost
 
 -- files can state the plan and the certificate, so their texts state no others; and the certificate is accepted with the plan: its root
--- proves its bound, and its tree is lean
+-- proves its bound, and its tree is lean. The bound isn't below the root's, and no node gives a bound away
 pub record AreStated (night : Night) (pins : List Block) (plan : Plan) (c : Certificate) : Type 0 where
   pub in_range : IsPlanInRange night plan
   pub statable : IsCertificate night c
   pub accepted : IsAccepted night pins plan.blocks plan.cost c
+  pub above_root : IsAboveRoot night pins c
+  pub steady : AreSteady night pins c
 
 -- that many nodes, whose paths are partial plans over the pins that differ by more than their ids
 pub record AreDifferent (night : Night) (pins : List Block) (nodes : List Node) (many : ℕ) : Type 0 where

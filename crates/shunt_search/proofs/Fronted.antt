@@ -17,6 +17,7 @@ use Rattle.shunt_proof.specs.declared.records.Choice.{Choice}
 use Rattle.shunt_proof.specs.declared.records.NodeKind.{NodeKind}
 use Rattle.shunt_proof.specs.declared.records.NodeKind.TheVariants.{Branch, Whole}
 use Rattle.shunt_proof.specs.declared.records.Node.{Node}
+use Rattle.shunt_proof.specs.declared.records.Version.TheVariants.{Prices}
 use Rattle.shunt_proof.specs.defs.Nodes.{node_at, AreNodes}
 use Rattle.shunt_proof.specs.defs.Trees.{parent, choice_from, stated_choice, longer_with, path_at, duals_at, best_before}
 use Rattle.shunt_proof.specs.defs.Proves.{ShowsWhole, ShowsByChoices, Shows, IsListed, IsPlaced, AreRight}
@@ -165,7 +166,7 @@ module _ (laws : CountLaws) (one : OneLaw) (night : Night) (i : IsInstance night
 
   all_right : AreRight night start nodes L
   all_right k lt = ⊎_elim
-      (λ before. right_more front rest night start k L before (right k before))
+      (λ before. right_more front rest night start Prices k L before (right k before))
       (λ past. record { placed = λ first. G.placed k first lt; shows = shown k lt past })
       (cases_lt k (length front))
 

@@ -111,6 +111,16 @@ module _ (none : FoundNone) (compares : Compares) (y : Comparable) (f : IsFormed
       law : ((d.comparison.changes ≡ []) × (d.comparison.regrouped ≡ [])) ↔ (Keeps y.plan.blocks y.other.blocks × Keeps y.other.blocks y.plan.blocks)
       law = compares y.night y.plan.blocks y.other.blocks d.comparison f.night of_plan.0 of_other.0 d.told
 
+-- what the files state where there is an answer that isn't that one of them isn't accepted
+record Tells (x : Result Comparable (List ℕ)) (r : Reply) : Type 0 where
+  value : Comparable
+  ok : x ≡ Ok value
+  is : IsCompared value r
+
+tells : (x : Result Comparable (List ℕ)) (r : Reply) (out : Outcome) → (out ≡ outcome.Input → ⊥) → Decided x IsCompared r → r.outcome ≡ out → Tells x r
+tells (Err text) r out other is e = absurd (other (sym e ∙ ap (λ (r : Reply). r.outcome) is))
+tells (Ok y) r out other is e = record { value = y; ok = refl; is = is }
+
 -- ---- exactly when each comes
 
 module _ (none : FoundNone) (compares : Compares) (s t p o : List ℕ) (old new : Seen) where
@@ -124,16 +134,6 @@ module _ (none : FoundNone) (compares : Compares) (s t p o : List ℕ) (old new 
   pub findings_there : (x : Status) (files : Files) (y : Comparable) → old.files ≡ Some files → comparison_in s t p o files ≡ Ok y → (AreAlike y → ⊥) → Ends (Compare s t p o) old new x → (x ≡ status.Findings) ⊎ Yields x
   findings_there x files y known ok never ends = decides (Compare s t p o) outcome.Findings old new x files known
       (λ r is. ⊎_elim (λ h. absurd (never h.1)) (λ h. h.0) (ends_as none compares y (at_files files y ok) r (compared (comparison_in s t p o files) y r ok is))) ends
-
-  -- what the files state where there is an answer that isn't that one of them isn't accepted
-  record Tells (x : Result Comparable (List ℕ)) (r : Reply) : Type 0 where
-    value : Comparable
-    ok : x ≡ Ok value
-    is : IsCompared value r
-
-  tells : (x : Result Comparable (List ℕ)) (r : Reply) (out : Outcome) → (out ≡ outcome.Input → ⊥) → Decided x IsCompared r → r.outcome ≡ out → Tells x r
-  tells (Err text) r out other is e = absurd (other (sym e ∙ ap (λ (r : Reply). r.outcome) is))
-  tells (Ok y) r out other is e = record { value = y; ok = refl; is = is }
 
   pub done_only : Ends (Compare s t p o) old new status.Done → (files : Files) × Agrees old.files files × ((y : Comparable) × (comparison_in s t p o files ≡ Ok y) × AreAlike y)
   done_only ends =

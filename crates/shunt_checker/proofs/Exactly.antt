@@ -1,6 +1,6 @@
 -- Nothing is wrong exactly when a certificate is accepted.
 use Rattle.std.specs.Prelude.{◌↔◌, ◌≢◌}
-use Rattle.std.proofs.Common.{◌≡◌, inl, inr, ℕ, ◌+◌, ◌<◌, ◌≤◌, ℤ, pos, List, Some, None, length, sym, subst, arith}
+use Rattle.std.proofs.Common.{◌≡◌, inl, inr, ℕ, ◌+◌, ◌<◌, ◌≤◌, ℤ, pos, List, Some, None, length, refl, sym, subst, arith}
 use Rattle.shunt_base.specs.declared.duals.Case.{Case}
 use Rattle.shunt_instance.specs.defs.Words.{train_at, kind_at}
 use Rattle.shunt_instance.specs.defs.Instance.{Night, unit_at, make_unit}
@@ -15,12 +15,15 @@ use Rattle.shunt_plan.specs.defs.Plans.{IsPlanInRange}
 use Rattle.shunt_proof.specs.declared.records.Choice.{Choice}
 use Rattle.shunt_proof.specs.declared.records.NodeKind.TheVariants.{Branch, Whole}
 use Rattle.shunt_proof.specs.declared.records.Node.{Node}
+use Rattle.shunt_proof.specs.declared.records.Version.{Version}
+use Rattle.shunt_proof.specs.declared.records.Version.TheVariants.{Prices, Stacks}
 use Rattle.shunt_proof.specs.declared.records.Certificate.{Certificate}
 use Rattle.shunt_proof.specs.defs.Nodes.{node_at, AreNodes, FitsChoice}
+use Rattle.shunt_proof.specs.defs.Numbers.{CanBeRead}
 use Rattle.shunt_proof.specs.defs.Certificates.{IsCertificate}
 use Rattle.shunt_proof.specs.defs.Trees.{IsStart, depth_at, parent, path_at, duals_at}
 use Rattle.shunt_proof.specs.defs.Proves.{Proves, AreRight}
-use Rattle.shunt_proof.specs.defs.Accepted.{AreLean, IsAccepted}
+use Rattle.shunt_proof.specs.defs.Accepted.{AreLean, IsAcceptedIn, IsAccepted}
 use Rattle.shunt_checker.specs.declared.verdict.Reason.{Reason}
 use Rattle.shunt_checker.specs.declared.verdict.Verdict.{Verdict}
 use Rattle.shunt_checker.specs.declared.verdict.Verdict.TheVariants as verdict
@@ -41,6 +44,11 @@ pub record Laws (night : Night) : Type 0 where
   pub exactly : (start : List Block) (nodes : List Node) (L : ℤ) → AreNodes night nodes → 1 ≤ length nodes → Proves night start nodes L 0 ↔ AreRight night start nodes L
   pub one_start : (pins start other : List Block) → IsStart night pins start → IsStart night pins other → start ≡ other
 
+-- what is read is of version 1
+only_prices : (version : Version) → CanBeRead version → version ≡ Prices
+only_prices Prices can = refl
+only_prices Stacks can = absurd (omega (arith, can))
+
 module _ (night : Night) (laws : Laws night) (pins start : List Block) (plan : Plan) (c : Certificate) (range : IsPlanInRange night plan) (keeps : Keeps plan.blocks pins)
     (cert : IsCertificate night c) (begins : IsStart night pins start) where
   root_choice : (k : ℕ) → k < length c.nodes → k ≡ 0 → (node_at c.nodes k).choice ≡ None
@@ -60,7 +68,7 @@ module _ (night : Night) (laws : Laws night) (pins start : List Block) (plan : P
         node_lean night laws.of_cases start c k (h.before.of_nodes k lt) later (laws.cases c.nodes (parent c.nodes k) cert.nodes (omega (arith, before, lt)) (not_whole _ up.2)).some
 
     pub accepted : IsAccepted night pins plan.blocks plan.cost c
-    accepted = record {
+    accepted = subst (λ (v : Version). IsAcceptedIn v night pins plan.blocks plan.cost c) (sym (only_prices c.version cert.version)) (record {
       feasible = feasible night plan range h.before.of_plan;
       keeps = keeps;
       states = states night plan h.before.of_plan;
@@ -69,10 +77,11 @@ module _ (night : Night) (laws : Laws night) (pins start : List Block) (plan : P
       begins = begins;
       root = (laws.exactly start c.nodes (pos c.bound) cert.nodes cert.some).1 all_right;
       lean = all_lean;
-    }
+    })
 
   pub nothing_wrong : IsAccepted night pins plan.blocks plan.cost c → IsSound night start plan c
-  nothing_wrong h =
+  nothing_wrong a =
+      let h : IsAcceptedIn Prices night pins plan.blocks plan.cost c = subst (λ (v : Version). IsAcceptedIn v night pins plan.blocks plan.cost c) (only_prices c.version cert.version) a in
       let e : h.start ≡ start = laws.one_start pins h.start start h.begins begins in
       let right : AreRight night start c.nodes (pos c.bound) = (laws.exactly start c.nodes (pos c.bound) cert.nodes cert.some).0 (subst (λ (s : List Block). Proves night s c.nodes (pos c.bound) 0) e h.root) in
       let lean : AreLean night start c.nodes = subst (λ (s : List Block). AreLean night s c.nodes) e h.lean in

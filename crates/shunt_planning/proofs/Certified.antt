@@ -11,10 +11,10 @@ use Rattle.shunt_planning.specs.defs.Planned.{certificate_file}
 
 -- it has written the certificate's text
 pub finished_text : (s : Streamed) (cost bound : ℕ) (nodes : List Node) → stage_of s ≡ Finished cost bound → IfSome (told_of s) (λ now. now ≡ nodes)
-    → text_of s.place ≡ certificate_file s.night (record { nodes = nodes; cost = cost; bound = bound })
+    → text_of s.place ≡ certificate_file s.night (record { version = s.version; nodes = nodes; cost = cost; bound = bound })
 finished_text s cost bound nodes stage tells =
     let end = finished s cost bound stage in
     let found = nodes_of_sound s end.sound in
     let same : found.0 ≡ nodes = subst (λ o. IfSome o (λ now. now ≡ nodes)) found.1 tells in
-    let text = told_so s.night (Some (cost, bound)) s.nodes s.cases (text_of s.place) found.0 (sym (told_finished s cost bound end.doing) ∙ found.1) in
-    text.text ∙ sym (ended s.night found.0 (cost, bound)) ∙ ap (λ (l : List Node). certificate_file s.night (record { nodes = l; cost = cost; bound = bound })) same
+    let text = told_so s.version s.night (Some (cost, bound)) s.nodes s.cases (text_of s.place) found.0 (sym (told_finished s cost bound end.doing) ∙ found.1) in
+    text.text ∙ sym (ended s.version s.night found.0 (cost, bound)) ∙ ap (λ (l : List Node). certificate_file s.night (record { version = s.version; nodes = l; cost = cost; bound = bound })) same

@@ -16,6 +16,8 @@ use Rattle.shunt_blocks.specs.declared.records.Block.{Block}
 use Rattle.shunt_blocks.specs.defs.Lists.{times_unit, times_position, units_taken, positions_taken}
 use Rattle.shunt_blocks.specs.defs.Pins.{AreUsable}
 use Rattle.shunt_plan.specs.defs.Plans.{IsPlanInRange}
+use Rattle.shunt_proof.specs.declared.records.Version.{Version}
+use Rattle.shunt_proof.specs.declared.records.Version.TheVariants.{Prices}
 use Rattle.shunt_proof.specs.declared.records.Certificate.{Certificate}
 use Rattle.shunt_proof.specs.defs.Recording.{Finished}
 use Rattle.shunt_proof.specs.defs.Streaming.{Streamed, stage_of, told_of, Keeps}
@@ -41,9 +43,9 @@ use Rattle.shunt_planning.proofs.Certified.{finished_text}
 
 -- ---- what a recorder leaves
 
-pub stream_found : (night : Night) (pins : List Block) (most : ℕ) (name : List ℕ) (s t : Streamed) (solved : Solved) → s.night ≡ night → s.name ≡ name → Keeps s t → stage_of t ≡ Finished solved.cost solved.bound → solved.cost ≡ solved.plan.cost
+pub stream_found : (night : Night) (pins : List Block) (most : ℕ) (name : List ℕ) (s t : Streamed) (solved : Solved) → s.version ≡ Prices → s.night ≡ night → s.name ≡ name → Keeps s t → stage_of t ≡ Finished solved.cost solved.bound → solved.cost ≡ solved.plan.cost
     → IsShown night pins most solved.plan solved.bound solved.nodes (told_of t) → IsFound night pins most name t.place solved
-stream_found night pins most name s t solved of_night called keeps stage cost shown = record {
+stream_found night pins most name s t solved of_version of_night called keeps stage cost shown = record {
   nodes = shown.nodes;
   many = shown.many;
   statable = shown.stated;
@@ -54,8 +56,9 @@ stream_found night pins most name s t solved of_night called keeps stage cost sh
     text : text_of t.place ≡ certificate_file night (certificate_of solved.plan solved.bound shown.nodes)
     text =
         finished_text t solved.cost solved.bound shown.nodes stage shown.tells
-        ∙ ap (λ (n : Night). certificate_file n (record { nodes = shown.nodes; cost = solved.cost; bound = solved.bound })) (keeps.night ∙ of_night)
-        ∙ ap (λ (x : ℕ). certificate_file night (record { nodes = shown.nodes; cost = x; bound = solved.bound })) cost
+        ∙ ap (λ (v : Version). certificate_file t.night (record { version = v; nodes = shown.nodes; cost = solved.cost; bound = solved.bound })) (keeps.version ∙ of_version)
+        ∙ ap (λ (n : Night). certificate_file n (record { version = Prices; nodes = shown.nodes; cost = solved.cost; bound = solved.bound })) (keeps.night ∙ of_night)
+        ∙ ap (λ (x : ℕ). certificate_file night (record { version = Prices; nodes = shown.nodes; cost = x; bound = solved.bound })) cost
 
 -- a file is being written where a search has found
 pub found_open : (night : Night) (pins : List Block) (most : ℕ) (name : List ℕ) (place : Stage) (s : Solved) → IsFound night pins most name place s → IsWriting place

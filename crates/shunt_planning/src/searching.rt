@@ -8,6 +8,7 @@ ghost use Rattle.shunt_blocks.specs.defs.Pins.{AreUsable};
 ghost use Rattle.shunt_matching.specs.declared.types.Shortage.{Shortage as OneShortage};
 ghost use Rattle.shunt_matching.specs.defs.Nights.{IsShortageOf};
 ghost use Rattle.shunt_plan.specs.defs.Plans.{IsPlanInRange};
+ghost use Rattle.shunt_proof.specs.declared.records.Version.TheVariants.{Prices};
 ghost use Rattle.shunt_proof.specs.defs.CertificateRows.{head_row};
 ghost use Rattle.shunt_proof.specs.defs.Recording.{Open, Finished};
 ghost use Rattle.shunt_proof.specs.defs.Streaming.{Keeps, seen, stage_of, told_of};
@@ -23,7 +24,7 @@ use shunt_blocks::Block;
 use shunt_inputs::{Answer, Halt, Outcome, one_file};
 use shunt_instance::Instance;
 use shunt_plan::write_plan;
-use shunt_proof::{TextRecorder, begin_certificate};
+use shunt_proof::{TextRecorder, Version, begin_certificate};
 use shunt_report::plan_text;
 use shunt_search::{SolveError, Solved, solve_pinned};
 use shunt_store::{Store, StoreError};
@@ -40,19 +41,19 @@ fn solve_into<S: Store>(
     requires usable { AreUsable instance.now pins.now }
     requires some { 1 ≤ nodes }
     requires few { nodes ≤ 5000 }
-    requires stage { stage_of (seen recorder.old.instance.now recorder.old.name.now (S.stage recorder.old.store.now) recorder.old.doing recorder.old.nodes recorder.old.cases) ≡ Open }
+    requires stage { stage_of (seen recorder.old.version recorder.old.instance.now recorder.old.name.now (S.stage recorder.old.store.now) recorder.old.doing recorder.old.nodes recorder.old.cases) ≡ Open }
     requires own { instance.now ≡ recorder.old.instance.now }
     requires none { recorder.old.nodes ≡ 0 }
     requires no_cases { recorder.old.cases ≡ 0 }
-    requires told { IfSome (told_of (seen recorder.old.instance.now recorder.old.name.now (S.stage recorder.old.store.now) recorder.old.doing recorder.old.nodes recorder.old.cases)) (λ told. told ≡ []) }
+    requires told { IfSome (told_of (seen recorder.old.version recorder.old.instance.now recorder.old.name.now (S.stage recorder.old.store.now) recorder.old.doing recorder.old.nodes recorder.old.cases)) (λ told. told ≡ []) }
     ensures same_reference { recorder.new.store.ghost_name ≡ recorder.old.store.ghost_name }
     ensures meets { IfOk result (MeetsConditions instance.now pins.now nodes) }
     ensures in_range { IfOk result (λ s. IsPlanInRange instance.now s.plan) }
-    ensures shown { IfOk result (λ s. IsShown instance.now pins.now nodes s.plan s.bound s.nodes (told_of (seen recorder.new.instance.now recorder.new.name.now (S.stage recorder.new.store.now) recorder.new.doing recorder.new.nodes recorder.new.cases))) }
-    ensures finished { IfOk result (λ s. stage_of (seen recorder.new.instance.now recorder.new.name.now (S.stage recorder.new.store.now) recorder.new.doing recorder.new.nodes recorder.new.cases) ≡ Finished s.cost s.bound) }
+    ensures shown { IfOk result (λ s. IsShown instance.now pins.now nodes s.plan s.bound s.nodes (told_of (seen recorder.new.version recorder.new.instance.now recorder.new.name.now (S.stage recorder.new.store.now) recorder.new.doing recorder.new.nodes recorder.new.cases))) }
+    ensures finished { IfOk result (λ s. stage_of (seen recorder.new.version recorder.new.instance.now recorder.new.name.now (S.stage recorder.new.store.now) recorder.new.doing recorder.new.nodes recorder.new.cases) ≡ Finished s.cost s.bound) }
     ensures exact { (s : OneShortage) → IsErrOf result (SolveError.NoMatching s) → IsShortageOf instance.now (units_taken instance.now pins.now) (positions_taken instance.now pins.now) s }
     ensures cause { HasCause SolveError.Recorder (S.faults recorder.old.store.now) (S.faults recorder.new.store.now) result }
-    ensures keeps { Keeps (seen recorder.old.instance.now recorder.old.name.now (S.stage recorder.old.store.now) recorder.old.doing recorder.old.nodes recorder.old.cases) (seen recorder.new.instance.now recorder.new.name.now (S.stage recorder.new.store.now) recorder.new.doing recorder.new.nodes recorder.new.cases) }
+    ensures keeps { Keeps (seen recorder.old.version recorder.old.instance.now recorder.old.name.now (S.stage recorder.old.store.now) recorder.old.doing recorder.old.nodes recorder.old.cases) (seen recorder.new.version recorder.new.instance.now recorder.new.name.now (S.stage recorder.new.store.now) recorder.new.doing recorder.new.nodes recorder.new.cases) }
     ensures files { S.told recorder.new.store.now ≡ S.told recorder.old.store.now }
     ensures heard { S.heard recorder.new.store.now ≡ S.heard recorder.old.store.now }
     ensures stored { S.stored recorder.new.store.now ≡ S.stored recorder.old.store.now }
@@ -69,7 +70,7 @@ fn stream<S: Store>(
     nodes: u32,
     certificate: &str,
 ) -> Result<Solved, StoreError>
-    requires writing { S.stage store.old ≡ Writing certificate.now (text_of_row head_row) }
+    requires writing { S.stage store.old ≡ Writing certificate.now (text_of_row (head_row Prices)) }
     requires usable { AreUsable instance.now pins.now }
     requires some { 1 ≤ nodes }
     requires few { nodes ≤ 5000 }
@@ -83,7 +84,7 @@ fn stream<S: Store>(
     ensures stored { S.stored store.new ≡ S.stored store.old }
     ensures cause { HasCause StoreError.Fault (S.faults store.old) (S.faults store.new) result }
 {
-    let mut recorder = TextRecorder::over(alloc, instance, store, certificate);
+    let mut recorder = TextRecorder::over(alloc, instance, store, certificate, Version::Prices);
     match solve_into(alloc, instance, pins, nodes, &mut recorder) {
         Ok(solved) => Ok(solved),
         Err(SolveError::NoMatching(_)) => unreachable!(),
@@ -121,7 +122,7 @@ fn search<S: Store>(
     ensures stored { S.stored store.new ≡ S.stored store.old }
     ensures cause { HasCause StoreError.Fault (S.faults store.old) (S.faults store.new) result }
 {
-    match begin_certificate(alloc, store, certificate) {
+    match begin_certificate(alloc, store, certificate, Version::Prices) {
         Ok(()) => stream(alloc, store, instance, pins, nodes, certificate),
         Err(e) => Err(e),
     }

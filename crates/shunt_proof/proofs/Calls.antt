@@ -10,6 +10,7 @@ use Rattle.shunt_proof.specs.declared.text_recorder.Doing.TheVariants as doing
 use Rattle.shunt_proof.specs.defs.Nodes.{FitsNode, CanFollow}
 use Rattle.shunt_proof.specs.defs.Certificates.{own_cases}
 use Rattle.shunt_proof.specs.defs.CertificateRows.{node_rows, head_row, end_row}
+use Rattle.shunt_proof.specs.defs.Numbers.{CanBeRead}
 use Rattle.shunt_proof.specs.defs.Recording.{Open, Finished}
 use Rattle.shunt_proof.specs.defs.Streaming.{Streamed, told_of, stage_of, is_sound, Rests, Keeps}
 use Rattle.shunt_proof.proofs.Told.{so_told, told_first}
@@ -28,7 +29,7 @@ pub rests_finished : (s : Streamed) (cost bound : ℕ) (name text : List ℕ) �
 rests_finished s cost bound name text d p = subst (λ x. Rests x s.place) (sym d) (subst store.IsWriting (sym p) tt)
 
 pub keeps_by : (s t : Streamed) → Goes s t → Rests t.doing t.place → Keeps s t
-keeps_by s t g r = record { night = g.night; name = g.name; rests = λ x. r }
+keeps_by s t g r = record { version = g.version; night = g.night; name = g.name; rests = λ x. r }
 
 -- what is written on has the name of this recorder's file
 its_name : (s t : Streamed) (text : List ℕ) → IsOpen s → Goes s t → t.place ≡ store.Writing (store.name_of s.place) text → t.place ≡ store.Writing t.name text
@@ -40,15 +41,15 @@ pub record Starts (s : Streamed) : Type 0 where
   pub told : told_of s ≡ Some []
   pub sound : is_sound s ≡ true
 
-pub started : (s : Streamed) → IsInstance s.night → s.doing ≡ doing.Open → s.nodes ≡ 0 → s.cases ≡ 0 → s.place ≡ store.Writing s.name (text_of_row head_row) → Starts s
-started s h d x y p =
+pub started : (s : Streamed) → IsInstance s.night → CanBeRead s.version → s.doing ≡ doing.Open → s.nodes ≡ 0 → s.cases ≡ 0 → s.place ≡ store.Writing s.name (text_of_row (head_row s.version)) → Starts s
+started s h can d x y p =
     let text = ap store.text_of p in
-    let now = so_told s.night None 0 0 (store.text_of s.place) [] h tt (told_first s.night (store.text_of s.place) text) in
-    let told = told_open s d ∙ told_moved s s None (store.text_of s.place) 0 0 [] (record { night = refl; name = refl }) x y refl now in
+    let now = so_told s.version s.night None 0 0 (store.text_of s.place) [] h tt (told_first s.version s.night (store.text_of s.place) can text) in
+    let told = told_open s d ∙ told_moved s s None (store.text_of s.place) 0 0 [] (record { version = refl; night = refl; name = refl }) x y refl now in
     record { told = told; sound = sound_some s [] told }
 
-pub starts_open : (s : Streamed) → IsInstance s.night → s.doing ≡ doing.Open → s.nodes ≡ 0 → s.cases ≡ 0 → s.place ≡ store.Writing s.name (text_of_row head_row) → stage_of s ≡ Open
-starts_open s h d x y p = open_is s (text_of_row head_row) d p (started s h d x y p).sound
+pub starts_open : (s : Streamed) → IsInstance s.night → CanBeRead s.version → s.doing ≡ doing.Open → s.nodes ≡ 0 → s.cases ≡ 0 → s.place ≡ store.Writing s.name (text_of_row (head_row s.version)) → stage_of s ≡ Open
+starts_open s h can d x y p = open_is s (text_of_row (head_row s.version)) d p (started s h can d x y p).sound
 
 -- ---- a node is noted
 
@@ -87,12 +88,12 @@ ends_same s t tells = same_told (told_of s) (told_of t) tells.told
 
 -- ---- it begins again
 
-module _ (s t : Streamed) (e : stage_of s ≡ Open) (g : Goes s t) (p : t.place ≡ store.Writing s.name (text_of_row head_row)) (d : t.doing ≡ s.doing) where
+module _ (s t : Streamed) (e : stage_of s ≡ Open) (g : Goes s t) (p : t.place ≡ store.Writing s.name (text_of_row (head_row s.version))) (d : t.doing ≡ s.doing) where
   pub restart_done : IsInstance s.night → t.nodes ≡ 0 → t.cases ≡ 0 → Tells s t (λ old new. new ≡ [])
   restart_done h x y = let o = opened s e in restart_step s t h o g (d ∙ o.doing) x y (ap store.text_of p)
 
   pub restart_open : Tells s t (λ old new. new ≡ []) → stage_of t ≡ Open
-  restart_open tells = open_is t (text_of_row head_row) (d ∙ (opened s e).doing) (p ∙ ap (λ n. store.Writing n (text_of_row head_row)) (sym g.name)) tells.sound
+  restart_open tells = open_is t (text_of_row (head_row s.version)) (d ∙ (opened s e).doing) (p ∙ ap (λ n. store.Writing n (text_of_row (head_row s.version))) (sym g.name)) tells.sound
 
   pub restart_keeps : Keeps s t
   restart_keeps = keeps_by s t g (rests_open t _ _ (d ∙ (opened s e).doing) p)

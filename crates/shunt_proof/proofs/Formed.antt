@@ -34,6 +34,7 @@ use Rattle.shunt_proof.specs.declared.records.NodeDuals.{NodeDuals}
 use Rattle.shunt_proof.specs.declared.records.NodeDuals.TheVariants as duals
 use Rattle.shunt_proof.specs.declared.records.Node.{Node}
 use Rattle.shunt_proof.specs.declared.records.Certificate.{Certificate}
+use Rattle.shunt_proof.specs.defs.Numbers.{newest, CanBeRead}
 use Rattle.shunt_proof.specs.declared.heads.HeadDuals.{HeadDuals}
 use Rattle.shunt_proof.specs.declared.heads.HeadDuals.TheVariants as words
 use Rattle.shunt_proof.specs.declared.heads.Head.{Head}
@@ -44,6 +45,7 @@ use Rattle.shunt_proof.specs.defs.Certificates.{own_cases, case_total, IsCertifi
 use Rattle.shunt_proof.specs.defs.CertificateFormat as format
 use Rattle.shunt_proof.specs.defs.CertificateFormat.{Draft, empty, is_value, value_in, values_in, same_kind, is_price, has_price, settled, ends_node, cases_of, node_of, with_head, with_node, kind_of, duals_of, deepest, certificate_format}
 use Rattle.shunt_proof.proofs.Growing.{one_more}
+use Rattle.shunt_proof.proofs.Numbers.{number_low}
 
 -- ---- nodes
 
@@ -135,6 +137,7 @@ Here night d places.Beta = IsOpen night d × (FitsBefore night d.now.to d.before
 Here night d places.End = (1 ≤ length d.nodes) × ((d.cost ≤ 1000000000000) × (d.bound ≤ 1000000000000))
 
 record InPlace (night : Night) (d : Draft) (p : Place) : Type 0 where
+  version : CanBeRead d.version
   nodes : AreNodes night d.nodes
   many : length d.nodes + pending p ≤ d.begun
   few : d.begun ≤ 5000
@@ -152,6 +155,7 @@ total_more nodes x = sum_by-append (λ (y : Node). own_cases y.duals) nodes (x �
 
 -- nodes that are whole, before one more
 record IsSettled (night : Night) (s : Draft) : Type 0 where
+  version : CanBeRead s.version
   nodes : AreNodes night s.nodes
   many : length s.nodes ≤ s.begun
   cases : case_total s.nodes ≤ s.cases
@@ -160,6 +164,7 @@ record IsSettled (night : Night) (s : Draft) : Type 0 where
 
 head_added : (night : Night) (s : Draft) (h : Head) (w : HeadDuals) → IsSettled night s → s.begun < 5000 → IsHead night s.nodes h → FitsWord h.kind h.depth w → IsDraft night (with_head s h w)
 head_added night s h words.New is room head fits = record {
+  version = is.version;
   nodes = is.nodes;
   many = (let m = is.many in omega (arith, m));
   few = omega (arith, room);
@@ -168,6 +173,7 @@ head_added night s h words.New is room head fits = record {
   here = (record { head = record { depth = head.depth; choice = head.choice; place = head.place }; kind = fits }, is.before);
 }
 head_added night s h words.Same is room head fits = record {
+  version = is.version;
   nodes = head_node night s.nodes h duals.Same head fits is.nodes;
   many = (let m = is.many in omega (arith, m, length-append s.nodes (node_of h duals.Same ∷ [])));
   few = omega (arith, room);
@@ -176,6 +182,7 @@ head_added night s h words.Same is room head fits = record {
   here = (record { front = s.nodes; last = node_of h duals.Same; is = refl; depth = refl; kind = refl }, is.before);
 }
 head_added night s h words.Bare is room head fits = record {
+  version = is.version;
   nodes = head_node night s.nodes h duals.Bare head fits is.nodes;
   many = (let m = is.many in omega (arith, m, length-append s.nodes (node_of h duals.Bare ∷ [])));
   few = omega (arith, room);
@@ -241,7 +248,7 @@ record IsBehind (night : Night) (s : Draft) (h : Head) : Type 0 where
 
 behind_node : (night : Night) (d : Draft) → d.place ≡ places.Node → InPlace night d places.Node → IsBehind night (settled d) d.head
 behind_node night d e is = subst (λ s. IsBehind night s d.head) (sym (settled_as d places.Node e)) record {
-  settled = record { nodes = is.nodes; many = (let m = is.many in omega (arith, m)); cases = (let c = is.cases in omega (arith, c)); room = is.room; before = is.here.1 };
+  settled = record { version = is.version; nodes = is.nodes; many = (let m = is.many in omega (arith, m)); cases = (let c = is.cases in omega (arith, c)); room = is.room; before = is.here.1 };
   last = is.here.0;
 }
 
@@ -251,6 +258,7 @@ behind_beta night d e last is =
     let whole = statable night d.before d.now is.here.1.0 is.here.1.1.0 is.here.1.1.1 last in
     subst (λ s. IsBehind night s d.head) (sym (settled_as d places.Beta e)) record {
       settled = record {
+        version = is.version;
         nodes = head_node night d.nodes d.head (duals.New (cases_of d.before d.now)) open_node.head (open_node.kind, whole) is.nodes;
         many = (let m = is.many in omega (arith, m, length-append d.nodes (last_node d ∷ [])));
         cases = (let c = is.cases in omega (arith, c, total_more d.nodes (last_node d), both_cases d.before d.now));
@@ -328,7 +336,7 @@ root_holds n night d t row e is a =
     let made : Head = record { depth = head; choice = None; kind = kind; duals = own } in
     let fits = word_fits kind head (at row 4) own (there words.Bare (duals_of kind head (at row 4)) h.1.1.1.1.1.0) in
     let same = settled_as d places.Start e in
-    let settled_now : IsSettled night (settled d) = subst (IsSettled night) (sym same) record { nodes = is.nodes; many = (let m = is.many in omega (arith, m)); cases = (let c = is.cases in omega (arith, c)); room = is.room; before = is.here.1 } in
+    let settled_now : IsSettled night (settled d) = subst (IsSettled night) (sym same) record { version = is.version; nodes = is.nodes; many = (let m = is.many in omega (arith, m)); cases = (let c = is.cases in omega (arith, c)); room = is.room; before = is.here.1 } in
     let stands : CanFollow (settled d).nodes (node_of made duals.Bare) = subst (λ (x : Draft). CanFollow x.nodes (node_of made duals.Bare)) (sym same) (subst (λ l. CanFollow l (node_of made duals.Bare)) (sym is.here.0) root) in
     let small : (settled d).begun < 5000 = subst (λ (x : Draft). x.begun < 5000) (sym same) (ltb-true d.begun 5000 room) in
     subst (IsDraft night) s.1 (head_added night (settled d) made own settled_now small (record { depth = omega (arith, root); choice = root; place = stands }) fits)
@@ -385,6 +393,7 @@ first_case_holds n night d t row is a =
     let room = ltb-true d.cases 8000 h.1.0 in
     let none = is.here.1 in
     subst (IsDraft night) s.1 record {
+      version = is.version;
       nodes = is.nodes;
       many = is.many;
       few = is.few;
@@ -405,6 +414,7 @@ second_case_holds n night d t row is none early a =
     let now = is.here.1.1 in
     let low = now.0.to in
     subst (IsDraft night) s.1 record {
+      version = is.version;
       nodes = is.nodes;
       many = is.many;
       few = is.few;
@@ -450,6 +460,7 @@ alpha_holds n night d t row is a =
     let v = values_hold row 2 (unit_total night) (hold_first read.checks [] s.0.1) in
     let limits = is.here.1.0 in
     subst (IsDraft night) s.1 record {
+      version = is.version;
       nodes = is.nodes;
       many = is.many;
       few = is.few;
@@ -467,6 +478,7 @@ lone_alpha_holds n night d t row is a =
     let room = ltb-true d.cases 8000 s.0.1.0 in
     let none = is.here.1 in
     subst (IsDraft night) s.1 record {
+      version = is.version;
       nodes = is.nodes;
       many = is.many;
       few = is.few;
@@ -488,6 +500,7 @@ beta_holds n night d t row is a =
     let alpha = is.here.1.1.0 in
     let none = is.here.1.1.1 in
     subst (IsDraft night) s.1 record {
+      version = is.version;
       nodes = is.nodes;
       many = is.many;
       few = is.few;
@@ -538,6 +551,7 @@ price_added night d price is room new in_range =
     let now = is.here.1.1.0 in
     let prices = d.now.duals.prices in
     record {
+      version = is.version;
       nodes = is.nodes;
       many = is.many;
       few = is.few;
@@ -608,6 +622,7 @@ end_holds n night d t row is same few a =
     let cost = within 0 1000000000000 (unwrap_or (decimal_of (at row 2)) 0) h.1.1.0 in
     let bound = within 0 1000000000000 (unwrap_or (decimal_of (at row 3)) 0) h.1.1.1.1.0 in
     subst (IsDraft night) s.1 record {
+      version = is.settled.version;
       nodes = is.settled.nodes;
       many = (let m = is.settled.many in omega (arith, m));
       few = omega (arith, few, same);
@@ -671,15 +686,22 @@ unfolding format.later_of
 later_holds n night d t row is = in_or n (format.ended d.place) _ _ t (IsDraft night t) (λ ends e. absurd cc) (λ goes. place_holds n night d t row d.place refl is)
 
 first_holds : (night : Night) (t : Draft) (row : List (List ℕ)) → answer 1 (format.first_of row) ≡ Ok t → IsDraft night t
-unfolding format.first_of
-first_holds night t row a = subst (IsDraft night) (says 1 (format.first_of row) t a).1 record {
-  nodes = record { each = All-nil (FitsNode night); root = λ lt. absurd (omega (arith, lt)); follow = λ k lt. absurd (omega (arith, lt)) };
-  many = omega arith;
-  few = omega arith;
-  cases = omega arith;
-  room = omega arith;
-  here = (refl, refl);
-}
+unfolding format.first_of format.version_in
+first_holds night t row a =
+    let s = says 1 (format.first_of row) t a in
+    let h = s.0 in
+    let number = unwrap_or (decimal_of (at row 2)) 0 in
+    let range = within 1 newest number h.1.1.1.0 in
+    let low = number_low number range.0 in
+    subst (IsDraft night) s.1 record {
+      version = omega (arith, low, range.1);
+      nodes = record { each = All-nil (FitsNode night); root = λ lt. absurd (omega (arith, lt)); follow = λ k lt. absurd (omega (arith, lt)) };
+      many = omega arith;
+      few = omega arith;
+      cases = omega arith;
+      room = omega arith;
+      here = (refl, refl);
+    }
 
 -- what is stated where no record is needed any more
 ended_in_range : (night : Night) (d : Draft) (p : Place) → format.ended p ≡ true → InPlace night d p → IsCertificate night (format.certificate_of d)
@@ -687,6 +709,7 @@ ended_in_range night d places.End e is = record {
   some = is.here.0;
   few = (let m = is.many in let f = is.few in omega (arith, m, f));
   cases = (let c = is.cases in let r = is.room in omega (arith, c, r));
+  version = is.version;
   nodes = is.nodes;
   cost = is.here.1.0;
   bound = is.here.1.1;

@@ -29,8 +29,10 @@ use Rattle.shunt_proof.specs.declared.records.NodeDuals.TheVariants as duals
 use Rattle.shunt_proof.specs.declared.records.Node.{Node}
 use Rattle.shunt_proof.specs.declared.records.Certificate.{Certificate}
 use Rattle.shunt_proof.specs.defs.Nodes.{FitsDepth, FitDuals, FitsNode}
+use Rattle.shunt_proof.specs.defs.Numbers.{number_of}
 use Rattle.shunt_proof.specs.defs.Certificates.{own_cases, case_total, IsCertificate}
 use Rattle.shunt_proof.specs.defs.CertificateRows.{kind_text, duals_text, choice_fields, node_row, case_row, alpha_row, beta_row, priced_row, price_row, duals_rows, case_rows, is_plain, cases_rows, own_rows, node_rows, head_row, end_row, rows_of}
+use Rattle.shunt_proof.proofs.Numbers.{number_small}
 use Rattle.shunt_proof.proofs.Plain.{plain_node, plain_price, plain_duals, plain_case, plain_head, plain_end}
 
 -- the text of one more record
@@ -149,8 +151,8 @@ certificate_short : (night : Night) → IsOrderedNight night → unit_total nigh
 certificate_short night h units places c is =
     let rows = flat_map (node_rows night) c.nodes in
     let end = end_row c.cost c.bound (length c.nodes) in
-    let head = row_width head_row plain_head in
-    let version = place_short 1 (omega arith) in
+    let head = row_width (head_row c.version) (plain_head c.version) in
+    let version = place_short (number_of c.version) (let k = number_small c.version in omega (arith, k)) in
     let last = row_width end (plain_end c.cost c.bound (length c.nodes) is.cost is.bound is.few) in
     let cost = length-decimal-le 13 c.cost (omega arith) (let le = is.cost in omega (arith, le)) (let le = is.cost in omega (arith, le)) in
     let bound = length-decimal-le 13 c.bound (omega arith) (let le = is.bound in omega (arith, le)) (let le = is.bound in omega (arith, le)) in
@@ -159,7 +161,7 @@ certificate_short night h units places c is =
     let few = is.few in
     let cases = is.cases in
     let join = ap length (texts_join rows (end ∷ [])) in
-    omega (arith, head, version, last, cost, bound, count, all, few, cases, join, row_then head_row (rows ++ end ∷ []), row_then end [], length-append (text_of_rows rows) (text_of_rows (end ∷ [])))
+    omega (arith, head, version, last, cost, bound, count, all, few, cases, join, row_then (head_row c.version) (rows ++ end ∷ []), row_then end [], length-append (text_of_rows rows) (text_of_rows (end ∷ [])))
 
 pub text_short : (night : Night) (c : Certificate) → IsInstance night → IsCertificate night c → length (text_of_rows (rows_of night c)) ≤ 63076051
 text_short night c i is = let h = opened night i in certificate_short night h (units_few night h) (positions_few night h) c is

@@ -14,6 +14,7 @@ pub mod Starts
 pub mod Whole
 pub mod Stacked
 mod Examples
+pub mod Numbers
 pub mod CasesBack
 pub mod HeadsBack
 pub mod NodesBack

@@ -29,6 +29,7 @@ use Rattle.shunt_proof.specs.declared.records.NodeKind.TheVariants as shows
 use Rattle.shunt_proof.specs.declared.records.NodeDuals.{NodeDuals}
 use Rattle.shunt_proof.specs.declared.records.NodeDuals.TheVariants as duals
 use Rattle.shunt_proof.specs.declared.records.Node.{Node}
+use Rattle.shunt_proof.specs.declared.records.Version.{Version}
 use Rattle.shunt_proof.specs.declared.draft.Place.{Place}
 use Rattle.shunt_proof.specs.declared.draft.Place.TheVariants as places
 use Rattle.shunt_proof.specs.defs.Nodes.{node_at, AreNodes, FitsChoice, FitsDepth, AreStatable, FitDuals, FitsNode, Follows}
@@ -237,6 +238,7 @@ pub record IsReadLast (d : Draft) (last : Node) : Type 0 where
 pub record Reads (night : Night) (d : Draft) (n : ℕ) (x : Node) : Type 0 where
   pub state : Draft
   pub read : reads (certificate_format night) d n (node_rows night x) ≡ Ok state
+  pub version : (settled state).version ≡ (settled d).version
   pub nodes : (settled state).nodes ≡ (settled d).nodes ++ x ∷ []
   pub before : (settled state).before ≡ None
   pub begun : state.begun ≡ d.begun + 1
@@ -261,6 +263,7 @@ own_rest night h d n depth choice kind (c ∷ []) are none room e =
     record {
       state = done (counted base) c;
       read = ap (λ r. r >>= (λ t. reads (certificate_format night) t (n + 1) (cases_rows night (c ∷ [])))) e ∙ cases_read (n + 1) night h base (c ∷ []) are room;
+      version = refl;
       nodes = ap (λ o. (settled d).nodes ++ node_of (head_of x) (duals.New (cases_of o c)) ∷ []) none;
       before = refl;
       begun = ap (λ k. k + 1) (settled_begun d);
@@ -273,6 +276,7 @@ own_rest night h d n depth choice kind (b ∷ c ∷ []) are none room e =
     record {
       state = done (counted (followed (counted base) b)) c;
       read = ap (λ r. r >>= (λ t. reads (certificate_format night) t (n + 1) (cases_rows night (b ∷ c ∷ [])))) e ∙ cases_read (n + 1) night h base (b ∷ c ∷ []) are room;
+      version = refl;
       nodes = refl;
       before = refl;
       begun = ap (λ k. k + 1) (settled_begun d);
@@ -287,6 +291,7 @@ unfolding with_node settled
 node_rest night h d n depth choice kind duals.Same is none room e = record {
   state = with_node d (head_of (made_of depth choice kind duals.Same));
   read = one_reads (certificate_format night) d (with_node d (head_of (made_of depth choice kind duals.Same))) n (node_row night (made_of depth choice kind duals.Same)) e;
+  version = refl;
   nodes = refl;
   before = none;
   begun = ap (λ k. k + 1) (settled_begun d);
@@ -296,6 +301,7 @@ node_rest night h d n depth choice kind duals.Same is none room e = record {
 node_rest night h d n depth choice kind duals.Bare is none room e = record {
   state = with_node d (head_of (made_of depth choice kind duals.Bare));
   read = one_reads (certificate_format night) d (with_node d (head_of (made_of depth choice kind duals.Bare))) n (node_row night (made_of depth choice kind duals.Bare)) e;
+  version = refl;
   nodes = refl;
   before = none;
   begun = ap (λ k. k + 1) (settled_begun d);
@@ -378,6 +384,7 @@ Chain night last (x ∷ xs) = FitsNode night x × (Follows last x × Chain night
 pub record ReadsAll (night : Night) (d : Draft) (n : ℕ) (xs : List Node) : Type 0 where
   pub state : Draft
   pub read : reads (certificate_format night) d n (flat_map (node_rows night) xs) ≡ Ok state
+  pub version : (settled state).version ≡ (settled d).version
   pub nodes : (settled state).nodes ≡ (settled d).nodes ++ xs
   pub begun : state.begun ≡ d.begun + length xs
   pub last : Node
@@ -393,6 +400,7 @@ join_reads night d n x xs r more =
           reads_more f d n (node_rows night x) (flat_map (node_rows night) xs)
           ∙ ap (λ q. q >>= (λ t. reads f t (n + length (node_rows night x)) (flat_map (node_rows night) xs))) r.read
           ∙ more.read;
+      version = more.version ∙ r.version;
       nodes = more.nodes ∙ ap (λ l. l ++ xs) r.nodes ∙ append_assoc (settled d).nodes (x ∷ []) xs;
       begun = more.begun ∙ ap (λ k. k + length xs) r.begun ∙ (let e : d.begun + 1 + length xs ≡ d.begun + length (x ∷ xs) = omega arith in e);
       last = more.last;
@@ -403,6 +411,7 @@ later_nodes : (night : Night) → IsOrderedNight night → (d : Draft) (n : ℕ)
 later_nodes night h d n last [] chain stands room none cases = record {
   state = d;
   read = refl;
+  version = refl;
   nodes = sym (append-nil (settled d).nodes);
   begun = (let e : d.begun ≡ d.begun + 0 = omega arith in e);
   last = last;
@@ -426,12 +435,12 @@ chain_of night x (y ∷ ys) fits follow = (
     next k f = subst (λ j. Follows (node_at (x ∷ y ∷ ys) (suc k)) (node_at (x ∷ y ∷ ys) j)) (let e : suc k + 1 ≡ suc (k + 1) = omega arith in e) f
 
 -- the nodes of a certificate
-pub nodes_back : (night : Night) → IsOrderedNight night → (nodes : List Node) → AreNodes night nodes → 1 ≤ length nodes → length nodes ≤ 5000 → case_total nodes ≤ 8000 → (n : ℕ) → ReadsAll night empty n nodes
+pub nodes_back : (night : Night) → IsOrderedNight night → (version : Version) (nodes : List Node) → AreNodes night nodes → 1 ≤ length nodes → length nodes ≤ 5000 → case_total nodes ≤ 8000 → (n : ℕ) → ReadsAll night (empty version) n nodes
 unfolding settled
-nodes_back night h [] are some few cases n = absurd (omega (arith, some))
-nodes_back night h (x ∷ xs) are some few cases n =
+nodes_back night h version [] are some few cases n = absurd (omega (arith, some))
+nodes_back night h version (x ∷ xs) are some few cases n =
     let sum = sum_by-cons (λ (y : Node). own_cases y.duals) x xs in
-    let r = first_node night h empty n x (are.each 0 x (omega arith)) (are.root (omega arith)) refl (omega arith) refl (omega (arith, cases, sum)) in
+    let r = first_node night h (empty version) n x (are.each 0 x (omega arith)) (are.root (omega arith)) refl (omega arith) refl (omega (arith, cases, sum)) in
     let begun = r.begun in
     let count = r.cases in
-    join_reads night empty n x xs r (later_nodes night h r.state (n + length (node_rows night x)) x xs (chain_of night x xs are.each are.follow) r.stands (omega (arith, few, begun)) r.before (omega (arith, cases, sum, count)))
+    join_reads night (empty version) n x xs r (later_nodes night h r.state (n + length (node_rows night x)) x xs (chain_of night x xs are.each are.follow) r.stands (omega (arith, few, begun)) r.before (omega (arith, cases, sum, count)))

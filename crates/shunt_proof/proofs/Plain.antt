@@ -19,11 +19,14 @@ use Rattle.shunt_proof.specs.declared.records.NodeKind.TheVariants as shows
 use Rattle.shunt_proof.specs.declared.records.NodeDuals.{NodeDuals}
 use Rattle.shunt_proof.specs.declared.records.NodeDuals.TheVariants as duals
 use Rattle.shunt_proof.specs.declared.records.Node.{Node}
+use Rattle.shunt_proof.specs.declared.records.Version.{Version}
 use Rattle.shunt_proof.specs.declared.records.Certificate.{Certificate}
 use Rattle.shunt_proof.specs.defs.Nodes.{FitsDepth, FitDuals, FitsNode}
+use Rattle.shunt_proof.specs.defs.Numbers.{number_of}
 use Rattle.shunt_proof.specs.defs.Certificates.{IsCertificate}
 use Rattle.shunt_proof.specs.defs.CertificateRows.{kind_text, duals_text, choice_fields, node_row, priced_row, price_row, duals_rows, case_rows, is_plain, cases_rows, own_rows, node_rows, head_row, end_row, rows_of}
 use Rattle.shunt_proof.proofs.CasesBack.{signed}
+use Rattle.shunt_proof.proofs.Numbers.{number_small}
 
 small : (k : ℕ) → k ≤ 1000000000000 → IsPlainField (decimal k)
 small k le = plain_number k (omega (arith, le))
@@ -101,8 +104,8 @@ plain_rest night h depth kind duals.Bare is = tt
 pub plain_nodes : (night : Night) → IsOrderedNight night → (x : Node) → FitsNode night x → ArePlain (node_rows night x)
 plain_nodes night h x fits = (plain_node night h x fits, plain_rest night h x.depth x.kind x.duals fits.duals)
 
-pub plain_head : IsPlainRow head_row
-plain_head = (omega arith, (plain_word (codes "certificate") refl refl, (small 1 (omega arith), tt)))
+pub plain_head : (version : Version) → IsPlainRow (head_row version)
+plain_head version = (omega arith, (plain_word (codes "certificate") refl refl, (small (number_of version) (let k = number_small version in omega (arith, k)), tt)))
 
 pub plain_end : (cost bound nodes : ℕ) → cost ≤ 1000000000000 → bound ≤ 1000000000000 → nodes ≤ 5000 → IsPlainRow (end_row cost bound nodes)
 plain_end cost bound nodes c b n = (omega arith, (plain_word (codes "end") refl refl, (small cost c, (small bound b, (small nodes (omega (arith, n)), tt)))))
@@ -110,6 +113,6 @@ plain_end cost bound nodes c b n = (omega arith, (plain_word (codes "end") refl 
 -- the records of a certificate are plain
 pub certificate_plain : (night : Night) → IsOrderedNight night → (c : Certificate) → IsCertificate night c → ArePlain (rows_of night c)
 certificate_plain night h c is = (
-  plain_head,
+  plain_head c.version,
   plain_more (flat_map (node_rows night) c.nodes) _ (plain_each (FitsNode night) (node_rows night) c.nodes (plain_nodes night h) is.nodes.each) (plain_end c.cost c.bound (length c.nodes) is.cost is.bound is.few, tt),
 )

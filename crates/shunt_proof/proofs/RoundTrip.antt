@@ -13,24 +13,38 @@ use Rattle.shunt_rows.specs.defs.Formats.{in_state, reading}
 use Rattle.shunt_rows.proofs.Again.{again}
 use Rattle.shunt_rows.proofs.Holding.{holding}
 use Rattle.shunt_rows.proofs.Sections.{then_reads, one_reads, all_read}
-use Rattle.shunt_rows.proofs.Spelled.{number_again, in_range, number_read}
+use Rattle.shunt_rows.proofs.Spelled.{number_again, in_range}
 use Rattle.shunt_instance.specs.defs.Instance.{Night, IsInstance, IsOrderedNight}
 use Rattle.shunt_instance.proofs.Orders.{opened}
 use Rattle.shunt_proof.specs.declared.records.Node.{Node}
+use Rattle.shunt_proof.specs.declared.records.Version.{Version}
 use Rattle.shunt_proof.specs.declared.records.Certificate.{Certificate}
+use Rattle.shunt_proof.specs.defs.Numbers.{number_of, version_with, newest, CanBeRead}
 use Rattle.shunt_proof.specs.defs.Certificates.{IsCertificate}
-use Rattle.shunt_proof.specs.defs.CertificateFormat.{Draft, empty, first_of, settled, end_in, with_end, end_of, after_node, certificate_of, certificate_format}
+use Rattle.shunt_proof.specs.defs.CertificateFormat.{Draft, empty, version_in, first_of, settled, end_in, with_end, end_of, after_node, certificate_of, certificate_format}
 use Rattle.shunt_proof.specs.defs.CertificateRows.{node_rows, head_row, end_row, rows_of, ReadsAsCertificate}
 use Rattle.shunt_proof.proofs.Parts.{then_ok}
 use Rattle.shunt_proof.proofs.NodesBack.{IsReadLast, behind_node, nodes_back}
 use Rattle.shunt_proof.proofs.Plain.{certificate_plain}
+use Rattle.shunt_proof.proofs.Numbers.{number_back, number_small}
 
-head_read : answer 1 (first_of head_row) ≡ Ok empty
-unfolding first_of is_within
-head_read =
-    let v = number_read 1 1 1 (omega arith) (omega arith) (omega arith) in
-    let m = first_of head_row in
-    holding 1 m.checks m.value (refl, (refl, (v.there, (v.range, tt))))
+-- what the first record says, by what is found of it
+abbrev first_by : Option ℕ → Judged Draft
+first_by version = do
+  _ ← must true 1 kinds.Kind
+  _ ← must true 1 kinds.Fields
+  n ← found 0 version 2 kinds.Number
+  _ ← must (is_within 1 newest n) 2 kinds.Limit
+  says (empty (version_with n))
+
+head_read : (version : Version) → CanBeRead version → answer 1 (first_of (head_row version)) ≡ Ok (empty version)
+unfolding first_of version_in is_within decimal_of
+head_read version can =
+    let k = number_of version in
+    let size = number_small version in
+    ap (λ o. answer 1 (first_by o)) (number_again k (omega (arith, size.1)))
+    ∙ (let m = first_by (Some k) in holding 1 m.checks m.value (refl, (refl, (refl, (in_range 1 newest k size.0 can, tt)))))
+    ∙ ap (λ (v : Version). Ok (empty v)) (number_back version)
 
 -- what the last record says, by what is found of it
 abbrev end_by : ℕ → Option ℕ → Option ℕ → Option ℕ → Judged (ℕ × ℕ)
@@ -61,32 +75,36 @@ end_read n night d last cost bound nodes stands c b few many =
     behind_node n night d last (end_row cost bound nodes) _ stands refl refl
     (then_ok n (end_in d.begun (end_row cost bound nodes)) (with_end d) (cost, bound) _ (end_back n d.begun cost bound nodes c b few many) refl)
 
-abbrev certificate : List Node → ℕ → ℕ → Certificate
-certificate nodes cost bound = record { nodes = nodes; cost = cost; bound = bound }
+abbrev certificate : Version → List Node → ℕ → ℕ → Certificate
+certificate version nodes cost bound = record { version = version; nodes = nodes; cost = cost; bound = bound }
 
-ended_value : (night : Night) (d : Draft) (c : Certificate) → (settled d).nodes ≡ c.nodes → certificate_of (with_end d (c.cost, c.bound)) ≡ c
+ended_value : (night : Night) (d : Draft) (c : Certificate) → (settled d).version ≡ c.version → (settled d).nodes ≡ c.nodes → certificate_of (with_end d (c.cost, c.bound)) ≡ c
 unfolding with_end
-ended_value night d c same = ap (λ l. certificate l c.cost c.bound) same
+ended_value night d c of_version same = ap (λ v. certificate v (settled d).nodes c.cost c.bound) of_version ∙ ap (λ l. certificate c.version l c.cost c.bound) same
 
 ended_whole : (night : Night) (d : Draft) (e : ℕ × ℕ) → (certificate_format night).is_whole (with_end d e) ≡ true
 unfolding with_end
 ended_whole night d e = refl
 
-from_empty : (d : Draft) (nodes : List Node) → (settled d).nodes ≡ (settled empty).nodes ++ nodes → (settled d).nodes ≡ nodes
+from_empty : (version : Version) (d : Draft) (nodes : List Node) → (settled d).nodes ≡ (settled (empty version)).nodes ++ nodes → (settled d).nodes ≡ nodes
 unfolding settled
-from_empty d nodes e = e
+from_empty version d nodes e = e
+
+its_version : (version : Version) (d : Draft) → (settled d).version ≡ (settled (empty version)).version → (settled d).version ≡ version
+unfolding settled
+its_version version d e = e
 
 certificate_back : (night : Night) → IsOrderedNight night → (c : Certificate) → IsCertificate night c → reading (certificate_format night) (rows_of night c) ≡ Ok c
 certificate_back night h c is =
     let f = certificate_format night in
-    let r = nodes_back night h c.nodes is.nodes is.some is.few is.cases 2 in
+    let r = nodes_back night h c.version c.nodes is.nodes is.some is.few is.cases 2 in
     let t = with_end r.state (c.cost, c.bound) in
     let many : length c.nodes ≡ r.state.begun = (let b = r.begun in omega (arith, b)) in
-    all_read f head_row (flat_map (node_rows night) c.nodes ++ end_row c.cost c.bound (length c.nodes) ∷ []) empty t head_read
-    (then_reads f empty r.state t 2 (flat_map (node_rows night) c.nodes) (end_row c.cost c.bound (length c.nodes) ∷ []) r.read
+    all_read f (head_row c.version) (flat_map (node_rows night) c.nodes ++ end_row c.cost c.bound (length c.nodes) ∷ []) (empty c.version) t (head_read c.version is.version)
+    (then_reads f (empty c.version) r.state t 2 (flat_map (node_rows night) c.nodes) (end_row c.cost c.bound (length c.nodes) ∷ []) r.read
     (λ k. one_reads f r.state t k (end_row c.cost c.bound (length c.nodes)) (end_read k night r.state r.last c.cost c.bound (length c.nodes) r.stands is.cost is.bound is.few many)))
     (ended_whole night r.state (c.cost, c.bound))
-    ∙ ap (λ (x : Certificate). Ok x) (ended_value night r.state c (from_empty r.state c.nodes r.nodes))
+    ∙ ap (λ (x : Certificate). Ok x) (ended_value night r.state c (its_version c.version r.state r.version) (from_empty c.version r.state c.nodes r.nodes))
 
 pub records_back : (night : Night) (c : Certificate) → IsInstance night → IsCertificate night c → reading (certificate_format night) (rows_of night c) ≡ Ok c
 records_back night c h is = certificate_back night (opened night h) c is

@@ -111,11 +111,11 @@ failed_is s d = ap (stage_in s) d
 
 -- ---- what it tells
 
-pub told_open : (s : Streamed) → s.doing ≡ doing.Open → told_of s ≡ nodes_told s.night None s.nodes s.cases (store.text_of s.place)
+pub told_open : (s : Streamed) → s.doing ≡ doing.Open → told_of s ≡ nodes_told s.version s.night None s.nodes s.cases (store.text_of s.place)
 unfolding told_of
 told_open s d = ap (told_in s) d
 
-pub told_finished : (s : Streamed) (cost bound : ℕ) → s.doing ≡ doing.Finished cost bound → told_of s ≡ nodes_told s.night (Some (cost, bound)) s.nodes s.cases (store.text_of s.place)
+pub told_finished : (s : Streamed) (cost bound : ℕ) → s.doing ≡ doing.Finished cost bound → told_of s ≡ nodes_told s.version s.night (Some (cost, bound)) s.nodes s.cases (store.text_of s.place)
 unfolding told_of
 told_finished s cost bound d = ap (told_in s) d
 

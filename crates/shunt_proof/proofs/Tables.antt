@@ -13,7 +13,7 @@ use Rattle.shunt_plan.specs.defs.BlockRecords.{unparked_in, parked_in, option_in
 use Rattle.shunt_proof.specs.declared.heads.Head.{Head}
 use Rattle.shunt_proof.specs.declared.draft.Place.{Place}
 use Rattle.shunt_proof.specs.declared.draft.Place.TheVariants as places
-use Rattle.shunt_proof.specs.defs.CertificateFormat.{Draft, root_in, later_in, child_in, root_of, child_of, values_in, first_limits_in, second_limits_in, first_case_of, second_case_of, alpha_in, lone_alpha_in, beta_in, alpha_of, lone_alpha_of, beta_of, price_in, part_in, price_of, part_of, end_in, end_of, after_node, after_case, after_beta, after_new, at_place, later_of, first_of, certificate_format}
+use Rattle.shunt_proof.specs.defs.CertificateFormat.{Draft, root_in, later_in, child_in, root_of, child_of, values_in, first_limits_in, second_limits_in, first_case_of, second_case_of, alpha_in, lone_alpha_in, beta_in, alpha_of, lone_alpha_of, beta_of, price_in, part_in, price_of, part_of, end_in, end_of, after_node, after_case, after_beta, after_new, at_place, later_of, version_in, first_of, certificate_format}
 
 -- behind these checks there are no more
 whole_up : (least : ℕ) (checks : List Check) → Ascends least checks → Ascends least (checks ++ [])
@@ -115,7 +115,7 @@ unfolding later_of
 later_up night d row = place_up night d d.place row
 
 first_up : (row : List (List ℕ)) → HasChecksInOrder (first_of row)
-unfolding first_of
+unfolding first_of version_in
 first_up row = record { up = refl }
 
 pub certificates_tell : (night : Night) (rows : List (List (List ℕ))) → Tells (certificate_format night) rows

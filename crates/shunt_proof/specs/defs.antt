@@ -2,6 +2,7 @@
 pub mod Nodes
 pub mod Trees
 pub mod Versions
+pub mod Numbers
 pub mod Proves
 pub mod Accepted
 pub mod Certificates

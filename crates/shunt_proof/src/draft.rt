@@ -8,15 +8,15 @@ ghost use Rattle.shunt_proof.specs.defs.Certificates.{IsCertificate};
 ghost use Rattle.shunt_proof.specs.defs.CertificateFormat.{Draft, cases_of, settled, with_head, with_node, root_of, child_of, no_case, node_of, with_case, with_second, with_alpha, with_beta, with_lone, with_price, with_end, first_case_of, second_case_of, alpha_of, lone_alpha_of, beta_of, price_of, part_of, end_in, end_of, after_node, after_case, after_beta, after_new, later_of, ended, certificate_format};
 
 use crate::heads::{Head, HeadDuals, read_child, read_root};
-use crate::records::{Certificate, Node, NodeDuals, NodeKind};
+use crate::records::{Certificate, Node, NodeDuals, NodeKind, Version};
 use crate::values::{
     Limits, read_alpha, read_beta, read_first_limits, read_lone_alpha, read_part, read_price,
     read_second_limits,
 };
+use crate::versions::read_version;
 use shunt_base::{Case, Cases, Duals, Price, parse_decimal};
 use shunt_instance::Instance;
 use shunt_lists::Items;
-use shunt_plan::read_first;
 use shunt_rows::{
     FormatReader, ReadError, Row, RowFault, RowKind, fields_in, found, must, number_in, read,
 };
@@ -44,6 +44,7 @@ pub enum Place {
 // What the records so far state.
 #[derive(Debug, Drop)]
 struct Draft {
+    version: Version,
     nodes: Vec<Node>,
     begun: u32,
     cases: u32,
@@ -64,7 +65,7 @@ impl Model for Draft {
 
     ghost Value = { Draft };
 
-    ghost view = { λ d. record { nodes = d.nodes.items; begun = d.begun; cases = d.cases; place = d.place; head = d.head; before = d.before; now = record { to = d.to; multiplier = d.multiplier; duals = record { alpha = d.alpha; beta = d.beta; prices = d.prices.items } }; cost = d.cost; bound = d.bound } };
+    ghost view = { λ d. record { version = d.version; nodes = d.nodes.items; begun = d.begun; cases = d.cases; place = d.place; head = d.head; before = d.before; now = record { to = d.to; multiplier = d.multiplier; duals = record { alpha = d.alpha; beta = d.beta; prices = d.prices.items } }; cost = d.cost; bound = d.bound } };
 }
 
 impl Draft {
@@ -432,8 +433,9 @@ impl<'r> FormatReader<'r> for Draft {
 
     #[tactic(auto, unfolding(crate::specs::defs::CertificateFormat::first_of))]
     fn read_first(_: &'r Instance, alloc: Global, row: &'r Row) -> Result<Draft, ReadError> {
-        read_first(row, b"certificate")?;
+        let version = read_version(row)?;
         Ok(Draft {
+            version,
             nodes: Vec::new(alloc),
             begun: 0,
             cases: 0,
@@ -482,6 +484,7 @@ impl<'r> FormatReader<'r> for Draft {
 
     fn into_output(self, _: &'r Instance) -> Certificate {
         Certificate {
+            version: self.version,
             nodes: Items::from_vec(self.nodes),
             cost: self.cost,
             bound: self.bound,

@@ -13,6 +13,7 @@ pub mod text_laws;
 mod text_recorder;
 mod values;
 pub mod version_laws;
+mod versions;
 mod writing;
 
 pub use draft::read_certificate;

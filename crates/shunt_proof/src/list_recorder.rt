@@ -5,7 +5,7 @@ ghost use Rattle.shunt_proof.specs.defs.Recording.{Open, Stalled, Finished};
 
 use crate::copies::copy_node;
 use crate::recorder::{RecordError, Recorder};
-use crate::records::{Certificate, Node, NodeDuals};
+use crate::records::{Certificate, Node, NodeDuals, Version};
 use shunt_instance::Instance;
 use shunt_lists::Items;
 use std::alloc::{AllocError, Global};
@@ -23,6 +23,7 @@ pub enum Doing {
 #[derive(Debug, Drop)]
 pub struct ListRecorder {
     alloc: Global,
+    version: Version,
     nodes: Vec<Node>,
     cases: u32,
     doing: Doing,
@@ -33,7 +34,7 @@ impl Model for ListRecorder {
 
     ghost Value = { Listed };
 
-    ghost view = { λ r. record { nodes = r.nodes.items; cases = r.cases; stage = stage_of r.doing } };
+    ghost view = { λ r. record { version = r.version; nodes = r.nodes.items; cases = r.cases; stage = stage_of r.doing } };
 }
 
 // How many cases of its own a node has: 0, 1 or 2.
@@ -47,12 +48,13 @@ pub(crate) fn own_cases(duals: &NodeDuals) -> u32
 }
 
 impl ListRecorder {
-    /// An open recorder, without nodes. It takes no memory.
-    pub fn new(alloc: Global) -> ListRecorder
-        ensures { result ≡ record { nodes = []; cases = 0; stage = Open } }
+    /// An open recorder of a certificate of this version, without nodes. It takes no memory.
+    pub fn new(alloc: Global, version: Version) -> ListRecorder
+        ensures { result ≡ record { version = version; nodes = []; cases = 0; stage = Open } }
     {
         ListRecorder {
             alloc,
+            version,
             nodes: Vec::new(alloc),
             cases: 0,
             doing: Doing::Open,
@@ -72,6 +74,7 @@ impl ListRecorder {
     /// The certificate of a finished recorder: its nodes, and the cost and the bound that it was finished with.
     pub fn certificate(self) -> Certificate
         requires { (cost : ℕ) × (bound : ℕ) × (self.stage ≡ Finished cost bound) }
+        ensures version { result.version ≡ self.version }
         ensures nodes { result.nodes ≡ self.nodes }
         ensures stated { self.stage ≡ Finished result.cost result.bound }
     {
@@ -80,6 +83,7 @@ impl ListRecorder {
             _ => unreachable!(),
         };
         Certificate {
+            version: self.version,
             nodes: Items::from_vec(self.nodes),
             cost,
             bound,

@@ -59,6 +59,7 @@ pub enum Version {
 /// A tree of nodes in pre-order, the cost of a plan, and the bound that the tree shows.
 #[derive(Debug, Drop)]
 pub struct Certificate {
+    pub version: Version,
     /// From 1 to 5,000 in a file.
     pub nodes: Items<Node>,
     /// In cost units, from 0 to 10^12 in a file.

@@ -6,6 +6,7 @@ ghost use Rattle.shunt_rows.specs.defs.Records.{text_of_rows};
 ghost use Rattle.shunt_instance.specs.defs.Instance.{Night, IsInstance};
 ghost use Rattle.shunt_proof.specs.declared.records.Certificate.{Certificate};
 ghost use Rattle.shunt_proof.specs.declared.records.Node.{Node};
+ghost use Rattle.shunt_proof.specs.declared.records.Version.{Version};
 ghost use Rattle.shunt_proof.specs.defs.Nodes.{node_at};
 ghost use Rattle.shunt_proof.specs.defs.Streaming.{nodes_told, IsTextOf, EndFits};
 ghost use Rattle.shunt_proof.specs.defs.Certificates.{IsCertificate};
@@ -36,6 +37,6 @@ pub fn records_of_nodes()
 /// The nodes that a file tells are those whose text it holds behind the first record and, where a cost and a bound were stated,
 /// before the last one; and no other list of nodes that a file can state has this text.
 pub fn nodes_of_files()
-    ensures written { (night : Night) (end : Option (ℕ × ℕ)) (count cases : ℕ) (bytes : List ℕ) (nodes : List Node) → nodes_told night end count cases bytes ≡ Some nodes → IsTextOf night end count cases bytes nodes }
-    ensures told { (night : Night) (end : Option (ℕ × ℕ)) (count cases : ℕ) (bytes : List ℕ) (nodes : List Node) → IsInstance night → EndFits end count → IsTextOf night end count cases bytes nodes → nodes_told night end count cases bytes ≡ Some nodes }
+    ensures written { (version : Version) (night : Night) (end : Option (ℕ × ℕ)) (count cases : ℕ) (bytes : List ℕ) (nodes : List Node) → nodes_told version night end count cases bytes ≡ Some nodes → IsTextOf version night end count cases bytes nodes }
+    ensures told { (version : Version) (night : Night) (end : Option (ℕ × ℕ)) (count cases : ℕ) (bytes : List ℕ) (nodes : List Node) → IsInstance night → EndFits end count → IsTextOf version night end count cases bytes nodes → nodes_told version night end count cases bytes ≡ Some nodes }
 {}

@@ -5,12 +5,13 @@ ghost use Rattle.shunt_store.specs.defs.Files.{Closed, Writing, IsWriting, name_
 ghost use Rattle.shunt_rows.specs.defs.Records.{text_of_row, text_of_rows};
 ghost use Rattle.shunt_proof.specs.defs.Nodes.{FitsNode};
 ghost use Rattle.shunt_proof.specs.defs.CertificateRows.{head_row, end_row, node_rows};
+ghost use Rattle.shunt_proof.specs.defs.Numbers.{CanBeRead};
 ghost use Rattle.shunt_proof.specs.defs.Recording.{Open};
 ghost use Rattle.shunt_proof.specs.defs.Streaming.{Rests, seen, told_of, stage_of};
 
 use crate::list_recorder::own_cases;
 use crate::recorder::{RecordError, Recorder};
-use crate::records::Node;
+use crate::records::{Node, Version};
 use crate::writing::{write_end, write_first, write_node};
 use shunt_instance::Instance;
 use shunt_rows::RowWriter;
@@ -27,11 +28,11 @@ pub enum Doing {
 }
 
 // The text of the first record.
-fn first_text(alloc: Global) -> Result<Vec<u8>, AllocError>
-    ensures { IfOk result (λ v. v.items ≡ text_of_row head_row) }
+fn first_text(alloc: Global, version: Version) -> Result<Vec<u8>, AllocError>
+    ensures { IfOk result (λ v. v.items ≡ text_of_row (head_row version)) }
 {
     let mut writer = RowWriter::new(alloc)?;
-    write_first(&mut writer)?;
+    write_first(&mut writer, version)?;
     writer.finish()
 }
 
@@ -123,29 +124,35 @@ fn append_last<S: Store>(
     }
 }
 
-/// Begins the file that a recorder is to write, with its first record. It is then being written. No file is changed.
+/// Begins the file that a recorder is to write, with its first record, which tells the version. It is then being written. No file is changed.
 pub fn begin_certificate<S: Store>(
     alloc: Global,
     store: &mut S,
     name: &str,
+    version: Version,
 ) -> Result<(), StoreError>
     requires { S.stage store.old ≡ Closed }
-    ensures ok { OnOk result (S.stage store.new ≡ Writing name.now (text_of_row head_row)) }
+    ensures ok { OnOk result (S.stage store.new ≡ Writing name.now (text_of_row (head_row version))) }
     ensures err { OnErr result (S.stage store.new ≡ Closed) }
     ensures files { S.told store.new ≡ S.told store.old }
     ensures heard { S.heard store.new ≡ S.heard store.old }
     ensures stored { S.stored store.new ≡ S.stored store.old }
     ensures cause { HasCause StoreError.Fault (S.faults store.old) (S.faults store.new) result }
 {
-    let text = first_text(alloc)?;
+    let text = first_text(alloc, version)?;
     store.create_file(name)?;
     append(store, text.as_slice())
 }
 
 // Gives up what was written, and begins it again.
-fn begin_again<S: Store>(alloc: Global, store: &mut S, name: &str) -> Result<(), StoreError>
+fn begin_again<S: Store>(
+    alloc: Global,
+    store: &mut S,
+    name: &str,
+    version: Version,
+) -> Result<(), StoreError>
     requires { IsWriting (S.stage store.old) }
-    ensures ok { OnOk result (S.stage store.new ≡ Writing name.now (text_of_row head_row)) }
+    ensures ok { OnOk result (S.stage store.new ≡ Writing name.now (text_of_row (head_row version))) }
     ensures err { OnErr result (S.stage store.new ≡ Closed) }
     ensures files { S.told store.new ≡ S.told store.old }
     ensures heard { S.heard store.new ≡ S.heard store.old }
@@ -153,7 +160,7 @@ fn begin_again<S: Store>(alloc: Global, store: &mut S, name: &str) -> Result<(),
     ensures cause { HasCause StoreError.Fault (S.faults store.old) (S.faults store.new) result }
 {
     store.drop_file();
-    begin_certificate(alloc, store, name)
+    begin_certificate(alloc, store, name, version)
 }
 
 /// Writes nodes with a store that it borrows, one at a time: it owns none of them. Only the instance that it was made with is its own.
@@ -167,31 +174,35 @@ pub struct TextRecorder<'s, S: Store> {
     alloc: Global,
     instance: &'s Instance,
     name: &'s str,
+    version: Version,
     doing: Doing,
     nodes: u32,
     cases: u32,
 }
 
 impl<'s, S: Store> TextRecorder<'s, S> {
-    /// An open recorder, without nodes, of the file with this name that [`begin_certificate`] began. It takes no memory.
+    /// An open recorder, without nodes, of the file with this name and version that [`begin_certificate`] began. It takes no memory.
     pub fn over(
         alloc: Global,
         instance: &'s Instance,
         store: &'s mut S,
         name: &'s str,
+        version: Version,
     ) -> TextRecorder<'s, S>
-        requires { S.stage store.old ≡ Writing name.now (text_of_row head_row) }
+        requires writing { S.stage store.old ≡ Writing name.now (text_of_row (head_row version)) }
+        requires version { CanBeRead version }
         ensures same_reference { result.store.ghost_name ≡ store.entry.ghost_name }
         ensures own { result.instance.now ≡ instance.now }
         ensures name { result.name.now ≡ name.now }
+        ensures version { result.version ≡ version }
         ensures files { S.told result.store.now ≡ S.told store.old }
         ensures heard { S.heard result.store.now ≡ S.heard store.old }
         ensures stored { S.stored result.store.now ≡ S.stored store.old }
         ensures faults { S.faults result.store.now ≡ S.faults store.old }
         ensures number { result.nodes ≡ 0 }
         ensures cases { result.cases ≡ 0 }
-        ensures open { stage_of (seen result.instance.now result.name.now (S.stage result.store.now) result.doing result.nodes result.cases) ≡ Open }
-        ensures told { told_of (seen result.instance.now result.name.now (S.stage result.store.now) result.doing result.nodes result.cases) ≡ Some [] }
+        ensures open { stage_of (seen result.version result.instance.now result.name.now (S.stage result.store.now) result.doing result.nodes result.cases) ≡ Open }
+        ensures told { told_of (seen result.version result.instance.now result.name.now (S.stage result.store.now) result.doing result.nodes result.cases) ≡ Some [] }
         ensures rests { Rests result.doing (S.stage result.store.now) }
     {
         // The call tells that the night is well formed, so that what is written can be read.
@@ -201,6 +212,7 @@ impl<'s, S: Store> TextRecorder<'s, S> {
             alloc,
             instance,
             name,
+            version,
             doing: Doing::Open,
             nodes: 0,
             cases: 0,
@@ -221,6 +233,7 @@ impl<'s, S: Store> TextRecorder<'s, S> {
             alloc: _,
             instance: _,
             name: _,
+            version: _,
             doing,
             nodes: _,
             cases: _,
@@ -241,17 +254,17 @@ impl<'s, S: Store> Recorder for TextRecorder<'s, S> {
 
     ghost owns = { λ r night. night ≡ r.instance.now };
 
-    ghost told = { λ r. told_of (seen r.instance.now r.name.now (S.stage r.store.now) r.doing r.nodes r.cases) };
+    ghost told = { λ r. told_of (seen r.version r.instance.now r.name.now (S.stage r.store.now) r.doing r.nodes r.cases) };
 
     ghost number = { λ r. r.nodes };
 
     ghost cases = { λ r. r.cases };
 
-    ghost stage = { λ r. stage_of (seen r.instance.now r.name.now (S.stage r.store.now) r.doing r.nodes r.cases) };
+    ghost stage = { λ r. stage_of (seen r.version r.instance.now r.name.now (S.stage r.store.now) r.doing r.nodes r.cases) };
 
     ghost faults = { λ r. S.faults r.store.now };
 
-    ghost keeps = { λ a b. (a.store.ghost_name ≡ b.store.ghost_name) × (Keeps (seen a.instance.now a.name.now (S.stage a.store.now) a.doing a.nodes a.cases) (seen b.instance.now b.name.now (S.stage b.store.now) b.doing b.nodes b.cases) × ((S.told b.store.now ≡ S.told a.store.now) × ((S.heard b.store.now ≡ S.heard a.store.now) × (S.stored b.store.now ≡ S.stored a.store.now)))) };
+    ghost keeps = { λ a b. (a.store.ghost_name ≡ b.store.ghost_name) × (Keeps (seen a.version a.instance.now a.name.now (S.stage a.store.now) a.doing a.nodes a.cases) (seen b.version b.instance.now b.name.now (S.stage b.store.now) b.doing b.nodes b.cases) × ((S.told b.store.now ≡ S.told a.store.now) × ((S.heard b.store.now ≡ S.heard a.store.now) × (S.stored b.store.now ≡ S.stored a.store.now)))) };
 
     ghost keeps_same = { λ a. (refl, (keeps_same _, (refl, (refl, refl)))) };
 
@@ -279,7 +292,7 @@ impl<'s, S: Store> Recorder for TextRecorder<'s, S> {
 
     fn restart(&mut self) -> Result<(), RecordError> {
         self.instance.station();
-        match begin_again(self.alloc, self.store, self.name) {
+        match begin_again(self.alloc, self.store, self.name, self.version) {
             Ok(()) => {
                 self.nodes = 0;
                 self.cases = 0;

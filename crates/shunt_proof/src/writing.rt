@@ -8,15 +8,13 @@ ghost use Rattle.shunt_proof.specs.defs.Nodes.{FitsChoice, FitsDepth, FitDuals, 
 ghost use Rattle.shunt_proof.specs.defs.Certificates.{IsCertificate};
 ghost use Rattle.shunt_proof.specs.defs.CertificateRows.{kind_text, duals_text, choice_fields, node_row, case_row, alpha_row, beta_row, price_row, duals_rows, case_rows, is_plain, cases_rows, own_rows, node_rows, head_row, end_row, rows_of, ReadsAsCertificate};
 
-use crate::records::{Certificate, Choice, Node, NodeDuals, NodeKind};
+use crate::records::{Certificate, Choice, Node, NodeDuals, NodeKind, Version};
+use crate::versions::number_of;
 use shunt_base::{Case, Cases, Duals, Price, PriceKind};
 use shunt_instance::Instance;
 use shunt_plan::{arr_name, dep_name, track_name, write_option};
 use shunt_rows::RowWriter;
 use std::alloc::{AllocError, Global};
-
-// The version of the files that are written.
-const WRITTEN_VERSION: u64 = 1;
 
 // Adds a signed number as a field of the open row.
 fn write_signed(writer: &mut RowWriter, alloc: Global, number: i64) -> Result<(), AllocError>
@@ -252,12 +250,12 @@ fn write_nodes(
     Ok(())
 }
 
-pub(crate) fn write_first(writer: &mut RowWriter) -> Result<(), AllocError>
+pub(crate) fn write_first(writer: &mut RowWriter, version: Version) -> Result<(), AllocError>
     requires { writer.old.row ≡ [] }
-    ensures { OnOk result (writer.new ≡ record { text = writer.old.text ++ text_of_row head_row; row = [] }) }
+    ensures { OnOk result (writer.new ≡ record { text = writer.old.text ++ text_of_row (head_row version); row = [] }) }
 {
     writer.field(b"certificate")?;
-    writer.number(WRITTEN_VERSION)?;
+    writer.number(number_of(version))?;
     writer.end_row()
 }
 
@@ -287,7 +285,7 @@ fn written(
     ensures { IfOk result (λ w. w ≡ record { text = text_of_rows (rows_of instance.now certificate.now); row = [] }) }
 {
     let mut writer = RowWriter::new(alloc)?;
-    write_first(&mut writer)?;
+    write_first(&mut writer, certificate.version)?;
     write_nodes(&mut writer, alloc, instance, certificate.nodes.as_slice())?;
     write_end(
         &mut writer,

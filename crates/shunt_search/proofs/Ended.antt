@@ -167,6 +167,7 @@ module _ (laws : EndLaws) (night : Night) (i : IsInstance night) (pins : List Bl
       nodes = S.walk.formed;
       cost = let states = for_plan.states in let small = S.small in omega (arith, states, cheap, small);
       bound = let le = within in let states = for_plan.states in let small = S.small in omega (arith, le, states, cheap, small);
+      version = omega arith;
     }
 
     pub end : IsEnd night pins most number plan b told

@@ -34,6 +34,10 @@ pub record IsAcceptedIn (version : Version) (night : Night) (pins plan : List Bl
   pub root : ProvesIn version night start c.nodes (pos c.bound) 0
   pub lean : AreLeanIn version night start c.nodes
 
+-- a certificate is accepted in its own version
+abbrev pub IsAccepted : Night → List Block → List Block → ℕ → Certificate → Type 0
+IsAccepted night pins plan stated c = IsAcceptedIn c.version night pins plan stated c
+
 -- ---- the same in version 1
 
 abbrev pub IsLeanAt : Night → List Block → List Node → ℕ → Type 0
@@ -41,6 +45,3 @@ IsLeanAt night start nodes k = IsLeanIn Prices night start nodes k
 
 abbrev pub AreLean : Night → List Block → List Node → Type 0
 AreLean night start nodes = AreLeanIn Prices night start nodes
-
-abbrev pub IsAccepted : Night → List Block → List Block → ℕ → Certificate → Type 0
-IsAccepted night pins plan stated c = IsAcceptedIn Prices night pins plan stated c

@@ -17,13 +17,14 @@ use Rattle.shunt_rows.specs.defs.Fields.{is_word, no_word, is_within, fields_in,
 use Rattle.shunt_rows.specs.defs.Formats.{Format}
 use Rattle.shunt_instance.specs.defs.Instance.{Night, unit_total, position_total}
 use Rattle.shunt_blocks.specs.declared.records.Park.{Park}
-use Rattle.shunt_plan.specs.defs.BlockRecords.{first_in, arr_in, dep_in, track_in, option_in}
+use Rattle.shunt_plan.specs.defs.BlockRecords.{arr_in, dep_in, track_in, option_in}
 use Rattle.shunt_proof.specs.declared.records.Choice.{Choice}
 use Rattle.shunt_proof.specs.declared.records.NodeKind.{NodeKind}
 use Rattle.shunt_proof.specs.declared.records.NodeKind.TheVariants as shows
 use Rattle.shunt_proof.specs.declared.records.NodeDuals.{NodeDuals}
 use Rattle.shunt_proof.specs.declared.records.NodeDuals.TheVariants as duals
 use Rattle.shunt_proof.specs.declared.records.Node.{Node}
+use Rattle.shunt_proof.specs.declared.records.Version.{Version}
 use Rattle.shunt_proof.specs.declared.records.Certificate.{Certificate}
 use Rattle.shunt_proof.specs.declared.heads.HeadDuals.{HeadDuals}
 use Rattle.shunt_proof.specs.declared.heads.HeadDuals.TheVariants as words
@@ -31,10 +32,12 @@ use Rattle.shunt_proof.specs.declared.heads.Head.{Head}
 use Rattle.shunt_proof.specs.declared.values.Limits.{Limits}
 use Rattle.shunt_proof.specs.declared.draft.Place.{Place}
 use Rattle.shunt_proof.specs.declared.draft.Place.TheVariants as places
+use Rattle.shunt_proof.specs.defs.Numbers.{version_with, newest}
 
 -- ---- what the records so far state
 
 pub record Draft : Type 0 where
+  pub version : Version
   -- the nodes that are whole
   pub nodes : List Node
   -- how many nodes and how many cases began
@@ -61,9 +64,9 @@ no_case = case_with 0 (pos 0)
 abbrev pub no_head : Head
 no_head = record { depth = 0; choice = None; kind = shows.Whole; duals = words.Bare }
 
--- nothing, after the first record
-abbrev pub empty : Draft
-empty = record { nodes = []; begun = 0; cases = 0; place = places.Start; head = no_head; before = None; now = no_case; cost = 0; bound = 0 }
+-- nothing but the version, after the first record
+abbrev pub empty : Version → Draft
+empty version = record { version = version; nodes = []; begun = 0; cases = 0; place = places.Start; head = no_head; before = None; now = no_case; cost = 0; bound = 0 }
 
 -- the cases of a node
 abbrev pub cases_of : Option Case → Case → List Case
@@ -396,9 +399,18 @@ at_place night d places.End row = no_word d
 unfoldable pub later_of : Night → Draft → List (List ℕ) → Judged Draft
 later_of night d row = at_place night d d.place row
 
--- `certificate,1`
+-- `certificate,VERSION`
+unfoldable pub version_in : List (List ℕ) → Judged Version
+version_in row = do
+  _ ← must (is_word row (codes "certificate")) 1 kinds.Kind
+  _ ← fields_in row 2 2
+  number ← number_in row 2 1 newest
+  says (version_with number)
+
 unfoldable pub first_of : List (List ℕ) → Judged Draft
-first_of row = first_in (codes "certificate") empty row
+first_of row = do
+  version ← version_in row
+  says (empty version)
 
 -- the last record was read
 abbrev pub ended : Place → Bool
@@ -407,7 +419,7 @@ ended _ = false
 
 -- the certificate that the records state
 abbrev pub certificate_of : Draft → Certificate
-certificate_of d = record { nodes = d.nodes; cost = d.cost; bound = d.bound }
+certificate_of d = record { version = d.version; nodes = d.nodes; cost = d.cost; bound = d.bound }
 
 -- the certificate's file: its `end` record is there, and the last
 abbrev pub certificate_format : Night → Format Draft Certificate

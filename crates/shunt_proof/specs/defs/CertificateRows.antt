@@ -18,7 +18,9 @@ use Rattle.shunt_proof.specs.declared.records.NodeKind.TheVariants as shows
 use Rattle.shunt_proof.specs.declared.records.NodeDuals.{NodeDuals}
 use Rattle.shunt_proof.specs.declared.records.NodeDuals.TheVariants as duals
 use Rattle.shunt_proof.specs.declared.records.Node.{Node}
+use Rattle.shunt_proof.specs.declared.records.Version.{Version}
 use Rattle.shunt_proof.specs.declared.records.Certificate.{Certificate}
+use Rattle.shunt_proof.specs.defs.Numbers.{number_of}
 use Rattle.shunt_proof.specs.defs.CertificateFormat.{certificate_format}
 
 -- a node's words
@@ -84,9 +86,9 @@ own_rows night _ = []
 abbrev pub node_rows : Night → Node → List (List (List ℕ))
 node_rows night x = node_row night x ∷ own_rows night x.duals
 
--- `certificate,1`
-abbrev pub head_row : List (List ℕ)
-head_row = codes "certificate" ∷ decimal 1 ∷ []
+-- `certificate,VERSION`
+abbrev pub head_row : Version → List (List ℕ)
+head_row version = codes "certificate" ∷ decimal (number_of version) ∷ []
 
 -- `end,COST,BOUND,NODES`
 abbrev pub end_row : ℕ → ℕ → ℕ → List (List ℕ)
@@ -94,7 +96,7 @@ end_row cost bound nodes = codes "end" ∷ decimal cost ∷ decimal bound ∷ de
 
 -- the records of a certificate: its nodes in their order, each with its own cases, and the last record
 abbrev pub rows_of : Night → Certificate → List (List (List ℕ))
-rows_of night c = head_row ∷ (flat_map (node_rows night) c.nodes ++ end_row c.cost c.bound (length c.nodes) ∷ [])
+rows_of night c = head_row c.version ∷ (flat_map (node_rows night) c.nodes ++ end_row c.cost c.bound (length c.nodes) ∷ [])
 
 -- how many records a case has behind its limits, and with them
 abbrev pub duals_count : Case → ℕ

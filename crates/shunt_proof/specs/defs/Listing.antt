@@ -1,12 +1,14 @@
 -- What a recorder in memory holds.
 use Rattle.std.specs.Prelude.{ℕ, List}
 use Rattle.shunt_proof.specs.declared.records.Node.{Node}
+use Rattle.shunt_proof.specs.declared.records.Version.{Version}
 use Rattle.shunt_proof.specs.declared.list_recorder.Doing.{Doing}
 use Rattle.shunt_proof.specs.declared.list_recorder.Doing.TheVariants as doing
 use Rattle.shunt_proof.specs.defs.Recording.{Stage, Open, Stalled, Finished}
 
--- its nodes, how many cases they have, and what it can do
+-- its version and nodes, how many cases they have, and what it can do
 pub record Listed : Type 0 where
+  pub version : Version
   pub nodes : List Node
   pub cases : ℕ
   pub stage : Stage

@@ -7,6 +7,7 @@ use Rattle.shunt_blocks.specs.defs.Lists.{total_cost}
 use Rattle.shunt_blocks.specs.defs.Pins.{opening_cost}
 use Rattle.shunt_plan.specs.declared.records.Plan.{Plan}
 use Rattle.shunt_proof.specs.declared.records.Node.{Node}
+use Rattle.shunt_proof.specs.declared.records.Version.TheVariants.{Prices}
 use Rattle.shunt_proof.specs.declared.records.Certificate.{Certificate}
 use Rattle.shunt_proof.specs.defs.Certificates.{IsCertificate}
 use Rattle.shunt_search.specs.declared.walking.Pending.{Pending}
@@ -22,9 +23,9 @@ pub record IsLeft (waiting : List Pending) (low bound : ℤ) : Type 0 where
 abbrev pub IsDone : ℕ → ℕ → List Pending → ℕ → ℤ → Type 0
 IsDone number most waiting best low = (number ≡ most) ⊎ ((waiting ≡ []) × (low ≡ pos best))
 
--- nodes with a plan's cost and a bound
+-- nodes of version 1 with a plan's cost and a bound
 abbrev pub certificate_of : Plan → ℕ → List Node → Certificate
-certificate_of plan bound nodes = record { cost = plan.cost; bound = bound; nodes = nodes }
+certificate_of plan bound nodes = record { version = Prices; cost = plan.cost; bound = bound; nodes = nodes }
 
 -- some nodes, that many, and those that are told where any are told, are with the plan's cost and the bound a certificate that a file can
 -- state, and meet the conditions with the plan

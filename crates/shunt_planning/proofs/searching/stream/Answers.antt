@@ -12,9 +12,9 @@ returns-in-Ok-clause-found g c =
     let S = g.S.Store in
     let r = c.over-recorder.result in
     let n = c.solve_into.new.recorder in
-    let s = seen r.instance.now r.name.now (S.stage r.store.now) r.doing r.nodes r.cases in
-    let t = seen n.instance.now n.name.now (S.stage n.store.now) n.doing n.nodes n.cases in
-    let found = stream_found c.args.instance.now c.args.pins.now c.args.nodes c.args.certificate.now s t c.in-Ok.solved c.over-recorder.ensures.own c.over-recorder.ensures.name c.solve_into.ensures.keeps c.in-Ok.ensures.finished c.in-Ok.ensures.meets.cost c.in-Ok.ensures.shown in
+    let s = seen r.version r.instance.now r.name.now (S.stage r.store.now) r.doing r.nodes r.cases in
+    let t = seen n.version n.instance.now n.name.now (S.stage n.store.now) n.doing n.nodes n.cases in
+    let found = stream_found c.args.instance.now c.args.pins.now c.args.nodes c.args.certificate.now s t c.in-Ok.solved c.over-recorder.ensures.version c.over-recorder.ensures.own c.over-recorder.ensures.name c.solve_into.ensures.keeps c.in-Ok.ensures.finished c.in-Ok.ensures.meets.cost c.in-Ok.ensures.shown in
     let left = c.in-Ok.store-1-own.given.1 (sym (c.solve_into.ensures.same_reference ∙ c.over-recorder.ensures.same_reference)) in
     subst (λ x. IsFound c.args.instance.now c.args.pins.now c.args.nodes c.args.certificate.now (S.stage x) c.in-Ok.solved) (sym left) found
 

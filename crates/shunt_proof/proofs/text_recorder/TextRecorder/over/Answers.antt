@@ -8,14 +8,14 @@ use Rattle.shunt_proof.proofs.text_recorder.TextRecorder.over.Goals as goal
 pub returns-clause-open : goal.returns-clause-open
 returns-clause-open g c =
     let S = g.S.Store in
-    let s = seen c.args.instance.now c.args.name.now (S.stage c.args.store.now) doing.Open 0 0 in
-    starts_open s c.station.ensures.formed refl refl refl c.requires
+    let s = seen c.args.version c.args.instance.now c.args.name.now (S.stage c.args.store.now) doing.Open 0 0 in
+    starts_open s c.station.ensures.formed c.requires.version refl refl refl c.requires.writing
 
 pub returns-clause-told : goal.returns-clause-told
 returns-clause-told g c =
     let S = g.S.Store in
-    let s = seen c.args.instance.now c.args.name.now (S.stage c.args.store.now) doing.Open 0 0 in
-    (started s c.station.ensures.formed refl refl refl c.requires).told
+    let s = seen c.args.version c.args.instance.now c.args.name.now (S.stage c.args.store.now) doing.Open 0 0 in
+    (started s c.station.ensures.formed c.requires.version refl refl refl c.requires.writing).told
 
 pub returns-clause-rests : goal.returns-clause-rests
-returns-clause-rests g c = subst IsWriting (sym c.requires) tt
+returns-clause-rests g c = subst IsWriting (sym c.requires.writing) tt

@@ -9,61 +9,61 @@ pub begin_again-requires : goal.begin_again-requires
 begin_again-requires g c =
     let r = c.args.self.now in
     let S = g.S.Store in
-    let s = seen r.instance.now r.name.now (S.stage r.store.now) r.doing r.nodes r.cases in
+    let s = seen r.version r.instance.now r.name.now (S.stage r.store.now) r.doing r.nodes r.cases in
     is_writing s c.requires.stage
 
 pub returns-in-Ok-clause-told : goal.returns-in-Ok-clause-told
 returns-in-Ok-clause-told g c =
     let r = c.args.self.now in
     let S = g.S.Store in
-    let s = seen r.instance.now r.name.now (S.stage r.store.now) r.doing r.nodes r.cases in
-    let t = seen r.instance.now r.name.now (S.stage c.begin_again.new.store) r.doing 0 0 in
-    (restart_done s t c.requires.stage (record { night = refl; name = refl }) c.in-Ok.ensures.ok refl c.station.ensures.formed refl refl).told
+    let s = seen r.version r.instance.now r.name.now (S.stage r.store.now) r.doing r.nodes r.cases in
+    let t = seen r.version r.instance.now r.name.now (S.stage c.begin_again.new.store) r.doing 0 0 in
+    (restart_done s t c.requires.stage (record { version = refl; night = refl; name = refl }) c.in-Ok.ensures.ok refl c.station.ensures.formed refl refl).told
 
 pub returns-in-Ok-clause-stage : goal.returns-in-Ok-clause-stage
 returns-in-Ok-clause-stage g c =
     let r = c.args.self.now in
     let S = g.S.Store in
-    let s = seen r.instance.now r.name.now (S.stage r.store.now) r.doing r.nodes r.cases in
-    let t = seen r.instance.now r.name.now (S.stage c.begin_again.new.store) r.doing 0 0 in
-    restart_open s t c.requires.stage (record { night = refl; name = refl }) c.in-Ok.ensures.ok refl (restart_done s t c.requires.stage (record { night = refl; name = refl }) c.in-Ok.ensures.ok refl c.station.ensures.formed refl refl)
+    let s = seen r.version r.instance.now r.name.now (S.stage r.store.now) r.doing r.nodes r.cases in
+    let t = seen r.version r.instance.now r.name.now (S.stage c.begin_again.new.store) r.doing 0 0 in
+    restart_open s t c.requires.stage (record { version = refl; night = refl; name = refl }) c.in-Ok.ensures.ok refl (restart_done s t c.requires.stage (record { version = refl; night = refl; name = refl }) c.in-Ok.ensures.ok refl c.station.ensures.formed refl refl)
 
 pub returns-in-Ok-clause-keeps : goal.returns-in-Ok-clause-keeps
 returns-in-Ok-clause-keeps g c =
     let r = c.args.self.now in
     let S = g.S.Store in
-    let s = seen r.instance.now r.name.now (S.stage r.store.now) r.doing r.nodes r.cases in
-    let t = seen r.instance.now r.name.now (S.stage c.begin_again.new.store) r.doing 0 0 in
-    (refl, (restart_keeps s t c.requires.stage (record { night = refl; name = refl }) c.in-Ok.ensures.ok refl, (c.begin_again.ensures.files, (c.begin_again.ensures.heard, c.begin_again.ensures.stored))))
+    let s = seen r.version r.instance.now r.name.now (S.stage r.store.now) r.doing r.nodes r.cases in
+    let t = seen r.version r.instance.now r.name.now (S.stage c.begin_again.new.store) r.doing 0 0 in
+    (refl, (restart_keeps s t c.requires.stage (record { version = refl; night = refl; name = refl }) c.in-Ok.ensures.ok refl, (c.begin_again.ensures.files, (c.begin_again.ensures.heard, c.begin_again.ensures.stored))))
 
 pub returns-in-Err-Memory-clause-stage : goal.returns-in-Err-Memory-clause-stage
 returns-in-Err-Memory-clause-stage g c =
     let r = c.args.self.now in
     let S = g.S.Store in
-    let s = seen r.instance.now r.name.now (S.stage r.store.now) r.doing r.nodes r.cases in
-    let t = seen r.instance.now r.name.now (S.stage c.begin_again.new.store) doing.Stalled r.nodes r.cases in
+    let s = seen r.version r.instance.now r.name.now (S.stage r.store.now) r.doing r.nodes r.cases in
+    let t = seen r.version r.instance.now r.name.now (S.stage c.begin_again.new.store) doing.Stalled r.nodes r.cases in
     stalled_is t refl
 
 pub returns-in-Err-Memory-clause-keeps : goal.returns-in-Err-Memory-clause-keeps
 returns-in-Err-Memory-clause-keeps g c =
     let r = c.args.self.now in
     let S = g.S.Store in
-    let s = seen r.instance.now r.name.now (S.stage r.store.now) r.doing r.nodes r.cases in
-    let t = seen r.instance.now r.name.now (S.stage c.begin_again.new.store) doing.Stalled r.nodes r.cases in
-    (refl, (keeps_by s t (record { night = refl; name = refl }) c.in-Err-Memory.ensures.err, (c.begin_again.ensures.files, (c.begin_again.ensures.heard, c.begin_again.ensures.stored))))
+    let s = seen r.version r.instance.now r.name.now (S.stage r.store.now) r.doing r.nodes r.cases in
+    let t = seen r.version r.instance.now r.name.now (S.stage c.begin_again.new.store) doing.Stalled r.nodes r.cases in
+    (refl, (keeps_by s t (record { version = refl; night = refl; name = refl }) c.in-Err-Memory.ensures.err, (c.begin_again.ensures.files, (c.begin_again.ensures.heard, c.begin_again.ensures.stored))))
 
 pub returns-in-Err-Fault-clause-stage : goal.returns-in-Err-Fault-clause-stage
 returns-in-Err-Fault-clause-stage g c =
     let r = c.args.self.now in
     let S = g.S.Store in
-    let s = seen r.instance.now r.name.now (S.stage r.store.now) r.doing r.nodes r.cases in
-    let t = seen r.instance.now r.name.now (S.stage c.begin_again.new.store) doing.Failed r.nodes r.cases in
+    let s = seen r.version r.instance.now r.name.now (S.stage r.store.now) r.doing r.nodes r.cases in
+    let t = seen r.version r.instance.now r.name.now (S.stage c.begin_again.new.store) doing.Failed r.nodes r.cases in
     failed_is t refl
 
 pub returns-in-Err-Fault-clause-keeps : goal.returns-in-Err-Fault-clause-keeps
 returns-in-Err-Fault-clause-keeps g c =
     let r = c.args.self.now in
     let S = g.S.Store in
-    let s = seen r.instance.now r.name.now (S.stage r.store.now) r.doing r.nodes r.cases in
-    let t = seen r.instance.now r.name.now (S.stage c.begin_again.new.store) doing.Failed r.nodes r.cases in
-    (refl, (keeps_by s t (record { night = refl; name = refl }) c.in-Err-Fault.ensures.err, (c.begin_again.ensures.files, (c.begin_again.ensures.heard, c.begin_again.ensures.stored))))
+    let s = seen r.version r.instance.now r.name.now (S.stage r.store.now) r.doing r.nodes r.cases in
+    let t = seen r.version r.instance.now r.name.now (S.stage c.begin_again.new.store) doing.Failed r.nodes r.cases in
+    (refl, (keeps_by s t (record { version = refl; night = refl; name = refl }) c.in-Err-Fault.ensures.err, (c.begin_again.ensures.files, (c.begin_again.ensures.heard, c.begin_again.ensures.stored))))

@@ -3,8 +3,8 @@ ghost use Rattle.std.specs.Prelude.{◌≡◌, ◌++◌, OnOk};
 ghost use Rattle.shunt_page.specs.defs.Cells.{cell, number_cell, time_cell, link_open, link_end, link_cell, unit_text, comma, unit_item, units_text, units_cell, side_letter, beside_none, beside_some, beside_words, beside_cell};
 
 use crate::records::UnitTold;
-use crate::text::Text;
 use shunt_base::{Minute, Side, minute_bytes};
+use shunt_text::Text;
 use std::alloc::AllocError;
 
 #[tactic(auto, unfolding(crate::specs::defs::Cells::cell))]

@@ -5,10 +5,10 @@ ghost use Rattle.shunt_audit.specs.defs.Findings.{IsOfNight};
 ghost use Rattle.shunt_page.specs.defs.Findings.{unit_words, position_words, block_words, two_words, load_words, cost_words, finding_of, finding_says, finding_words, finding_line};
 
 use crate::records::FindingLine;
-use crate::text::Text;
 use shunt_audit::types::Finding;
 use shunt_instance::Instance;
 use shunt_lists::Items;
+use shunt_text::Text;
 use std::alloc::{AllocError, Global};
 
 fn push_unit(text: &mut Text, instance: &Instance, u: u16) -> Result<(), AllocError>

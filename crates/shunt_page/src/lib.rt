@@ -12,7 +12,6 @@ mod parts;
 mod records;
 mod row_texts;
 mod standing;
-mod text;
 mod told;
 
 pub use making::page;

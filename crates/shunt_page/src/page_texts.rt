@@ -6,9 +6,9 @@ use crate::records::{FindingLine, Page};
 use crate::row_texts::{
     push_already_rows, push_depart_rows, push_fact, push_finding, push_loose_rows, push_order_rows,
 };
-use crate::text::Text;
 use shunt_base::Name;
 use shunt_picture::picture_text;
+use shunt_text::Text;
 use std::alloc::{AllocError, Global};
 
 #[tactic(auto, unfolding(crate::specs::defs::PageTexts::style_a))]

@@ -7,8 +7,8 @@ use crate::cells::{
     push_time_cell, push_unit, push_units_cell, side_letter,
 };
 use crate::records::{DepartRow, Filling, FindingLine, LooseRow, OrderRow, Seat, TrainTold};
-use crate::text::Text;
 use shunt_base::Name;
+use shunt_text::Text;
 use std::alloc::AllocError;
 
 // A number with what it counts.

@@ -4,12 +4,12 @@ ghost use Rattle.shunt_picture.specs.defs.BarTexts.{area_of, bar_class, corner_i
 
 use crate::records::{Bar, Kind, Lane, Told};
 use crate::svg::{Area, push_corner, push_rectangle, push_words, wide};
-use crate::text::Text;
 use crate::words::{
     colour, faults_words, fitting, id_of, label_of, push_group, push_time, push_told, side_word,
     x_of,
 };
 use shunt_base::{Name, Side, Stay};
+use shunt_text::Text;
 use std::alloc::{AllocError, Global};
 
 // Where a bar is drawn: from its entry, or where the hours begin, to its leave, 14 pixels high, in rows of 16.

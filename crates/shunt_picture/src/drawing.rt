@@ -7,11 +7,11 @@ ghost use Rattle.shunt_picture.specs.defs.PictureTexts.{right_of, words_style, b
 use crate::records::{Kind, Lane, Loose, Picture};
 use crate::strips::push_lane;
 use crate::svg::{Area, push_attribute, push_rectangle, push_stroke, push_words, wide};
-use crate::text::Text;
 use crate::told::push_track;
 use crate::train_texts::push_trains;
 use crate::words::{colour, letter, push_group, push_time, push_told};
 use shunt_base::{Name, TypeId};
+use shunt_text::Text;
 use std::alloc::{AllocError, Global};
 
 // Where the hours end, in pixels.

@@ -13,7 +13,6 @@ mod rows;
 mod standing;
 mod strips;
 mod svg;
-mod text;
 mod told;
 mod train_texts;
 mod words;

@@ -8,13 +8,13 @@ ghost use Rattle.shunt_instance.specs.defs.Words.{is_standing};
 
 use crate::records::TrainMark;
 use crate::svg::wide;
-use crate::text::Text;
 use crate::told::copied;
 use crate::words::{push_letters, x_of};
 use shunt_audit::types::Finding;
 use shunt_base::{ArrId, DepId, Name, TypeId};
 use shunt_instance::{Instance, Origin, Train};
 use shunt_lists::Items;
+use shunt_text::Text;
 use std::alloc::{AllocError, Global};
 
 // Whether a finding is of a kind, of 1 to 4, and of the unit or position before the one with a number.

@@ -7,8 +7,8 @@ ghost use Rattle.shunt_picture.specs.defs.LaneTexts.{rows_high, level_height, le
 use crate::bars::push_bar;
 use crate::records::{Bar, Kind, Lane, Level};
 use crate::svg::{Area, push_rectangle, push_stroke, push_words};
-use crate::text::Text;
 use crate::words::x_of;
+use shunt_text::Text;
 use std::alloc::{AllocError, Global};
 
 // How high the rows of a lane are together, in pixels.

@@ -2,7 +2,7 @@
 ghost use Rattle.std.specs.Prelude.{◌≡◌, ◌≤◌, ◌++◌, OnOk};
 ghost use Rattle.shunt_picture.specs.defs.Svg.{attribute, rectangle, stroke, wide, opened, element, words_at, corner};
 
-use crate::text::Text;
+use shunt_text::Text;
 use std::alloc::AllocError;
 
 // A place with its size, in pixels from the upper left corner.

@@ -4,13 +4,13 @@ ghost use Rattle.shunt_blocks.specs.defs.Shapes.{IsWithinTrains, IsOnTrack, IsIn
 ghost use Rattle.shunt_picture.specs.defs.Told.{kinds_of, names, is_marked, faults_of, told_of, track_name, track_words, loose_words, loose_of, loose_with, loose_at, looses_of};
 
 use crate::records::{Loose, Told};
-use crate::text::Text;
 use crate::words::{faults_words, push_label, push_time};
 use shunt_audit::types::Finding;
 use shunt_base::{Minute, Name, TypeId};
 use shunt_blocks::{Block, Park, block_cost, block_length, stay};
 use shunt_instance::Instance;
 use shunt_lists::Items;
+use shunt_text::Text;
 use std::alloc::{AllocError, Global};
 
 // The same name once more.

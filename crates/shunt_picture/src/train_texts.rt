@@ -4,9 +4,9 @@ ghost use Rattle.shunt_picture.specs.defs.PictureTexts.{tick_text, group_word, t
 
 use crate::records::{Kind, TrainMark};
 use crate::svg::{Area, push_stroke, push_words, wide};
-use crate::text::Text;
 use crate::words::{push_kind_name, push_time, x_of};
 use shunt_base::{Name, TypeId};
+use shunt_text::Text;
 use std::alloc::AllocError;
 
 // The stroke at its minute.

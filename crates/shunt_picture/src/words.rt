@@ -4,8 +4,8 @@ ghost use Rattle.std.specs.List.{flat_map};
 ghost use Rattle.shunt_picture.specs.defs.Words.{x_of, colour, letter, time_text, kind_letters, label_of, fault_text, faults_words, fault_word, fault_line, fault_lines, side_word, kind_words, kind_name, unit_line, unit_lines, each_from, group_id, group_block, group_trains, group_text, told_words, fitting};
 
 use crate::records::{Kind, Told};
-use crate::text::Text;
 use shunt_base::{Name, Side, TypeId};
+use shunt_text::Text;
 use std::alloc::{AllocError, Global};
 
 // Where a minute stands in a picture that begins at an hour, in pixels: two for each minute.

@@ -5,12 +5,12 @@ ghost use Rattle.shunt_blocks.specs.defs.Shapes.{IsWithinTrains};
 ghost use Rattle.shunt_report.specs.defs.ComparisonTexts.{IsPlacementOfNight, IsChangeOfNight, IsComparisonOfNight, placement_words, change_line, regrouped_line, comparison_of};
 
 use crate::found::{push_position, push_unit};
-use crate::text::Text;
 use crate::verdicts::push_option;
 use shunt_blocks::Block;
 use shunt_compare::{Change, Comparison, Placement};
 use shunt_instance::Instance;
 use shunt_plan::arr_name;
+use shunt_text::Text;
 use std::alloc::{AllocError, Global};
 
 fn push_placement(

@@ -3,9 +3,9 @@ ghost use Rattle.std.specs.Prelude.{◌≡◌, ◌<◌, ◌++◌, All, length, O
 ghost use Rattle.shunt_report.specs.defs.DelaysTexts.{stop_words, delay_line, delays_of};
 
 use crate::found::push_two;
-use crate::text::Text;
 use shunt_delay::{Delay, Stop};
 use shunt_instance::Instance;
+use shunt_text::Text;
 use std::alloc::{AllocError, Global};
 
 // What stops a train from being later.

@@ -4,9 +4,9 @@ ghost use Rattle.std.specs.List.{list_any};
 ghost use Rattle.shunt_report.specs.defs.DriversTexts.{busy_words, sharing_of, newly, different_drivers, fault_words, roster_of};
 
 use crate::moves::push_move;
-use crate::text::Text;
 use shunt_base::Minute;
 use shunt_drivers::{Duty, RosterFault, Sharing};
+use shunt_text::Text;
 use std::alloc::{AllocError, Global};
 
 // When as many moves run as there are drivers.

@@ -5,9 +5,9 @@ ghost use Rattle.shunt_audit.specs.defs.Findings.{IsOfNight};
 ghost use Rattle.shunt_report.specs.defs.FindingTexts.{unit_place, position_place, two_numbers, finding_word, finding_values, finding_line, findings_of};
 
 use crate::matched::push_train;
-use crate::text::Text;
 use shunt_audit::types::Finding;
 use shunt_instance::Instance;
+use shunt_text::Text;
 use std::alloc::{AllocError, Global};
 
 pub(crate) fn push_unit(text: &mut Text, instance: &Instance, u: u16) -> Result<(), AllocError>

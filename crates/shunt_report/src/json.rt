@@ -14,7 +14,6 @@ ghost use Rattle.shunt_drivers.specs.defs.RosterRows.{move_word};
 ghost use Rattle.shunt_report.specs.defs.JsonTexts.{IsStepOf, ways_cost, route_sum, cost_value, event_value, steps_of, value_with, json_of};
 
 use crate::plans::{couples_in, splits_in, unparked_in};
-use crate::text::Text;
 use crate::zones::minute_of;
 use serde_json::{Value, json};
 use shunt_base::{Name, Side, Stay, minute_bytes};
@@ -22,6 +21,7 @@ use shunt_blocks::laws::stays_of_blocks;
 use shunt_blocks::{Block, stay, way_in, way_out};
 use shunt_instance::Instance;
 use shunt_plan::{Plan, plan_cost};
+use shunt_text::Text;
 use shunt_tracks::{Ran, Step, run_lists};
 use std::alloc::{AllocError, Global};
 use std::str::from_utf8;

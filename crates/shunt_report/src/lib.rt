@@ -11,7 +11,6 @@ mod matched;
 mod moves;
 mod plans;
 mod sheets;
-mod text;
 mod turns;
 mod verdicts;
 mod words;

@@ -5,11 +5,11 @@ ghost use Rattle.shunt_instance.specs.defs.Matching.{place_of};
 ghost use Rattle.shunt_matching.specs.defs.Nights.{HasItsType};
 ghost use Rattle.shunt_report.specs.defs.Texts.{ArePlaces, train_place, pair_line, pair_lines, pairs_of, shortage_of, type_name};
 
-use crate::text::Text;
 use shunt_base::TypeId;
 use shunt_instance::{Instance, Position, Train, Unit};
 use shunt_matching::Matching;
 use shunt_matching::types::Shortage;
+use shunt_text::Text;
 use std::alloc::{AllocError, Global};
 
 pub(crate) fn push_train(text: &mut Text, train: &Train, place: u8) -> Result<(), AllocError>

@@ -3,7 +3,7 @@ ghost use Rattle.std.specs.Prelude.{◌≡◌, ◌++◌, OnOk};
 ghost use Rattle.shunt_drivers.specs.defs.RosterRows.{move_word};
 ghost use Rattle.shunt_report.specs.defs.MoveTexts.{move_words};
 
-use crate::text::Text;
+use shunt_text::Text;
 use std::alloc::AllocError;
 
 pub(crate) fn word_of(enters: bool) -> &'static [u8]

@@ -2,10 +2,10 @@
 ghost use Rattle.std.specs.Prelude.{◌≡◌, ◌++◌, OnOk, IfOk};
 ghost use Rattle.shunt_report.specs.defs.PlanTexts.{parked_in, unparked_in, splits_in, couples_in, cost_line, blocks_line, plan_of, lost_of};
 
-use crate::text::Text;
 use crate::verdicts::end_word;
 use shunt_blocks::Block;
 use shunt_plan::Plan;
+use shunt_text::Text;
 use std::alloc::{AllocError, Global};
 
 fn parked_in(blocks: &[Block]) -> usize

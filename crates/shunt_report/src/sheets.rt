@@ -2,8 +2,8 @@
 ghost use Rattle.std.specs.Prelude.{◌≡◌, IfOk};
 ghost use Rattle.shunt_report.specs.defs.SheetTexts.{sheet_of, followed_of};
 
-use crate::text::Text;
 use shunt_sheet::{Followed, Order};
+use shunt_text::Text;
 use std::alloc::{AllocError, Global};
 
 /// The line of a sheet that was written: `sheet orders N`, with the number of its orders. The error is want of memory.

@@ -2,7 +2,7 @@
 ghost use Rattle.std.specs.Prelude.{◌≡◌, IfOk};
 ghost use Rattle.shunt_report.specs.defs.TurnTexts.{outcome_word, turn_line};
 
-use crate::text::Text;
+use shunt_text::Text;
 use std::alloc::{AllocError, Global};
 
 /// How a turn of edits ended.

@@ -5,13 +5,13 @@ ghost use Rattle.shunt_blocks.specs.defs.Shapes.{IsOnTrack};
 ghost use Rattle.shunt_report.specs.defs.VerdictTexts.{IsChoiceOfNight, IsBlockOfNight, IsPlanFaultOfNight, IsReasonOfNight, IsVerdictOfNight, option_words, choice_words, choice_in, block_words, word_number, plan_fault_words, reason_number, reason_words, end_word, verdict_of};
 
 use crate::found::{push_position, push_two, push_unit};
-use crate::text::Text;
 use shunt_base::Side;
 use shunt_blocks::{Block, Park};
 use shunt_checker::{PlanFault, Reason, Verdict};
 use shunt_instance::Instance;
 use shunt_plan::{arr_name, dep_name, track_name};
 use shunt_proof::{Certificate, Choice};
+use shunt_text::Text;
 use std::alloc::{AllocError, Global};
 
 fn side_word(side: Side) -> &'static [u8]

@@ -2,8 +2,8 @@
 ghost use Rattle.std.specs.Prelude.{◌≡◌, IfOk, option_map};
 ghost use Rattle.shunt_report.specs.defs.Texts.{file_word, input_of};
 
-use crate::text::Text;
 use shunt_rows::RowFault;
+use shunt_text::Text;
 use std::alloc::{AllocError, Global};
 
 /// An input file of a command.

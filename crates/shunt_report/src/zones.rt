@@ -4,8 +4,8 @@ ghost use Rattle.std.specs.List.{flat_map};
 ghost use Rattle.shunt_report.specs.defs.ZonesTexts.{IsMeetOf, meet_line, busiest_words, zone_line, zone_lines, zones_of};
 
 use crate::moves::push_move;
-use crate::text::Text;
 use shunt_base::{Minute, Name};
+use shunt_text::Text;
 use shunt_zones::{Meet, ZoneLoad, Zones};
 use std::alloc::{AllocError, Global};
 

@@ -8,6 +8,7 @@ use shunt_base::{Minute, minute_bytes};
 use std::alloc::{AllocError, Global};
 use std::marker::Model;
 
+/// A text so far.
 #[derive(Debug, Drop)]
 pub struct Text {
     bytes: Vec<u8>,
@@ -22,6 +23,7 @@ impl Model for Text {
 }
 
 impl Text {
+    /// The empty text.
     pub fn new(alloc: Global) -> Text
         ensures { result ≡ [] }
     {

@@ -13,6 +13,7 @@ use Rattle.shunt_blocks.specs.declared.records.Park.{Park}
 use Rattle.shunt_blocks.specs.defs.Ways.{park_way_in, park_way_out}
 use Rattle.shunt_blocks.specs.defs.Blocks.{IsParkable}
 use Rattle.shunt_blocks.specs.defs.Costs.{shape_cost, cost_with}
+use Rattle.shunt_dual.specs.declared.holding.Asked.{Asked}
 use Rattle.shunt_dual.specs.defs.Weighed.{TracksHold}
 
 -- a way, where there is one, costs no less
@@ -83,6 +84,6 @@ parked_at_least night s k ins outs can under_in under_out =
     omega (arith, a, b)
 
 -- what costs no less than a sum wherever it can be parked weighs as much on each track
-pub too_dear : (night : Night) (s : Shape) (sum : ℤ) (least : ℕ) (prices : List Price) (tracks : ℕ) → sum ≤ℤ pos least → ((k : Park) → IsParkable night s k → least ≤ 1000 * cost_with night s (Some k))
-    → TracksHold night prices s sum tracks
-too_dear night s sum least prices tracks dear from = record { holds = λ k lt long can. let le = from k can in omega (arith, ints, le, dear) }
+pub too_dear : (asked : Asked) (night : Night) (s : Shape) (sum : ℤ) (least : ℕ) (prices : List Price) (tracks : ℕ) → sum ≤ℤ pos least → ((k : Park) → IsParkable night s k → least ≤ 1000 * cost_with night s (Some k))
+    → TracksHold asked night prices s sum tracks
+too_dear asked night s sum least prices tracks dear from = record { holds = λ k lt long own can. let le = from k can in omega (arith, ints, le, dear) }

@@ -26,3 +26,4 @@ pub mod Refitted
 pub mod Raised
 pub mod Tried
 pub mod Swept
+pub mod Offered

@@ -12,3 +12,4 @@ pub mod Longer
 pub mod Refits
 pub mod Asks
 pub mod Raises
+pub mod Offers

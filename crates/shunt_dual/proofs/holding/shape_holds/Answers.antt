@@ -15,7 +15,7 @@ returns-then-sum-unparked c =
     let w = c.cost_with-unparked.ensures in
     let s = c.duals_over-sum.ensures.small in
     let m = c.requires.multiplier in
-    too_light c.args.instance.now (case_of c.args.multiplier c.args.duals.now) c.args.shape c.duals_over-sum.result c.duals_over-sum.ensures.exact
+    too_light c.args.asked c.args.instance.now (case_of c.args.multiplier c.args.duals.now) c.args.shape c.duals_over-sum.result c.duals_over-sum.ensures.exact
     (omega (arith, ints, t, w.exact, w.small, s.low, s.high, m.low, m.high))
 
 pub returns : goal.returns
@@ -26,7 +26,7 @@ returns c =
     let m = c.requires.multiplier in
     let x = to_z w64 (of_z w64 c.duals_over-sum.result) in
     let tracks = length c.args.instance.now.station.tracks in
-    shape_is c.args.instance.now (case_of c.args.multiplier c.args.duals.now) c.args.shape x tracks c.tracks_hold.result refl
+    shape_is c.args.asked c.args.instance.now (case_of c.args.multiplier c.args.duals.now) c.args.shape x tracks c.tracks_hold.result refl
     (let seen : to_z w64 (of_z w64 c.duals_over-sum.result) ≡ c.duals_over-sum.result = omega (arith, ints, s.low, s.high) in seen ∙ c.duals_over-sum.ensures.exact)
     (omega (arith, ints, f, w.exact, w.small, s.low, s.high, m.low, m.high))
-    (subst (λ (ps : List Price). IsTrue c.tracks_hold.result ↔ TracksHold c.args.instance.now ps c.args.shape x tracks) c.as_slice.ensures c.tracks_hold.ensures)
+    (subst (λ (ps : List Price). IsTrue c.tracks_hold.result ↔ TracksHold c.args.asked c.args.instance.now ps c.args.shape x tracks) c.as_slice.ensures c.tracks_hold.ensures)

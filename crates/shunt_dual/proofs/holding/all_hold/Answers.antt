@@ -6,10 +6,9 @@ use Rattle.std.proofs.lemmas.Int.{ints}
 use Rattle.std.proofs.lemmas.List.Elements.{All-from_get_or}
 use Rattle.shunt_choices.specs.defs.Paths.{Masks, masks_of}
 use Rattle.shunt_prices.specs.defs.Limits.{case_at}
-use Rattle.shunt_prices.specs.defs.Cases.{HoldsInCase, CasesHold}
-use Rattle.shunt_dual.specs.defs.Weighed.{case_of}
+use Rattle.shunt_dual.specs.defs.Weighed.{case_of, CaseHolds, AllHold}
 use Rattle.shunt_dual.proofs.Holds.{failed, masks_fit, got_is, case_back, case_on}
-use Rattle.shunt_dual.proofs.holding.cases_hold.Goals as goal
+use Rattle.shunt_dual.proofs.holding.all_hold.Goals as goal
 
 pub holds_in_case-requires-clause-covered : goal.holds_in_case-requires-clause-covered
 holds_in_case-requires-clause-covered c = masks_fit c.args.instance.now c.args.path.now c.covered.result.now c.covered.ensures c.requires.path
@@ -33,8 +32,8 @@ loop-k-preserved c =
     let high = is.multiplier.high in
     let m = to_z w64 (of_z w64 c.get-case.result.now.multiplier) in
     below_more _ _ c.loop-k.invariant
-    (case_back c.args.instance.now c.args.path.now.covered c.args.cases.now c.loop-k.k case m c.get-case.ensures (omega (arith, ints, low, high))
-    (subst (λ (w : Masks). HoldsInCase c.args.instance.now w (case_of m case.duals)) c.covered.ensures (c.holds_in_case.ensures.0 c.if-not-holds_in_case.false)))
+    (case_back c.args.asked c.args.instance.now c.args.path.now.covered c.args.cases.now c.loop-k.k case m c.get-case.ensures (omega (arith, ints, low, high))
+    (subst (λ (w : Masks). CaseHolds c.args.asked c.args.instance.now w (case_of m case.duals)) c.covered.ensures (c.holds_in_case.ensures.0 c.if-not-holds_in_case.false)))
 
 pub returns-then-not-holds_in_case : goal.returns-then-not-holds_in_case
 returns-then-not-holds_in_case c =
@@ -44,13 +43,13 @@ returns-then-not-holds_in_case c =
     let low = is.multiplier.low in
     let high = is.multiplier.high in
     let m = to_z w64 (of_z w64 c.get-case.result.now.multiplier) in
-    failed (HoldsInCase night c.covered.result.now (case_of m case.duals)) (CasesHold night c.args.path.now.blocks c.args.cases.now) c.holds_in_case.result c.holds_in_case.ensures c.if-not-holds_in_case.true
-    (λ all. subst (λ (w : Masks). HoldsInCase night w (case_of m case.duals)) (sym (c.covered.ensures ∙ c.requires.path.covered))
-    (case_on night (masks_of night c.args.path.now.blocks) c.args.cases.now c.loop-k.k case m c.get-case.ensures (omega (arith, ints, low, high)) (omega arith) all))
+    failed (CaseHolds c.args.asked night c.covered.result.now (case_of m case.duals)) (AllHold c.args.asked night c.args.path.now.blocks c.args.cases.now) c.holds_in_case.result c.holds_in_case.ensures c.if-not-holds_in_case.true
+    (λ all. subst (λ (w : Masks). CaseHolds c.args.asked night w (case_of m case.duals)) (sym (c.covered.ensures ∙ c.requires.path.covered))
+    (case_on c.args.asked night (masks_of night c.args.path.now.blocks) c.args.cases.now c.loop-k.k case m c.get-case.ensures (omega (arith, ints, low, high)) (omega arith) all))
 
 pub returns : goal.returns
 returns c = (
-  λ t. All-from_get_or (HoldsInCase c.args.instance.now (masks_of c.args.instance.now c.args.path.now.blocks)) c.args.cases.now _
-      (λ i lt. subst (λ (w : Masks). HoldsInCase c.args.instance.now w (case_at c.args.cases.now i)) c.requires.path.covered (c.loop-k.invariant i (omega (arith, lt, c.loop-k-test.false, c.len-k-end.ensures.value)))),
+  λ t. All-from_get_or (CaseHolds c.args.asked c.args.instance.now (masks_of c.args.instance.now c.args.path.now.blocks)) c.args.cases.now _
+      (λ i lt. subst (λ (w : Masks). CaseHolds c.args.asked c.args.instance.now w (case_at c.args.cases.now i)) c.requires.path.covered (c.loop-k.invariant i (omega (arith, lt, c.loop-k-test.false, c.len-k-end.ensures.value)))),
   λ h. refl,
 )

@@ -1,7 +1,0 @@
-use Rattle.std.proofs.Common.{ℕ, ◌<◌}
-use Rattle.shunt_prices.specs.defs.Limits.{case_at}
-use Rattle.shunt_prices.specs.defs.Cases.{HoldsInCase}
-use Rattle.shunt_dual.proofs.holding.cases_hold.Given as goal
-
-abbrev pub invariant-loop-k : goal.invariant-loop-k
-invariant-loop-k l = (j : ℕ) → j < l.k → HoldsInCase l.instance l.path.covered (case_at l.cases j)

@@ -8,7 +8,7 @@ use crate::records::Version;
 use shunt_rows::{Row, RowFault, RowKind, fields_in, must, number_in};
 
 // The greatest number that is read.
-const NEWEST: u64 = 1;
+const NEWEST: u64 = 2;
 
 /// The number of a version.
 pub(crate) fn number_of(version: Version) -> u64

@@ -11,9 +11,9 @@ number_of Stacks = 2
 abbrev pub version_with : ℕ → Version
 version_with n = if n == 2 then Stacks else Prices
 
--- the greatest number that is read: certificates with stacks aren't, since nothing judges them yet
+-- the greatest number that is read
 abbrev pub newest : ℕ
-newest = 1
+newest = 2
 
 abbrev pub CanBeRead : Version → Type 0
 CanBeRead version = number_of version ≤ newest

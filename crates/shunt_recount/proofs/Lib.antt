@@ -1,0 +1,12 @@
+mod Ordered
+mod Remembered
+mod Small
+mod Stepped
+mod Summed
+mod Offered
+mod Weighed
+mod Spanned
+mod Gained
+mod Taking
+mod Totalled
+mod Added

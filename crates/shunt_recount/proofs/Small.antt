@@ -1,0 +1,95 @@
+-- The greatest gain over a part is small: it is at most so much for each event there at which a span comes.
+use mir.Syntax.{w64}
+use mir.Val.{to_z, of_z}
+use Rattle.std.specs.Prelude.{◌==◌, nat_le, ◌&&◌, cond, map, IfSome, Option, Some, None}
+use Rattle.std.proofs.Common.{◌≡◌, ◌⊎◌, inl, inr, ℕ, zero, suc, ◌+◌, ◌-◌, ◌*◌, ◌<◌, ◌≤◌, Bool, true, false, List, [], ◌∷◌, ℤ, pos, refl, sym, ap, subst, arith}
+use Rattle.std.proofs.lemmas.Int.{ints, clamps}
+use Rattle.std.proofs.lemmas.Bool.{and_parts}
+use Rattle.std.proofs.lemmas.Bool.Decides.{nat_tests}
+use Rattle.shunt_lists.specs.defs.Members.{In}
+use Rattle.shunt_lists.proofs.Members.{filter_from}
+use Rattle.shunt_prices.specs.defs.Sums.{IsWithin}
+use Rattle.shunt_stacks.specs.defs.Spans.{Span, AreOwn, greater, plus, greatest_of, coming_at, best_with, best_at, best_step, best}
+use Rattle.shunt_recount.specs.declared.known.Part.{Part}
+use Rattle.shunt_recount.specs.defs.Visits.{AreSmall, IsBest}
+
+le_from : (m n : ℕ) → nat_le m n ≡ true → m ≤ n
+le_from m n e = grind (arith, nat_tests)
+
+lt_from : (m n : ℕ) → nat_le m n ≡ false → n < m
+lt_from m n e = grind (arith, nat_tests)
+
+same_from : (m n : ℕ) → m == n ≡ true → m ≡ n
+same_from m n e = grind (arith, nat_tests)
+
+greater_small : (k : ℕ) (a b : Option ℤ) → IfSome a (IsWithin k) → IfSome b (IsWithin k) → IfSome (greater a b) (IsWithin k)
+greater_small k None b h g = g
+greater_small k (Some x) None h g = h
+greater_small k (Some x) (Some y) h g = record { low = omega (arith, ints, clamps, h.low, g.low); high = omega (arith, ints, clamps, h.high, g.high) }
+
+plus_small : (j k m : ℕ) (a b : Option ℤ) → j + k ≤ m → IfSome a (IsWithin j) → IfSome b (IsWithin k) → IfSome (plus a b) (IsWithin m)
+plus_small j k m None b le h g = tt
+plus_small j k m (Some x) None le h g = tt
+plus_small j k m (Some x) (Some y) le h g = record { low = omega (arith, ints, h.low, g.low, le); high = omega (arith, ints, h.high, g.high, le) }
+
+wider : (j k : ℕ) (a : Option ℤ) → j ≤ k → IfSome a (IsWithin j) → IfSome a (IsWithin k)
+wider j k None le h = tt
+wider j k (Some x) le h = record { low = omega (arith, ints, h.low, le); high = omega (arith, ints, h.high, le) }
+
+most_small : (k : ℕ) (value : Span → Option ℤ) (spans : List Span) → ((s : Span) → In s spans → IfSome (value s) (IsWithin k)) → IfSome (greatest_of (map value spans)) (IsWithin k)
+most_small k value [] h = tt
+most_small k value (s ∷ spans) h = greater_small k (value s) (greatest_of (map value spans)) (h s (inl refl)) (most_small k value spans (λ t i. h t (inr i)))
+
+at_small : (k : ℕ) (fixed free : List Span) (without : Option ℤ) (value : Span → Option ℤ) → IfSome without (IsWithin k) →
+    ((s : Span) → In s fixed ⊎ In s free → IfSome (value s) (IsWithin k)) → IfSome (best_at fixed free without value) (IsWithin k)
+at_small k [] free without value w h = greater_small k without (greatest_of (map value free)) w (most_small k value free (λ s i. h s (inr i)))
+at_small k (f ∷ fixed) free without value w h = most_small k value (f ∷ fixed) (λ s i. h s (inl i))
+
+cond_small : (k : ℕ) (t : Bool) (o : Option ℤ) → (t ≡ true → IfSome o (IsWithin k)) → IfSome (cond t o None) (IsWithin k)
+cond_small k true o h = h refl
+cond_small k false o h = tt
+
+either_small : (k : ℕ) (t : Bool) (o : Option ℤ) → (t ≡ false → IfSome o (IsWithin k)) → IfSome (cond t (Some (pos 0)) o) (IsWithin k)
+either_small k true o h = record { low = omega (arith, ints); high = omega (arith, ints) }
+either_small k false o h = h refl
+
+module _ (fixed free : List Span) (own : AreOwn fixed free) (small : AreSmall fixed free) where
+  -- at most this over the events from x on and before y
+  abbrev most : ℕ → ℕ → ℕ
+  most x y = (small.count y - small.count x) * 16000000000000
+
+  module _ (rest : ℕ → ℕ → ℕ → Option ℤ) (known : (x y room : ℕ) → IfSome (rest x y room) (IsWithin (most x y))) where
+    with_small : (x y room : ℕ) (s : Span) → In s fixed ⊎ In s free → s.from ≡ x → IfSome (best_with rest y room s) (IsWithin (most x y))
+    with_small x y room s i e = cond_small (most x y) (nat_le s.past y && nat_le s.length room) _
+        (λ t.
+        let le = le_from s.past y (and_parts (nat_le s.past y) (nat_le s.length room) t).0 in
+        let is = own.spans s i in
+        let a : small.count s.from < small.count s.inside = small.counts s i in
+        let b : small.count s.inside ≤ small.count s.until = small.rises s.inside s.until is.stays in
+        let c : small.count s.until ≤ small.count s.past = small.rises s.until s.past (let l = is.leaves in omega (arith, l)) in
+        let d : small.count s.past ≤ small.count y = small.rises s.past y le in
+        let f : small.count s.from ≡ small.count x = ap small.count e in
+        plus_small 16000000000000 (most s.inside s.until + most s.past y) (most x y) (Some s.gain) (plus (rest s.inside s.until (room - s.length)) (rest s.past y room))
+        (omega (arith, a, b, c, d, f)) (small.gains s i)
+        (plus_small (most s.inside s.until) (most s.past y) (most s.inside s.until + most s.past y) (rest s.inside s.until (room - s.length)) (rest s.past y room) (omega arith)
+        (known s.inside s.until (room - s.length)) (known s.past y room)))
+
+    step_small : (x y room : ℕ) → IfSome (best_step rest fixed free x y room) (IsWithin (most x y))
+    step_small x y room = either_small (most x y) (nat_le y x) _
+        (λ t. at_small (most x y) (coming_at x fixed) (coming_at x free) (rest (x + 1) y room) (best_with rest y room)
+        (wider (most (x + 1) y) (most x y) (rest (x + 1) y room) (let r = small.rises x (x + 1) (omega arith) in omega (arith, r)) (known (x + 1) y room)) (λ s i. one s i))
+      where
+        one : (s : Span) → In s (coming_at x fixed) ⊎ In s (coming_at x free) → IfSome (best_with rest y room s) (IsWithin (most x y))
+        one s (inl i) = let h = filter_from (λ (t : Span). t.from == x) fixed s i in with_small x y room s (inl h.0) (same_from s.from x h.1)
+        one s (inr i) = let h = filter_from (λ (t : Span). t.from == x) free s i in with_small x y room s (inr h.0) (same_from s.from x h.1)
+
+  pub best_small : (n x y room : ℕ) → IfSome (best n fixed free x y room) (IsWithin (most x y))
+  best_small zero x y room = record { low = omega (arith, ints); high = omega (arith, ints) }
+  best_small (suc n) x y room = step_small (best n fixed free) (λ a b r. best_small n a b r) x y room
+
+  pub gain_small : (part : Part) (g : Option ℤ) → IsBest fixed free part g → IfSome g (IsWithin 2560000000000000)
+  gain_small part g is = subst (λ (o : Option ℤ). IfSome o (IsWithin 2560000000000000)) (sym (is part.end (omega arith)))
+      (wider (most part.start part.end) 2560000000000000 (best part.end fixed free part.start part.end part.room) (let f = small.few part.end in omega (arith, f)) (best_small part.end part.start part.end part.room))
+
+pub seen : (z : ℤ) → IsWithin 16000000000000 z → to_z w64 (of_z w64 z) ≡ z
+seen z h = omega (arith, ints, h.low, h.high)

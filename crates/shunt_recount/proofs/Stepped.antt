@@ -1,0 +1,144 @@
+-- The greatest gain over a part, by the visits that come first there.
+use Rattle.std.specs.Prelude.{nat_le, ◌↔◌, ◌==◌, ◌&&◌, ◌-◌, cond, map, Option, Some, None, Result, Ok, Err, IfOk}
+use Rattle.std.specs.Int.{int_max}
+use Rattle.std.proofs.Common.{◌≡◌, ◌⊎◌, inl, inr, ⊎_elim, ℕ, zero, suc, ◌+◌, ◌<◌, ◌≤◌, Bool, true, false, List, [], ◌∷◌, length, drop, get_or, ℤ, pos, refl, sym, subst, ap, ◌∙◌, arith}
+use Rattle.std.proofs.lemmas.Int.{ints, clamps}
+use Rattle.std.proofs.lemmas.Bool.Decides.{nat_tests}
+use Rattle.std.proofs.lemmas.List.{drop_more}
+use Rattle.shunt_lists.specs.defs.Members.{In}
+use Rattle.shunt_lists.proofs.Members.{filter_from, in_map, in_place}
+use Rattle.shunt_stacks.specs.defs.Spans.{Span, AgreeWithin, greater, plus, greatest_of, coming_at, best_with, best_at, best_step, best}
+use Rattle.shunt_recount.specs.declared.visits.Visit.{Visit}
+use Rattle.shunt_recount.specs.declared.known.Part.{Part}
+use Rattle.shunt_recount.specs.defs.Visits.{span_of, spans_of, IsBest}
+
+max_apart : (x y z : ℤ) → int_max (int_max x y) z ≡ int_max x (int_max y z)
+max_apart x y z = omega (arith, ints, clamps)
+
+greater_apart : (a b c : Option ℤ) → greater (greater a b) c ≡ greater a (greater b c)
+greater_apart None b c = refl
+greater_apart (Some x) None c = refl
+greater_apart (Some x) (Some y) None = refl
+greater_apart (Some x) (Some y) (Some z) = ap Some (max_apart x y z)
+
+-- the greatest of a gain and those of the visits that are left
+abbrev pub left_with : (Span → Option ℤ) → List Visit → ℕ → Option ℤ → Option ℤ
+left_with value vs i gain = greater gain (greatest_of (map value (spans_of (drop i vs))))
+
+pub turned : (value : Span → Option ℤ) (vs : List Visit) (i : ℕ) (d : Visit) (gain w all : Option ℤ) → i < length vs → w ≡ value (span_of (get_or vs i d)) → left_with value vs i gain ≡ all →
+    left_with value vs (i + 1) (greater gain w) ≡ all
+turned value vs i d gain w all lt e h = greater_apart gain w (greatest_of (map value (spans_of (drop (i + 1) vs))))
+    ∙ (ap (λ (o : Option ℤ). greater gain (greater o (greatest_of (map value (spans_of (drop (i + 1) vs)))))) e
+    ∙ (ap (λ (l : List Visit). greater gain (greatest_of (map value (spans_of l)))) (sym (drop_more vs i d lt)) ∙ h))
+
+not_yet : (x y : ℕ) → x < y → nat_le y x ≡ false
+not_yet x y lt = grind (arith, nat_tests)
+
+gone : (x y : ℕ) → y ≤ x → nat_le y x ≡ true
+gone x y le = grind (arith, nat_tests)
+
+not_there : (m n : ℕ) → m == n ≡ true → m ≡ n
+not_there m n e = grind (arith, nat_tests)
+
+pub nothing : (fixed free : List Span) (n x y room : ℕ) → y ≤ x → Some (pos 0) ≡ best n fixed free x y room
+nothing fixed free zero x y room le = refl
+nothing fixed free (suc n) x y room le =
+    sym (ap (λ (t : Bool). cond t (Some (pos 0)) (best_at (coming_at x fixed) (coming_at x free) (best n fixed free (x + 1) y room) (best_with (best n fixed free) y room))) (gone x y le))
+
+-- what the laws say of own spans, where none comes at an event, and where a fixed one does
+abbrev pub NoneLaw : List Span → List Span → Type 0
+NoneLaw fixed free = (n x y room : ℕ) → ((s : Span) → In s fixed ⊎ In s free → s.from ≡ x → ⊥) → x < y → y ≤ x + n → best n fixed free x y room ≡ best n fixed free (x + 1) y room
+
+module _ (fixed free : List Span) (law : NoneLaw fixed free) (n y room : ℕ) where
+  -- events at which nothing comes are passed over
+  pub passed : (k x : ℕ) → x + k ≤ y → y ≤ x + n → ((s : Span) → In s fixed ⊎ In s free → x ≤ s.from → x + k ≤ s.from) → best n fixed free x y room ≡ best n fixed free (x + k) y room
+  passed zero x le enough none = ap (λ (z : ℕ). best n fixed free z y room) (omega arith)
+  passed (suc k) x le enough none =
+      law n x y room (λ s i e. let h = none s i (omega (arith, e)) in absurd (omega (arith, h, e))) (omega (arith, le)) enough
+      ∙ (passed k (x + 1) (omega (arith, le)) (omega (arith, enough)) (λ s i from. let h = none s i (omega (arith, from)) in omega (arith, h))
+      ∙ ap (λ (z : ℕ). best n fixed free z y room) (omega arith))
+
+  pub passed_to : (x z : ℕ) → x ≤ z → z ≤ y → y ≤ x + n → ((s : Span) → In s fixed ⊎ In s free → x ≤ s.from → z ≤ s.from) → best n fixed free x y room ≡ best n fixed free z y room
+  passed_to x z le end enough none =
+      passed (z - x) x (omega (arith, le, end)) enough (λ s i from. let h = none s i from in omega (arith, h, le)) ∙ ap (λ (w : ℕ). best n fixed free w y room) (omega (arith, le))
+
+  pub none_comes : (x : ℕ) → x ≤ y → y ≤ x + n → ((s : Span) → In s fixed ⊎ In s free → x ≤ s.from → y ≤ s.from) → Some (pos 0) ≡ best n fixed free x y room
+  none_comes x le enough none = nothing fixed free n y y room (omega arith) ∙ sym (passed_to x y le (omega arith) enough none)
+
+-- the same of a part
+pub part_passed : (fixed free : List Span) → NoneLaw fixed free → (start end room first : ℕ) (g : Option ℤ) → start ≤ first → first ≤ end →
+    ((s : Span) → In s fixed ⊎ In s free → start ≤ s.from → first ≤ s.from) → IsBest fixed free (record { start = first; end = end; room = room }) g →
+    IsBest fixed free (record { start = start; end = end; room = room }) g
+part_passed fixed free law start end room first g le to none is n enough = is n (omega (arith, enough, le)) ∙ sym (passed_to fixed free law n end room start first le to enough none)
+
+pub part_empty : (fixed free : List Span) → NoneLaw fixed free → (start end room first : ℕ) → start ≤ end → end ≤ first →
+    ((s : Span) → In s fixed ⊎ In s free → start ≤ s.from → first ≤ s.from) → IsBest fixed free (record { start = start; end = end; room = room }) (Some (pos 0))
+part_empty fixed free law start end room first le to none n enough =
+    none_comes fixed free law n end room start le enough (λ s i from. let h = none s i from in omega (arith, h, to))
+
+module _ (rest : ℕ → ℕ → ℕ → Option ℤ) (fixed free : List Span) (x y room : ℕ) (lt : x < y) where
+  stepped : best_at (coming_at x fixed) (coming_at x free) (rest (x + 1) y room) (best_with rest y room) ≡ best_step rest fixed free x y room
+  stepped = sym (ap (λ (t : Bool). cond t (Some (pos 0)) (best_at (coming_at x fixed) (coming_at x free) (rest (x + 1) y room) (best_with rest y room))) (not_yet x y lt))
+
+  no_fixed : (l : List Span) (o : Option ℤ) → length l ≡ 0 → o ≡ rest (x + 1) y room →
+      greater o (greatest_of (map (best_with rest y room) (coming_at x free))) ≡ best_at l (coming_at x free) (rest (x + 1) y room) (best_with rest y room)
+  no_fixed [] o e h = ap (λ (p : Option ℤ). greater p (greatest_of (map (best_with rest y room) (coming_at x free)))) h
+  no_fixed (f ∷ fs) o e h = absurd (omega (arith, e))
+
+  pub by_free : (o g : Option ℤ) → length (coming_at x fixed) ≡ 0 → o ≡ rest (x + 1) y room → g ≡ greater o (greatest_of (map (best_with rest y room) (coming_at x free))) →
+      g ≡ best_step rest fixed free x y room
+  by_free o g none is h = h ∙ (no_fixed (coming_at x fixed) o none is ∙ stepped)
+
+both : (s : Span) (y room : ℕ) → s.past ≤ y → s.length ≤ room → nat_le s.past y && nat_le s.length room ≡ true
+both s y room le few = grind (arith, nat_tests)
+
+neither : (s : Span) (y room : ℕ) → (y < s.past) ⊎ (room < s.length) → nat_le s.past y && nat_le s.length room ≡ false
+neither s y room (inl more) = grind (arith, nat_tests)
+neither s y room (inr long) = grind (arith, nat_tests)
+
+pub joined : (rest : ℕ → ℕ → ℕ → Option ℤ) (y room : ℕ) (s : Span) (gain : ℤ) (inside behind r : Option ℤ) → s.past ≤ y → s.length ≤ room → gain ≡ s.gain →
+    inside ≡ rest s.inside s.until (room - s.length) → behind ≡ rest s.past y room → r ≡ plus (Some gain) (plus inside behind) → r ≡ best_with rest y room s
+joined rest y room s gain inside behind r le few e a b h = h
+    ∙ (ap (λ (z : ℤ). plus (Some z) (plus inside behind)) e
+    ∙ (ap (λ (o : Option ℤ). plus (Some s.gain) (plus o behind)) a
+    ∙ (ap (λ (o : Option ℤ). plus (Some s.gain) (plus (rest s.inside s.until (room - s.length)) o)) b
+    ∙ sym (ap (λ (t : Bool). cond t (plus (Some s.gain) (plus (rest s.inside s.until (room - s.length)) (rest s.past y room))) None) (both s y room le few)))))
+
+pub no_room : (rest : ℕ → ℕ → ℕ → Option ℤ) (y room : ℕ) (s : Span) → (y < s.past) ⊎ (room < s.length) → None ≡ best_with rest y room s
+no_room rest y room s h = sym (ap (λ (t : Bool). cond t (plus (Some s.gain) (plus (rest s.inside s.until (room - s.length)) (rest s.past y room))) None) (neither s y room h))
+
+pub if_ok : {X E : Type 0} (P Q : X → Type 0) (r : Result X E) → ((x : X) → P x → Q x) → IfOk r P → IfOk r Q
+if_ok P Q (Ok x) h p = h x p
+if_ok P Q (Err e) h p = tt
+
+-- a span that is listed as coming at an event
+pub comes_there : (x : ℕ) (spans : List Span) (s : Span) → In s (coming_at x spans) → In s spans × (s.from ≡ x)
+comes_there x spans s i = let h = filter_from (λ (t : Span). t.from == x) spans s i in (h.0, not_there s.from x h.1)
+
+-- one of the visits that come at an event, of those that are listed
+pub listed : (vs all items : List Visit) (i x : ℕ) (d : Visit) → i < length vs → spans_of vs ≡ coming_at x (spans_of all) → all ≡ items → In (span_of (get_or vs i d)) (spans_of items) × ((get_or vs i d).comes ≡ x)
+listed vs all items i x d lt e f =
+    let there = subst (λ (l : List Span). In (span_of (get_or vs i d)) l) e (in_map span_of vs (get_or vs i d) (in_place vs i d lt)) in
+    let h = comes_there x (spans_of all) (span_of (get_or vs i d)) there in (
+      subst (λ (l : List Visit). In (span_of (get_or vs i d)) (spans_of l)) f h.0,
+      h.1,
+    )
+
+same_length : (vs : List Visit) → length (spans_of vs) ≡ length vs
+same_length [] = refl
+same_length (v ∷ vs) = ap suc (same_length vs)
+
+pub none_listed : (vs all items : List Visit) (x : ℕ) → length vs ≡ 0 → spans_of vs ≡ coming_at x (spans_of all) → all ≡ items → length (coming_at x (spans_of items)) ≡ 0
+none_listed vs all items x none e f =
+    subst (λ (l : List Visit). length (coming_at x (spans_of l)) ≡ 0) f (subst (λ (l : List Span). length l ≡ 0) e (same_length vs ∙ none))
+
+-- the same value over other lists with the same members
+pub moved_best : (fixed free others more : List Span) (part : Part) (g : Option ℤ) → ((n : ℕ) → part.end ≤ part.start + n → best n others more part.start part.end part.room ≡ best n fixed free part.start part.end part.room) →
+    IsBest others more part g → IsBest fixed free part g
+moved_best fixed free others more part g same is n enough = is n enough ∙ same n enough
+
+pub agree_all : (fixed free others more : List Span) (x y : ℕ) → ((s : Span) → In s fixed ↔ In s others) → ((s : Span) → In s free ↔ In s more) → AgreeWithin fixed free others more x y
+agree_all fixed free others more x y fixed_same free_same = record {
+  members = λ s le lt. (⊎_elim (λ i. inl ((fixed_same s).0 i)) (λ i. inr ((free_same s).0 i)), ⊎_elim (λ i. inl ((fixed_same s).1 i)) (λ i. inr ((free_same s).1 i)));
+  same = λ s le lt. fixed_same s;
+}

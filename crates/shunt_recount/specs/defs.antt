@@ -1,0 +1,4 @@
+-- The definitions of this crate.
+pub mod Visits
+pub mod Offers
+pub mod Recounts

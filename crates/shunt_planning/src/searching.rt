@@ -58,7 +58,7 @@ fn solve_into<S: Store>(
     ensures heard { S.heard recorder.new.store.now ≡ S.heard recorder.old.store.now }
     ensures stored { S.stored recorder.new.store.now ≡ S.stored recorder.old.store.now }
 {
-    solve_pinned(alloc, instance, pins, nodes, recorder)
+    solve_pinned(alloc, instance, pins, None, nodes, recorder)
 }
 
 // Searches, and writes on in the certificate that was begun. What was written of it is given up where nothing is found.

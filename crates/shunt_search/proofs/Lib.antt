@@ -34,3 +34,5 @@ mod Telling
 pub mod Free
 mod Concluded
 mod Reordered
+mod Cheaper
+mod KeptRest

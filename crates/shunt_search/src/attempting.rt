@@ -77,6 +77,7 @@ fn attempt<R: Recorder>(
     ensures most { OnOk result (R.number recorder.new ≤ nodes) }
     ensures done { OnOk result ((R.number recorder.new ≡ nodes) ⊎ (search.new.waiting.items ≡ [])) }
     ensures plain { OnOk result (search.new.plain ≡ search.old.plain) }
+    ensures cheaper { OnOk result (search.new.known.cost ≤ search.old.known.cost) }
     ensures tells { OnOk result (TellsOn (R.told recorder.old) (R.told recorder.new)) }
     ensures open { OnOk result (R.stage recorder.new ≡ Open) }
     ensures sound { IsErrOf result SolveError.Memory → R.stage recorder.new ≢ Failed }
@@ -112,6 +113,7 @@ fn walk_again<R: Recorder>(
     ensures most { OnOk result (R.number recorder.new ≤ nodes) }
     ensures done { OnOk result ((R.number recorder.new ≡ nodes) ⊎ (search.new.waiting.items ≡ [])) }
     ensures plain { OnOk result (search.new.plain ≡ plain) }
+    ensures cheaper { OnOk result (search.new.known.cost ≤ search.old.known.cost) }
     ensures tells { OnOk result (TellsOn (R.told recorder.old) (R.told recorder.new)) }
     ensures open { OnOk result (R.stage recorder.new ≡ Open) }
     ensures sound { IsErrOf result SolveError.Memory → R.stage recorder.new ≢ Failed }
@@ -147,6 +149,7 @@ fn walk_plainly<R: Recorder>(
     ensures search { OnOk result (IsSearch instance.now pins.now tree.now.stock.items (R.told recorder.new) (R.number recorder.new) (R.cases recorder.new) search.new.waiting.items search.new) }
     ensures most { OnOk result (R.number recorder.new ≤ nodes) }
     ensures done { OnOk result (IsDone (R.number recorder.new) nodes search.new.waiting.items search.new.known.cost search.new.low) }
+    ensures cheaper { OnOk result (search.new.known.cost ≤ search.old.known.cost) }
     ensures tells { OnOk result (TellsOn (R.told recorder.old) (R.told recorder.new)) }
     ensures open { OnOk result (R.stage recorder.new ≡ Open) }
     ensures sound { IsErrOf result SolveError.Memory → R.stage recorder.new ≢ Failed }
@@ -195,6 +198,7 @@ fn walk_twice<R: Recorder>(
     ensures search { OnOk result (IsSearch instance.now pins.now tree.now.stock.items (R.told recorder.new) (R.number recorder.new) (R.cases recorder.new) search.new.waiting.items search.new) }
     ensures most { OnOk result (R.number recorder.new ≤ nodes) }
     ensures done { OnOk result ((R.number recorder.new ≡ nodes) ⊎ (search.new.waiting.items ≡ [])) }
+    ensures cheaper { OnOk result (search.new.known.cost ≤ search.old.known.cost) }
     ensures tells { OnOk result (TellsOn (R.told recorder.old) (R.told recorder.new)) }
     ensures open { OnOk result (R.stage recorder.new ≡ Open) }
     ensures sound { IsErrOf result SolveError.Memory → R.stage recorder.new ≢ Failed }
@@ -238,6 +242,7 @@ pub(crate) fn walk_whole<R: Recorder>(
     ensures search { OnOk result (IsSearch instance.now pins.now tree.now.stock.items (R.told recorder.new) (R.number recorder.new) (R.cases recorder.new) search.new.waiting.items search.new) }
     ensures most { OnOk result (R.number recorder.new ≤ nodes) }
     ensures done { OnOk result (IsDone (R.number recorder.new) nodes search.new.waiting.items search.new.known.cost search.new.low) }
+    ensures cheaper { OnOk result (search.new.known.cost ≤ search.old.known.cost) }
     ensures tells { OnOk result (TellsOn (R.told recorder.old) (R.told recorder.new)) }
     ensures open { OnOk result (R.stage recorder.new ≡ Open) }
     ensures sound { IsErrOf result SolveError.Memory → R.stage recorder.new ≢ Failed }

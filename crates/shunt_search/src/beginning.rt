@@ -1,5 +1,5 @@
 // The root of a tree.
-ghost use Rattle.std.specs.Prelude.{◌≡◌, ◌≢◌, ◌↔◌, [], ◌∷◌, ◌++◌, ℕ, ◌+◌, ◌<◌, List, Option, None, IsSome, All, length, OnOk, IfSome, IsErrOf};
+ghost use Rattle.std.specs.Prelude.{◌≡◌, ◌≢◌, ◌↔◌, [], ◌∷◌, ◌++◌, ℕ, ◌+◌, ◌<◌, ◌≤◌, List, Option, None, IsSome, All, length, OnOk, IfSome, IsErrOf};
 ghost use Rattle.shunt_store.specs.defs.Causes.{HasCause};
 ghost use Rattle.shunt_store.specs.defs.Files.{BothTold};
 ghost use Rattle.shunt_base.specs.declared.duals.Case.{Case as OneCase};
@@ -137,6 +137,7 @@ pub(crate) fn begin<R: Recorder>(
     ensures number { OnOk result (R.number recorder.new ≡ 1) }
     ensures tells { OnOk result (TellsOn (R.told recorder.old) (R.told recorder.new)) }
     ensures plain { OnOk result (search.new.plain ≡ search.old.plain) }
+    ensures cheaper { OnOk result (search.new.known.cost ≤ search.old.known.cost) }
     ensures open { OnOk result (R.stage recorder.new ≡ Open) }
     ensures sound { IsErrOf result SolveError.Memory → R.stage recorder.new ≢ Failed }
     ensures failed { IsErrOf result SolveError.Recorder → R.stage recorder.new ≡ Failed }

@@ -1,7 +1,9 @@
 // The best plan that is known.
-ghost use Rattle.std.specs.Prelude.{◌≡◌, List, None, OnOk};
+ghost use Rattle.std.specs.Prelude.{◌≡◌, ◌≤◌, List, None, OnOk};
 ghost use Rattle.shunt_instance.specs.defs.Instance.{Night, IsInstance, unit_total, position_total};
 ghost use Rattle.shunt_blocks.specs.declared.records.Block.{Block as OneBlock};
+ghost use Rattle.shunt_blocks.specs.defs.Lists.{IsFeasible, total_cost};
+ghost use Rattle.shunt_blocks.specs.defs.Pins.{Keeps};
 ghost use Rattle.shunt_choices.specs.defs.Paths.{Trail, IsTrailOf, IsPartialPlan, next_of};
 ghost use Rattle.shunt_search.specs.declared.known.Known.{Known as KnownPlan};
 ghost use Rattle.shunt_search.specs.defs.Walking.{KeepsCheaper, IsBest};
@@ -51,5 +53,32 @@ pub(crate) fn keep_cheaper(
         known.blocks = placed_blocks(alloc, path.blocks())?;
         known.cost = cost;
     }
+    Ok(())
+}
+
+/// A plan that keeps the pins takes the place of the one that is known, where it costs less. Err is want of memory.
+pub(crate) fn keep_plan(
+    alloc: Global,
+    instance: &Instance,
+    pins: &[Block],
+    plan: &[Block],
+    known: &mut Known,
+) -> Result<(), AllocError>
+    requires best { IsBest instance.now pins.now known.old.blocks.items known.old.cost }
+    requires feasible { IsFeasible instance.now plan.now }
+    requires keeps { Keeps plan.now pins.now }
+    ensures best { OnOk result (IsBest instance.now pins.now known.new.blocks.items known.new.cost) }
+    ensures cheaper { OnOk result (known.new.cost ≤ known.old.cost) }
+    ensures plan_too { OnOk result (known.new.cost ≤ total_cost instance.now plan.now) }
+{
+    // The calls tell that the plan has at most 160 blocks, all in range.
+    feasible_lists();
+    instance.units();
+    let cost = path_cost(instance, plan);
+    if cost >= known.cost {
+        return Ok(());
+    }
+    known.blocks = Vec::from_slice(alloc, plan)?;
+    known.cost = cost;
     Ok(())
 }

@@ -2,12 +2,17 @@
 ghost use Rattle.std.specs.Prelude.{◌≡◌, ℕ, ◌<◌, List, length};
 ghost use Rattle.shunt_instance.specs.defs.Instance.{Night, IsInstance};
 ghost use Rattle.shunt_blocks.specs.declared.records.Block.{Block};
-ghost use Rattle.shunt_blocks.specs.defs.Pins.{AreUsable};
+ghost use Rattle.shunt_blocks.specs.defs.Lists.{IsFeasible, units_taken, positions_taken};
+ghost use Rattle.shunt_blocks.specs.defs.Pins.{AreUsable, Keeps};
 ghost use Rattle.shunt_choices.specs.defs.Choices.{partial_plans};
+ghost use Rattle.shunt_matching.specs.declared.types.Shortage.{Shortage};
+ghost use Rattle.shunt_matching.specs.defs.Nights.{HasMatching, IsShortageOf};
 ghost use Rattle.shunt_proof.specs.declared.records.Certificate.{Certificate};
 ghost use Rattle.shunt_proof.specs.defs.Nodes.{AreNodes};
 ghost use Rattle.shunt_proof.specs.defs.Accepted.{IsAccepted};
 
+use shunt_blocks::laws::places;
+use shunt_matching::laws::one_shortage;
 use shunt_proof::laws::{few_nodes, proved_bounds};
 
 /// If an accepted certificate has all nodes that were allowed unless its bound is its cost, the bound is the cost wherever
@@ -18,4 +23,13 @@ pub fn all_plans()
 {
     few_nodes();
     proved_bounds();
+}
+
+/// If a feasible plan keeps pins, what they leave has a matching, and so no shortage.
+pub fn kept_matchings()
+    ensures some { (night : Night) (pins blocks : List Block) → IsFeasible night blocks → Keeps blocks pins → HasMatching night (units_taken night pins) (positions_taken night pins) }
+    ensures no_shortage { (night : Night) (pins blocks : List Block) (s : Shortage) → IsFeasible night blocks → Keeps blocks pins → IsShortageOf night (units_taken night pins) (positions_taken night pins) s → ⊥ }
+{
+    places();
+    one_shortage();
 }

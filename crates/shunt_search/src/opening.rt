@@ -1,13 +1,14 @@
-// The plan that a search begins with: the pins, and each other unit as an unparked block of its own.
-ghost use Rattle.std.specs.Prelude.{◌≡◌, ◌∷◌, ◌++◌, [], ℕ, ◌<◌, ◌≤◌, List, length, cond, false, slice_index_or, IfOk, OnOk};
+// The plan that a search begins with: the pins, and each other unit as an unparked block of its own; or one that is given.
+ghost use Rattle.std.specs.Prelude.{◌≡◌, ◌∷◌, ◌++◌, [], ℕ, ◌<◌, ◌≤◌, List, length, cond, false, slice_index_or, IfOk, IfSome, OnOk};
 ghost use Rattle.shunt_instance.specs.defs.Instance.{Night, unit_total, position_total};
 ghost use Rattle.shunt_instance.specs.defs.Matching.{place_of};
-ghost use Rattle.shunt_blocks.specs.defs.Pins.{AreUsable, opening_cost, single, singles};
+ghost use Rattle.shunt_blocks.specs.defs.Lists.{IsFeasible, total_cost};
+ghost use Rattle.shunt_blocks.specs.defs.Pins.{AreUsable, Keeps, opening_cost, single, singles};
 ghost use Rattle.shunt_choices.specs.defs.Paths.{masks_of};
 ghost use Rattle.shunt_matching.specs.defs.Nights.{Matches, MatchesRest};
 ghost use Rattle.shunt_search.specs.defs.Walking.{IsBest};
 
-use crate::known::Known;
+use crate::known::{Known, keep_plan};
 use crate::wholes::{path_cost, placed_blocks};
 use shunt_blocks::Block;
 use shunt_blocks::laws::{feasible_lists, one_opening_cost, opening_plans};
@@ -82,7 +83,7 @@ fn with_singles(
 
 /// The plan that parks nothing but pins: it is feasible, keeps them, and costs their opening cost, at most 640,000,000 cost units.
 /// Err is want of memory.
-pub(crate) fn opening_plan(
+fn opening_plan(
     alloc: Global,
     instance: &Instance,
     pins: &[Block],
@@ -105,4 +106,33 @@ pub(crate) fn opening_plan(
     let blocks = placed_blocks(alloc, &all)?;
     let cost = path_cost(instance, &blocks);
     Ok(Known { blocks, cost })
+}
+
+/// The opening plan, or the one that is given, where it costs less. Err is want of memory.
+pub(crate) fn first_known(
+    alloc: Global,
+    instance: &Instance,
+    pins: &[Block],
+    covered: &Covered,
+    place: &[u16],
+    given: Option<&[Block]>,
+) -> Result<Known, AllocError>
+    requires usable { AreUsable instance.now pins.now }
+    requires covered { covered.now ≡ masks_of instance.now pins.now }
+    requires matching { MatchesRest instance.now covered.now.units covered.now.places place.now }
+    requires feasible { IfSome given (λ p. IsFeasible instance.now p.now) }
+    requires keeps { IfSome given (λ p. Keeps p.now pins.now) }
+    ensures best { IfOk result (λ k. IsBest instance.now pins.now k.blocks.items k.cost) }
+    ensures opening { IfOk result (λ k. k.cost ≤ opening_cost instance.now pins.now) }
+    ensures small { IfOk result (λ k. k.cost ≤ 640000000) }
+    ensures never_worse { IfOk result (λ k. IfSome given.entry (λ p. k.cost ≤ total_cost instance.now p.now)) }
+{
+    let mut known = opening_plan(alloc, instance, pins, covered, place)?;
+    match given {
+        Some(plan) => {
+            keep_plan(alloc, instance, pins, plan, &mut known)?;
+            Ok(known)
+        }
+        None => Ok(known),
+    }
 }

@@ -1,10 +1,10 @@
 // A search that is to begin: the pins in order, the cases of the root, a plan that is cheap by them, and a tree to follow.
-ghost use Rattle.std.specs.Prelude.{◌≡◌, ◌⊎◌, ℕ, ◌≤◌, List, All, length, IfOk, IsErrOf};
+ghost use Rattle.std.specs.Prelude.{◌≡◌, ◌⊎◌, ℕ, ◌≤◌, List, All, length, IfOk, IfSome, IsErrOf};
 ghost use Rattle.shunt_instance.specs.defs.Instance.{Night, IsInstance, unit_total, position_total};
 ghost use Rattle.shunt_blocks.specs.declared.records.Block.{Block as OneBlock};
 ghost use Rattle.shunt_blocks.specs.defs.Blocks.{IsBlockButId};
-ghost use Rattle.shunt_blocks.specs.defs.Lists.{RunsThrough, placed, units_taken, positions_taken};
-ghost use Rattle.shunt_blocks.specs.defs.Pins.{AreUsable, opening_cost};
+ghost use Rattle.shunt_blocks.specs.defs.Lists.{RunsThrough, IsFeasible, placed, total_cost, units_taken, positions_taken};
+ghost use Rattle.shunt_blocks.specs.defs.Pins.{AreUsable, Keeps, opening_cost};
 ghost use Rattle.shunt_choices.specs.defs.Paths.{Trail, IsTrailOf, masks_of};
 ghost use Rattle.shunt_matching.specs.declared.types.Shortage.{Shortage as OneShortage};
 ghost use Rattle.shunt_matching.specs.defs.Nights.{Matches, MatchesRest, IsShortageOf};
@@ -17,7 +17,7 @@ use crate::cheapening::{first_plan, last_plan};
 use crate::following::take_proposed;
 use crate::known::Known;
 use crate::noting::cases_in;
-use crate::opening::{as_many_positions, opening_plan};
+use crate::opening::{as_many_positions, first_known};
 use crate::proposing::proposed_tree;
 use crate::rooting::root_cases;
 use crate::searching::Search;
@@ -85,15 +85,15 @@ fn matched_rest(
     matched(alloc, instance, path)
 }
 
-/// A search that is to begin at the path of the pins, with a plan that costs no more than the opening plan, and the tree that it is to
-/// follow. Err is want of memory.
+/// A search that is to begin at the path of the pins, with a plan that costs no more than the first one that is known, and the tree that
+/// it is to follow. Err is want of memory.
 fn prepared(
     alloc: Global,
     instance: &Instance,
     pins: &[Block],
     nodes: u32,
     yard: Yard,
-    opening: &Known,
+    known: &Known,
 ) -> Result<(Search, ProposedTree), AllocError>
     requires usable { AreUsable instance.now pins.now }
     requires even { position_total instance.now ≡ unit_total instance.now }
@@ -103,18 +103,19 @@ fn prepared(
     requires each { All (IsBlockButId instance.now) yard.path.blocks }
     requires through { RunsThrough instance.now (placed yard.path.blocks) }
     requires matching { (place : List ℕ) × Matches instance.now place }
-    requires best { IsBest instance.now pins.now opening.now.blocks.items opening.now.cost }
-    requires opening { opening.now.cost ≡ opening_cost instance.now pins.now }
-    requires small { opening.now.cost ≤ 640000000 }
-    ensures { IfOk result (λ s. IsFresh instance.now pins.now s.1.stock.items s.0) }
+    requires best { IsBest instance.now pins.now known.now.blocks.items known.now.cost }
+    requires opening { known.now.cost ≤ opening_cost instance.now pins.now }
+    requires small { known.now.cost ≤ 640000000 }
+    ensures fresh { IfOk result (λ s. IsFresh instance.now pins.now s.1.stock.items s.0) }
+    ensures cheaper { IfOk result (λ s. s.0.known.cost ≤ known.now.cost) }
 {
     let proposal = Proposal::new(alloc, instance, &yard.path)?;
-    let first = first_plan(alloc, instance, pins, &proposal, opening)?;
+    let first = first_plan(alloc, instance, pins, &proposal, known)?;
     let root = root_cases(alloc, instance, &yard.path, &proposal, &first)?;
-    let mut known = last_plan(alloc, instance, pins, &yard.path, &root.cases, &first)?;
+    let mut best = last_plan(alloc, instance, pins, &yard.path, &root.cases, &first)?;
     let floor = root.floor();
     let tree = proposed_tree(
-        alloc, instance, &yard.path, &proposal, root.cases, known.cost, nodes,
+        alloc, instance, &yard.path, &proposal, root.cases, best.cost, nodes,
     )?;
     take_proposed(
         alloc,
@@ -122,13 +123,13 @@ fn prepared(
         pins,
         cases_in(&tree, 0),
         &tree.plan,
-        &mut known,
+        &mut best,
     )?;
-    let low = known.cost as i64;
+    let low = best.cost as i64;
     let search = Search {
         yard,
         waiting: Vec::new(alloc),
-        known,
+        known: best,
         low,
         floor,
         plain: false,
@@ -139,16 +140,20 @@ fn prepared(
     Ok((search, tree))
 }
 
-/// A search that is to begin, and the tree that it is to follow, which has at most that many nodes. NoMatching comes exactly when what the
-/// pins leave has no matching, unless memory runs out before.
+/// A search that is to begin, with a plan that costs no more than the one that is given, and the tree that it is to follow, which has at
+/// most that many nodes. NoMatching comes exactly when what the pins leave has no matching, unless memory runs out before.
 pub(crate) fn prepare(
     alloc: Global,
     instance: &Instance,
     pins: &[Block],
+    given: Option<&[Block]>,
     nodes: u32,
 ) -> Result<(Search, ProposedTree), SolveError>
-    requires { AreUsable instance.now pins.now }
+    requires usable { AreUsable instance.now pins.now }
+    requires feasible { IfSome given (λ p. IsFeasible instance.now p.now) }
+    requires keeps { IfSome given (λ p. Keeps p.now pins.now) }
     ensures fresh { IfOk result (λ s. IsFresh instance.now pins.now s.1.stock.items s.0) }
+    ensures never_worse { IfOk result (λ s. IfSome given.entry (λ p. s.0.known.cost ≤ total_cost instance.now p.now)) }
     ensures exact { (s : OneShortage) → IsErrOf result (SolveError.NoMatching s) → IsShortageOf instance.now (units_taken instance.now pins.now) (positions_taken instance.now pins.now) s }
     ensures only { (s : OneShortage) → IsShortageOf instance.now (units_taken instance.now pins.now) (positions_taken instance.now pins.now) s → IsErrOf result (SolveError.NoMatching s) ⊎ IsErrOf result SolveError.Memory }
     ensures no_fault { IsErrOf result SolveError.Recorder → ⊥ }
@@ -158,13 +163,14 @@ pub(crate) fn prepare(
     instance.units();
     let yard = start(alloc, instance, pins)?;
     let matching = matched_rest(alloc, instance, pins, &yard.path)?;
-    let opening = opening_plan(
+    let known = first_known(
         alloc,
         instance,
         pins,
         yard.path.covered(),
         matching.place_of.as_slice(),
+        given,
     )?;
-    let found = prepared(alloc, instance, pins, nodes, yard, &opening)?;
+    let found = prepared(alloc, instance, pins, nodes, yard, &known)?;
     Ok(found)
 }

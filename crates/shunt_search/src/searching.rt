@@ -134,6 +134,7 @@ fn arrive<R: Recorder>(
     ensures search { OnOk result (IsSearch instance.now pins.now tree.now.stock.items (R.told recorder.new) (R.number recorder.new) (R.cases recorder.new) search.new.waiting.items search.new) }
     ensures number { OnOk result (R.number recorder.new ≡ R.number recorder.old + 1) }
     ensures plain { OnOk result (search.new.plain ≡ search.old.plain) }
+    ensures cheaper { OnOk result (search.new.known.cost ≤ search.old.known.cost) }
     ensures tells { OnOk result (TellsOn (R.told recorder.old) (R.told recorder.new)) }
     ensures open { OnOk result (R.stage recorder.new ≡ Open) }
     ensures sound { IsErrOf result SolveError.Memory → R.stage recorder.new ≢ Failed }
@@ -196,6 +197,7 @@ fn advance<R: Recorder>(
     ensures more { IfOk result (λ more. more ≡ true → R.number recorder.new ≡ R.number recorder.old + 1) }
     ensures done { IfOk result (λ more. more ≡ false → (R.number recorder.new ≡ R.number recorder.old) × (search.new.waiting.items ≡ [])) }
     ensures plain { OnOk result (search.new.plain ≡ search.old.plain) }
+    ensures cheaper { OnOk result (search.new.known.cost ≤ search.old.known.cost) }
     ensures tells { OnOk result (TellsOn (R.told recorder.old) (R.told recorder.new)) }
     ensures open { OnOk result (R.stage recorder.new ≡ Open) }
     ensures sound { IsErrOf result SolveError.Memory → R.stage recorder.new ≢ Failed }
@@ -234,6 +236,7 @@ pub(crate) fn walk_on<R: Recorder>(
     ensures most { OnOk result (R.number recorder.new ≤ nodes) }
     ensures done { OnOk result ((R.number recorder.new ≡ nodes) ⊎ (search.new.waiting.items ≡ [])) }
     ensures plain { OnOk result (search.new.plain ≡ search.old.plain) }
+    ensures cheaper { OnOk result (search.new.known.cost ≤ search.old.known.cost) }
     ensures tells { OnOk result (TellsOn (R.told recorder.old) (R.told recorder.new)) }
     ensures open { OnOk result (R.stage recorder.new ≡ Open) }
     ensures sound { IsErrOf result SolveError.Memory → R.stage recorder.new ≢ Failed }

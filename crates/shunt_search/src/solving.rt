@@ -6,7 +6,7 @@ ghost use Rattle.shunt_base.specs.declared.duals.Case.{Case as OneCase};
 ghost use Rattle.shunt_instance.specs.defs.Instance.{Night};
 ghost use Rattle.shunt_blocks.specs.declared.records.Block.{Block as OneBlock};
 ghost use Rattle.shunt_blocks.specs.defs.Lists.{IsFeasible, units_taken, positions_taken, total_cost};
-ghost use Rattle.shunt_blocks.specs.defs.Pins.{AreUsable, opening_cost};
+ghost use Rattle.shunt_blocks.specs.defs.Pins.{AreUsable, Keeps, opening_cost};
 ghost use Rattle.shunt_plan.specs.defs.Plans.{IsPlanInRange};
 ghost use Rattle.shunt_matching.specs.declared.types.Shortage.{Shortage as OneShortage};
 ghost use Rattle.shunt_matching.specs.defs.Nights.{IsShortageOf};
@@ -63,6 +63,7 @@ fn conclude<R: Recorder>(
     ensures meets { IfOk result (MeetsConditions instance.now pins.now nodes) }
     ensures in_range { IfOk result (λ s. IsPlanInRange instance.now s.plan) }
     ensures opening { IfOk result (λ s. total_cost instance.now s.plan.blocks ≤ opening_cost instance.now pins.now) }
+    ensures cheaper { IfOk result (λ s. s.cost ≤ search.known.cost) }
     ensures bound { IfOk result (λ s. IsBoundForPlans instance.now pins.now s.bound) }
     ensures within { IfOk result (λ s. s.bound ≤ s.cost) }
     ensures certificate { IfOk result (λ s. IfSome (R.told recorder.old) (λ told. IsCertificate instance.now (certificate_of s.plan s.bound told) × MeetConditions instance.now pins.now nodes s.plan (certificate_of s.plan s.bound told))) }
@@ -93,9 +94,10 @@ fn conclude<R: Recorder>(
     })
 }
 
-/// Searches for a cheap plan that keeps pins, and notes the nodes of a tree that proves a bound on every such plan.
+/// Searches for a cheap plan that keeps pins, which costs no more than the one that is given, if there is one, and notes the nodes of a
+/// tree that proves a bound on every such plan.
 ///
-/// The pins are usable, `nodes` is from 1 to 5,000, and the recorder is open, has no nodes, and can note nodes of this night. At most
+/// The pins are usable, the plan that is given is feasible and keeps them, `nodes` is from 1 to 5,000, and the recorder is open, has no nodes, and can note nodes of this night. At most
 /// `nodes` nodes are noted, and fewer only if the bound is the plan's cost, in cost units. NoMatching comes exactly when what the pins
 /// leave has no matching, before a node is noted, unless memory runs out first; Recorder only if the recorder failed and counted it.
 /// After Memory the recorder hasn't failed.
@@ -103,10 +105,13 @@ pub fn solve_pinned<R: Recorder>(
     alloc: Global,
     instance: &Instance,
     pins: &[Block],
+    given: Option<&[Block]>,
     nodes: u32,
     recorder: &mut R,
 ) -> Result<Solved, SolveError>
     requires usable { AreUsable instance.now pins.now }
+    requires feasible { IfSome given (λ p. IsFeasible instance.now p.now) }
+    requires keeps { IfSome given (λ p. Keeps p.now pins.now) }
     requires some { 1 ≤ nodes }
     requires few { nodes ≤ 5000 }
     requires stage { R.stage recorder.old ≡ Open }
@@ -117,6 +122,7 @@ pub fn solve_pinned<R: Recorder>(
     ensures meets { IfOk result (MeetsConditions instance.now pins.now nodes) }
     ensures in_range { IfOk result (λ s. IsPlanInRange instance.now s.plan) }
     ensures opening { IfOk result (λ s. total_cost instance.now s.plan.blocks ≤ opening_cost instance.now pins.now) }
+    ensures never_worse { IfOk result (λ s. IfSome given.entry (λ p. s.cost ≤ total_cost instance.now p.now)) }
     ensures bound { IfOk result (λ s. IsBoundForPlans instance.now pins.now s.bound) }
     ensures within { IfOk result (λ s. s.bound ≤ s.cost) }
     ensures certificate { IfOk result (λ s. BothTold (R.told recorder.old) (R.told recorder.new) (λ old told. IsCertificate instance.now (certificate_of s.plan s.bound told) × MeetConditions instance.now pins.now nodes s.plan (certificate_of s.plan s.bound told))) }
@@ -132,7 +138,7 @@ pub fn solve_pinned<R: Recorder>(
     ensures cause { HasCause SolveError.Recorder (R.faults recorder.old) (R.faults recorder.new) result }
     ensures keeps { R.keeps recorder.old recorder.new }
 {
-    let (mut search, tree) = prepare(alloc, instance, pins, nodes)?;
+    let (mut search, tree) = prepare(alloc, instance, pins, given, nodes)?;
     walk_whole(alloc, instance, pins, &tree, nodes, &mut search, recorder)?;
     conclude(alloc, instance, pins, nodes, search, recorder)
 }
@@ -172,5 +178,5 @@ pub fn solve<R: Recorder>(
 {
     // The call tells that masks of no pins leave out nothing.
     masks_alike();
-    solve_pinned(alloc, instance, &[], nodes, recorder)
+    solve_pinned(alloc, instance, &[], None, nodes, recorder)
 }

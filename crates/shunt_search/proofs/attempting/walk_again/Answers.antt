@@ -1,4 +1,5 @@
-use Rattle.std.proofs.Common.{◌≡◌, [], ◌∙◌}
+use Rattle.std.proofs.Common.{◌≡◌, [], ap, ◌∙◌, arith}
+use Rattle.shunt_search.specs.declared.known.Known.{Known}
 use Rattle.shunt_search.proofs.Telling.{tells_both, tells_then}
 use Rattle.shunt_search.proofs.Restarted.{told_none}
 use Rattle.shunt_search.proofs.attempting.walk_again.Goals as goal
@@ -27,3 +28,9 @@ returns-clause-tells g c = tells_then _ _ _ (tells_both _ _ (λ x y. y ≡ []) c
 
 pub returns-clause-keeps : goal.returns-clause-keeps
 returns-clause-keeps g c = g.R.Recorder.keeps_on _ _ _ c.restart.ensures.keeps c.attempt.ensures.keeps
+
+pub returns-clause-cheaper : goal.returns-clause-cheaper
+returns-clause-cheaper g c =
+    let same = ap (λ (k : Known). k.cost) c.in_ok-start_again.ensures.again.known in
+    let less = c.in_ok-attempt.ensures.cheaper in
+    omega (arith, same, less)

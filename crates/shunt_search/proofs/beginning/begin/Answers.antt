@@ -37,3 +37,6 @@ returns-then-whole-clause-tells g c =
 pub returns-clause-tells : goal.returns-clause-tells
 returns-clause-tells g c =
     tells_both (g.R.Recorder.told c.args.recorder.now) (g.R.Recorder.told c.note_branch.new.recorder) (λ x y. y ≡ x ++ branch_root (cases_in c.args.tree.now.stock.items c.in_ok-place.place) ∷ []) c.in_ok-note_branch.ensures.told
+
+pub returns-then-whole-clause-cheaper : goal.returns-then-whole-clause-cheaper
+returns-then-whole-clause-cheaper g c = c.in_ok-take_whole.ensures.cheaper.known

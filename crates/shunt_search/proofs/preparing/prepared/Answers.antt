@@ -10,8 +10,15 @@ use Rattle.shunt_search.proofs.preparing.prepared.Goals as goal
 pub take_proposed-requires-clause-even : goal.take_proposed-requires-clause-even
 take_proposed-requires-clause-even c = c.requires.even
 
-pub returns : goal.returns
-returns c =
+pub returns-clause-cheaper : goal.returns-clause-cheaper
+returns-clause-cheaper c =
+    let less = c.in_ok-first.ensures.cheaper in
+    let least = c.in_ok-best.ensures.cheaper in
+    let last = c.in_ok-take_proposed.ensures.cheaper in
+    omega (arith, last, least, less)
+
+pub returns-clause-fresh : goal.returns-clause-fresh
+returns-clause-fresh c =
     let night = c.args.instance.now in
     let path = c.args.yard.path in
     let root = c.in_ok-root.ensures in
@@ -20,7 +27,7 @@ returns c =
     let small = c.requires.small in
     let opening = c.requires.opening in
     let less = c.in_ok-first.ensures.cheaper in
-    let least = c.in_ok-known.ensures.cheaper in
+    let least = c.in_ok-best.ensures.cheaper in
     let last = c.in_ok-take_proposed.ensures.cheaper in
     record {
       usable = c.requires.usable;

@@ -1,4 +1,5 @@
-use Rattle.std.proofs.Common.{[], sym, subst, List}
+use Rattle.std.proofs.Common.{[], sym, subst, ap, arith, List}
+use Rattle.shunt_search.specs.declared.known.Known.{Known}
 use Rattle.shunt_search.specs.declared.walking.Pending.{Pending}
 use Rattle.shunt_search.specs.defs.Searching.{IsSearch}
 use Rattle.shunt_search.proofs.Telling.{tells_same}
@@ -23,3 +24,12 @@ returns-in_default-clause-tells g c = tells_same (g.R.Recorder.told c.args.recor
 
 pub returns-in_default-clause-keeps : goal.returns-in_default-clause-keeps
 returns-in_default-clause-keeps g c = g.R.Recorder.keeps_same _
+
+pub returns-in_default-clause-cheaper : goal.returns-in_default-clause-cheaper
+returns-in_default-clause-cheaper g c = let same = ap (λ (k : Known). k.cost) c.in_default.ensures.none.known in omega (arith, same)
+
+pub returns-clause-cheaper : goal.returns-clause-cheaper
+returns-clause-cheaper g c =
+    let same = ap (λ (k : Known). k.cost) c.in-Some.ensures.some.known in
+    let less = c.in_ok-arrive.ensures.cheaper in
+    omega (arith, same, less)

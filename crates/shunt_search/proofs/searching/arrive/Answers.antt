@@ -1,5 +1,6 @@
-use Rattle.std.proofs.Common.{◌≡◌, ◌+◌, ◌++◌, ◌∷◌, [], subst}
+use Rattle.std.proofs.Common.{◌≡◌, ◌+◌, ◌++◌, ◌∷◌, [], subst, ap, arith}
 use Rattle.shunt_store.specs.defs.Files.{BothTold}
+use Rattle.shunt_search.specs.declared.known.Known.{Known}
 use Rattle.shunt_search.specs.declared.noting.Noted.{Noted}
 use Rattle.shunt_search.specs.defs.Walking.{node_below, cases_of}
 use Rattle.shunt_search.specs.defs.Searching.{Arrives}
@@ -33,3 +34,12 @@ returns-then-whole-clause-tells g c =
 pub returns-clause-tells : goal.returns-clause-tells
 returns-clause-tells g c =
     tells_both (g.R.Recorder.told c.args.recorder.now) (g.R.Recorder.told c.visit.new.recorder) (λ x y. y ≡ x ++ node_below c.args.search.now.yard.path.pins c.args.next.child.block c.args.tree.now.stock.items c.in_ok-how.how ∷ []) c.in_ok-how.ensures.told
+
+pub returns-then-whole-clause-cheaper : goal.returns-then-whole-clause-cheaper
+returns-then-whole-clause-cheaper g c =
+    let same = ap (λ (k : Known). k.cost) c.in_ok-how.ensures.arrives.known in
+    let less = c.in_ok-take_whole.ensures.cheaper.known in
+    omega (arith, same, less)
+
+pub returns-clause-cheaper : goal.returns-clause-cheaper
+returns-clause-cheaper g c = let same = ap (λ (k : Known). k.cost) c.in_ok-how.ensures.arrives.known in omega (arith, same)

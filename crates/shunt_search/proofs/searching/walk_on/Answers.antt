@@ -7,6 +7,7 @@ pub walk-init : goal.walk-init
 walk-init g c = record {
   search = c.requires.search;
   plain = refl;
+  cheaper = omega arith;
   tells = tells_same (g.R.Recorder.told c.args.recorder.now);
   number = sym c.requires.first;
   few = c.requires.some;
@@ -22,11 +23,14 @@ walk-preserved g c =
     let more = c.in_ok-more.ensures in
     let one = more.more (grind (arith, common_steps)) in
     let number = before.number in
+    let cheap = before.cheaper in
+    let less = more.cheaper in
     let later = before.later in
     let after = c.advance.ensures.cause.later in
     record {
       search = more.search;
       plain = more.plain ∙ before.plain;
+      cheaper = omega (arith, cheap, less);
       tells = tells_then _ _ _ before.tells more.tells;
       number = omega (arith, number, one);
       few = omega (arith, c.walk-test.true);

@@ -10,6 +10,7 @@ invariant-walk g l =
     record {
       search : IsSearch l.instance l.pins l.tree.stock.items (R.told l.recorder) (R.number l.recorder) (R.cases l.recorder) l.search.waiting.items l.search;
       plain : l.search.plain ≡ l.fn.search.plain;
+      cheaper : l.search.known.cost ≤ l.fn.search.known.cost;
       tells : TellsOn (R.told l.fn.recorder) (R.told l.recorder);
       number : l.count ≡ R.number l.recorder;
       few : l.count ≤ l.nodes;

@@ -1,4 +1,4 @@
-use Rattle.std.proofs.Common.{refl, sym, subst, ℕ}
+use Rattle.std.proofs.Common.{refl, sym, subst, ℕ, arith}
 use Rattle.shunt_search.specs.defs.Conditions.{AreSpent}
 use Rattle.shunt_search.proofs.Concluded.{low_enough, shown_at_end}
 use Rattle.shunt_search.proofs.solving.conclude.Goals as goal
@@ -19,6 +19,12 @@ returns-clause-meets g c =
       above = end.above;
       spent = subst (λ (n : ℕ). AreSpent night c.args.pins.now c.args.nodes n c.in_ok-plan.plan.cost c.bound_left-bound.result) (sym c.requires.search.1.counted) end.spent;
     }
+
+pub returns-clause-cheaper : goal.returns-clause-cheaper
+returns-clause-cheaper g c =
+    let states = c.in_ok-plan.ensures.plan.states in
+    let less = low_enough c.args.instance.now c.in_ok-plan.plan.blocks c.deref.result.now c.args.search.known.blocks.items c.args.search.known.cost c.deref.ensures.value c.in_ok-plan.ensures.cheaper c.requires.search.1.best.cost in
+    omega (arith, states, less)
 
 pub returns-clause-opening : goal.returns-clause-opening
 returns-clause-opening g c =

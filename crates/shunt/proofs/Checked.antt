@@ -15,6 +15,7 @@ use Rattle.shunt_proof.specs.defs.CertificateFormat.{certificate_format}
 use Rattle.shunt_proof.specs.defs.Certificates.{IsCertificate}
 use Rattle.shunt_proof.specs.defs.Accepted.{IsAccepted}
 use Rattle.shunt_proof.proofs.Formed.{certificate_formed}
+use Rattle.shunt_proof.specs.declared.records.Version.TheVariants.{Stacks}
 use Rattle.shunt_checker.specs.declared.verdict.Verdict.{Verdict}
 use Rattle.shunt_checker.specs.declared.verdict.Verdict.TheVariants as verdict
 use Rattle.shunt_checker.specs.defs.Verdicts.{IsVerdict, Accepts}
@@ -66,7 +67,7 @@ keeps_none blocks = λ k d lt. absurd (omega (arith, lt))
 
 -- that it accepts exactly the certificates that are accepted
 abbrev pub Judges : Type 0
-Judges = (night : Night) (pins : List Block) (plan : Plan) (c : Certificate) (v : Verdict) → IsInstance night → IsPlanInRange night plan → Keeps plan.blocks pins → IsCertificate night c → IsVerdict night pins plan c v → Accepts v ↔ IsAccepted night pins plan.blocks plan.cost c
+Judges = (night : Night) (pins : List Block) (plan : Plan) (c : Certificate) (v : Verdict) → IsInstance night → IsPlanInRange night plan → Keeps plan.blocks pins → IsCertificate night c → (c.version ≡ Stacks → AreUsable night pins) → IsVerdict night pins plan c v → Accepts v ↔ IsAccepted night pins plan.blocks plan.cost c
 
 -- that the bound with which it accepts is one on every plan
 abbrev pub Bounds : Type 0
@@ -75,7 +76,7 @@ Bounds = (night : Night) (pins : List Block) (plan : Plan) (c : Certificate) (bo
 proved_where : (law : Judges) (s t p k : List ℕ) (y : Checkable) (v : Verdict) → stated_check s t p k ≡ Ok y → IsVerdict y.night [] y.plan y.certificate v → Accepts v ↔ IsProved y
 proved_where law s t p k y v is told =
     let formed = check_stated s t p k y is in
-    law y.night [] y.plan y.certificate v formed.night formed.plan (keeps_none y.plan.blocks) formed.certificate told
+    law y.night [] y.plan y.certificate v formed.night formed.plan (keeps_none y.plan.blocks) formed.certificate (λ e. usable_none y.night) told
 
 told_outcome : (y : Checkable) (r : Reply) (a : IsChecked y r) → r.outcome ≡ check_outcome a.verdict
 told_outcome y r a = ap (λ (r : Reply). r.outcome) a.reply

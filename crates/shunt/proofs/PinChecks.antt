@@ -86,7 +86,7 @@ module _ (usables : Usable) (judges : Judges) (s t i p k : List ℕ) where
   parts files y r ok (inr (usable, inr v)) =
       let is = formed (content files s) (content files t) (content files i) (content files p) (content files k) y ok in
       subst (Parts (IsPinProved y)) (sym (kept_outcome y r v))
-      (by_verdict y v.verdict usable (judges y.night y.pins y.plan y.certificate v.verdict is.night is.plan v.keeps is.certificate v.told))
+      (by_verdict y v.verdict usable (judges y.night y.pins y.plan y.certificate v.verdict is.night is.plan v.keeps is.certificate (λ e. usable) v.told))
 
 -- ---- what a good end shows
 
@@ -102,7 +102,7 @@ own y r done (inr (usable, inr v)) = (usable, v)
 
 bounds_kept : (judges : Judges) (bounds : Bounds) (y : PinChecked) (r : Reply) (v : IsPinVerdict y r) → IsFormed y → AreUsable y.night y.pins → Accepts v.verdict → BoundsKept y
 bounds_kept judges bounds y r v is usable accepts =
-    let accepted = (judges y.night y.pins y.plan y.certificate v.verdict is.night is.plan v.keeps is.certificate v.told).0 accepts in
+    let accepted = (judges y.night y.pins y.plan y.certificate v.verdict is.night is.plan v.keeps is.certificate (λ e. usable) v.told).0 accepts in
     let with_bound : IsVerdict y.night y.pins y.plan y.certificate (verdict.Accepted y.certificate.bound) =
     subst (IsVerdict y.night y.pins y.plan y.certificate) (bound_told y.night y.pins y.plan y.certificate v.verdict v.told accepts) v.told in
     record {

@@ -1,9 +1,8 @@
 -- If nothing is wrong, a certificate is accepted.
 use Rattle.std.specs.Prelude.{◌≢◌, ◌≤ℤ◌, IsSome, is_ok, Result, Ok, Err}
-use Rattle.std.proofs.Common.{◌≡◌, ◌⊎◌, ⊎_elim, inl, inr, ℕ, ◌≤◌, ℤ, pos, true, List, Option, Some, None, length, refl, sym, ◌∙◌, arith}
+use Rattle.std.proofs.Common.{◌≡◌, ◌⊎◌, ⊎_elim, inl, inr, ℕ, ◌≤◌, ℤ, pos, true, List, Option, Some, None, length, refl, sym, ap, subst, ◌∙◌, arith}
 use Rattle.std.proofs.lemmas.Int.{ints, by_lt_z}
 use Rattle.std.proofs.lemmas.Bool.{cases_lt}
-use Rattle.std.proofs.lemmas.List.Elements.{All-from_get_or}
 use Rattle.shunt_lists.proofs.Members.{in_place}
 use Rattle.shunt_base.specs.declared.duals.Case.{Case}
 use Rattle.shunt_stays.specs.defs.Run.{Stop, Through, run_of}
@@ -13,25 +12,26 @@ use Rattle.shunt_blocks.specs.declared.records.Block.{Block}
 use Rattle.shunt_blocks.specs.defs.Lists.{RunsThrough, IsFeasible, track_lengths, stays_of, placed, total_cost}
 use Rattle.shunt_choices.specs.defs.Paths.{masks_of, next_of}
 use Rattle.shunt_choices.specs.defs.Choices.{Choice as PathChoice, IsChoiceAt, longer_by}
-use Rattle.shunt_prices.specs.defs.Limits.{case_at}
-use Rattle.shunt_prices.specs.defs.Cases.{HoldsInCase, CasesHold, weight_with, duals_over}
-use Rattle.shunt_prices.specs.defs.Bounds.{IsCasesBound}
 use Rattle.shunt_plan.specs.declared.records.Plan.{Plan}
 use Rattle.shunt_plan.specs.defs.Plans.{IsPlanInRange}
 use Rattle.shunt_proof.specs.declared.records.Choice.{Choice}
 use Rattle.shunt_proof.specs.declared.records.NodeKind.{NodeKind}
 use Rattle.shunt_proof.specs.declared.records.NodeKind.TheVariants.{Branch, Leaf, Whole}
+use Rattle.shunt_proof.specs.declared.records.Version.{Version}
+use Rattle.shunt_proof.specs.declared.records.Version.TheVariants.{Stacks}
 use Rattle.shunt_proof.specs.declared.records.Certificate.{Certificate}
 use Rattle.shunt_proof.specs.defs.Nodes.{node_at}
-use Rattle.shunt_proof.specs.defs.Trees.{parent, choice_from, path_at, duals_at, best_before}
-use Rattle.shunt_proof.specs.defs.Proves.{Reaches, Shows, IsListed, IsPlaced, IsRight}
-use Rattle.shunt_proof.specs.defs.Accepted.{IsLeanAt}
+use Rattle.shunt_proof.specs.defs.Trees.{parent, choice_from, longer_with, path_at, duals_at, best_before}
+use Rattle.shunt_proof.specs.defs.Versions.{HoldIn, IsBoundIn, IsStepBoundIn, ReachesIn, StepReachesIn}
+use Rattle.shunt_proof.specs.defs.Proves.{ShowsIn, IsListed, IsPlaced, IsRightIn}
+use Rattle.shunt_proof.specs.defs.Accepted.{IsLeanIn}
 use Rattle.shunt_checker.specs.declared.verdict.PlanFault.TheVariants as fault
 use Rattle.shunt_checker.specs.declared.verdict.Reason.TheVariants as reason
 use Rattle.shunt_checker.specs.defs.PlanFaults.{IsPlanSound}
-use Rattle.shunt_checker.specs.defs.NodeFaults.{NotThere, Twice, NotLean, OtherKind, Broken, LowLeaf, LowWhole, Missing, IsNodeSound, IsOtherKind, IsLow}
+use Rattle.shunt_checker.specs.defs.NodeFaults.{NotThere, Twice, NotLean, OtherKind, Broken, LowLeaf, LowWhole, Missing, IsNodeSound, IsOtherKind, IsLow, IsStepLow}
 use Rattle.shunt_checker.proofs.Stable.{flag, same, block, choice_at}
 use Rattle.shunt_checker.proofs.Listed.{listed}
+use Rattle.shunt_checker.proofs.Versioned.{IsSolid, BoundLaws, bound_there, step_there, hold_if}
 
 -- ---- plans
 
@@ -56,6 +56,9 @@ states night plan sound = same _ _ (λ other. sound (fault.Cost plan.cost (total
 
 -- ---- nodes
 
+one_choice : (o : Option Choice) (a b : Choice) → o ≡ Some a → o ≡ Some b → a ≡ b
+one_choice o a b ea eb = let e : Some a ≡ Some b = sym ea ∙ eb in cc
+
 next_there : (o : Option ℕ) → (o ≡ None → ⊥) → IsSome o
 next_there None never = absurd (never refl)
 next_there (Some u) never = refl
@@ -64,32 +67,36 @@ next_none : (o : Option ℕ) → (IsSome o → ⊥) → o ≡ None
 next_none None never = refl
 next_none (Some u) never = absurd (never refl)
 
-module _ (night : Night) (path : List Block) (cases : List Case) (IsKnown : PathChoice → Type 0) (L : ℤ) where
+module _ (version : Version) (night : Night) (path : List Block) (cases : List Case) (IsKnown : PathChoice → Type 0) (L : ℤ) where
   -- what has to be shown, kind by kind
   record AllShown (kind : NodeKind) : Type 0 where
     fits : IsOtherKind kind (next_of (masks_of night path)) → ⊥
-    holds : kind ≢ Whole → CasesHold night path cases
-    leaf : kind ≡ Leaf → Reaches night path cases L
+    holds : kind ≢ Whole → HoldIn version night path cases
+    leaf : kind ≡ Leaf → ReachesIn version night path cases L
     whole : kind ≡ Whole → L ≤ℤ pos (total_cost night path)
-    branch : kind ≡ Branch → (d : PathChoice) → IsChoiceAt night path d → RunsThrough night (placed (longer_by path d)) → Reaches night (longer_by path d) cases L ⊎ IsKnown d
+    branch : kind ≡ Branch → (d : PathChoice) → IsChoiceAt night path d → RunsThrough night (placed (longer_by path d)) → StepReachesIn version night path (longer_by path d) cases L ⊎ IsKnown d
 
-  shows : (kind : NodeKind) → AllShown kind → Shows night path cases kind IsKnown L
+  shows : (kind : NodeKind) → AllShown kind → ShowsIn version night path cases kind IsKnown L
   shows Whole h = record { covers = next_none _ h.fits; cost = h.whole refl }
   shows Leaf h = record { unfinished = next_there _ h.fits; holds = h.holds (λ e. cc); bound = h.leaf refl }
   shows Branch h = record { unfinished = next_there _ h.fits; holds = h.holds (λ e. cc); each = h.branch refl }
 
-reaches_or_low : (night : Night) (path : List Block) (cases : List Case) (L : ℕ) (bound : ℤ) → IsCasesBound night path cases bound → Reaches night path cases (pos L) ⊎ IsLow night path cases L bound
-reaches_or_low night path cases L bound is = by_lt_z bound (pos L) (λ low. inr (record { is = is; low = low })) (λ le. inl (bound, is, le))
+reaches_or_low : (version : Version) (night : Night) (path : List Block) (cases : List Case) (L : ℕ) (bound : ℤ) → IsBoundIn version night path cases bound
+    → ReachesIn version night path cases (pos L) ⊎ IsLow version night path cases L bound
+reaches_or_low version night path cases L bound is = by_lt_z bound (pos L) (λ low. inr (record { is = is; low = low })) (λ le. inl (bound, is, le))
 
-module _ (night : Night) (there_is : (path : List Block) (cases : List Case) → 1 ≤ length cases → (bound : ℤ) × IsCasesBound night path cases bound)
-    (start : List Block) (c : Certificate) (k : ℕ) (sound : IsNodeSound night start c k) where
+step_reaches_or_low : (version : Version) (night : Night) (path longer : List Block) (cases : List Case) (L : ℕ) (bound : ℤ) → IsStepBoundIn version night path longer cases bound
+    → StepReachesIn version night path longer cases (pos L) ⊎ IsStepLow version night path longer cases L bound
+step_reaches_or_low version night path longer cases L bound is = by_lt_z bound (pos L) (λ low. inr (record { is = is; low = low })) (λ le. inl (bound, is, le))
+
+module _ (night : Night) (start : List Block) (c : Certificate) (k : ℕ) (sound : IsNodeSound night start c k) where
   abbrev path : List Block
   path = path_at night start c.nodes k
 
   abbrev cases : List Case
   cases = duals_at c.nodes k
 
-  placed_there : (choice : Choice) → (node_at c.nodes k).choice ≡ Some choice → IsPlaced night start c.nodes k
+  pub placed_there : (choice : Choice) → (node_at c.nodes k).choice ≡ Some choice → IsPlaced night start c.nodes k
   placed_there choice is = record {
     choice = choice;
     is = is;
@@ -98,17 +105,8 @@ module _ (night : Night) (there_is : (path : List Block) (cases : List Case) →
     once = λ j before below same. sound Twice (reason.ChildTwice choice) (choice, is, record { twin = j; before = before; below = below; same = same }, refl);
   }
 
-  pub unbroken : (node_at c.nodes k).kind ≢ Whole → CasesHold night path cases
-  unbroken other = All-from_get_or (HoldsInCase night (masks_of night path)) cases _ (λ m lt. record {
-    holds = λ s park free room. by_lt_z (weight_with night (case_at cases m) s park) (duals_over night (case_at cases m).duals s)
-        (λ light. absurd (sound (Broken m (record { shape = s; option = park })) _ (other, record { case = lt; free = free; room = room; light = light }, refl)))
-        (λ le. le);
-  })
-
-  leaf_reaches : 1 ≤ length cases → (node_at c.nodes k).kind ≡ Leaf → Reaches night path cases (pos c.bound)
-  leaf_reaches some is =
-      let b = there_is path cases some in
-      ⊎_elim (λ reaches. reaches) (λ low. absurd (sound LowLeaf _ (is, b.0, low, refl))) (reaches_or_low night path cases c.bound b.0 b.1)
+  pub unbroken : (node_at c.nodes k).kind ≢ Whole → HoldIn c.version night path cases
+  unbroken other = hold_if night path cases c.version (λ m d broken. sound (Broken m d) _ (other, broken, refl))
 
   whole_costs : (node_at c.nodes k).kind ≡ Whole → pos c.bound ≤ℤ pos (total_cost night path)
   whole_costs is = ⊎_elim
@@ -116,31 +114,49 @@ module _ (night : Night) (there_is : (path : List Block) (cases : List Case) →
       (λ le. omega (arith, ints, le))
       (cases_lt (total_cost night path) c.bound)
 
-  branch_lists : 1 ≤ length cases → (node_at c.nodes k).kind ≡ Branch → (d : PathChoice) → IsChoiceAt night path d → RunsThrough night (placed (longer_by path d))
-      → (choice : Choice) → d ≡ choice_from night path choice → Reaches night (longer_by path d) cases (pos c.bound) ⊎ IsListed night start c.nodes k d
-  branch_lists some is d there through choice e =
-      let b = there_is (longer_by path d) cases some in
-      ⊎_elim
-      (λ reaches. inl reaches)
-      (λ low. inr (listed night start c.nodes k d (λ unlisted. sound (Missing d) _ (is, choice, e, b.0, record { there = there; through = through; low = low; unlisted = unlisted }, refl))))
-      (reaches_or_low night (longer_by path d) cases c.bound b.0 b.1)
+  -- where there are the bounds
+  module _ (laws : BoundLaws night) where
+    module _ (solid : c.version ≡ Stacks → IsSolid night path) where
+      leaf_reaches : 1 ≤ length cases → (node_at c.nodes k).kind ≡ Leaf → ReachesIn c.version night path cases (pos c.bound)
+      leaf_reaches some is =
+          let b = bound_there night laws c.version path cases solid some in
+          ⊎_elim (λ reaches. reaches) (λ low. absurd (sound LowLeaf _ (is, b.0, low, refl))) (reaches_or_low c.version night path cases c.bound b.0 b.1)
 
-  module _ (choices : (d : PathChoice) → IsChoiceAt night path d → d ≡ choice_from night path (record { n = d.shape.n; dep = d.shape.dep; q = d.shape.q; park = d.option })) (some : (node_at c.nodes k).kind ≢ Whole → 1 ≤ length cases) where
-    pub node_right : (1 ≤ k → (choice : Choice) × ((node_at c.nodes k).choice ≡ Some choice)) → IsRight night start c.nodes k (pos c.bound)
-    node_right has = record {
-      placed = λ later. placed_there (has later).0 (has later).1;
-      shows = shows night path cases (IsListed night start c.nodes k) (pos c.bound) (node_at c.nodes k).kind (record {
-        fits = λ other. sound OtherKind reason.WrongKind (other, refl);
-        holds = unbroken;
-        leaf = λ is. leaf_reaches (some (λ e. let f : Whole ≡ Leaf = sym e ∙ is in cc)) is;
-        whole = whole_costs;
-        branch = λ is d there through. branch_lists (some (λ e. let f : Whole ≡ Branch = sym e ∙ is in cc)) is d there through _ (choices d there);
-      });
-    }
+      branch_lists : 1 ≤ length cases → (node_at c.nodes k).kind ≡ Branch → (d : PathChoice) → IsChoiceAt night path d → RunsThrough night (placed (longer_by path d))
+          → (choice : Choice) → d ≡ choice_from night path choice → StepReachesIn c.version night path (longer_by path d) cases (pos c.bound) ⊎ IsListed night start c.nodes k d
+      branch_lists some is d there through choice e =
+          let b = step_there night laws c.version path d cases solid there through some in
+          ⊎_elim
+          (λ reaches. inl reaches)
+          (λ low. inr (listed night start c.nodes k d (λ unlisted. sound (Missing d) _ (is, choice, e, b.0, record { there = there; through = through; low = low; unlisted = unlisted }, refl))))
+          (step_reaches_or_low c.version night path (longer_by path d) cases c.bound b.0 b.1)
 
-  pub node_lean : 1 ≤ k → 1 ≤ length (duals_at c.nodes (parent c.nodes k)) → IsLeanAt night start c.nodes k
-  node_lean later some =
-      let b = there_is path (duals_at c.nodes (parent c.nodes k)) some in
-      by_lt_z b.0 (pos (best_before night start c.nodes k))
-      (λ low. record { bound = b.0; is = b.1; below = low })
-      (λ high. absurd (sound NotLean _ (b.0, record { some = later; is = b.1; high = high }, refl)))
+      module _ (choices : (d : PathChoice) → IsChoiceAt night path d → d ≡ choice_from night path (record { n = d.shape.n; dep = d.shape.dep; q = d.shape.q; park = d.option })) (some : (node_at c.nodes k).kind ≢ Whole → 1 ≤ length cases) where
+        pub node_right : (1 ≤ k → (choice : Choice) × ((node_at c.nodes k).choice ≡ Some choice)) → IsRightIn c.version night start c.nodes k (pos c.bound)
+        node_right has = record {
+          placed = λ later. placed_there (has later).0 (has later).1;
+          shows = shows c.version night path cases (IsListed night start c.nodes k) (pos c.bound) (node_at c.nodes k).kind (record {
+            fits = λ other. sound OtherKind reason.WrongKind (other, refl);
+            holds = unbroken;
+            leaf = λ is. leaf_reaches (some (λ e. let f : Whole ≡ Leaf = sym e ∙ is in cc)) is;
+            whole = whole_costs;
+            branch = λ is d there through. branch_lists (some (λ e. let f : Whole ≡ Branch = sym e ∙ is in cc)) is d there through _ (choices d there);
+          });
+        }
+
+    abbrev above : List Block
+    above = path_at night start c.nodes (parent c.nodes k)
+
+    module _ (solid : c.version ≡ Stacks → IsSolid night above) (step : path ≡ longer_with night above (node_at c.nodes k).choice) where
+      pub node_lean : 1 ≤ k → (choice : Choice) → (node_at c.nodes k).choice ≡ Some choice → 1 ≤ length (duals_at c.nodes (parent c.nodes k)) → IsLeanIn c.version night start c.nodes k
+      node_lean later choice is some =
+          let at = placed_there choice is in
+          let longer : path ≡ longer_by above (choice_from night above choice) = step ∙ ap (λ (o : Option Choice). longer_with night above o) is in
+          let there : IsChoiceAt night above (choice_from night above choice) = subst (λ (x : Choice). IsChoiceAt night above (choice_from night above x)) (one_choice _ at.choice choice at.is is) at.there in
+          let b = step_there night laws c.version above (choice_from night above choice) (duals_at c.nodes (parent c.nodes k)) solid there
+          (subst (λ (bs : List Block). RunsThrough night (placed bs)) longer at.through) some in
+          let bound : IsStepBoundIn c.version night above path (duals_at c.nodes (parent c.nodes k)) b.0 =
+          subst (λ (bs : List Block). IsStepBoundIn c.version night above bs (duals_at c.nodes (parent c.nodes k)) b.0) (sym longer) b.1 in
+          by_lt_z b.0 (pos (best_before night start c.nodes k))
+          (λ low. record { bound = b.0; is = bound; below = low })
+          (λ high. absurd (sound NotLean _ (b.0, record { some = later; is = bound; high = high }, refl)))

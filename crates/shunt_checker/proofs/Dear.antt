@@ -14,6 +14,7 @@ use Rattle.shunt_blocks.specs.defs.Ways.{park_way_in, park_way_out}
 use Rattle.shunt_blocks.specs.defs.Blocks.{IsParkable}
 use Rattle.shunt_blocks.specs.defs.Costs.{shape_cost, cost_with}
 use Rattle.shunt_choices.specs.defs.Choices.{ParkBefore}
+use Rattle.shunt_proof.specs.declared.records.Version.{Version}
 use Rattle.shunt_checker.specs.defs.Firsts.{Finds}
 use Rattle.shunt_checker.specs.defs.Lights.{IsLightOn, IsLightParked}
 
@@ -84,10 +85,10 @@ parked_at_least night s k ins outs can under_in under_out =
     let b = there (park_way_out night s.dep k) outs can.way_out under_out in
     omega (arith, a, b)
 
-module _ (night : Night) (s : Shape) (sum : ℤ) (least : ℕ) (dear : sum ≤ℤ pos least) where
-  pub too_dear : (prices : List Price) → ((k : Park) → IsParkable night s k → least ≤ 1000 * cost_with night s (Some k)) → Finds (IsLightParked night prices s sum) ParkBefore None
+module _ (version : Version) (night : Night) (s : Shape) (sum : ℤ) (least : ℕ) (dear : sum ≤ℤ pos least) where
+  pub too_dear : (prices : List Price) → ((k : Park) → IsParkable night s k → least ≤ 1000 * cost_with night s (Some k)) → Finds (IsLightParked version night prices s sum) ParkBefore None
   too_dear prices from k h = let le = from k h.light.parkable in let lt = h.light.light in omega (arith, ints, le, lt, dear)
 
   pub too_dear_on : (part : ℕ) (track : TrackId) → ((k : Park) → k.track ≡ track → IsParkable night s k → least ≤ 1000 * cost_with night s (Some k) + part)
-      → Finds (IsLightOn night s sum part track) ParkBefore None
+      → Finds (IsLightOn version night s sum part track) ParkBefore None
   too_dear_on part track from k h = let le = from k h.on h.light.parkable in let lt = h.light.light in omega (arith, ints, le, lt, dear)

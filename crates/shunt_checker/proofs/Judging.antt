@@ -14,12 +14,12 @@ use Rattle.shunt_choices.specs.defs.Paths.{Masks, masks_of, next_of}
 use Rattle.shunt_choices.specs.defs.Choices.{Choice as PathChoice, chosen}
 use Rattle.shunt_prices.specs.defs.Limits.{case_at}
 use Rattle.shunt_prices.specs.defs.Cases.{weight, weight_with, duals_over}
-use Rattle.shunt_prices.specs.defs.Bounds.{IsCasesBound}
 use Rattle.shunt_proof.specs.declared.records.NodeKind.{NodeKind}
 use Rattle.shunt_proof.specs.declared.records.NodeKind.TheVariants.{Branch, Leaf, Whole}
 use Rattle.shunt_proof.specs.declared.records.Certificate.{Certificate}
 use Rattle.shunt_proof.specs.defs.Nodes.{node_at}
 use Rattle.shunt_proof.specs.defs.Trees.{path_at, duals_at}
+use Rattle.shunt_proof.specs.defs.Versions.{IsBoundIn}
 use Rattle.shunt_checker.specs.declared.verdict.Reason.{Reason}
 use Rattle.shunt_checker.specs.declared.verdict.Reason.TheVariants as reason
 use Rattle.shunt_checker.specs.declared.cases.Break.{Break}
@@ -97,37 +97,37 @@ module _ (night : Night) (c : Certificate) (k : ℕ) (path : List Block) where
   -- ---- the duals
 
   module _ (cases : List Case) (ed : cases ≡ duals_at c.nodes k) where
-    here : (start : List Block) → path ≡ path_at night start c.nodes k → (m : ℕ) (d : PathChoice) → IsBroken night (path_at night start c.nodes k) (duals_at c.nodes k) m d → IsBroken night path cases m d
-    here start is m d h = subst (λ (p : List Block). IsBroken night p cases m d) (sym is) (subst (λ (cs : List Case). IsBroken night (path_at night start c.nodes k) cs m d) (sym ed) h)
+    here : (start : List Block) → path ≡ path_at night start c.nodes k → (m : ℕ) (d : PathChoice) → IsBroken c.version night (path_at night start c.nodes k) (duals_at c.nodes k) m d → IsBroken c.version night path cases m d
+    here start is m d h = subst (λ (p : List Block). IsBroken c.version night p cases m d) (sym is) (subst (λ (cs : List Case). IsBroken c.version night (path_at night start c.nodes k) cs m d) (sym ed) h)
 
-    there : (start : List Block) → path ≡ path_at night start c.nodes k → (m : ℕ) (d : PathChoice) → IsBroken night path cases m d → IsBroken night (path_at night start c.nodes k) (duals_at c.nodes k) m d
-    there start is m d h = subst (λ (cs : List Case). IsBroken night (path_at night start c.nodes k) cs m d) ed (subst (λ (p : List Block). IsBroken night p cases m d) is h)
+    there : (start : List Block) → path ≡ path_at night start c.nodes k → (m : ℕ) (d : PathChoice) → IsBroken c.version night path cases m d → IsBroken c.version night (path_at night start c.nodes k) (duals_at c.nodes k) m d
+    there start is m d h = subst (λ (cs : List Case). IsBroken c.version night (path_at night start c.nodes k) cs m d) ed (subst (λ (p : List Block). IsBroken c.version night p cases m d) is h)
 
-    module _ (covered : Masks) (ec : covered ≡ masks_of night path) (r : Option Break) (found : Finds (IsBreak night covered cases) (BreakBefore night) r) where
-      as_break : (m : ℕ) (d : PathChoice) → IsBroken night path cases m d → IsBreak night covered cases (record { case = m; offer = d })
-      as_break m d h = subst (λ (w : Masks). IsBreak night w cases (record { case = m; offer = d })) (sym ec)
-          (record { there = h.case; light = record { shape = h.free.shape; holds = record { option = h.free.option; room = h.room; light = h.light } } })
+    module _ (covered : Masks) (ec : covered ≡ masks_of night path) (r : Option Break) (found : Finds (IsBreak c.version night covered cases) (BreakBefore night) r) where
+      as_break : (m : ℕ) (d : PathChoice) → IsBroken c.version night path cases m d → IsBreak c.version night covered cases (record { case = m; offer = d })
+      as_break m d h = subst (λ (w : Masks). IsBreak c.version night w cases (record { case = m; offer = d })) (sym ec)
+          (record { there = h.case; light = record { shape = h.free.shape; holds = record { option = h.free.option; room = h.room; asked = h.asked; light = h.light } } })
 
-      as_broken : (b : Break) → IsBreak night covered cases b → IsBroken night path cases b.case b.offer
+      as_broken : (b : Break) → IsBreak c.version night covered cases b → IsBroken c.version night path cases b.case b.offer
       as_broken b h =
-          let at : IsBreak night (masks_of night path) cases b = subst (λ (w : Masks). IsBreak night w cases b) ec h in
-          record { case = at.there; free = record { shape = at.light.shape; option = at.light.holds.option }; room = at.light.holds.room; light = at.light.holds.light }
+          let at : IsBreak c.version night (masks_of night path) cases b = subst (λ (w : Masks). IsBreak c.version night w cases b) ec h in
+          record { case = at.there; free = record { shape = at.light.shape; option = at.light.holds.option }; room = at.light.holds.room; asked = at.light.holds.asked; light = at.light.holds.light }
 
       pub unbroken : r ≡ None → Judges night c k path 5 6 None
       unbroken e =
-          let none : Finds (IsBreak night covered cases) (BreakBefore night) None = subst (Finds (IsBreak night covered cases) (BreakBefore night)) e found in
+          let none : Finds (IsBreak c.version night covered cases) (BreakBefore night) None = subst (Finds (IsBreak c.version night covered cases) (BreakBefore night)) e found in
           λ start is from. from_next night start c k 5 from (none_broken night start c k (λ kind m d h. none (record { case = m; offer = d }) (as_break m d (here start is m d h))))
 
-      pub is_break : (b : Break) → r ≡ Some b → IsBreak night covered cases b
+      pub is_break : (b : Break) → r ≡ Some b → IsBreak c.version night covered cases b
       is_break b e =
-          let first : Finds (IsBreak night covered cases) (BreakBefore night) (Some b) = subst (Finds (IsBreak night covered cases) (BreakBefore night)) e found in
+          let first : Finds (IsBreak c.version night covered cases) (BreakBefore night) (Some b) = subst (Finds (IsBreak c.version night covered cases) (BreakBefore night)) e found in
           first.is
 
       pub broke : (node_at c.nodes k).kind ≢ Whole → (b : Break) (s : Reason) → r ≡ Some b
           → s ≡ reason.DualBroken (chosen 0 b.offer) (weight_with night (case_at cases b.case) b.offer.shape b.offer.option) (duals_over night (case_at cases b.case).duals b.offer.shape)
           → Judges night c k path 5 6 (Some s)
       broke kind b s e es =
-          let first : Finds (IsBreak night covered cases) (BreakBefore night) (Some b) = subst (Finds (IsBreak night covered cases) (BreakBefore night)) e found in
+          let first : Finds (IsBreak c.version night covered cases) (BreakBefore night) (Some b) = subst (Finds (IsBreak c.version night covered cases) (BreakBefore night)) e found in
           let told_here : s ≡ reason.DualBroken (chosen 0 b.offer) (weight_with night (case_at (duals_at c.nodes k) b.case) b.offer.shape b.offer.option) (duals_over night (case_at (duals_at c.nodes k) b.case).duals b.offer.shape) =
           es ∙ ap (λ (cs : List Case). reason.DualBroken (chosen 0 b.offer) (weight_with night (case_at cs b.case) b.offer.shape b.offer.option) (duals_over night (case_at cs b.case).duals b.offer.shape)) ed in
           λ start is from. subst (IsFirstNodeFault night start c k) (sym told_here)
@@ -136,15 +136,16 @@ module _ (night : Night) (c : Certificate) (k : ℕ) (path : List Block) where
 
     -- ---- a leaf
 
-    module _ (bound : ℤ) (at : IsCasesBound night path cases bound) (kind : (node_at c.nodes k).kind ≡ Leaf) where
-      moved : (start : List Block) → path ≡ path_at night start c.nodes k → IsCasesBound night (path_at night start c.nodes k) (duals_at c.nodes k) bound
-      moved start is = subst (λ (cs : List Case). IsCasesBound night (path_at night start c.nodes k) cs bound) ed (subst (λ (p : List Block). IsCasesBound night p cases bound) is at)
+    module _ (bound : ℤ) (at : IsBoundIn c.version night path cases bound)
+        (one : (p : List Block) (cs : List Case) (x y : ℤ) → IsBoundIn c.version night p cs x → IsBoundIn c.version night p cs y → x ≡ y) (kind : (node_at c.nodes k).kind ≡ Leaf) where
+      moved : (start : List Block) → path ≡ path_at night start c.nodes k → IsBoundIn c.version night (path_at night start c.nodes k) (duals_at c.nodes k) bound
+      moved start is = subst (λ (cs : List Case). IsBoundIn c.version night (path_at night start c.nodes k) cs bound) ed (subst (λ (p : List Block). IsBoundIn c.version night p cases bound) is at)
 
-      not_low : (start : List Block) → path ≡ path_at night start c.nodes k → pos c.bound ≤ℤ bound → (b : ℤ) → IsLow night (path_at night start c.nodes k) (duals_at c.nodes k) c.bound b → ⊥
+      not_low : (start : List Block) → path ≡ path_at night start c.nodes k → pos c.bound ≤ℤ bound → (b : ℤ) → IsLow c.version night (path_at night start c.nodes k) (duals_at c.nodes k) c.bound b → ⊥
       not_low start is high b h =
-          let le : bound ≤ℤ b = (moved start is).least h.is.number b h.is.opens h.is.is in
+          let same : bound ≡ b = one (path_at night start c.nodes k) (duals_at c.nodes k) bound b (moved start is) h.is in
           let lt : b <ℤ pos c.bound = h.low in
-          omega (arith, ints, high, le, lt)
+          omega (arith, ints, high, same, lt)
 
       pub leaf_judged : (r : Option Reason) → IfSome r (λ s. (bound <ℤ pos c.bound) × (s ≡ reason.LeafLow bound (pos c.bound))) → IfNone r (pos c.bound ≤ℤ bound) → Judges night c k path 6 8 r
       leaf_judged None some none = λ start is from. from_next night start c k 7

@@ -8,11 +8,14 @@ use Rattle.std.proofs.lemmas.Option.{get_or_from_slice_get}
 use Rattle.shunt_base.specs.declared.duals.Case.{Case}
 use Rattle.shunt_instance.specs.defs.Instance.{Night}
 use Rattle.shunt_choices.specs.defs.Paths.{Masks}
-use Rattle.shunt_prices.specs.defs.Cases.{HoldsInCase, weight_with, duals_over}
+use Rattle.shunt_prices.specs.defs.Cases.{weight_with, duals_over}
+use Rattle.shunt_proof.specs.declared.records.Version.{Version}
+use Rattle.shunt_checker.specs.defs.Asked.{HoldsBy}
 use Rattle.shunt_checker.specs.defs.Firsts.{Finds}
 use Rattle.shunt_checker.specs.defs.Breaks.{IsBreakIn, BreakBefore}
 use Rattle.shunt_checker.specs.defs.Lights.{IsFreeLight}
 use Rattle.shunt_checker.proofs.Looked.{against}
+use Rattle.shunt_checker.proofs.Versioned.{held_by}
 use Rattle.shunt_checker.proofs.Breaking.{its_light}
 
 -- the list has no such case at the places below one
@@ -46,10 +49,11 @@ kept list (Some x) b case P some none all t =
     subst P h.2 (all h.0 case h.1)
 
 -- a case that holds has no break
-module _ (night : Night) (covered : Masks) (cases : List Case) (k : ℕ) (case : Case) (is : slice_get cases k ≡ Some case) (there : k < length cases) where
-  pub unbroken_in : HoldsInCase night covered case → Finds (IsBreakIn night covered cases k) (BreakBefore night) None
+module _ (version : Version) (night : Night) (covered : Masks) (cases : List Case) (k : ℕ) (case : Case) (is : slice_get cases k ≡ Some case) (there : k < length cases) where
+  pub unbroken_in : HoldsBy version night covered case → Finds (IsBreakIn version night covered cases k) (BreakBefore night) None
   unbroken_in hold = λ b h.
-      let light : IsFreeLight night covered case b.offer = its_light night covered cases k case is there b h in
-      let le : duals_over night case.duals b.offer.shape ≤ℤ weight_with night case b.offer.shape b.offer.option = hold.holds b.offer.shape b.offer.option (record { shape = light.shape; option = light.holds.option }) light.holds.room in
+      let light : IsFreeLight version night covered case b.offer = its_light version night covered cases k case is there b h in
+      let le : duals_over night case.duals b.offer.shape ≤ℤ weight_with night case b.offer.shape b.offer.option =
+      held_by version night covered case b.offer hold (record { shape = light.shape; option = light.holds.option }) light.holds.room light.holds.asked in
       let lt : weight_with night case b.offer.shape b.offer.option <ℤ duals_over night case.duals b.offer.shape = light.holds.light in
       omega (arith, ints, le, lt)

@@ -1,4 +1,7 @@
 mod Firsts
+mod Versioned
+mod Stepping
+mod Seen
 mod Nexts
 mod Chosen
 mod Taken
@@ -14,6 +17,8 @@ mod Looked
 mod Freeing
 mod Searching
 mod Opened
+mod Twofold
+mod Lonely
 mod Counted
 mod Badness
 mod PlanOrder

@@ -114,7 +114,7 @@ module _ (night : Night) (start : List Block) (c : Certificate) (k : ℕ) where
   none_twice never LowWhole r h e = omega (arith, e)
   none_twice never (Missing d) r h e = omega (arith, e)
 
-  pub none_lean : ((bound : ℤ) → IsNotLean night start c.nodes k bound → ⊥) → NoneOf 3
+  pub none_lean : ((bound : ℤ) → IsNotLean c.version night start c.nodes k bound → ⊥) → NoneOf 3
   none_lean never NotThere r h e = omega (arith, e)
   none_lean never Twice r h e = omega (arith, e)
   none_lean never NotLean r h e = never h.0 h.1
@@ -134,7 +134,7 @@ module _ (night : Night) (start : List Block) (c : Certificate) (k : ℕ) where
   none_kind never LowWhole r h e = omega (arith, e)
   none_kind never (Missing d) r h e = omega (arith, e)
 
-  pub none_broken : ((node_at c.nodes k).kind ≢ Whole → (m : ℕ) (d : PathChoice) → IsBroken night (path_at night start c.nodes k) (duals_at c.nodes k) m d → ⊥) → NoneOf 5
+  pub none_broken : ((node_at c.nodes k).kind ≢ Whole → (m : ℕ) (d : PathChoice) → IsBroken c.version night (path_at night start c.nodes k) (duals_at c.nodes k) m d → ⊥) → NoneOf 5
   none_broken never NotThere r h e = omega (arith, e)
   none_broken never Twice r h e = omega (arith, e)
   none_broken never NotLean r h e = omega (arith, e)
@@ -144,7 +144,7 @@ module _ (night : Night) (start : List Block) (c : Certificate) (k : ℕ) where
   none_broken never LowWhole r h e = omega (arith, e)
   none_broken never (Missing d) r h e = omega (arith, e)
 
-  pub none_missing : ((node_at c.nodes k).kind ≡ Branch → (d : PathChoice) (bound : ℤ) → IsMissing night start c.nodes k c.bound d bound → ⊥) → NoneOf 7
+  pub none_missing : ((node_at c.nodes k).kind ≡ Branch → (d : PathChoice) (bound : ℤ) → IsMissing c.version night start c.nodes k c.bound d bound → ⊥) → NoneOf 7
   none_missing never NotThere r h e = omega (arith, e)
   none_missing never Twice r h e = omega (arith, e)
   none_missing never NotLean r h e = omega (arith, e)
@@ -154,7 +154,7 @@ module _ (night : Night) (start : List Block) (c : Certificate) (k : ℕ) where
   none_missing never LowWhole r h e = omega (arith, e)
   none_missing never (Missing d) r h e = never h.0 d h.3 h.4
 
-  pub none_low : ((node_at c.nodes k).kind ≡ Leaf → (bound : ℤ) → IsLow night (path_at night start c.nodes k) (duals_at c.nodes k) c.bound bound → ⊥)
+  pub none_low : ((node_at c.nodes k).kind ≡ Leaf → (bound : ℤ) → IsLow c.version night (path_at night start c.nodes k) (duals_at c.nodes k) c.bound bound → ⊥)
       → ((node_at c.nodes k).kind ≡ Whole → total_cost night (path_at night start c.nodes k) < c.bound → ⊥) → NoneOf 6
   none_low leaf whole NotThere r h e = omega (arith, e)
   none_low leaf whole Twice r h e = omega (arith, e)
@@ -173,7 +173,7 @@ module _ (night : Night) (start : List Block) (c : Certificate) (k : ℕ) where
   pub twice_first : NodeFrom night start c k 2 → (choice : Choice) → (node_at c.nodes k).choice ≡ Some choice → HasTwin c.nodes k choice → IsFirstNodeFault night start c k (reason.ChildTwice choice)
   twice_first from choice is twin = only Twice (reason.ChildTwice choice) from (choice, is, twin, refl) (λ e. omega (arith, e)) (λ e. omega (arith, e))
 
-  pub lean_first : NodeFrom night start c k 3 → (bound : ℤ) → IsNotLean night start c.nodes k bound → IsFirstNodeFault night start c k (reason.ChildNotLean bound (pos (best_before night start c.nodes k)))
+  pub lean_first : NodeFrom night start c k 3 → (bound : ℤ) → IsNotLean c.version night start c.nodes k bound → IsFirstNodeFault night start c k (reason.ChildNotLean bound (pos (best_before night start c.nodes k)))
   lean_first from bound is = only NotLean (reason.ChildNotLean bound (pos (best_before night start c.nodes k))) from (bound, is, refl) (λ e. omega (arith, e)) (λ e. omega (arith, e))
 
   pub kind_first : NodeFrom night start c k 4 → IsOtherKind (node_at c.nodes k).kind (next_of (masks_of night (path_at night start c.nodes k))) → IsFirstNodeFault night start c k reason.WrongKind
@@ -182,8 +182,8 @@ module _ (night : Night) (start : List Block) (c : Certificate) (k : ℕ) where
   abbrev told_broken : ℕ → PathChoice → Reason
   told_broken m d = reason.DualBroken (chosen 0 d) (weight_with night (case_at (duals_at c.nodes k) m) d.shape d.option) (duals_over night (case_at (duals_at c.nodes k) m).duals d.shape)
 
-  pub broken_first : NodeFrom night start c k 5 → (node_at c.nodes k).kind ≢ Whole → (m : ℕ) (d : PathChoice) → IsBroken night (path_at night start c.nodes k) (duals_at c.nodes k) m d
-      → ((n : ℕ) (e : PathChoice) → IsBroken night (path_at night start c.nodes k) (duals_at c.nodes k) n e → (n < m) ⊎ ((n ≡ m) × EarlierChoice night e d) → ⊥)
+  pub broken_first : NodeFrom night start c k 5 → (node_at c.nodes k).kind ≢ Whole → (m : ℕ) (d : PathChoice) → IsBroken c.version night (path_at night start c.nodes k) (duals_at c.nodes k) m d
+      → ((n : ℕ) (e : PathChoice) → IsBroken c.version night (path_at night start c.nodes k) (duals_at c.nodes k) n e → (n < m) ⊎ ((n ≡ m) × EarlierChoice night e d) → ⊥)
       → IsFirstNodeFault night start c k (told_broken m d)
   broken_first from kind m d is least = first_of (Broken m d) (told_broken m d) from (kind, is, refl) earlier
     where
@@ -197,7 +197,7 @@ module _ (night : Night) (start : List Block) (c : Certificate) (k : ℕ) where
       earlier LowWhole s h same before = before
       earlier (Missing e) s h same before = before
 
-  pub leaf_first : NodeFrom night start c k 6 → (node_at c.nodes k).kind ≡ Leaf → (bound : ℤ) → IsLow night (path_at night start c.nodes k) (duals_at c.nodes k) c.bound bound
+  pub leaf_first : NodeFrom night start c k 6 → (node_at c.nodes k).kind ≡ Leaf → (bound : ℤ) → IsLow c.version night (path_at night start c.nodes k) (duals_at c.nodes k) c.bound bound
       → IsFirstNodeFault night start c k (reason.LeafLow bound (pos c.bound))
   leaf_first from kind bound is = only LowLeaf (reason.LeafLow bound (pos c.bound)) from (kind, bound, is, refl) (λ e. omega (arith, e)) (λ e. omega (arith, e))
 
@@ -206,8 +206,8 @@ module _ (night : Night) (start : List Block) (c : Certificate) (k : ℕ) where
   whole_first from kind low = only LowWhole (reason.WholeLow (pos (total_cost night (path_at night start c.nodes k))) (pos c.bound)) from (kind, low, refl) (λ e. omega (arith, e)) (λ e. omega (arith, e))
 
   pub missing_first : NodeFrom night start c k 7 → (node_at c.nodes k).kind ≡ Branch → (choice : Choice) (bound : ℤ)
-      → IsMissing night start c.nodes k c.bound (choice_from night (path_at night start c.nodes k) choice) bound
-      → ((e : PathChoice) (b : ℤ) → IsMissing night start c.nodes k c.bound e b → EarlierChoice night e (choice_from night (path_at night start c.nodes k) choice) → ⊥)
+      → IsMissing c.version night start c.nodes k c.bound (choice_from night (path_at night start c.nodes k) choice) bound
+      → ((e : PathChoice) (b : ℤ) → IsMissing c.version night start c.nodes k c.bound e b → EarlierChoice night e (choice_from night (path_at night start c.nodes k) choice) → ⊥)
       → IsFirstNodeFault night start c k (reason.ChildMissing choice bound)
   missing_first from kind choice bound is least = first_of (Missing (choice_from night (path_at night start c.nodes k) choice)) (reason.ChildMissing choice bound) from (kind, choice, refl, bound, is, refl) earlier
     where

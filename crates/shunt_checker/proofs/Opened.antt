@@ -31,7 +31,7 @@ sum_of_case night path cases k case from s e ef is =
     subst (λ (f : ℕ). s ≡ sum_at night path f case) (sym ef) (subst (λ (c : Case). s ≡ sum_at night path (from_of cases k) c) (got cases k case e) is)
 
 -- two bounds of one sum
-one_bound : (sum bound other : ℤ) → IsBoundOf sum bound → IsBoundOf sum other → bound ≤ℤ other
+pub one_bound : (sum bound other : ℤ) → IsBoundOf sum bound → IsBoundOf sum other → bound ≤ℤ other
 one_bound sum bound other h k = bound_rises sum sum bound other (omega (arith, ints)) h k
 
 pub either_test : (a b p q : ℕ) → ((a == b) || nat_le p q) ≡ true → (a ≡ b) ⊎ (p ≤ q)

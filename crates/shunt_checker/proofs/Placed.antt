@@ -1,17 +1,17 @@
 -- Whether a node's choice leads on from its parent's path, as a reason.
 use Rattle.std.specs.Prelude.{IsTrue, ◌↔◌, IfSome, IfNone, ◌≤ℤ◌, ◌<ℤ◌, Bool, true, false, Option, Some, None}
-use Rattle.std.proofs.Common.{◌≡◌, ℕ, ◌≤◌, List, ℤ, pos, sym, ap, subst, ◌∙◌, arith}
+use Rattle.std.proofs.Common.{◌≡◌, ℕ, ◌+◌, ◌≤◌, List, [], ◌∷◌, ◌++◌, length, ℤ, pos, sym, ap, subst, ◌∙◌, arith}
 use Rattle.std.proofs.lemmas.Int.{ints}
 use Rattle.shunt_base.specs.declared.duals.Case.{Case}
 use Rattle.shunt_instance.specs.defs.Instance.{Night}
 use Rattle.shunt_blocks.specs.declared.records.Block.{Block}
 use Rattle.shunt_blocks.specs.defs.Lists.{RunsThrough, placed}
-use Rattle.shunt_choices.specs.defs.Choices.{IsChoiceAt, longer_by}
-use Rattle.shunt_prices.specs.defs.Bounds.{IsCasesBound}
+use Rattle.shunt_choices.specs.defs.Choices.{IsChoiceAt, longer_by, chosen}
 use Rattle.shunt_proof.specs.declared.records.Choice.{Choice}
 use Rattle.shunt_proof.specs.declared.records.Certificate.{Certificate}
 use Rattle.shunt_proof.specs.defs.Nodes.{node_at}
 use Rattle.shunt_proof.specs.defs.Trees.{parent, path_at, duals_at, best_before, choice_from, longer_with}
+use Rattle.shunt_proof.specs.defs.Versions.{IsStepBoundIn}
 use Rattle.shunt_checker.specs.declared.verdict.Reason.{Reason}
 use Rattle.shunt_checker.specs.declared.verdict.Reason.TheVariants as reason
 use Rattle.shunt_checker.specs.defs.NodeFaults.{IsThere, IsNotLean, HasTwin, IsFirstNodeFault}
@@ -67,21 +67,27 @@ module _ (night : Night) (c : Certificate) (k : ℕ) (choice : Choice) (is : (no
     twice_told t = λ start at eb. twice_first night start c k (from_two start at) choice is (twin.0 t)
 
     module _ (f : b ≡ false) (new : List Block) (leads : Leads night c k old new) (cases : List Case) (above : ℕ) (ed : cases ≡ duals_at c.nodes above) (ea : above ≡ parent c.nodes k)
-        (bound : ℤ) (at_new : IsCasesBound night new cases bound) where
+        (step : (start : List Block) → path_at night start c.nodes k ≡ longer_with night (path_at night start c.nodes (parent c.nodes k)) (node_at c.nodes k).choice)
+        (one : (path longer : List Block) (cs : List Case) (x y : ℤ) → IsStepBoundIn c.version night path longer cs x → IsStepBoundIn c.version night path longer cs y → x ≡ y)
+        (bound : ℤ) (at_new : (front : List Block) (b : Block) → new ≡ front ++ b ∷ [] → IsStepBoundIn c.version night front new cases bound) where
       from_three : (start : List Block) → old ≡ path_at night start c.nodes (parent c.nodes k) → NodeFrom night start c k 3
       from_three start at = from_next night start c k 2 (from_two start at) (none_twice night start c k (λ other own h.
           let same : other ≡ choice = cc (sym own ∙ is) in
           against b (HasTwin c.nodes k choice) twin f (subst (λ (x : Choice). HasTwin c.nodes k x) same h)))
 
-      moved : (start : List Block) → old ≡ path_at night start c.nodes (parent c.nodes k) → IsCasesBound night (path_at night start c.nodes k) (duals_at c.nodes (parent c.nodes k)) bound
-      moved start at = subst (λ (cs : List Case). IsCasesBound night (path_at night start c.nodes k) cs bound) (ed ∙ ap (λ (j : ℕ). duals_at c.nodes j) ea)
-          (subst (λ (p : List Block). IsCasesBound night p cases bound) (leads start at) at_new)
+      moved : (start : List Block) → old ≡ path_at night start c.nodes (parent c.nodes k)
+          → IsStepBoundIn c.version night (path_at night start c.nodes (parent c.nodes k)) (path_at night start c.nodes k) (duals_at c.nodes (parent c.nodes k)) bound
+      moved start at =
+          let above = path_at night start c.nodes (parent c.nodes k) in
+          let longer : new ≡ longer_by above (choice_from night above choice) = leads start at ∙ (step start ∙ ap (λ (o : Option Choice). longer_with night above o) is) in
+          subst (λ (cs : List Case). IsStepBoundIn c.version night above (path_at night start c.nodes k) cs bound) (ed ∙ ap (λ (j : ℕ). duals_at c.nodes j) ea)
+          (subst (λ (p : List Block). IsStepBoundIn c.version night above p cases bound) (leads start at) (at_new above (chosen (length above + 1) (choice_from night above choice)) longer))
 
-      not_lean : (start : List Block) → old ≡ path_at night start c.nodes (parent c.nodes k) → best ≡ best_before night start c.nodes k → bound <ℤ pos best → (x : ℤ) → IsNotLean night start c.nodes k x → ⊥
+      not_lean : (start : List Block) → old ≡ path_at night start c.nodes (parent c.nodes k) → best ≡ best_before night start c.nodes k → bound <ℤ pos best → (x : ℤ) → IsNotLean c.version night start c.nodes k x → ⊥
       not_lean start at eb low x h =
-          let le : x ≤ℤ bound = h.is.least (moved start at).number bound (moved start at).opens (moved start at).is in
+          let same : bound ≡ x = one _ _ _ bound x (moved start at) h.is in
           let high : pos (best_before night start c.nodes k) ≤ℤ x = h.high in
-          omega (arith, ints, le, high, low, eb)
+          omega (arith, ints, same, high, low, eb)
 
       pub child_judged : (some_before : 1 ≤ k) (q : Option Reason) → IfSome q (λ s. (pos best ≤ℤ bound) × (s ≡ reason.ChildNotLean bound (pos best))) → IfNone q (bound <ℤ pos best) → JudgesChild night c k old best q
       child_judged some_before None some none = λ start at eb. from_next night start c k 3 (from_three start at) (none_lean night start c k (λ x h. not_lean start at eb none x h))

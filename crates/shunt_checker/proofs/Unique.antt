@@ -20,13 +20,13 @@ use Rattle.shunt_choices.specs.defs.Paths.{masks_of, next_of}
 use Rattle.shunt_choices.specs.defs.Choices.{Choice as PathChoice, IsChoice, ParkBefore, OptionBefore, longer_by, chosen}
 use Rattle.shunt_prices.specs.defs.Limits.{case_at}
 use Rattle.shunt_prices.specs.defs.Cases.{weight_with, duals_over}
-use Rattle.shunt_prices.specs.defs.Bounds.{IsCasesBound}
 use Rattle.shunt_plan.specs.declared.records.Plan.{Plan}
 use Rattle.shunt_proof.specs.declared.records.Choice.{Choice}
 use Rattle.shunt_proof.specs.declared.records.NodeKind.TheVariants.{Leaf, Whole}
 use Rattle.shunt_proof.specs.declared.records.Certificate.{Certificate}
 use Rattle.shunt_proof.specs.defs.CertificateRows.{row_of}
 use Rattle.shunt_proof.specs.defs.Trees.{path_at, duals_at, best_before}
+use Rattle.shunt_proof.specs.defs.Versions.{IsStepBoundIn}
 use Rattle.shunt_checker.specs.declared.verdict.PlanFault.{PlanFault}
 use Rattle.shunt_checker.specs.declared.verdict.PlanFault.TheVariants as fault
 use Rattle.shunt_checker.specs.declared.verdict.Reason.{Reason}
@@ -180,7 +180,7 @@ module _ (night : Night) (laws : Laws night) (start : List Block) (c : Certifica
   one_missing d e r s f g never back =
       let choice = choice_level night laws.unit d e (there_within night path (next_of (masks_of night path)) d f.4.there) (there_within night path (next_of (masks_of night path)) e g.4.there) never back in
       let stated : f.1 ≡ g.1 = ap (λ (x : PathChoice). said x) (sym f.2 ∙ (choice ∙ g.2)) in
-      let bound : f.3 ≡ g.3 = laws.one_of_cases (longer_by path e) cases f.3 g.3 (subst (λ (x : PathChoice). IsCasesBound night (longer_by path x) cases f.3) choice f.4.low.is) g.4.low.is in
+      let bound : f.3 ≡ g.3 = laws.one_step c.version path (longer_by path e) cases f.3 g.3 (subst (λ (x : PathChoice). IsStepBoundIn c.version night path (longer_by path x) cases f.3) choice f.4.low.is) g.4.low.is in
       f.5 ∙ (ap (λ (x : Choice). reason.ChildMissing x f.3) stated ∙ (ap (λ (x : ℤ). reason.ChildMissing g.1 x) bound ∙ sym g.5))
 
   one_told : (f g : NodeFault) (r s : Reason) → IsNodeFault night start c k f r → IsNodeFault night start c k g s → node_rank f ≡ node_rank g
@@ -203,7 +203,7 @@ module _ (night : Night) (laws : Laws night) (start : List Block) (c : Certifica
   one_told Twice (Missing d2) r s f g rank never back = absurd (omega (arith, rank))
   one_told NotLean NotThere r s f g rank never back = absurd (omega (arith, rank))
   one_told NotLean Twice r s f g rank never back = absurd (omega (arith, rank))
-  one_told NotLean NotLean r s f g rank never back = f.2 ∙ (ap (λ (x : ℤ). reason.ChildNotLean x (pos (best_before night start c.nodes k))) (laws.one_of_cases _ _ f.0 g.0 f.1.is g.1.is) ∙ sym g.2)
+  one_told NotLean NotLean r s f g rank never back = f.2 ∙ (ap (λ (x : ℤ). reason.ChildNotLean x (pos (best_before night start c.nodes k))) (laws.one_step c.version _ _ _ f.0 g.0 f.1.is g.1.is) ∙ sym g.2)
   one_told NotLean OtherKind r s f g rank never back = absurd (omega (arith, rank))
   one_told NotLean (Broken m2 d2) r s f g rank never back = absurd (omega (arith, rank))
   one_told NotLean LowLeaf r s f g rank never back = absurd (omega (arith, rank))
@@ -230,7 +230,7 @@ module _ (night : Night) (laws : Laws night) (start : List Block) (c : Certifica
   one_told LowLeaf NotLean r s f g rank never back = absurd (omega (arith, rank))
   one_told LowLeaf OtherKind r s f g rank never back = absurd (omega (arith, rank))
   one_told LowLeaf (Broken m2 d2) r s f g rank never back = absurd (omega (arith, rank))
-  one_told LowLeaf LowLeaf r s f g rank never back = f.3 ∙ (ap (λ (x : ℤ). reason.LeafLow x (pos c.bound)) (laws.one_of_cases _ _ f.1 g.1 f.2.is g.2.is) ∙ sym g.3)
+  one_told LowLeaf LowLeaf r s f g rank never back = f.3 ∙ (ap (λ (x : ℤ). reason.LeafLow x (pos c.bound)) (laws.one_bound c.version _ _ f.1 g.1 f.2.is g.2.is) ∙ sym g.3)
   one_told LowLeaf LowWhole r s f g rank never back = absurd (let e : Leaf ≡ Whole = sym f.0 ∙ g.0 in cc)
   one_told LowLeaf (Missing d2) r s f g rank never back = absurd (omega (arith, rank))
   one_told LowWhole NotThere r s f g rank never back = absurd (omega (arith, rank))

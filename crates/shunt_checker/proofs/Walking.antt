@@ -6,10 +6,9 @@ use Rattle.std.proofs.lemmas.List.{length-set, get_or-set_same, get_or-set_other
 use Rattle.shunt_base.specs.declared.duals.Case.{Case}
 use Rattle.shunt_instance.specs.defs.Instance.{Night}
 use Rattle.shunt_blocks.specs.declared.records.Block.{Block}
-use Rattle.shunt_blocks.specs.defs.Lists.{total_cost}
+use Rattle.shunt_blocks.specs.defs.Lists.{RunsThrough, placed, total_cost}
 use Rattle.shunt_choices.specs.defs.Paths.{Trail, IsTrailOf}
 use Rattle.shunt_choices.specs.defs.Choices.{Choice as PathChoice, longer_by, chosen}
-use Rattle.shunt_prices.specs.defs.Cases.{CasesHold}
 use Rattle.shunt_proof.specs.declared.records.Choice.{Choice}
 use Rattle.shunt_proof.specs.declared.records.NodeKind.{NodeKind}
 use Rattle.shunt_proof.specs.declared.records.NodeKind.TheVariants.{Branch, Leaf, Whole}
@@ -19,6 +18,7 @@ use Rattle.shunt_proof.specs.declared.records.Node.{Node}
 use Rattle.shunt_proof.specs.declared.records.Certificate.{Certificate}
 use Rattle.shunt_proof.specs.defs.Nodes.{node_at, FitDuals, FitsNode, AreNodes, StandsAfter}
 use Rattle.shunt_proof.specs.defs.Trees.{depth_at, nearest, parent, path_at, choice_from, longer_with, cases_or, duals_at, best_with, best_before}
+use Rattle.shunt_proof.specs.defs.Versions.{HoldIn}
 use Rattle.shunt_proof.proofs.Depths.{nearest_here, nearest_before}
 use Rattle.shunt_checker.specs.declared.verdict.Reason.{Reason}
 use Rattle.shunt_checker.specs.declared.walk.Frame.{Frame}
@@ -154,22 +154,22 @@ module _ (night : Night) (start : List Block) (c : Certificate) (k : ℕ) (front
       let here : JudgesChild night c k front best None = subst (JudgesChild night c k front best) e found in
       here start fe be
 
-  pub child_at : r ≡ None → (new : Trail) → IsTrailOf night new → new.pins ≡ length start → IfNone r (Leads night c k front new.blocks) → IsAtNode night start c k new
-  child_at e new of pins leads =
+  pub child_at : r ≡ None → (new : Trail) → IsTrailOf night new → new.pins ≡ length start → IfNone r (Leads night c k front new.blocks) → IfNone r (RunsThrough night (placed new.blocks)) → IsAtNode night start c k new
+  child_at e new of pins leads through =
       let lead : Leads night c k front new.blocks = subst (λ (o : Option Reason). IfNone o (Leads night c k front new.blocks)) e leads in
-      record { of = of; path = lead start fe; pins = pins }
+      record { of = of; path = lead start fe; through = subst (λ (o : Option Reason). IfNone o (RunsThrough night (placed new.blocks))) e through; pins = pins }
 
 -- duals that hold at the parent hold at its child
 pub hold_below : (night : Night) (start : List Block) (c : Certificate) (k above : ℕ) (choice : Choice)
-    → ((path : List Block) (b : Block) (cases : List Case) → CasesHold night path cases → CasesHold night (path ++ b ∷ []) cases)
-    → CasesHold night (path_at night start c.nodes above) (duals_at c.nodes above)
+    → ((path : List Block) (b : Block) (cases : List Case) → HoldIn c.version night path cases → HoldIn c.version night (path ++ b ∷ []) cases)
+    → HoldIn c.version night (path_at night start c.nodes above) (duals_at c.nodes above)
     → path_at night start c.nodes k ≡ longer_with night (path_at night start c.nodes above) (node_at c.nodes k).choice → (node_at c.nodes k).choice ≡ Some choice
-    → CasesHold night (path_at night start c.nodes k) (duals_at c.nodes above)
+    → HoldIn c.version night (path_at night start c.nodes k) (duals_at c.nodes above)
 hold_below night start c k above choice law hold ep is =
     let path = path_at night start c.nodes above in
     let d : PathChoice = choice_from night path choice in
     let step : path_at night start c.nodes k ≡ longer_by path d = ep ∙ ap (λ (o : Option Choice). longer_with night path o) is in
-    subst (λ (p : List Block). CasesHold night p (duals_at c.nodes above)) (sym step) (law path (chosen (length path + 1) d) (duals_at c.nodes above) hold)
+    subst (λ (p : List Block). HoldIn c.version night p (duals_at c.nodes above)) (sym step) (law path (chosen (length path + 1) d) (duals_at c.nodes above) hold)
 
 -- ---- the root
 
@@ -205,6 +205,7 @@ walked night start c k old new frames best after owner walk at owns lt exact sma
     record {
       of = at.of;
       path = at.path ∙ ap (λ (n : ℕ). path_before night start c.nodes n) next;
+      through = at.through;
       pins = at.pins;
       long = length-set frames (depth_at c.nodes k) (record { node = k; owner = owner }) ∙ walk.long;
       frames = subst (λ (n : ℕ). AreFrames c.nodes n (set frames (depth_at c.nodes k) (record { node = k; owner = owner }))) next

@@ -1,5 +1,6 @@
 -- The definitions of this crate.
 pub mod PlanFaults
+pub mod Asked
 pub mod NodeFaults
 pub mod Verdicts
 pub mod Firsts
@@ -12,5 +13,6 @@ pub mod Breaks
 pub mod Children
 pub mod Lows
 pub mod Misses
+pub mod Tallies
 pub mod NodeSteps
 pub mod Walks

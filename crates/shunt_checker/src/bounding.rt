@@ -168,8 +168,8 @@ fn sum_at(instance: &Instance, path: &Path, case: &Case, from: u8) -> i64
 }
 
 /// A sum divided by 1000 and rounded up.
-fn rounded_up(sum: i64) -> i64
-    requires { IsWithin 4010000000000000000 sum }
+pub(crate) fn rounded_up(sum: i64) -> i64
+    requires { IsWithin 4100000000000000000 sum }
     ensures { IsBoundOf sum result }
 {
     if sum < 0 {

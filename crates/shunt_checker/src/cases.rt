@@ -2,7 +2,7 @@
 ghost use Rattle.std.specs.Prelude.{◌≡◌, ◌<◌, IfOk, IfSome, All, length};
 ghost use Rattle.shunt_choices.specs.defs.Free.{AreMasksOf};
 ghost use Rattle.shunt_prices.specs.defs.Limits.{AreCases};
-ghost use Rattle.shunt_prices.specs.defs.Cases.{HoldsInCase};
+ghost use Rattle.shunt_checker.specs.defs.Asked.{HoldsBy};
 ghost use Rattle.shunt_checker.specs.defs.Firsts.{Finds};
 ghost use Rattle.shunt_checker.specs.defs.Breaks.{IsBreak, IsBreakIn, BreakBefore, numbered};
 
@@ -12,6 +12,7 @@ use crate::offer::Offer;
 use shunt_base::Cases;
 use shunt_choices::Covered;
 use shunt_instance::Instance;
+use shunt_proof::Version;
 use std::alloc::{AllocError, Global};
 
 /// A shape with an option that weighs less in the case with a number than its duals.
@@ -49,6 +50,7 @@ fn numbered(case: usize, found: Option<Offer>) -> Option<Break>
 fn break_in(
     alloc: Global,
     instance: &Instance,
+    version: Version,
     covered: &Covered,
     cases: &Cases,
     k: usize,
@@ -57,14 +59,14 @@ fn break_in(
     requires covered { AreMasksOf instance.now covered.now }
     requires cases { AreCases instance.now cases.now }
     requires there { k < length cases.now }
-    requires known { IfSome known (λ held. All (HoldsInCase instance.now covered.now) held.now) }
-    ensures { IfOk result (Finds (IsBreakIn instance.now covered.now cases.now k) (BreakBefore instance.now)) }
+    requires known { IfSome known (λ held. All (HoldsBy version instance.now covered.now) held.now) }
+    ensures { IfOk result (Finds (IsBreakIn version instance.now covered.now cases.now k) (BreakBefore instance.now)) }
 {
     let case = cases.get(k);
     if is_known(known, case) {
         return Ok(None);
     }
-    let found = first_light(alloc, instance, covered, case)?;
+    let found = first_light(alloc, instance, version, covered, case)?;
     Ok(numbered(k, found))
 }
 
@@ -72,17 +74,18 @@ fn break_in(
 pub(crate) fn first_break(
     alloc: Global,
     instance: &Instance,
+    version: Version,
     covered: &Covered,
     cases: &Cases,
     known: Option<&Cases>,
 ) -> Result<Option<Break>, AllocError>
     requires covered { AreMasksOf instance.now covered.now }
     requires cases { AreCases instance.now cases.now }
-    requires known { IfSome known (λ held. All (HoldsInCase instance.now covered.now) held.now) }
-    ensures { IfOk result (Finds (IsBreak instance.now covered.now cases.now) (BreakBefore instance.now)) }
+    requires known { IfSome known (λ held. All (HoldsBy version instance.now covered.now) held.now) }
+    ensures { IfOk result (Finds (IsBreak version instance.now covered.now cases.now) (BreakBefore instance.now)) }
 {
     for k in 0..cases.len() {
-        if let Some(found) = break_in(alloc, instance, covered, cases, k, known)? {
+        if let Some(found) = break_in(alloc, instance, version, covered, cases, k, known)? {
             return Ok(Some(found));
         }
     }

@@ -20,6 +20,7 @@ use shunt_choices::Path;
 use shunt_instance::Instance;
 use shunt_plan::{Plan, plan_cost};
 use shunt_proof::Certificate;
+use shunt_proof::laws::starts;
 use std::alloc::{AllocError, Global};
 
 /// Whether a certificate proves its bound with a plan that keeps the pins. Accepted exactly when it does, with that bound: then each
@@ -93,6 +94,9 @@ fn judged(
     requires certificate { IsCertificate instance.now certificate.now }
     ensures { IfOk result (IsVerdict instance.now pins.now plan.now certificate.now) }
 {
+    // The night is well formed, and usable pins are a partial plan.
+    instance.units();
+    starts();
     let path = Path::start_with(alloc, instance, pins)?;
     let finding = plan_fault(alloc, instance, plan)?;
     if let Some(fault) = finding {

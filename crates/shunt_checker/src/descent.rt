@@ -7,18 +7,20 @@ ghost use Rattle.shunt_proof.specs.defs.Nodes.{node_at, AreNodes, FitsChoice};
 ghost use Rattle.shunt_proof.specs.defs.Trees.{parent, duals_at, IsChildOf};
 ghost use Rattle.shunt_checker.specs.declared.verdict.Reason.TheVariants as reason;
 ghost use Rattle.shunt_checker.specs.defs.NodeFaults.{HasTwin};
+ghost use Rattle.shunt_checker.specs.defs.Tallies.{IsOneMore};
 ghost use Rattle.shunt_checker.specs.defs.NodeSteps.{JudgesBelow, JudgesChild, Leads};
 
-use crate::bounding::cases_bound;
 use crate::children::has_twin;
 use crate::placing::{is_there, push_choice};
 use crate::running::runs_placed;
 use crate::verdict::Reason;
+use crate::versions::step_bound;
 use shunt_base::Cases;
 use shunt_blocks::laws::few_blocks;
 use shunt_choices::Path;
 use shunt_instance::Instance;
 use shunt_proof::laws::parents;
+use shunt_proof::version_laws::bounds_by_version;
 use shunt_proof::{Certificate, Choice, Node};
 use std::alloc::{AllocError, Global};
 
@@ -66,6 +68,7 @@ fn there_fault(
     requires fits { FitsChoice instance.now choice }
     ensures found { IfOk result (JudgesBelow instance.now certificate.now k path.old.blocks 1 2) }
     ensures leads { IfOk result (λ r. IfNone r (Leads instance.now certificate.now k path.old.blocks path.new.blocks)) }
+    ensures more { IfOk result (λ r. IfNone r (IsOneMore instance.now path.old.blocks path.new.blocks)) }
     ensures of { IsTrailOf instance.now path.new }
     ensures pins { path.new.pins ≡ path.old.pins }
 {
@@ -128,14 +131,17 @@ pub(crate) fn child_fault(
     requires path { IsTrailOf instance.now path.old }
     requires cases { AreCases instance.now cases.now }
     requires duals { cases.now ≡ duals_at certificate.now.nodes above }
+    requires pins { path.old.pins ≤ length path.old.blocks }
     requires best { best ≤ 4000000000 }
     ensures found { IfOk result (JudgesChild instance.now certificate.now k path.old.blocks best) }
     ensures leads { IfOk result (λ r. IfNone r (Leads instance.now certificate.now k path.old.blocks path.new.blocks)) }
+    ensures through { IfOk result (λ r. IfNone r (RunsThrough instance.now (placed path.new.blocks))) }
     ensures of { IsTrailOf instance.now path.new }
     ensures pins { path.new.pins ≡ path.old.pins }
 {
-    // Each node but the root has a choice.
+    // Each node but the root has a choice, and a path has at most one bound.
     parents();
+    bounds_by_version();
     let Some(choice) = choice_of(certificate, k) else {
         unreachable!();
     };
@@ -146,6 +152,6 @@ pub(crate) fn child_fault(
     if is_twice(instance, certificate, above, k, choice) {
         return Ok(Some(Reason::ChildTwice { choice }));
     }
-    let bound = cases_bound(instance, path, cases);
+    let bound = step_bound(alloc, instance, certificate.version, path, cases)?;
     Ok(lean_reason(bound, best))
 }

@@ -72,7 +72,7 @@ fn part_of(instance: &Instance, case: &Case, gains: &Gains, shape: Shape, park: 
 }
 
 /// What a shape with an option weighs in a case.
-fn weight_of(
+pub(crate) fn weight_of(
     instance: &Instance,
     case: &Case,
     gains: &Gains,
@@ -147,7 +147,7 @@ pub(crate) fn is_open_to(cases: &Cases, k: usize, unparked: usize) -> bool
 
 /// Whether a sum, divided by 1000 and rounded up, is below a number.
 pub(crate) fn is_below(sum: i64, stated: u64) -> bool
-    requires sum { IsWithin 4040000000000000000 sum }
+    requires sum { IsWithin 4100000000000000000 sum }
     requires stated { stated ≤ 1000000000000 }
     ensures { IsTrue result ↔ ((sum +ℤ pos 1000) ≤ℤ pos (1000 * stated)) }
 {

@@ -1,4 +1,4 @@
-// Which choice at a branch's path is the first that the branch would have to list and doesn't.
+// Which choice at a branch's path is the first that the branch would have to list and doesn't, by prices.
 ghost use Rattle.std.specs.Prelude.{◌≡◌, ◌+◌, ◌-◌, ◌*◌, ◌<◌, ◌≤◌, ◌↔◌, IsTrue, IfOk, Some, length};
 ghost use Rattle.shunt_blocks.specs.defs.Shapes.{unit_from, IsOnTrack};
 ghost use Rattle.shunt_blocks.specs.defs.Lists.{RunsThrough, placed};
@@ -8,6 +8,7 @@ ghost use Rattle.shunt_prices.specs.defs.Sums.{IsWithin};
 ghost use Rattle.shunt_prices.specs.defs.Limits.{case_at};
 ghost use Rattle.shunt_prices.specs.defs.Cases.{IsFreeBlock};
 ghost use Rattle.shunt_prices.specs.defs.Bounds.{case_sum};
+ghost use Rattle.shunt_proof.specs.declared.records.Version.TheVariants.{Prices};
 ghost use Rattle.shunt_checker.specs.defs.Firsts.{Finds};
 ghost use Rattle.shunt_checker.specs.defs.Searches.{IsOneOfShape, IsOneAt};
 ghost use Rattle.shunt_checker.specs.defs.NodeFaults.{EarlierChoice};
@@ -62,7 +63,7 @@ fn is_low_in(
     requires gains { AreGains instance.now (case_at branch.now.cases.now k) shape gains.now }
     requires free { IsFreeBlock instance.now branch.now.path.now.covered shape park }
     requires track { IsOnTrack instance.now.station park }
-    ensures { IsTrue result ↔ IsLowIn instance.now branch.now.path.now.blocks branch.now.cases.now branch.now.stated k (offer_of shape park) }
+    ensures { IsTrue result ↔ IsLowIn Prices instance.now branch.now.path.now.blocks branch.now.cases.now branch.now.stated k (offer_of shape park) }
 {
     let unparked = unparked_with(branch.unparked, park);
     if !is_open_to(branch.cases, k, unparked) {
@@ -88,7 +89,7 @@ fn is_low(
     requires last { AreGains instance.now (case_at branch.now.cases.now branch.now.last) shape last.now }
     requires free { IsFreeBlock instance.now branch.now.path.now.covered shape park }
     requires track { IsOnTrack instance.now.station park }
-    ensures { IsTrue result ↔ IsLowBy instance.now branch.now.path.now.blocks branch.now.cases.now branch.now.stated (offer_of shape park) }
+    ensures { IsTrue result ↔ IsLowBy Prices instance.now branch.now.path.now.blocks branch.now.cases.now branch.now.stated (offer_of shape park) }
 {
     if is_low_in(instance, branch, 0, branch.first_sum, first, shape, park) {
         return true;
@@ -125,7 +126,7 @@ fn longer(
 }
 
 /// Whether the run of a path with one more choice goes through.
-fn goes_through(
+pub(crate) fn goes_through(
     alloc: Global,
     instance: &Instance,
     path: &Path,
@@ -145,7 +146,7 @@ fn goes_through(
 }
 
 /// What a node says of a shape with an option.
-fn said(shape: Shape, park: Option<Park>) -> Choice
+pub(crate) fn said(shape: Shape, park: Option<Park>) -> Choice
     ensures { result ≡ said (offer_of shape park) }
 {
     Choice {
@@ -171,7 +172,7 @@ fn is_missed(
     requires last { AreGains instance.now (case_at branch.now.cases.now branch.now.last) shape last.now }
     requires free { IsFreeShape instance.now branch.now.path.now.covered (unit_from instance.now shape) shape }
     requires track { IsOnTrack instance.now.station park }
-    ensures { IfOk result (λ b. IsTrue b ↔ IsMissed instance.now branch.now.path.now.blocks branch.now.cases.now branch.now.nodes.now branch.now.node branch.now.stated (offer_of shape park)) }
+    ensures { IfOk result (λ b. IsTrue b ↔ IsMissed Prices instance.now branch.now.path.now.blocks branch.now.cases.now branch.now.nodes.now branch.now.node branch.now.stated (offer_of shape park)) }
 {
     if !is_option(instance, shape, park) {
         return Ok(false);
@@ -207,7 +208,7 @@ fn park_at(number: usize) -> Park
 }
 
 /// The option with a number: unparked, and then each track with its pairs of sides.
-fn option_at(number: usize) -> Option<Park>
+pub(crate) fn option_at(number: usize) -> Option<Park>
     requires { number ≤ 240 }
     ensures { option_number result ≡ number }
 {
@@ -218,7 +219,7 @@ fn option_at(number: usize) -> Option<Park>
 }
 
 /// How many options there may be.
-fn most_options(instance: &Instance) -> usize
+pub(crate) fn most_options(instance: &Instance) -> usize
     ensures exact { result ≡ 4 * length instance.now.station.tracks + 1 }
     ensures small { result ≤ 241 }
 {
@@ -234,7 +235,7 @@ fn missed_option(
 ) -> Result<Option<Offer>, AllocError>
     requires branch { IsLook instance.now branch.now }
     requires free { IsFreeShape instance.now branch.now.path.now.covered (unit_from instance.now shape) shape }
-    ensures { IfOk result (Finds (IsOneOfShape (IsMissed instance.now branch.now.path.now.blocks branch.now.cases.now branch.now.nodes.now branch.now.node branch.now.stated) shape) (EarlierChoice instance.now)) }
+    ensures { IfOk result (Finds (IsOneOfShape (IsMissed Prices instance.now branch.now.path.now.blocks branch.now.cases.now branch.now.nodes.now branch.now.node branch.now.stated) shape) (EarlierChoice instance.now)) }
 {
     let long = length_of(instance, shape);
     let first = gains_in(instance, branch.cases, 0, shape, long);
@@ -252,7 +253,7 @@ fn missed_option(
 impl Sought for Branch<'_> {
     ghost fits = { λ s night covered. IsLook night s × (covered ≡ s.path.now.covered) };
 
-    ghost holds = { λ s night. IsMissed night s.path.now.blocks s.cases.now s.nodes.now s.node s.stated };
+    ghost holds = { λ s night. IsMissed Prices night s.path.now.blocks s.cases.now s.nodes.now s.node s.stated };
 
     fn first_option(
         &self,
@@ -274,7 +275,7 @@ pub(crate) fn first_missed(
 ) -> Result<Option<Offer>, AllocError>
     requires branch { IsLook instance.now branch.now }
     requires next { next_of branch.now.path.now.covered ≡ Some u }
-    ensures { IfOk result (Finds (IsOneAt instance.now branch.now.path.now.covered (IsMissed instance.now branch.now.path.now.blocks branch.now.cases.now branch.now.nodes.now branch.now.node branch.now.stated) u) (EarlierChoice instance.now)) }
+    ensures { IfOk result (Finds (IsOneAt instance.now branch.now.path.now.covered (IsMissed Prices instance.now branch.now.path.now.blocks branch.now.cases.now branch.now.nodes.now branch.now.node branch.now.stated) u) (EarlierChoice instance.now)) }
 {
     found_at(alloc, instance, branch.path.covered(), branch, u)
 }

@@ -1,14 +1,16 @@
 // What is the first to be wrong with a node at its path.
 ghost use Rattle.std.specs.Prelude.{◌≡◌, ◌≢◌, ◌<◌, ◌≤◌, ◌≤ℤ◌, ◌<ℤ◌, ◌↔◌, IsTrue, IfOk, IfSome, IfNone, All, Some, pos, length};
 ghost use Rattle.shunt_blocks.specs.defs.Shapes.{IsWithinTrains, AreRunsWithin, IsOnTrack};
-ghost use Rattle.shunt_blocks.specs.defs.Lists.{total_cost};
+ghost use Rattle.shunt_blocks.specs.defs.Lists.{RunsThrough, placed, total_cost};
 ghost use Rattle.shunt_choices.specs.defs.Paths.{IsTrailOf, next_of};
 ghost use Rattle.shunt_choices.specs.defs.Choices.{chosen};
 ghost use Rattle.shunt_prices.specs.defs.Limits.{AreCases, case_at};
-ghost use Rattle.shunt_prices.specs.defs.Cases.{CasesHold, weight_with, duals_over};
+ghost use Rattle.shunt_prices.specs.defs.Cases.{weight_with, duals_over};
 ghost use Rattle.shunt_proof.specs.declared.records.NodeKind.TheVariants as shows;
+ghost use Rattle.shunt_proof.specs.declared.records.Version.TheVariants.{Prices, Stacks};
 ghost use Rattle.shunt_proof.specs.defs.Nodes.{node_at, AreNodes};
 ghost use Rattle.shunt_proof.specs.defs.Trees.{duals_at};
+ghost use Rattle.shunt_proof.specs.defs.Versions.{HoldIn};
 ghost use Rattle.shunt_checker.specs.declared.verdict.Reason.TheVariants as reason;
 ghost use Rattle.shunt_checker.specs.defs.Firsts.{Finds};
 ghost use Rattle.shunt_checker.specs.defs.Searches.{IsOneAt};
@@ -16,20 +18,24 @@ ghost use Rattle.shunt_checker.specs.defs.Misses.{IsMissed};
 ghost use Rattle.shunt_checker.specs.defs.NodeFaults.{IsOtherKind, EarlierChoice};
 ghost use Rattle.shunt_checker.specs.defs.NodeSteps.{Judges};
 
-use crate::bounding::{case_sum, cases_bound, unparked_in, weight};
+use crate::bounding::{case_sum, unparked_in, weight};
 use crate::cases::{Break, case_in, first_break, offer_in};
 use crate::missing::{Branch, first_missed};
 use crate::offer::{Offer, block_in, shape_in};
-use crate::placing::{push_offer, stated_in};
+use crate::omissions::first_omitted;
+use crate::placing::stated_in;
 use crate::pricing::sum_over;
 use crate::verdict::Reason;
+use crate::versions::{offer_bound, path_bound};
 use shunt_base::Cases;
 use shunt_blocks::laws::{few_blocks, places};
 use shunt_blocks::{Block, block_cost};
 use shunt_choices::Path;
 use shunt_instance::Instance;
 use shunt_prices::laws::bounds;
-use shunt_proof::{Certificate, Node, NodeKind};
+use shunt_proof::version_laws::bounds_by_version;
+use shunt_proof::{Certificate, Node, NodeKind, Version};
+use shunt_stacks::laws::one_gain;
 use std::alloc::{AllocError, Global};
 
 /// What the node with a number shows a bound by.
@@ -127,10 +133,11 @@ fn dual_fault(
     requires kind { (node_at certificate.now.nodes k).kind ≢ shows.Whole }
     requires cases { AreCases instance.now cases.now }
     requires duals { cases.now ≡ duals_at certificate.now.nodes k }
-    requires known { IfSome known (λ held. CasesHold instance.now path.now.blocks held.now) }
+    requires known { IfSome known (λ held. HoldIn certificate.now.version instance.now path.now.blocks held.now) }
     ensures { IfOk result (Judges instance.now certificate.now k path.now.blocks 5 6) }
 {
-    let broken = first_break(alloc, instance, path.covered(), cases, known)?;
+    let version = certificate.version;
+    let broken = first_break(alloc, instance, version, path.covered(), cases, known)?;
     let Some(found) = broken else {
         return Ok(None);
     };
@@ -210,24 +217,29 @@ pub(crate) fn whole_fault(
 
 /// What is wrong with a leaf whose duals hold, but for its kind.
 fn leaf_fault(
+    alloc: Global,
     instance: &Instance,
     certificate: &Certificate,
     k: usize,
     path: &Path,
     cases: &Cases,
-) -> Option<Reason>
+) -> Result<Option<Reason>, AllocError>
     requires path { IsTrailOf instance.now path.now }
+    requires through { RunsThrough instance.now (placed path.now.blocks) }
     requires kind { (node_at certificate.now.nodes k).kind ≡ shows.Leaf }
     requires cases { AreCases instance.now cases.now }
     requires duals { cases.now ≡ duals_at certificate.now.nodes k }
     requires bound { certificate.now.bound ≤ 1000000000000 }
-    ensures { Judges instance.now certificate.now k path.now.blocks 6 8 result }
+    ensures { IfOk result (Judges instance.now certificate.now k path.now.blocks 6 8) }
 {
-    leaf_reason(cases_bound(instance, path, cases), certificate.bound)
+    // A path has at most one bound.
+    bounds_by_version();
+    let bound = path_bound(alloc, instance, certificate.version, path, cases)?;
+    Ok(leaf_reason(bound, certificate.bound))
 }
 
-/// The first choice at a branch's path, whose next unit this is, that the branch would have to list and doesn't.
-fn missed_at(
+/// The first choice at a branch's path, whose next unit this is, that the branch would have to list by prices and doesn't.
+fn missed_by_prices(
     alloc: Global,
     instance: &Instance,
     certificate: &Certificate,
@@ -242,7 +254,7 @@ fn missed_at(
     requires cases { AreCases instance.now cases.now }
     requires bound { certificate.now.bound ≤ 1000000000000 }
     requires next { next_of path.now.covered ≡ Some u }
-    ensures { IfOk result (Finds (IsOneAt instance.now path.now.covered (IsMissed instance.now path.now.blocks cases.now certificate.now.nodes k certificate.now.bound) u) (EarlierChoice instance.now)) }
+    ensures { IfOk result (Finds (IsOneAt instance.now path.now.covered (IsMissed Prices instance.now path.now.blocks cases.now certificate.now.nodes k certificate.now.bound) u) (EarlierChoice instance.now)) }
 {
     // There are at most 160 units, and blocks that share nothing are no more.
     instance.units();
@@ -265,7 +277,55 @@ fn missed_at(
     first_missed(alloc, instance, &branch, u)
 }
 
-/// What is wrong with a branch whose duals hold, but for its kind. Where something is, the path has the missing choice's block.
+/// The same with stacks.
+fn missed_by_stacks(
+    alloc: Global,
+    instance: &Instance,
+    certificate: &Certificate,
+    k: usize,
+    path: &Path,
+    cases: &Cases,
+    u: usize,
+) -> Result<Option<Offer>, AllocError>
+    requires there { k < length certificate.now.nodes }
+    requires nodes { AreNodes instance.now certificate.now.nodes }
+    requires path { IsTrailOf instance.now path.now }
+    requires through { RunsThrough instance.now (placed path.now.blocks) }
+    requires cases { AreCases instance.now cases.now }
+    requires bound { certificate.now.bound ≤ 1000000000000 }
+    requires next { next_of path.now.covered ≡ Some u }
+    ensures { IfOk result (Finds (IsOneAt instance.now path.now.covered (IsMissed Stacks instance.now path.now.blocks cases.now certificate.now.nodes k certificate.now.bound) u) (EarlierChoice instance.now)) }
+{
+    let nodes = certificate.nodes.as_slice();
+    first_omitted(alloc, instance, path, cases, nodes, k, certificate.bound, u)
+}
+
+/// The same in the certificate's version.
+fn missed_at(
+    alloc: Global,
+    instance: &Instance,
+    certificate: &Certificate,
+    k: usize,
+    path: &Path,
+    cases: &Cases,
+    u: usize,
+) -> Result<Option<Offer>, AllocError>
+    requires there { k < length certificate.now.nodes }
+    requires nodes { AreNodes instance.now certificate.now.nodes }
+    requires path { IsTrailOf instance.now path.now }
+    requires through { RunsThrough instance.now (placed path.now.blocks) }
+    requires cases { AreCases instance.now cases.now }
+    requires bound { certificate.now.bound ≤ 1000000000000 }
+    requires next { next_of path.now.covered ≡ Some u }
+    ensures { IfOk result (Finds (IsOneAt instance.now path.now.covered (IsMissed certificate.now.version instance.now path.now.blocks cases.now certificate.now.nodes k certificate.now.bound) u) (EarlierChoice instance.now)) }
+{
+    match certificate.version {
+        Version::Prices => missed_by_prices(alloc, instance, certificate, k, path, cases, u),
+        Version::Stacks => missed_by_stacks(alloc, instance, certificate, k, path, cases, u),
+    }
+}
+
+/// What is wrong with a branch whose duals hold, but for its kind. Where something is, the path may have the missing choice's block.
 fn branch_fault(
     alloc: Global,
     instance: &Instance,
@@ -277,6 +337,7 @@ fn branch_fault(
     requires there { k < length certificate.now.nodes }
     requires nodes { AreNodes instance.now certificate.now.nodes }
     requires path { IsTrailOf instance.now path.old }
+    requires through { RunsThrough instance.now (placed path.old.blocks) }
     requires kind { (node_at certificate.now.nodes k).kind ≡ shows.Branch }
     requires cases { AreCases instance.now cases.now }
     requires duals { cases.now ≡ duals_at certificate.now.nodes k }
@@ -284,9 +345,11 @@ fn branch_fault(
     ensures found { IfOk result (Judges instance.now certificate.now k path.old.blocks 6 8) }
     ensures kept { IfOk result (λ r. IfNone r (path.new ≡ path.old)) }
 {
-    // The units of a shape are those of its train from its place on, and each sum has a bound.
+    // The units of a shape are those of its train from its place on, each sum has a bound, and a choice has one sum.
     places();
     bounds();
+    bounds_by_version();
+    one_gain();
     let Some(u) = path.next_unit() else {
         return Ok(None);
     };
@@ -294,9 +357,8 @@ fn branch_fault(
     let Some(offer) = missed else {
         return Ok(None);
     };
-    push_offer(instance, path, u, offer);
     let choice = stated_in(offer);
-    let bound = cases_bound(instance, path, cases);
+    let bound = offer_bound(alloc, instance, certificate.version, path, cases, u, offer)?;
     Ok(Some(Reason::ChildMissing { choice, bound }))
 }
 
@@ -313,10 +375,11 @@ pub(crate) fn shown_fault(
     requires there { k < length certificate.now.nodes }
     requires nodes { AreNodes instance.now certificate.now.nodes }
     requires path { IsTrailOf instance.now path.old }
+    requires through { RunsThrough instance.now (placed path.old.blocks) }
     requires kind { (node_at certificate.now.nodes k).kind ≢ shows.Whole }
     requires cases { AreCases instance.now cases.now }
     requires duals { cases.now ≡ duals_at certificate.now.nodes k }
-    requires known { IfSome known (λ held. CasesHold instance.now path.old.blocks held.now) }
+    requires known { IfSome known (λ held. HoldIn certificate.now.version instance.now path.old.blocks held.now) }
     requires bound { certificate.now.bound ≤ 1000000000000 }
     ensures found { IfOk result (Judges instance.now certificate.now k path.old.blocks 5 8) }
     ensures kept { IfOk result (λ r. IfNone r (path.new ≡ path.old)) }
@@ -326,7 +389,7 @@ pub(crate) fn shown_fault(
         return Ok(Some(reason));
     }
     match kind_of(certificate, k) {
-        NodeKind::Leaf => Ok(leaf_fault(instance, certificate, k, path, cases)),
+        NodeKind::Leaf => leaf_fault(alloc, instance, certificate, k, path, cases),
         NodeKind::Branch => branch_fault(alloc, instance, certificate, k, path, cases),
         NodeKind::Whole => unreachable!(),
     }

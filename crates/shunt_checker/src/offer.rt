@@ -29,6 +29,13 @@ pub(crate) fn shape_in(offer: Offer) -> Shape
     offer.shape
 }
 
+/// The option of one.
+pub(crate) fn park_in(offer: Offer) -> Option<Park>
+    ensures { result ≡ offer.option }
+{
+    offer.park
+}
+
 /// The block of one, with an id.
 pub(crate) fn block_in(id: u32, offer: Offer) -> Block
     ensures { result ≡ chosen id offer }

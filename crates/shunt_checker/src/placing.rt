@@ -1,9 +1,9 @@
 // Whether a node's choice is one at its parent's path.
-ghost use Rattle.std.specs.Prelude.{◌≡◌, ◌<◌, ◌↔◌, IsTrue, Some};
+ghost use Rattle.std.specs.Prelude.{◌≡◌, ◌+◌, ◌<◌, ◌≤◌, ◌↔◌, IsTrue, Some, length};
 ghost use Rattle.shunt_instance.specs.defs.Instance.{unit_total, unit_at};
 ghost use Rattle.shunt_blocks.specs.defs.Shapes.{unit_from, IsOnTrack};
 ghost use Rattle.shunt_choices.specs.defs.Free.{AreMasksOf};
-ghost use Rattle.shunt_choices.specs.defs.Choices.{IsChoice, IsChoiceAt, longer_by};
+ghost use Rattle.shunt_choices.specs.defs.Choices.{IsChoice, IsChoiceAt, longer_by, chosen};
 ghost use Rattle.shunt_choices.specs.defs.Paths.{IsTrailOf, next_of};
 ghost use Rattle.shunt_proof.specs.defs.Nodes.{FitsChoice};
 ghost use Rattle.shunt_proof.specs.defs.Trees.{choice_at, choice_from};
@@ -12,7 +12,7 @@ ghost use Rattle.shunt_checker.specs.defs.Children.{said};
 use crate::holding::is_free;
 use crate::offer::{Offer, block_in};
 use shunt_blocks::laws::few_blocks;
-use shunt_blocks::{Shape, are_runs_within, is_option};
+use shunt_blocks::{Block, Shape, are_runs_within, is_option};
 use shunt_choices::{Covered, Path};
 use shunt_instance::Instance;
 use shunt_proof::Choice;
@@ -62,6 +62,14 @@ pub(crate) fn stated_in(offer: Offer) -> Choice
         q: offer.shape.q,
         park: offer.park,
     }
+}
+
+/// The block of a choice at a path, with its place there as its id.
+pub(crate) fn next_block(path: &Path, offer: Offer) -> Block
+    requires { length path.now.blocks ≤ 160 }
+    ensures { result ≡ chosen (length path.now.blocks + 1) offer }
+{
+    block_in(path.blocks().len() as u32 + 1, offer)
 }
 
 /// Adds the block of a choice for the next unit of a path.

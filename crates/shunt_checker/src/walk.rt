@@ -1,13 +1,13 @@
 // From node to node of a certificate, with the duals that hold there and the best cost.
 ghost use Rattle.std.specs.Prelude.{◌≡◌, ◌<◌, ◌≤◌, ◌+◌, ◌-◌, ◌↔◌, IsTrue, IfOk, IfSome, IfNone, List, take, length};
 ghost use Rattle.shunt_blocks.specs.declared.records.Block.{Block as ABlock};
-ghost use Rattle.shunt_blocks.specs.defs.Lists.{total_cost};
+ghost use Rattle.shunt_blocks.specs.defs.Lists.{RunsThrough, placed, total_cost};
 ghost use Rattle.shunt_choices.specs.defs.Paths.{IsTrailOf};
-ghost use Rattle.shunt_prices.specs.defs.Cases.{CasesHold};
 ghost use Rattle.shunt_proof.specs.declared.records.NodeKind.TheVariants as shows;
 ghost use Rattle.shunt_proof.specs.declared.records.NodeDuals.TheVariants as has;
 ghost use Rattle.shunt_proof.specs.defs.Nodes.{node_at, AreNodes};
 ghost use Rattle.shunt_proof.specs.defs.Trees.{depth_at, parent, duals_at, best_with};
+ghost use Rattle.shunt_proof.specs.defs.Versions.{HoldIn};
 ghost use Rattle.shunt_proof.specs.defs.Certificates.{IsCertificate};
 ghost use Rattle.shunt_checker.specs.defs.NodeSteps.{Judges, JudgesChild, Leads};
 ghost use Rattle.shunt_checker.specs.defs.Walks.{IsOwner, AreOwn, Owns, IsFrame, AreFrames, IsWalk, Settles, FindsFault, front_of};
@@ -21,9 +21,10 @@ use shunt_base::Cases;
 use shunt_blocks::laws::few_blocks;
 use shunt_choices::Path;
 use shunt_instance::Instance;
-use shunt_prices::laws::{bounds, longer_paths};
+use shunt_prices::laws::longer_paths;
 use shunt_proof::laws::parents;
 use shunt_proof::{Certificate, Node, NodeDuals};
+use shunt_stacks::laws::bounds_rise;
 use std::alloc::{AllocError, Global};
 
 /// A node, and the one whose own duals hold there.
@@ -151,6 +152,7 @@ fn parent_fault(
     requires best { best ≤ 4000000000 }
     ensures found { IfOk result (JudgesChild instance.now certificate.now k (front_of certificate.now.nodes k path.old) best) }
     ensures leads { IfOk result (λ r. IfNone r (Leads instance.now certificate.now k (front_of certificate.now.nodes k path.old) path.new.blocks)) }
+    ensures through { IfOk result (λ r. IfNone r (RunsThrough instance.now (placed path.new.blocks))) }
     ensures of { IsTrailOf instance.now path.new }
     ensures pins { path.new.pins ≡ path.old.pins }
 {
@@ -189,7 +191,8 @@ fn own_fault(
     requires there { k < length certificate.now.nodes }
     requires path { IsTrailOf instance.now path.old }
     requires owner { Owns certificate.now.nodes k owner }
-    requires known { IfSome known (λ held. CasesHold instance.now path.old.blocks held.now) }
+    requires through { RunsThrough instance.now (placed path.old.blocks) }
+    requires known { IfSome known (λ held. HoldIn certificate.now.version instance.now path.old.blocks held.now) }
     requires bound { certificate.now.bound ≤ 1000000000000 }
     ensures found { IfOk result (Judges instance.now certificate.now k path.old.blocks 4 8) }
     ensures kept { IfOk result (λ r. IfNone r (path.new ≡ path.old)) }
@@ -247,8 +250,8 @@ fn node_fault(
 {
     // Duals that hold at the parent hold at its child.
     parents();
-    bounds();
     longer_paths();
+    bounds_rise();
     if is_root(k) {
         return own_fault(alloc, instance, certificate, k, path, owner, None);
     }
@@ -293,6 +296,7 @@ pub(crate) fn first_fault(
     requires path { IsTrailOf instance.now path }
     requires start { path.blocks ≡ start }
     requires pins { path.pins ≡ length start }
+    requires through { RunsThrough instance.now (placed path.blocks) }
     ensures { IfOk result (FindsFault instance.now start certificate.now) }
 {
     // The root has duals of its own.

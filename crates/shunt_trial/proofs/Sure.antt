@@ -9,7 +9,7 @@ use Rattle.shunt_store.specs.defs.Causes.{Rose, HasCause}
 use Rattle.shunt_instance.specs.defs.Instance.{Night, IsInstance}
 use Rattle.shunt_blocks.specs.declared.records.Block.{Block}
 use Rattle.shunt_blocks.specs.defs.Lists.{AreInRange, IsFeasible, total_cost}
-use Rattle.shunt_blocks.specs.defs.Pins.{Keeps}
+use Rattle.shunt_blocks.specs.defs.Pins.{AreUsable, Keeps}
 use Rattle.shunt_plan.specs.declared.records.Plan.{Plan}
 use Rattle.shunt_plan.specs.defs.Plans.{IsPlanInRange}
 use Rattle.shunt_proof.specs.declared.records.Certificate.{Certificate}
@@ -18,6 +18,7 @@ use Rattle.shunt_proof.specs.defs.Accepted.{IsAccepted}
 use Rattle.shunt_audit.specs.declared.types.Finding.{Finding}
 use Rattle.shunt_audit.specs.defs.Plans.{ArePlanFindings, plan_findings}
 use Rattle.shunt_audit.proofs.Stated.{only_plan}
+use Rattle.shunt_proof.specs.declared.records.Version.TheVariants.{Stacks}
 use Rattle.shunt_checker.specs.declared.verdict.Verdict.{Verdict}
 use Rattle.shunt_checker.specs.declared.verdict.Verdict.TheVariants as verdict
 use Rattle.shunt_checker.specs.defs.Verdicts.{IsVerdict, Accepts}
@@ -39,6 +40,7 @@ use Rattle.shunt_judging.specs.defs.Audited.{IsAudited, audit_outcome}
 use Rattle.shunt_judging.specs.defs.Checked.{Checkable, check_in, stated_check, IsChecked, check_outcome}
 use Rattle.shunt_planning.specs.defs.Planned.{IsPlanned, IsSought, search_outcome}
 use Rattle.shunt_planning.specs.defs.Begun.{IsPlannedOver}
+use Rattle.shunt_planning.proofs.Sought.{usable_none}
 use Rattle.shunt_trial.specs.defs.Rehearsed.{IsNightIn, with_both, AreFit, IsProvedIn, IsSure}
 
 -- ---- no faults
@@ -163,7 +165,7 @@ module _ (files : Files) (s t p k : List ℕ) (x : Checkable) (is : IsProvedIn s
 
 -- that a verdict accepts exactly the certificates that are accepted
 abbrev pub Judges : Type 0
-Judges = (night : Night) (pins : List Block) (plan : Plan) (c : Certificate) (v : Verdict) → IsInstance night → IsPlanInRange night plan → Keeps plan.blocks pins → IsCertificate night c → IsVerdict night pins plan c v → Accepts v ↔ IsAccepted night pins plan.blocks plan.cost c
+Judges = (night : Night) (pins : List Block) (plan : Plan) (c : Certificate) (v : Verdict) → IsInstance night → IsPlanInRange night plan → Keeps plan.blocks pins → IsCertificate night c → (c.version ≡ Stacks → AreUsable night pins) → IsVerdict night pins plan c v → Accepts v ↔ IsAccepted night pins plan.blocks plan.cost c
 
 no_input_told : (v : Verdict) → outcome.Input ≡ check_outcome v → ⊥
 no_input_told (verdict.Accepted bound) e = let h : outcome.Input ≡ outcome.Done = e in cc
@@ -212,7 +214,7 @@ module _ (files : Files) (s t p k : List ℕ) (x : Checkable) (is : IsProvedIn s
   check_told law old new r a ok leads =
       let led : HasFirst CheckedOver old new (reply_of a) = subst (λ (y : Result Answer Halt). Leads CheckedOver old new y) ok leads in
       let its = checked (with_first led.first (reply_of a)) led.reply in
-      let accepts = (law x.night [] x.plan x.certificate its.verdict is.formed is.in_range (keeps_none x.plan.blocks) is.statable its.told).1 is.proved in
+      let accepts = (law x.night [] x.plan x.certificate its.verdict is.formed is.in_range (keeps_none x.plan.blocks) is.statable (λ e. usable_none x.night) its.told).1 is.proved in
       ap (λ (q : Reply). q.text) its.reply ∙ ap (verdict_of x.night x.certificate) (bound_told x its.verdict its.told accepts)
 
 -- ---- one step after another

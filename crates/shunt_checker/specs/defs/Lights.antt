@@ -15,44 +15,48 @@ use Rattle.shunt_choices.specs.defs.Paths.{Masks}
 use Rattle.shunt_choices.specs.defs.Choices.{Choice as PathChoice}
 use Rattle.shunt_prices.specs.defs.Prices.{track_length, price_part_with}
 use Rattle.shunt_prices.specs.defs.Cases.{HasRoom, weight_with, duals_over}
+use Rattle.shunt_proof.specs.declared.records.Version.{Version}
+use Rattle.shunt_checker.specs.defs.Asked.{IsAsked}
 use Rattle.shunt_checker.specs.defs.Searches.{IsOneOfShape, IsFreeOne}
 
--- a shape can be parked so, and weighs less than a sum where the prices on the track come to a part
-pub record IsLightPark (night : Night) (s : Shape) (sum : ℤ) (part : ℕ) (k : Park) : Type 0 where
+-- a shape can be parked so, which is asked, and weighs less than a sum where the prices on the track come to a part
+pub record IsLightPark (version : Version) (night : Night) (s : Shape) (sum : ℤ) (part : ℕ) (k : Park) : Type 0 where
   pub parkable : IsParkable night s k
+  pub asked : IsAsked version (Some k)
   pub light : pos (1000 * cost_with night s (Some k) + part) <ℤ sum
 
 -- the same on one track by one side in
-pub record IsLightBy (night : Night) (s : Shape) (sum : ℤ) (part : ℕ) (track : TrackId) (side_in : Side) (k : Park) : Type 0 where
+pub record IsLightBy (version : Version) (night : Night) (s : Shape) (sum : ℤ) (part : ℕ) (track : TrackId) (side_in : Side) (k : Park) : Type 0 where
   pub on : k.track ≡ track
   pub by : k.side_in ≡ side_in
-  pub light : IsLightPark night s sum part k
+  pub light : IsLightPark version night s sum part k
 
 -- the same on one track that is long enough
-pub record IsLightOn (night : Night) (s : Shape) (sum : ℤ) (part : ℕ) (track : TrackId) (k : Park) : Type 0 where
+pub record IsLightOn (version : Version) (night : Night) (s : Shape) (sum : ℤ) (part : ℕ) (track : TrackId) (k : Park) : Type 0 where
   pub on : k.track ≡ track
   pub room : shape_length night s ≤ track_length night track.0
-  pub light : IsLightPark night s sum part k
+  pub light : IsLightPark version night s sum part k
 
 -- the same on any track that is long enough, by the prices there
-pub record IsLightParked (night : Night) (prices : List Price) (s : Shape) (sum : ℤ) (k : Park) : Type 0 where
+pub record IsLightParked (version : Version) (night : Night) (prices : List Price) (s : Shape) (sum : ℤ) (k : Park) : Type 0 where
   pub track : k.track.0 < length night.station.tracks
   pub room : shape_length night s ≤ track_length night k.track.0
-  pub light : IsLightPark night s sum (price_part_with night prices s (Some k)) k
+  pub light : IsLightPark version night s sum (price_part_with night prices s (Some k)) k
 
--- a shape's option that has room weighs less in a case than the shape's duals
-pub record IsLight (night : Night) (case : Case) (c : PathChoice) : Type 0 where
+-- a shape's option that has room and is asked weighs less in a case than the shape's duals
+pub record IsLight (version : Version) (night : Night) (case : Case) (c : PathChoice) : Type 0 where
   pub option : IsOption night c.shape c.option
   pub room : HasRoom night c.shape c.option
+  pub asked : IsAsked version c.option
   pub light : weight_with night case c.shape c.option <ℤ duals_over night case.duals c.shape
 
 -- the same of one shape
-abbrev pub IsLightShape : Night → Case → Shape → PathChoice → Type 0
-IsLightShape night case s = IsOneOfShape (IsLight night case) s
+abbrev pub IsLightShape : Version → Night → Case → Shape → PathChoice → Type 0
+IsLightShape version night case s = IsOneOfShape (IsLight version night case) s
 
 -- the same of a free shape
-abbrev pub IsFreeLight : Night → Masks → Case → PathChoice → Type 0
-IsFreeLight night covered case = IsFreeOne night covered (IsLight night case)
+abbrev pub IsFreeLight : Version → Night → Masks → Case → PathChoice → Type 0
+IsFreeLight version night covered case = IsFreeOne night covered (IsLight version night case)
 
 -- neither is covered, and they are matchable
 pub record IsFreePair (night : Night) (covered : Masks) (u v : ℕ) : Type 0 where

@@ -14,15 +14,16 @@ use Rattle.shunt_prices.specs.defs.Sums.{IsWithin}
 use Rattle.shunt_prices.specs.defs.Limits.{AreCases}
 use Rattle.shunt_prices.specs.defs.Bounds.{case_sum, unparked_in}
 use Rattle.shunt_proof.specs.declared.records.Node.{Node}
+use Rattle.shunt_proof.specs.declared.records.Version.{Version}
 use Rattle.shunt_proof.specs.defs.Nodes.{AreNodes}
 use Rattle.shunt_checker.specs.declared.missing.Branch.{Branch}
 use Rattle.shunt_checker.specs.defs.Children.{HasChild, said}
 use Rattle.shunt_checker.specs.defs.Lows.{IsLowBy}
 
 -- an option of its shape, which gives a partial plan with a bound below L by these cases, and which the node with a number doesn't list
-pub record IsMissed (night : Night) (path : List Block) (cases : List Case) (nodes : List Node) (k L : ℕ) (c : PathChoice) : Type 0 where
+pub record IsMissed (version : Version) (night : Night) (path : List Block) (cases : List Case) (nodes : List Node) (k L : ℕ) (c : PathChoice) : Type 0 where
   pub option : IsOption night c.shape c.option
-  pub low : IsLowBy night path cases L c
+  pub low : IsLowBy version night path cases L c
   pub unlisted : HasChild nodes k (said c) → ⊥
   pub through : RunsThrough night (placed (longer_by path c))
 

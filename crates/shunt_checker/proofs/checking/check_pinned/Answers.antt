@@ -13,7 +13,7 @@ pub returns-clause-accepted : goal.returns-clause-accepted
 returns-clause-accepted c =
     IfOk-weaker c.judged.result (IsVerdict c.args.instance.now c.args.pins.now c.args.plan.now c.args.certificate.now)
     (λ v. Accepts v ↔ IsAccepted c.args.instance.now c.args.pins.now c.args.plan.now.blocks c.args.plan.now.cost c.args.certificate.now)
-    (λ v h. c.reasons.ensures.verdict c.args.instance.now c.args.pins.now c.args.plan.now c.args.certificate.now v c.units.ensures.formed c.requires.plan c.requires.keeps c.requires.certificate h)
+    (λ v h. c.reasons.ensures.verdict c.args.instance.now c.args.pins.now c.args.plan.now c.args.certificate.now v c.units.ensures.formed c.requires.plan c.requires.keeps c.requires.certificate (λ e. c.requires.pins) h)
     c.judged.ensures
 
 pub returns-clause-bound : goal.returns-clause-bound

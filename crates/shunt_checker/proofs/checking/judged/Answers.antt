@@ -3,6 +3,7 @@ use Rattle.std.proofs.lemmas.List.Sorted.{length_permutation}
 use Rattle.shunt_proof.specs.declared.records.Node.{Node}
 use Rattle.shunt_proof.specs.defs.Nodes.{AreNodes}
 use Rattle.shunt_proof.specs.defs.CertificateRows.{row_of}
+use Rattle.shunt_checker.proofs.Stepping.{runs_from}
 use Rattle.shunt_checker.proofs.Answering.{of_plan, node_there, of_node, of_end, accepted}
 use Rattle.shunt_checker.proofs.checking.judged.Goals as goal
 
@@ -13,8 +14,19 @@ pub start_with-requires-clause-apart : goal.start_with-requires-clause-apart
 start_with-requires-clause-apart c = c.requires.pins.apart
 
 pub first_fault-requires : goal.first_fault-requires
-first_fault-requires c =
-    (c.requires.certificate, (c.in_ok-path.ensures.of, (refl, c.in_ok-path.ensures.pins ∙ sym (length_permutation c.args.pins.now c.in_ok-path.path.blocks c.in_ok-path.ensures.same))))
+first_fault-requires c = (
+  c.requires.certificate,
+  (
+    c.in_ok-path.ensures.of,
+    (
+      refl,
+      (
+        c.in_ok-path.ensures.pins ∙ sym (length_permutation c.args.pins.now c.in_ok-path.path.blocks c.in_ok-path.ensures.same),
+        runs_from (c.starts.ensures.partial c.args.instance.now c.args.pins.now c.in_ok-path.path.blocks c.units.ensures.formed c.requires.pins (record { same = c.in_ok-path.ensures.same; rises = c.in_ok-path.ensures.order })),
+      ),
+    ),
+  ),
+)
 
 pub row_of-row-requires-clause-nodes : goal.row_of-row-requires-clause-nodes
 row_of-row-requires-clause-nodes c = subst (AreNodes c.args.instance.now) (sym c.as_slice-nodes.ensures) c.requires.certificate.nodes

@@ -1,10 +1,14 @@
-use mir.Syntax.{w64}
-use Rattle.std.proofs.Common.{◌≡◌, ◌+◌, ℕ, ap, sym, subst, ◌∙◌}
-use Rattle.std.proofs.lemmas.Int.{to_z-of_z}
+use Rattle.std.proofs.Common.{◌≡◌, ◌+◌, ℕ, List, ap, sym, subst, ◌∙◌}
+use Rattle.shunt_blocks.specs.declared.records.Block.{Block}
+use Rattle.shunt_blocks.specs.defs.Lists.{RunsThrough, placed}
 use Rattle.shunt_proof.specs.defs.Nodes.{FitsChoice}
 use Rattle.shunt_proof.specs.defs.Trees.{depth_at}
-use Rattle.shunt_prices.specs.defs.Bounds.{IsCasesBound}
+use Rattle.shunt_proof.specs.defs.Versions.{IsStepBoundIn}
+use Rattle.shunt_checker.specs.defs.NodeSteps.{Leads}
+use Rattle.shunt_checker.proofs.Seen.{seen_word}
+use Rattle.shunt_checker.proofs.Judging.{on_none}
 use Rattle.shunt_checker.proofs.Placed.{there_told, led, twice_told, child_judged}
+use Rattle.shunt_checker.proofs.Stepping.{had, longer_than}
 use Rattle.shunt_checker.proofs.descent.child_fault.Goals as goal
 
 pub unreachable-requires : goal.unreachable-requires
@@ -39,11 +43,33 @@ returns-then-is_twice-clause-found c =
     twice_told c.args.instance.now c.args.certificate.now c.args.k c.in-Some.choice (sym c.choice_of.ensures ∙ c.in-Some.is) c.args.path.now.blocks c.args.best c.in_ok-misplaced.misplaced c.in_default-misplaced.is c.in_ok-misplaced.ensures.found
     c.is_twice.result c.is_twice.ensures c.if-is_twice.true
 
+pub step_bound-requires-clause-some : goal.step_bound-requires-clause-some
+step_bound-requires-clause-some c =
+    let more = had c.in_ok-misplaced.misplaced _ c.in_default-misplaced.is c.in_ok-misplaced.ensures.more in
+    longer_than c.args.path.now.blocks c.there_fault.new.path.blocks more.choice c.args.path.now.pins c.there_fault.new.path.pins more.is c.there_fault.ensures.pins c.requires.pins
+
+pub step_bound-requires-clause-more : goal.step_bound-requires-clause-more
+step_bound-requires-clause-more c = (c.args.path.now.blocks, had c.in_ok-misplaced.misplaced _ c.in_default-misplaced.is c.in_ok-misplaced.ensures.more)
+
+pub returns-clause-leads : goal.returns-clause-leads
+returns-clause-leads c =
+    on_none c.lean_reason.result _ (subst (Leads c.args.instance.now c.args.certificate.now c.args.k c.args.path.now.blocks) (sym c.step_bound.ensures.kept)
+    (led c.args.instance.now c.args.certificate.now c.args.k c.args.path.now.blocks c.there_fault.new.path.blocks c.in_ok-misplaced.misplaced c.in_default-misplaced.is c.in_ok-misplaced.ensures.leads))
+
+pub returns-clause-through : goal.returns-clause-through
+returns-clause-through c =
+    let more = had c.in_ok-misplaced.misplaced _ c.in_default-misplaced.is c.in_ok-misplaced.ensures.more in
+    on_none c.lean_reason.result _ (subst (λ (bs : List Block). RunsThrough c.args.instance.now (placed bs)) (sym c.step_bound.ensures.kept) more.through)
+
 pub returns-clause-found : goal.returns-clause-found
 returns-clause-found c =
-    let seen = to_z-of_z w64 c.cases_bound-bound.result (record { sfits = c.cases_bound-bound.type_inv }) in
-    child_judged c.args.instance.now c.args.certificate.now c.args.k c.in-Some.choice (sym c.choice_of.ensures ∙ c.in-Some.is) c.args.path.now.blocks c.args.best c.in_ok-misplaced.misplaced c.in_default-misplaced.is c.in_ok-misplaced.ensures.found
+    let night = c.args.instance.now in
+    let cert = c.args.certificate.now in
+    child_judged night cert c.args.k c.in-Some.choice (sym c.choice_of.ensures ∙ c.in-Some.is) c.args.path.now.blocks c.args.best c.in_ok-misplaced.misplaced c.in_default-misplaced.is c.in_ok-misplaced.ensures.found
     c.is_twice.result c.is_twice.ensures c.if-is_twice.false c.there_fault.new.path.blocks
-    (led c.args.instance.now c.args.certificate.now c.args.k c.args.path.now.blocks c.there_fault.new.path.blocks c.in_ok-misplaced.misplaced c.in_default-misplaced.is c.in_ok-misplaced.ensures.leads)
-    c.args.cases.now c.args.above c.requires.duals c.requires.above _ (subst (IsCasesBound c.args.instance.now c.there_fault.new.path.blocks c.args.cases.now) (sym seen) c.cases_bound-bound.ensures)
+    (led night cert c.args.k c.args.path.now.blocks c.there_fault.new.path.blocks c.in_ok-misplaced.misplaced c.in_default-misplaced.is c.in_ok-misplaced.ensures.leads)
+    c.args.cases.now c.args.above c.requires.duals c.requires.above
+    (λ start. c.parents.ensures.path night start cert.nodes c.args.k c.requires.nodes c.requires.some c.requires.there)
+    (λ path longer cs x y is so. c.bounds_by_version.ensures.one_step cert.version night path longer cs x y is so)
+    _ (λ front b e. subst (IsStepBoundIn cert.version night front c.there_fault.new.path.blocks c.args.cases.now) (sym (seen_word c.in_ok-bound.bound c.in_ok-bound.ensures.word)) (c.in_ok-bound.ensures.bound front b e))
     c.requires.some c.lean_reason.result c.lean_reason.ensures.some c.lean_reason.ensures.none

@@ -1,3 +1,4 @@
+use Rattle.shunt_proof.specs.defs.Trees.{choice_from}
 use Rattle.shunt_checker.proofs.Placed.{not_there, leads, not_through, all_there}
 use Rattle.shunt_checker.proofs.descent.there_fault.Goals as goal
 
@@ -24,3 +25,11 @@ returns-clause-leads c =
     let night = c.args.instance.now in
     leads night c.args.certificate.now c.args.k c.args.choice c.requires.choice (λ start. c.parents.ensures.path night start c.args.certificate.now.nodes c.args.k c.requires.nodes c.requires.some c.requires.there) c.args.path.now.blocks
     c.is_there-there.result c.is_there-there.ensures c.push_choice.new.path.blocks c.push_choice.ensures.blocks c.in_ok-through.through c.in_ok-through.ensures
+
+pub returns-clause-more : goal.returns-clause-more
+returns-clause-more c = record {
+  choice = choice_from c.args.instance.now c.args.path.now.blocks c.args.choice;
+  there = c.is_there-there.ensures.0 c.if-not-there.false;
+  is = c.push_choice.ensures.blocks;
+  through = c.in_ok-through.ensures.0 c.if-not-through.false;
+}

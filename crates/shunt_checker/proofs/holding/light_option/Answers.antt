@@ -18,7 +18,7 @@ returns-then-sum-unparked c =
     let w = c.cost_with-unparked.ensures in
     let s = c.sum_over-sum.ensures.small in
     let m = c.requires.case.multiplier in
-    unparked_light c.args.instance.now c.args.case.now c.args.shape c.sum_over-sum.result c.sum_over-sum.ensures.exact
+    unparked_light c.args.version c.args.instance.now c.args.case.now c.args.shape c.sum_over-sum.result c.sum_over-sum.ensures.exact
     (omega (arith, ints, t, w.exact, w.small, s.low, s.high, m.low, m.high))
 
 pub returns : goal.returns
@@ -29,7 +29,7 @@ returns c =
     let m = c.requires.case.multiplier in
     let x = to_z w64 (of_z w64 c.sum_over-sum.result) in
     let seen : to_z w64 (of_z w64 c.sum_over-sum.result) ≡ c.sum_over-sum.result = omega (arith, ints, s.low, s.high) in
-    subst (Finds (IsLightShape c.args.instance.now c.args.case.now c.args.shape) (EarlierChoice c.args.instance.now)) (sym c.offered.ensures)
-    (light_among c.args.instance.now c.args.case.now c.args.shape x (seen ∙ c.sum_over-sum.ensures.exact)
+    subst (Finds (IsLightShape c.args.version c.args.instance.now c.args.case.now c.args.shape) (EarlierChoice c.args.instance.now)) (sym c.offered.ensures)
+    (light_among c.args.version c.args.instance.now c.args.case.now c.args.shape x (seen ∙ c.sum_over-sum.ensures.exact)
     (omega (arith, ints, f, w.exact, w.small, s.low, s.high, m.low, m.high)) c.light_parked-park.result
-    (subst (λ (ps : List Price). Finds (IsLightParked c.args.instance.now ps c.args.shape x) ParkBefore c.light_parked-park.result) c.as_slice-prices.ensures c.light_parked-park.ensures))
+    (subst (λ (ps : List Price). Finds (IsLightParked c.args.version c.args.instance.now ps c.args.shape x) ParkBefore c.light_parked-park.result) c.as_slice-prices.ensures c.light_parked-park.ensures))

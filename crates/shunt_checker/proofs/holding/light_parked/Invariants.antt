@@ -4,4 +4,4 @@ use Rattle.shunt_checker.proofs.Parking.{track_of}
 use Rattle.shunt_checker.proofs.holding.light_parked.Given as goal
 
 abbrev pub invariant-loop-t : goal.invariant-loop-t
-invariant-loop-t l = HoldsNotBelow (IsLightParked l.fn.instance l.fn.prices l.fn.shape l.fn.sum) track_of l.t
+invariant-loop-t l = HoldsNotBelow (IsLightParked l.fn.version l.fn.instance l.fn.prices l.fn.shape l.fn.sum) track_of l.t

@@ -1,6 +1,7 @@
 use Rattle.std.specs.Prelude.{IfOk}
 use Rattle.std.proofs.Common.{subst}
 use Rattle.shunt_choices.specs.defs.Paths.{Masks}
+use Rattle.shunt_proof.specs.declared.records.Version.TheVariants.{Prices}
 use Rattle.shunt_checker.specs.defs.Firsts.{Finds}
 use Rattle.shunt_checker.specs.defs.Searches.{IsOneAt}
 use Rattle.shunt_checker.specs.defs.Misses.{IsMissed}
@@ -20,5 +21,5 @@ found_at-requires-clause-unit c = next_in c.args.instance.now c.args.branch.now.
 pub returns : goal.returns
 returns c =
     let b = c.args.branch.now in
-    subst (λ (m : Masks). IfOk c.found_at.result (Finds (IsOneAt c.args.instance.now m (IsMissed c.args.instance.now b.path.now.blocks b.cases.now b.nodes.now b.node b.stated) c.args.u) (EarlierChoice c.args.instance.now)))
+    subst (λ (m : Masks). IfOk c.found_at.result (Finds (IsOneAt c.args.instance.now m (IsMissed Prices c.args.instance.now b.path.now.blocks b.cases.now b.nodes.now b.node b.stated) c.args.u) (EarlierChoice c.args.instance.now)))
     c.covered.ensures c.found_at.ensures

@@ -1,7 +1,9 @@
+use Rattle.std.specs.Prelude.{IfNone}
 use Rattle.std.proofs.Common.{◌≡◌, refl, sym, ◌∙◌}
 use Rattle.std.proofs.lemmas.Result.{IfOk-weaker}
 use Rattle.shunt_checker.specs.defs.NodeSteps.{Judges}
 use Rattle.shunt_checker.proofs.Judging.{told, joined, on_none}
+use Rattle.shunt_checker.proofs.Stepping.{ok_always}
 use Rattle.shunt_checker.proofs.nodes.shown_fault.Goals as goal
 
 pub unreachable-requires : goal.unreachable-requires
@@ -17,7 +19,12 @@ pub returns-in-Some-clause-found : goal.returns-in-Some-clause-found
 returns-in-Some-clause-found c = told c.args.instance.now c.args.certificate.now c.args.k c.args.path.now.blocks 5 6 8 c.in_ok-broken.broken c.in-Some.reason c.in-Some.is c.in_ok-broken.ensures
 
 pub returns-in-Leaf-clause-found : goal.returns-in-Leaf-clause-found
-returns-in-Leaf-clause-found c = joined c.args.instance.now c.args.certificate.now c.args.k c.args.path.now.blocks 5 6 8 c.in_ok-broken.broken c.leaf_fault.result c.in_default.is c.in_ok-broken.ensures c.leaf_fault.ensures
+returns-in-Leaf-clause-found c =
+    IfOk-weaker c.leaf_fault.result
+    (Judges c.args.instance.now c.args.certificate.now c.args.k c.args.path.now.blocks 6 8)
+    (Judges c.args.instance.now c.args.certificate.now c.args.k c.args.path.now.blocks 5 8)
+    (λ r next. joined c.args.instance.now c.args.certificate.now c.args.k c.args.path.now.blocks 5 6 8 c.in_ok-broken.broken r c.in_default.is c.in_ok-broken.ensures next)
+    c.leaf_fault.ensures
 
 pub returns-in-Branch-clause-found : goal.returns-in-Branch-clause-found
 returns-in-Branch-clause-found c =
@@ -28,4 +35,4 @@ returns-in-Branch-clause-found c =
     c.branch_fault.ensures.found
 
 pub returns-in-Leaf-clause-kept : goal.returns-in-Leaf-clause-kept
-returns-in-Leaf-clause-kept c = on_none c.leaf_fault.result (c.args.path.now ≡ c.args.path.now) refl
+returns-in-Leaf-clause-kept c = ok_always c.leaf_fault.result (λ r. IfNone r (c.args.path.now ≡ c.args.path.now)) (λ r. on_none r (c.args.path.now ≡ c.args.path.now) refl)

@@ -1,13 +1,14 @@
 use Rattle.std.specs.Prelude.{IfNone}
 use Rattle.std.proofs.Common.{◌≡◌, ◌≤◌, ℕ, List, ap, subst, sym, ◌∙◌, arith}
 use Rattle.shunt_blocks.specs.declared.records.Block.{Block}
-use Rattle.shunt_prices.specs.defs.Cases.{CasesHold}
 use Rattle.shunt_base.specs.declared.duals.Case.{Case}
 use Rattle.shunt_proof.specs.defs.Nodes.{node_at, FitsNode}
 use Rattle.shunt_proof.specs.defs.Trees.{depth_at, duals_at, parent, path_at}
+use Rattle.shunt_proof.specs.defs.Versions.{HoldIn}
 use Rattle.shunt_checker.specs.defs.NodeSteps.{Judges}
 use Rattle.shunt_checker.specs.defs.Walks.{IsAtNode, IsOwner, Settles, front_of}
 use Rattle.shunt_checker.proofs.Looked.{against}
+use Rattle.shunt_checker.proofs.Versioned.{hold_longer}
 use Rattle.shunt_checker.proofs.Accepting.{unbroken}
 use Rattle.shunt_checker.proofs.Walking.{later, root_at, root_bare, root_from, settled, both_ok, came_down, child_told, child_passed, child_at, hold_below, branch_whole}
 use Rattle.shunt_checker.proofs.walk.node_fault.Goals as goal
@@ -21,6 +22,7 @@ returns-then-is_root g c =
     let at : IsAtNode night g.start c.args.certificate.now c.args.k c.args.path.now = record {
       of = c.requires.1.1.0.of;
       path = root_at night g.start nodes c.args.k c.args.path.now.blocks root c.requires.1.1.0.path (c.parents.ensures.root_path night g.start nodes c.requires.0.nodes c.requires.0.some);
+      through = c.requires.1.1.0.through;
       pins = c.requires.1.1.0.pins;
     } in
     let from = root_from night g.start c.args.certificate.now c.args.k root (root_bare night nodes c.args.k root c.requires.0.nodes.root c.requires.1.0 fits) in
@@ -88,14 +90,14 @@ own_fault-requires-2-clause-known g c =
     (λ b d lt le. c.parents.ensures.front night g.start nodes b d c.requires.0.nodes lt le) (λ b lt. c.parents.ensures.size night g.start nodes b c.requires.0.nodes lt)
     deep c.args.path.now c.requires.1.1.0.path c.requires.1.1.0.pins in
     let at = child_at night g.start c.args.certificate.now c.args.k (front_of nodes c.args.k c.args.path.now) came.1 c.args.best c.requires.1.1.0.best c.in_ok-misled.misled c.in_ok-misled.ensures.found c.in_default.is
-    c.parent_fault.new.path c.parent_fault.ensures.of (c.parent_fault.ensures.pins ∙ c.requires.1.1.0.pins) c.in_ok-misled.ensures.leads in
-    let hold : CasesHold night (path_at night g.start nodes (parent nodes c.args.k)) (duals_at nodes (parent nodes c.args.k)) =
-    unbroken night (λ path cases one. c.bounds.ensures.of_cases night path cases one) g.start c.args.certificate.now (parent nodes c.args.k) (c.requires.1.1.0.sound (parent nodes c.args.k) law.0) (branch_whole (node_at nodes (parent nodes c.args.k)).kind law.2) in
+    c.parent_fault.new.path c.parent_fault.ensures.of (c.parent_fault.ensures.pins ∙ c.requires.1.1.0.pins) c.in_ok-misled.ensures.leads c.in_ok-misled.ensures.through in
+    let hold : HoldIn c.args.certificate.now.version night (path_at night g.start nodes (parent nodes c.args.k)) (duals_at nodes (parent nodes c.args.k)) =
+    unbroken night g.start c.args.certificate.now (parent nodes c.args.k) (c.requires.1.1.0.sound (parent nodes c.args.k) law.0) (branch_whole (node_at nodes (parent nodes c.args.k)).kind law.2) in
     let choice = c.parents.ensures.choice night nodes c.args.k c.requires.0.nodes some c.requires.1.0 in
-    let below = hold_below night g.start c.args.certificate.now c.args.k (parent nodes c.args.k) choice.0 (λ path b cases h. c.longer_paths.ensures.hold night path b cases h) hold
+    let below = hold_below night g.start c.args.certificate.now c.args.k (parent nodes c.args.k) choice.0 (λ path b cases h. hold_longer c.args.certificate.now.version night path b cases (c.longer_paths.ensures.hold night path b cases) (c.bounds_rise.ensures.hold night path b cases) h) hold
     (c.parents.ensures.path night g.start nodes c.args.k c.requires.0.nodes some c.requires.1.0) choice.1 in
-    subst (λ (bs : List Block). CasesHold night bs c.cases_at.result.now) (sym at.path)
-    (subst (λ (cs : List Case). CasesHold night (path_at night g.start nodes c.args.k) cs) (sym (c.cases_at.ensures ∙ ap (λ (j : ℕ). duals_at nodes j) c.frame_above-frame.ensures.node)) below)
+    subst (λ (bs : List Block). HoldIn c.args.certificate.now.version night bs c.cases_at.result.now) (sym at.path)
+    (subst (λ (cs : List Case). HoldIn c.args.certificate.now.version night (path_at night g.start nodes c.args.k) cs) (sym (c.cases_at.ensures ∙ ap (λ (j : ℕ). duals_at nodes j) c.frame_above-frame.ensures.node)) below)
 
 pub returns : goal.returns
 returns g c =
@@ -108,7 +110,7 @@ returns g c =
     (λ b d lt le. c.parents.ensures.front night g.start nodes b d c.requires.0.nodes lt le) (λ b lt. c.parents.ensures.size night g.start nodes b c.requires.0.nodes lt)
     deep c.args.path.now c.requires.1.1.0.path c.requires.1.1.0.pins in
     let at = child_at night g.start c.args.certificate.now c.args.k (front_of nodes c.args.k c.args.path.now) came.1 c.args.best c.requires.1.1.0.best c.in_ok-misled.misled c.in_ok-misled.ensures.found c.in_default.is
-    c.parent_fault.new.path c.parent_fault.ensures.of (c.parent_fault.ensures.pins ∙ c.requires.1.1.0.pins) c.in_ok-misled.ensures.leads in
+    c.parent_fault.new.path c.parent_fault.ensures.of (c.parent_fault.ensures.pins ∙ c.requires.1.1.0.pins) c.in_ok-misled.ensures.leads c.in_ok-misled.ensures.through in
     let from = child_passed night g.start c.args.certificate.now c.args.k (front_of nodes c.args.k c.args.path.now) came.1 c.args.best c.requires.1.1.0.best c.in_ok-misled.misled c.in_ok-misled.ensures.found c.in_default.is in
     both_ok c.own_fault-2.result (Judges night c.args.certificate.now c.args.k c.parent_fault.new.path.blocks 4 8) (λ r. IfNone r (c.own_fault-2.new.path ≡ c.parent_fault.new.path))
     (Settles night g.start c.args.certificate.now c.args.k c.own_fault-2.new.path)

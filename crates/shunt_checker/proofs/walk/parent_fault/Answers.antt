@@ -1,5 +1,6 @@
 use Rattle.std.specs.Prelude.{IfOk, IfNone, take}
 use Rattle.std.proofs.Common.{◌≡◌, ◌≤◌, ◌<◌, ◌+◌, ◌-◌, ℕ, List, length, ap, subst, sym, ◌∙◌, arith}
+use Rattle.std.proofs.lemmas.List.{length-take-le}
 use Rattle.shunt_base.specs.declared.duals.Case.{Case}
 use Rattle.shunt_instance.specs.defs.Instance.{unit_total}
 use Rattle.shunt_blocks.specs.declared.records.Block.{Block}
@@ -44,3 +45,15 @@ returns-clause-leads c =
     let long : c.pins.result + (c.depth_at-above.result - 1) ≡ c.args.path.now.pins + (depth_at c.args.certificate.now.nodes c.args.k - 1) = omega (arith, exact, pins) in
     subst (λ (bs : List Block). IfOk c.child_fault.result (λ r. IfNone r (Leads c.args.instance.now c.args.certificate.now c.args.k bs c.child_fault.new.path.blocks)))
     (c.shorten.ensures.blocks ∙ ap (λ (n : ℕ). take n c.args.path.now.blocks) long) c.child_fault.ensures.leads
+
+pub child_fault-requires-clause-pins : goal.child_fault-requires-clause-pins
+child_fault-requires-clause-pins c =
+    let long = c.requires.long in
+    let deep = c.requires.deep in
+    let exact = c.depth_at-above.ensures.exact in
+    let pins = c.pins.ensures in
+    let kept = c.shorten.ensures.pins in
+    let left : c.pins.result + (c.depth_at-above.result - 1) ≤ length c.args.path.now.blocks = omega (arith, long, deep, exact, pins) in
+    let len : length c.shorten.new.path.blocks ≡ length (take (c.pins.result + (c.depth_at-above.result - 1)) c.args.path.now.blocks) = ap length c.shorten.ensures.blocks in
+    let taken = length-take-le (c.pins.result + (c.depth_at-above.result - 1)) c.args.path.now.blocks left in
+    omega (arith, len, taken, kept, pins)

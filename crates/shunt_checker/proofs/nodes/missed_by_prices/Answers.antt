@@ -9,11 +9,12 @@ use Rattle.shunt_prices.specs.defs.Sums.{IsWithin}
 use Rattle.shunt_prices.specs.defs.Bounds.{unparked_in}
 use Rattle.shunt_proof.specs.declared.records.Node.{Node}
 use Rattle.shunt_proof.specs.defs.Nodes.{AreNodes}
+use Rattle.shunt_proof.specs.declared.records.Version.TheVariants.{Prices}
 use Rattle.shunt_checker.specs.defs.Firsts.{Finds}
 use Rattle.shunt_checker.specs.defs.Searches.{IsOneAt}
 use Rattle.shunt_checker.specs.defs.Misses.{IsMissed}
 use Rattle.shunt_checker.specs.defs.NodeFaults.{EarlierChoice}
-use Rattle.shunt_checker.proofs.nodes.missed_at.Goals as goal
+use Rattle.shunt_checker.proofs.nodes.missed_by_prices.Goals as goal
 
 pub first_missed-requires-clause-branch : goal.first_missed-requires-clause-branch
 first_missed-requires-clause-branch c =
@@ -44,5 +45,5 @@ first_missed-requires-clause-branch c =
 pub returns : goal.returns
 returns c =
     subst (λ (ns : List Node). IfOk c.first_missed.result (Finds (IsOneAt c.args.instance.now c.args.path.now.covered
-    (IsMissed c.args.instance.now c.args.path.now.blocks c.args.cases.now ns c.args.k c.args.certificate.now.bound) c.args.u) (EarlierChoice c.args.instance.now)))
+    (IsMissed Prices c.args.instance.now c.args.path.now.blocks c.args.cases.now ns c.args.k c.args.certificate.now.bound) c.args.u) (EarlierChoice c.args.instance.now)))
     c.as_slice.ensures c.first_missed.ensures

@@ -1,5 +1,8 @@
 mod Taken
+mod Offered
 mod Listed
+mod Looked
 mod Tabled
+mod Apart
 mod Opened
 mod Summed

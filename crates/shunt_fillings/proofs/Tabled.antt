@@ -1,24 +1,30 @@
--- The spans of a stack's table: their events are their own, and they gain little.
-use Rattle.std.specs.Prelude.{◌↔◌, ◌<ℤ◌, ◌≤ℤ◌, ◌-ℤ◌, Option, Some, Result, Ok, Err, IfOk}
-use Rattle.std.proofs.Common.{◌≡◌, inl, inr, ℕ, ◌+◌, ◌*◌, List, ◌+ℤ◌, ℤ, pos, sym, subst, ◌∙◌, arith}
+-- The spans of a stack's pieces: their events are their own, and they gain little; and what the recursion over them tells.
+use Rattle.std.specs.Prelude.{◌↔◌, Option, Some, None, Result, Ok, Err, IfOk, map, All}
+use Rattle.std.proofs.Common.{◌≡◌, inl, inr, ℕ, List, [], ◌∷◌, get_or, ℤ, pos, refl, sym, subst, ap, ◌∙◌, arith}
 use Rattle.std.proofs.lemmas.Int.{ints}
 use Rattle.shunt_lists.specs.defs.Members.{In}
-use Rattle.shunt_lists.proofs.Members.{of_map}
+use Rattle.shunt_lists.proofs.Members.{of_map, in_map}
 use Rattle.shunt_base.specs.declared.duals.Case.{Case}
 use Rattle.shunt_instance.specs.defs.Instance.{Night}
-use Rattle.shunt_blocks.specs.declared.records.Shape.{Shape}
 use Rattle.shunt_blocks.specs.declared.records.Block.{Block}
-use Rattle.shunt_blocks.specs.defs.Costs.{cost_with}
+use Rattle.shunt_blocks.specs.declared.records.Shape.{Shape}
+use Rattle.shunt_blocks.specs.declared.records.Park.{Park}
+use Rattle.shunt_blocks.specs.defs.Shapes.{shape_of, IsOnTrack, IsWithinTrains}
+use Rattle.shunt_blocks.specs.defs.Blocks.{IsOption, IsBlockButId}
+use Rattle.shunt_choices.specs.defs.Paths.{masks_of}
+use Rattle.shunt_choices.proofs.Given.{each_one}
+use Rattle.shunt_prices.specs.defs.Cases.{IsFreeBlock}
 use Rattle.shunt_prices.specs.defs.Sums.{IsWithin}
-use Rattle.shunt_prices.specs.defs.Prices.{price_part_with}
-use Rattle.shunt_prices.specs.defs.Cases.{duals_over}
 use Rattle.shunt_stacks.specs.defs.Stacks.{Stack, blocks_of}
 use Rattle.shunt_stacks.specs.defs.Fillings.{gain}
 use Rattle.shunt_stacks.specs.defs.Spans.{Span, AreOwn, best}
-use Rattle.shunt_stacks.specs.defs.Numbers.{span_of, fixed_spans, free_spans}
-use Rattle.shunt_gains.specs.declared.table.Table.{Table}
-use Rattle.shunt_gains.specs.defs.Tables.{AreSmall, IsGain, IsTableOf}
-use Rattle.shunt_fillings.specs.defs.Pieces.{block_on, AreTaken}
+use Rattle.shunt_stacks.specs.defs.Numbers.{span_of, free_spans}
+use Rattle.shunt_gains.specs.declared.numbers.Events.{Events}
+use Rattle.shunt_gains.specs.defs.Events.{entry_of, leave_of}
+use Rattle.shunt_gains.specs.defs.Tables.{AreSmall, IsGain}
+use Rattle.shunt_fillings.specs.declared.candidates.Candidate.{Candidate}
+use Rattle.shunt_fillings.proofs.Offered.{from_members}
+use Rattle.shunt_fillings.specs.defs.Pieces.{blocks_in, AreCandidates, fixed_of_stack, span_with, spans_with}
 
 pub own_lists : (fixed free xs ys : List Span) → xs ≡ fixed → ys ≡ free → AreOwn fixed free → AreOwn xs ys
 own_lists fixed free xs ys e f own = subst (λ (zs : List Span). AreOwn zs ys) (sym e) (subst (AreOwn fixed) (sym f) own)
@@ -26,27 +32,45 @@ own_lists fixed free xs ys e f own = subst (λ (zs : List Span). AreOwn zs ys) (
 pub small_lists : (fixed free xs ys : List Span) → xs ≡ fixed → ys ≡ free → AreSmall fixed free → AreSmall xs ys
 small_lists fixed free xs ys e f small = subst (λ (zs : List Span). AreSmall zs ys) (sym e) (subst (AreSmall fixed) (sym f) small)
 
-little : (d : ℤ) (w : ℕ) → d ≤ℤ pos 15999999999984 → pos 0 <ℤ (d -ℤ (pos w +ℤ pos 0)) → IsWithin 1000000000000000 (d -ℤ (pos w +ℤ pos 0))
-little d w le lt = record { low = omega (arith, ints, le, lt); high = omega (arith, ints, le, lt) }
-
 nothing : IsWithin 1000000000000000 (pos 0)
 nothing = record { low = omega (arith, ints); high = omega (arith, ints) }
 
-module _ (night : Night) (c : Case) (stack : Stack) (entry leave : ℕ → ℕ) (path blocks : List Block) (shapes : List Shape) (taken : AreTaken night c stack shapes blocks)
-    (over : (s : Shape) → In s shapes → IsWithin 15999999999984 (duals_over night c.duals s)) where
-  free_small : (b : Block) → In b blocks → IsWithin 1000000000000000 (gain night c b)
-  free_small b i =
-      let h = taken.each b i in
-      subst (λ (d : Block). IsWithin 1000000000000000 (gain night c d)) (sym h.2)
-      (little (duals_over night c.duals h.0) (1000 * cost_with night h.0 (block_on stack h.0).park + price_part_with night c.duals.prices h.0 (block_on stack h.0).park) (over h.0 h.1).high h.3.gains)
+same_head : (s t : Span) (xs ys : List Span) → s ≡ t → xs ≡ ys → s ∷ xs ≡ t ∷ ys
+same_head s t xs ys e f = ap (λ (r : Span). r ∷ xs) e ∙ ap (λ (zs : List Span). t ∷ zs) f
 
-  pub all_small : AreSmall (fixed_spans night entry leave (blocks_of stack path)) (free_spans night entry leave c blocks)
-  all_small s (inl i) =
-      let h = of_map (span_of night entry leave (λ b. pos 0)) (blocks_of stack path) s i in
-      subst (λ (t : Span). IsWithin 1000000000000000 t.gain) (sym h.2) nothing
-  all_small s (inr i) =
-      let h = of_map (span_of night entry leave (gain night c)) blocks s i in
-      subst (λ (t : Span). IsWithin 1000000000000000 t.gain) (sym h.2) (free_small h.0 h.1)
+on_track : (night : Night) (s : Shape) (park : Option Park) → IsOption night s park → IsOnTrack night.station park
+on_track night s None o = tt
+on_track night s (Some k) o = o.track
+
+pub blocks_within : (night : Night) (path : List Block) → All (IsBlockButId night) path → All (IsWithinTrains night) path
+blocks_within night path each k d lt = let is = each k d lt in record { runs = is.shape.within; track = on_track night (shape_of (get_or path k d)) (get_or path k d).park is.option }
+
+module _ (night : Night) (e : Events) (c : Case) where
+  pub spans_same : (ks : List Candidate) → ((k : Candidate) → In k ks → k.gain ≡ gain night c k.block) → spans_with night e ks ≡ free_spans night (entry_of e) (leave_of e) c (blocks_in ks)
+  spans_same [] h = refl
+  spans_same (k ∷ ks) h = same_head (span_with night e k) (span_of night (entry_of e) (leave_of e) (gain night c) k.block) (spans_with night e ks) (free_spans night (entry_of e) (leave_of e) c (blocks_in ks))
+      (ap (λ (z : ℤ). span_of night (entry_of e) (leave_of e) (λ b. z) k.block) (h k (inl refl)))
+      (spans_same ks (λ d i. h d (inr i)))
+
+  module _ (path : List Block) (stack : Stack) (ks : List Candidate) (are : AreCandidates night path c stack ks) where
+    pub free_same : spans_with night e ks ≡ free_spans night (entry_of e) (leave_of e) c (blocks_in ks)
+    free_same = spans_same ks are.gains
+
+    pub all_small : AreSmall (fixed_of_stack night e path stack) (spans_with night e ks)
+    all_small s (inl i) =
+        let h = of_map (span_of night (entry_of e) (leave_of e) (λ b. pos 0)) (blocks_of stack path) s i in
+        subst (λ (t : Span). IsWithin 1000000000000000 t.gain) (sym h.2) nothing
+    all_small s (inr i) =
+        let h = of_map (span_with night e) ks s i in
+        subst (λ (t : Span). IsWithin 1000000000000000 t.gain) (sym h.2) (are.small h.0 h.1)
+
+    pub little_gains : All (λ (k : Candidate). IsWithin 1000000000000000 k.gain) ks
+    little_gains = from_members (λ (k : Candidate). IsWithin 1000000000000000 k.gain) ks are.small
+
+    pub all_within : All (λ (k : Candidate). IsWithinTrains night k.block) ks
+    all_within = from_members (λ (k : Candidate). IsWithinTrains night k.block) ks (λ k i.
+        let h = each_one (λ (b : Block). IsFreeBlock night (masks_of night path) (shape_of b) b.park) (blocks_in ks) k.block are.free.free (in_map (λ (j : Candidate). j.block) ks k i) in
+        record { runs = h.shape.shape.within; track = on_track night (shape_of k.block) k.block.park h.option })
 
 -- a gain by the recursion, where that is told of others
 pub gain_tells : (P : ℤ → Type 0) (n r events room : ℕ) (fixed free xs ys : List Span) (g : Option ℤ) → n ≡ events → r ≡ room → xs ≡ fixed → ys ≡ free → IsGain xs ys 0 n r g →
@@ -57,9 +81,9 @@ gain_tells P n r events room fixed free xs ys g a b e f is law most =
     let same : g ≡ best events fixed free 0 events room = moved events (omega arith) in
     (λ h. (law most).0 (sym same ∙ h), λ p. same ∙ (law most).1 p)
 
-pub table_of : (fixed free xs ys : List Span) (n m : ℕ) (t : Table) → xs ≡ fixed → ys ≡ free → n ≡ m → IsTableOf xs ys n t → IsTableOf fixed free m t
-table_of fixed free xs ys n m t e f a is = record { table = is.table; fixed_same = is.fixed_same ∙ e; free_same = is.free_same ∙ f; events_same = is.events_same ∙ a }
-
 pub if_ok : {X E : Type 0} (P Q : X → Type 0) (r : Result X E) → ((x : X) → P x → Q x) → IfOk r P → IfOk r Q
 if_ok P Q (Ok x) h p = h x p
 if_ok P Q (Err e) h p = tt
+
+pub ok_is : {X E : Type 0} (P : X → Type 0) (r : Result X E) (x : X) → r ≡ Ok x → IfOk r P → P x
+ok_is P r x e h = subst (λ s. IfOk s P) e h

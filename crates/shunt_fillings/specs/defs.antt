@@ -1,3 +1,5 @@
 -- The definitions of this crate.
 pub mod Pieces
+pub mod Scenes
 pub mod Least
+pub mod Prospects

@@ -1,82 +1,91 @@
-// What all stacks gain at a path in a case.
-ghost use Rattle.std.specs.Prelude.{◌≡◌, ◌<◌, All, length, IfOk};
+// What a stack gains at a path, by its candidates there.
+ghost use Rattle.std.specs.Prelude.{◌≡◌, ◌<◌, ◌≤◌, ◌↔◌, ℤ, All, length, IfOk, Some};
+ghost use Rattle.shunt_base.specs.declared.duals.Case.{Case as OneCase};
 ghost use Rattle.shunt_blocks.specs.defs.Blocks.{IsBlockButId};
-ghost use Rattle.shunt_blocks.specs.defs.Lists.{RunsThrough, placed};
-ghost use Rattle.shunt_choices.specs.defs.Paths.{IsTrailOf};
+ghost use Rattle.shunt_blocks.specs.defs.Lists.{ShareNothing, RunsThrough, placed};
 ghost use Rattle.shunt_prices.specs.defs.Sums.{IsWithin};
-ghost use Rattle.shunt_prices.specs.defs.Limits.{IsCase};
-ghost use Rattle.shunt_dual.specs.defs.Asks.{AreFreeShapes};
-ghost use Rattle.shunt_stacks.specs.defs.Stacks.{stacks as stacks_of};
 ghost use Rattle.shunt_stacks.specs.defs.Fillings.{IsStackGain};
-ghost use Rattle.shunt_stacks.specs.defs.Bounds.{AreStackGains};
-ghost use Rattle.shunt_gains.specs.defs.Events.{AreEvents};
-ghost use Rattle.shunt_fillings.specs.defs.Pieces.{seen, all_seen};
+ghost use Rattle.shunt_stacks.specs.defs.Spans.{AreOwn};
+ghost use Rattle.shunt_gains.specs.defs.Events.{AreEvents, events_in};
+ghost use Rattle.shunt_gains.specs.defs.Tables.{spans_of, AreSmall, IsGain};
+ghost use Rattle.shunt_fillings.specs.defs.Pieces.{seen, AreCandidates, AreOfSomeCase};
 
+use crate::candidates::{Candidate, track_length};
 use crate::ends::Stack;
-use crate::tables::stack_gain;
-use shunt_base::Case;
-use shunt_blocks::Shape;
-use shunt_choices::Path;
-use shunt_gains::Events;
+use crate::pieces::{fixed_pieces, free_pieces};
+use shunt_blocks::Block;
+use shunt_gains::{Events, Piece, Table};
 use shunt_instance::Instance;
-use shunt_stacks::laws::{gains_there, stacks_of_stations, sums_fit};
+use shunt_stacks::laws::{gains_by_events, gains_there, sums_fit};
 use std::alloc::{AllocError, Global};
 
-/// What a stack gains at a path whose run goes through.
-fn gain_there(
+/// The greatest gain of fixed and free pieces in a room, in thousandths of a cost unit.
+fn greatest_gain(
+    alloc: Global,
+    events: &Events,
+    fixed: Vec<Piece>,
+    free: Vec<Piece>,
+    room: u32,
+) -> Result<Option<i64>, AllocError>
+    requires few { events_in events.now ≤ 320 }
+    requires own { AreOwn (spans_of fixed.items) (spans_of free.items) }
+    requires small { AreSmall (spans_of fixed.items) (spans_of free.items) }
+    ensures { IfOk result (IsGain (spans_of fixed.items) (spans_of free.items) 0 (events_in events.now) room) }
+{
+    let mut table = Table::new(alloc, fixed, free, events.len())?;
+    table.best(0, events.len(), room)
+}
+
+/// What a stack gains at a path in a case by its candidates there. None where its blocks of the path don't go.
+fn gain_if_there(
     alloc: Global,
     instance: &Instance,
     events: &Events,
-    path: &Path,
-    case: &Case,
-    shapes: &[Shape],
     stack: Stack,
+    path: &[Block],
+    candidates: &[Candidate],
+) -> Result<Option<i64>, AllocError>
+    requires events { AreEvents instance.now events.now }
+    requires track { stack.track.0 < length instance.now.station.tracks }
+    requires each { All (IsBlockButId instance.now) path.now }
+    requires apart { ShareNothing instance.now path.now }
+    requires candidates { AreOfSomeCase instance.now path.now (seen stack) candidates.now }
+    ensures { (c : OneCase) → AreCandidates instance.now path.now c (seen stack) candidates.now →
+        IfOk result (λ g. (most : ℤ) → g ≡ Some most ↔ IsStackGain instance.now path.now c (seen stack) most) }
+{
+    // The first call tells that the night is well formed.
+    instance.units();
+    gains_by_events();
+    let fixed = fixed_pieces(alloc, instance, events, stack, path)?;
+    let free = free_pieces(alloc, instance, events, candidates)?;
+    let room = track_length(instance, stack.track);
+    greatest_gain(alloc, events, fixed, free, room)
+}
+
+/// What a stack gains, by its candidates, at a path whose run goes through, in thousandths of a cost unit.
+pub(crate) fn stack_gain(
+    alloc: Global,
+    instance: &Instance,
+    events: &Events,
+    stack: Stack,
+    path: &[Block],
+    candidates: &[Candidate],
 ) -> Result<i64, AllocError>
     requires events { AreEvents instance.now events.now }
-    requires path { IsTrailOf instance.now path.now }
-    requires each { All (IsBlockButId instance.now) path.now.blocks }
-    requires through { RunsThrough instance.now (placed path.now.blocks) }
-    requires case { IsCase instance.now case.now }
-    requires free { AreFreeShapes instance.now path.now.covered shapes.now }
     requires track { stack.track.0 < length instance.now.station.tracks }
-    ensures exact { IfOk result (IsStackGain instance.now path.now.blocks case.now (seen stack)) }
+    requires each { All (IsBlockButId instance.now) path.now }
+    requires apart { ShareNothing instance.now path.now }
+    requires through { RunsThrough instance.now (placed path.now) }
+    requires candidates { AreOfSomeCase instance.now path.now (seen stack) candidates.now }
+    ensures exact { (c : OneCase) → AreCandidates instance.now path.now c (seen stack) candidates.now → IfOk result (IsStackGain instance.now path.now c (seen stack)) }
     ensures small { IfOk result (IsWithin 319999999999680) }
 {
     // The first call tells that the night is well formed.
     instance.units();
     gains_there();
     sums_fit();
-    let Some(gain) = stack_gain(alloc, instance, events, path, case, shapes, stack)? else {
+    let Some(gain) = gain_if_there(alloc, instance, events, stack, path, candidates)? else {
         unreachable!();
     };
     Ok(gain)
-}
-
-/// What the stacks of the night's station gain at a path whose run goes through, in a case, in thousandths of a cost unit. Err is want of
-/// memory.
-pub fn all_gains(
-    alloc: Global,
-    instance: &Instance,
-    events: &Events,
-    path: &Path,
-    case: &Case,
-    shapes: &[Shape],
-    stacks: &[Stack],
-) -> Result<Vec<i64>, AllocError>
-    requires events { AreEvents instance.now events.now }
-    requires path { IsTrailOf instance.now path.now }
-    requires each { All (IsBlockButId instance.now) path.now.blocks }
-    requires through { RunsThrough instance.now (placed path.now.blocks) }
-    requires case { IsCase instance.now case.now }
-    requires free { AreFreeShapes instance.now path.now.covered shapes.now }
-    requires stacks { all_seen stacks.now ≡ stacks_of instance.now.station }
-    ensures exact { IfOk result (λ v. AreStackGains instance.now path.now.blocks case.now v.items) }
-    ensures small { IfOk result (λ v. All (IsWithin 319999999999680) v.items) }
-{
-    stacks_of_stations();
-    let mut gains = Vec::with_capacity(alloc, stacks.len())?;
-    'stacks: for stack in stacks {
-        gains.push(gain_there(alloc, instance, events, path, case, shapes, *stack)?)?;
-    }
-    Ok(gains)
 }

@@ -1,15 +1,18 @@
-//! What stacks gain at a path in a case: their pieces, their tables, and the gains of all stacks.
+//! What stacks gain at a path in a case: their candidates, their tables, the sums with stacks, and the bounds of paths.
 #![tactic(auto)]
 
 mod bounds;
+mod candidates;
 mod ends;
 mod gains;
 mod pieces;
+mod prospects;
+mod scenes;
 mod sums;
-mod tables;
 
 pub use bounds::least_bound;
+pub use candidates::Candidate;
 pub use ends::{Stack, stacks};
-pub use gains::all_gains;
+pub use prospects::{Outlook, Prospect, outlooks};
+pub use scenes::Scene;
 pub use sums::{stack_bound, stack_sum};
-pub use tables::{stack_gain, stack_table};

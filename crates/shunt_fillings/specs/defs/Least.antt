@@ -1,11 +1,8 @@
--- Sums with stacks, and the least bound of some sums, of cases that are open.
-use Rattle.std.specs.Prelude.{◌≡◌, ◌⊎◌, ℕ, ◌+◌, ◌<◌, ℤ, pos, ◌≤ℤ◌, All, List, length, slice_index_or}
+-- The least bound of some sums, of cases that are open.
+use Rattle.std.specs.Prelude.{◌≡◌, ◌⊎◌, ℕ, ◌+◌, ◌<◌, ℤ, pos, ◌≤ℤ◌, List, length, slice_index_or}
 use Rattle.shunt_base.specs.declared.duals.Case.{Case}
-use Rattle.shunt_instance.specs.defs.Instance.{Night}
 use Rattle.shunt_blocks.specs.declared.records.Block.{Block}
-use Rattle.shunt_prices.specs.defs.Sums.{IsWithin}
 use Rattle.shunt_prices.specs.defs.Bounds.{IsOpenAt, IsBoundOf}
-use Rattle.shunt_stacks.specs.defs.Bounds.{IsStackSum}
 
 -- the bound of an open case by these sums, and at most that of the last case and of each open one before a number
 pub record IsLeastBelow (cases : List Case) (path : List Block) (sums : List ℤ) (k : ℕ) (bound : ℤ) : Type 0 where
@@ -13,9 +10,3 @@ pub record IsLeastBelow (cases : List Case) (path : List Block) (sums : List ℤ
   pub opens : IsOpenAt cases path number
   pub is : IsBoundOf (slice_index_or sums number (pos 0)) bound
   pub least : (j : ℕ) (other : ℤ) → (j < k) ⊎ (j + 1 ≡ length cases) → IsOpenAt cases path j → IsBoundOf (slice_index_or sums j (pos 0)) other → bound ≤ℤ other
-
--- the sums with stacks of the first so many cases at a path, none of them great
-pub record AreStackSums (night : Night) (path : List Block) (cases : List Case) (k : ℕ) (sums : List ℤ) : Type 0 where
-  pub long : length sums ≡ k
-  pub each : (j : ℕ) → j < k → IsStackSum night path cases j (slice_index_or sums j (pos 0))
-  pub small : All (IsWithin 4100000000000000000) sums

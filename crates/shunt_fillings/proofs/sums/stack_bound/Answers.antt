@@ -4,8 +4,8 @@ use Rattle.std.proofs.Common.{length, sym, subst, ap, ◌∙◌}
 use Rattle.std.proofs.lemmas.Int.{to_z-of_z}
 use Rattle.shunt_prices.specs.defs.Sums.{IsWithin}
 use Rattle.shunt_prices.specs.defs.Bounds.{unparked_in}
-use Rattle.shunt_stacks.specs.defs.Bounds.{IsStackBound}
-use Rattle.shunt_fillings.specs.defs.Least.{AreStackSums}
+use Rattle.shunt_stacks.specs.defs.Bounds.{IsStackSum, IsStackBound}
+use Rattle.shunt_fillings.specs.defs.Prospects.{AreSums}
 use Rattle.shunt_fillings.proofs.sums.stack_bound.Goals as goal
 
 pub least_bound-requires-clause-long : goal.least_bound-requires-clause-long
@@ -16,10 +16,10 @@ least_bound-requires-clause-small c = subst (All (IsWithin 4100000000000000000))
 
 pub returns : goal.returns
 returns c =
-    let night = c.args.instance.now in
-    let path = c.args.path.now.blocks in
+    let night = c.args.scene.now.instance.now in
+    let path = c.args.scene.now.path.now.blocks in
     let cases = c.args.cases.now in
-    let are = subst (AreStackSums night path cases (length cases)) (sym c.deref.ensures.value) c.in_ok-sums.ensures in
+    let are = subst (AreSums (IsStackSum night path cases) (length cases)) (sym c.deref.ensures.value) c.in_ok-sums.ensures in
     let unparked = c.unparked_in-unparked.ensures ∙ ap unparked_in c.blocks-2.ensures in
     subst (IsStackBound night path cases) (sym (to_z-of_z w64 c.least_bound.result (record { sfits = c.least_bound.type_inv })))
     (record {

@@ -6,3 +6,4 @@ mod Tabled
 mod Apart
 mod Opened
 mod Summed
+mod Chosen

@@ -10,3 +10,5 @@ mod Gained
 mod Taking
 mod Totalled
 mod Added
+mod Pairwise
+mod Listing

@@ -1,22 +1,19 @@
 -- Free shapes, candidates and offers, one after another.
-use Rattle.std.specs.Prelude.{◌↔◌, ◌<ℤ◌, ◌≤ℤ◌, All}
-use Rattle.std.proofs.Common.{◌≡◌, ⊎_elim, inl, ℕ, ◌+◌, ◌<◌, ◌≤◌, List, [], ◌∷◌, ◌++◌, length, get_or, ℤ, pos, refl, sym, ap, subst, ◌∙◌, arith}
+use Rattle.std.specs.Prelude.{◌<ℤ◌, ◌≤ℤ◌, All}
+use Rattle.std.proofs.Common.{◌≡◌, ⊎_elim, inl, List, [], ◌∷◌, ◌++◌, get_or, ℤ, pos, refl, sym, ap, subst, ◌∙◌, arith}
 use Rattle.std.proofs.lemmas.Int.{ints}
-use Rattle.std.proofs.lemmas.Bool.{cases_lt}
 use Rattle.shunt_lists.specs.defs.Members.{In}
 use Rattle.shunt_lists.proofs.Members.{in_left, in_right, in_cases, in_place, of_one}
 use Rattle.shunt_base.specs.declared.duals.Case.{Case}
-use Rattle.shunt_instance.specs.defs.Words.{train_at}
-use Rattle.shunt_instance.specs.defs.Instance.{Night, unit_total, first_unit}
+use Rattle.shunt_instance.specs.defs.Instance.{Night}
 use Rattle.shunt_blocks.specs.declared.records.Shape.{Shape}
-use Rattle.shunt_blocks.specs.defs.Shapes.{AreRunsWithin, unit_from}
+use Rattle.shunt_blocks.specs.defs.Shapes.{AreRunsWithin}
 use Rattle.shunt_choices.specs.defs.Paths.{Masks}
-use Rattle.shunt_choices.specs.defs.Choices.{IsFreeShape, shapes_of}
 use Rattle.shunt_prices.specs.defs.Cases.{duals_over}
 use Rattle.shunt_stacks.specs.defs.Stacks.{Stack}
 use Rattle.shunt_recount.specs.declared.candidates.Candidate.{Candidate}
 use Rattle.shunt_recount.specs.declared.offers.Offer.{Offer}
-use Rattle.shunt_recount.specs.defs.Offers.{AreFreeBelow, AreFreeShapes, IsCandidate, AreCandidatesOf, Gains, IsOffer, AreOffersFor, block_on}
+use Rattle.shunt_recount.specs.defs.Offers.{AreFreeShapes, IsCandidate, AreCandidatesOf, Gains, IsOffer, AreOffersFor, block_on}
 
 pub from_members : {X : Type 0} (P : X → Type 0) (xs : List X) → ((x : X) → In x xs → P x) → All P xs
 from_members P xs h k d lt = h (get_or xs k d) (in_place xs k d lt)
@@ -24,31 +21,6 @@ from_members P xs h k d lt = h (get_or xs k d) (in_place xs k d lt)
 -- ---- shapes
 
 module _ (night : Night) (covered : Masks) where
-  pub no_shapes : AreFreeBelow night covered 0 []
-  no_shapes = record { each = λ s none. absurd none; all = λ s free lt. absurd (omega (arith, lt)) }
-
-  pub more_shapes : (u : ℕ) (shapes : List Shape) → ((s : Shape) → In s (shapes_of night covered u) ↔ IsFreeShape night covered u s)
-      → AreFreeBelow night covered u shapes → AreFreeBelow night covered (u + 1) (shapes ++ shapes_of night covered u)
-  more_shapes u shapes members h = record {
-    each = λ s i. ⊎_elim
-        (λ (left : In s shapes). h.each s left)
-        (λ (right : In s (shapes_of night covered u)). let free = (members s).0 right in subst (λ (n : ℕ). IsFreeShape night covered n s) (sym free.first) free)
-        (in_cases shapes (shapes_of night covered u) s i);
-    all = λ s free lt. ⊎_elim
-        (λ (early : unit_from night s < u). in_left shapes (shapes_of night covered u) s (h.all s free early))
-        (λ (late : u ≤ unit_from night s).
-        let e : unit_from night s ≡ u = omega (arith, late, lt) in
-        in_right shapes (shapes_of night covered u) s ((members s).1 (subst (λ (n : ℕ). IsFreeShape night covered n s) e free)))
-        (cases_lt (unit_from night s) u);
-  }
-
-  pub all_free : (u : ℕ) (shapes : List Shape) → unit_total night ≤ u → ((a : ℕ) → a < length night.arrive → first_unit night a + length (train_at night.arrive a).units ≤ unit_total night)
-      → AreFreeBelow night covered u shapes → AreFreeShapes night covered shapes
-  all_free u shapes le rooms h = record {
-    each = h.each;
-    all = λ s free. let r = free.shape.within in h.all s free (omega (arith, rooms s.arr.0 r.arr, r.units, r.p, r.n, le));
-  }
-
   pub all_within : (shapes : List Shape) → AreFreeShapes night covered shapes → All (AreRunsWithin night) shapes
   all_within shapes h = from_members (AreRunsWithin night) shapes (λ s i. (h.each s i).shape.within)
 

@@ -1,21 +1,18 @@
 // Free shapes that are worth something in a case.
-ghost use Rattle.std.specs.Prelude.{◌≡◌, ◌<◌, ◌++◌, ◌∷◌, [], All, List, IfOk, OnOk};
-ghost use Rattle.shunt_instance.specs.defs.Instance.{unit_total};
+ghost use Rattle.std.specs.Prelude.{◌≡◌, ◌++◌, ◌∷◌, [], All, List, IfOk, OnOk};
 ghost use Rattle.shunt_blocks.specs.declared.records.Shape.{Shape as AShape};
 ghost use Rattle.shunt_blocks.specs.defs.Shapes.{AreRunsWithin};
 ghost use Rattle.shunt_choices.specs.defs.Free.{AreMasksOf};
-ghost use Rattle.shunt_choices.specs.defs.Choices.{shapes_of};
 ghost use Rattle.shunt_prices.specs.defs.Limits.{IsCase};
 ghost use Rattle.shunt_recount.specs.defs.Offers.{AreFreeShapes, IsCandidate, AreCandidatesOf};
 
 use crate::ends::block_of;
 use crate::pricing::worth;
+use crate::shapes::all_shapes;
 use shunt_base::Case;
 use shunt_blocks::{Shape, block_length};
-use shunt_choices::laws::free_shapes;
-use shunt_choices::{Covered, shapes_from};
+use shunt_choices::Covered;
 use shunt_instance::Instance;
-use shunt_instance::laws::rooms_of_trains;
 use std::alloc::{AllocError, Global};
 
 /// A shape with the length of its units in dm, and what it is worth in a case, in thousandths of a cost unit.
@@ -24,43 +21,6 @@ pub(crate) struct Candidate {
     pub shape: Shape,
     pub length: u32,
     pub worth: i64,
-}
-
-/// Adds the shapes of uncovered units and positions that begin at a unit.
-fn add_shapes(
-    instance: &Instance,
-    covered: &Covered,
-    u: usize,
-    shapes: &mut Vec<Shape>,
-) -> Result<(), AllocError>
-    requires covered { AreMasksOf instance.now covered.now }
-    requires unit { u < unit_total instance.now }
-    ensures { OnOk result (shapes.new.items ≡ shapes.old.items ++ shapes_of instance.now covered.now u) }
-{
-    let mut found = shapes_from(instance, u, covered);
-    'found: while let Some(shape) = found.next() {
-        shapes.push(shape)?;
-    }
-    Ok(())
-}
-
-/// All shapes of uncovered units and positions.
-fn all_shapes(
-    alloc: Global,
-    instance: &Instance,
-    covered: &Covered,
-) -> Result<Vec<Shape>, AllocError>
-    requires { AreMasksOf instance.now covered.now }
-    ensures { IfOk result (λ v. AreFreeShapes instance.now covered.now v.items) }
-{
-    // Each shape begins at one of the night's units, and these are all that begin at it.
-    rooms_of_trains();
-    free_shapes();
-    let mut shapes = Vec::new(alloc);
-    for u in 0..instance.units() {
-        add_shapes(instance, covered, u, &mut shapes)?;
-    }
-    Ok(shapes)
 }
 
 /// A shape with its length, and what it is worth in a case.

@@ -11,6 +11,7 @@ mod known;
 mod offers;
 mod pricing;
 mod recounts;
+mod shapes;
 mod values;
 mod visits;
 

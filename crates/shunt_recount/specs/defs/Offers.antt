@@ -1,13 +1,14 @@
 -- Free shapes, what they are worth, and what they offer to a stack.
-use Rattle.std.specs.Prelude.{◌≡◌, ℕ, ◌<◌, ◌≤◌, pos, ◌<ℤ◌, filter, map, List, Option, Some, None}
+use Rattle.std.specs.Prelude.{◌≡◌, ◌⊎◌, ℕ, ◌≤◌, pos, ◌<ℤ◌, true, false, filter, map, slice_index_or, List, Option, Some, None}
 use Rattle.shunt_lists.specs.defs.Members.{In}
 use Rattle.shunt_base.specs.declared.duals.Case.{Case}
 use Rattle.shunt_instance.specs.declared.records.Station.{Station}
+use Rattle.shunt_instance.specs.declared.records.Unit.{Unit as TrainUnit}
 use Rattle.shunt_instance.specs.defs.Words.{is_open_at}
 use Rattle.shunt_instance.specs.defs.Instance.{Night}
 use Rattle.shunt_blocks.specs.declared.records.Shape.{Shape}
 use Rattle.shunt_blocks.specs.declared.records.Block.{Block}
-use Rattle.shunt_blocks.specs.defs.Shapes.{AreRunsWithin, unit_from}
+use Rattle.shunt_blocks.specs.defs.Shapes.{AreRunsWithin, IsPair, unit_from}
 use Rattle.shunt_blocks.specs.defs.Standing.{shape_length}
 use Rattle.shunt_blocks.specs.defs.Blocks.{IsOption}
 use Rattle.shunt_choices.specs.defs.Paths.{Masks}
@@ -40,14 +41,37 @@ open_below s t = filter (λ k. is_open_at s k.track k.side) (sides_below t)
 abbrev pub block_on : Stack → Shape → Block
 block_on stack s = record { id = 1; arr = s.arr; p = s.p; n = s.n; dep = s.dep; q = s.q; park = Some (record { track = stack.track; side_in = stack.side; side_out = stack.side }) }
 
+-- neither is covered, and they are matchable
+pub record IsFreePair (night : Night) (covered : Masks) (u v : ℕ) : Type 0 where
+  pub unit : slice_index_or covered.units u true ≡ false
+  pub position : slice_index_or covered.places v true ≡ false
+  pub pair : IsPair night u v
+
 -- a shape of uncovered units and positions
 abbrev pub IsFree : Night → Masks → Shape → Type 0
 IsFree night covered s = IsFreeShape night covered (unit_from night s) s
 
--- free shapes, and each one that begins below a unit
-pub record AreFreeBelow (night : Night) (covered : Masks) (u : ℕ) (shapes : List Shape) : Type 0 where
-  pub each : (s : Shape) → In s shapes → IsFree night covered s
-  pub all : (s : Shape) → IsFree night covered s → unit_from night s < u → In s shapes
+-- a shape begins at the unit with a number
+abbrev pub BeginsAt : Night → ℕ → Shape → Type 0
+BeginsAt night u s = unit_from night s ≡ u
+
+-- a shape begins at a unit
+abbrev pub IsOfUnit : TrainUnit → Shape → Type 0
+IsOfUnit unit s = (s.arr ≡ unit.train) × (s.p ≡ unit.place)
+
+-- the same of those with that many units
+abbrev pub HasUnits : TrainUnit → ℕ → Shape → Type 0
+HasUnits unit n s = IsOfUnit unit s × (s.n ≡ n)
+
+-- the same of those that go with a departing train
+abbrev pub GoesWith : TrainUnit → ℕ → ℕ → Shape → Type 0
+GoesWith unit n dep s = HasUnits unit n s × (s.dep.0 ≡ dep)
+
+-- what came to a list of shapes is free, and each free one of which this holds is there
+pub record GoesOn (night : Night) (covered : Masks) (Holds : Shape → Type 0) (old new : List Shape) : Type 0 where
+  pub kept : (s : Shape) → In s old → In s new
+  pub each : (s : Shape) → In s new → In s old ⊎ IsFree night covered s
+  pub all : (s : Shape) → IsFree night covered s → Holds s → In s new
 
 -- all free shapes
 pub record AreFreeShapes (night : Night) (covered : Masks) (shapes : List Shape) : Type 0 where

@@ -1,6 +1,6 @@
 -- Nothing is wrong exactly when a certificate is accepted.
 use Rattle.std.specs.Prelude.{◌↔◌, ◌≢◌}
-use Rattle.std.proofs.Common.{◌≡◌, inl, inr, ℕ, ◌+◌, ◌<◌, ◌≤◌, ℤ, pos, List, Some, None, length, refl, sym, subst, arith}
+use Rattle.std.proofs.Common.{◌≡◌, inl, inr, ℕ, ◌+◌, ◌<◌, ◌≤◌, ℤ, pos, List, Some, None, length, sym, subst, arith}
 use Rattle.shunt_base.specs.declared.duals.Case.{Case}
 use Rattle.shunt_instance.specs.defs.Words.{train_at, kind_at}
 use Rattle.shunt_instance.specs.defs.Instance.{Night, IsInstance, unit_at, make_unit}

@@ -1,15 +1,17 @@
 -- Paths with one block more.
-use Rattle.std.specs.Prelude.{IfOk, IfNone, All, Option, Some, None, Result, Ok, Err}
+use Rattle.std.specs.Prelude.{IfOk, IfNone, All, take, Option, Some, None, Result, Ok, Err}
 use Rattle.std.specs.Option.{IsSomeAnd}
 use Rattle.std.proofs.Common.{◌≡◌, inl, ℕ, ℤ, ◌+◌, ◌<◌, ◌≤◌, List, [], ◌∷◌, ◌++◌, length, refl, sym, ap, subst, ◌∙◌, arith}
 use Rattle.std.proofs.lemmas.List.{length-append}
-use Rattle.std.proofs.lemmas.List.Elements.{recursion_from_All}
+use Rattle.std.proofs.lemmas.List.Elements.{All-append, All-cons, All-nil, All-take, recursion_from_All}
+use Rattle.std.proofs.Math.Seq.{take-append_seam}
 use Rattle.shunt_lists.specs.defs.Members.{In}
 use Rattle.shunt_lists.proofs.Members.{all_in, in_left, in_right}
 use Rattle.shunt_base.specs.declared.duals.Case.{Case}
 use Rattle.shunt_instance.specs.defs.Instance.{Night}
 use Rattle.shunt_blocks.specs.declared.records.Block.{Block}
 use Rattle.shunt_blocks.specs.defs.Shapes.{begins_at, shape_of, unit_from, IsInRange, IsWithinTrains}
+use Rattle.shunt_blocks.specs.defs.Blocks.{IsBlockButId}
 use Rattle.shunt_blocks.specs.defs.Lists.{ShareNothing, RunsThrough, placed}
 use Rattle.shunt_blocks.specs.defs.Pins.{without_id}
 use Rattle.shunt_choices.specs.defs.Paths.{Masks, Trail, IsTrailOf, IsPartialPlan, masks_of, next_of}
@@ -40,6 +42,17 @@ longer_than old new d pins after e same few =
 -- the block of a choice is free
 pub choice_free : (night : Night) (covered : Masks) (u : ℕ) (d : PathChoice) → IsChoice night covered u d → IsFreeBlock night covered d.shape d.option
 choice_free night covered u d is = record { shape = subst (λ (w : ℕ). IsFreeShape night covered w d.shape) (sym is.shape.first) is.shape; option = is.option }
+
+-- and a block of the night
+block_of : (night : Night) (covered : Masks) (id : ℕ) (next : Option ℕ) (d : PathChoice) → IsSomeAnd next (λ u. IsChoice night covered u d) → IsBlockButId night (chosen id d)
+block_of night covered id None d never = absurd never
+block_of night covered id (Some u) d is = record { shape = is.shape.shape; option = is.option }
+
+-- a path of blocks has only such with one choice more
+pub longer_each : (night : Night) (path : List Block) (d : PathChoice) → IsChoiceAt night path d → All (IsBlockButId night) path → All (IsBlockButId night) (longer_by path d)
+longer_each night path d there each =
+    All-append (IsBlockButId night) path (chosen (length path + 1) d ∷ []) each
+    (All-cons (IsBlockButId night) (chosen (length path + 1) d) [] (block_of night (masks_of night path) (length path + 1) (next_of (masks_of night path)) d there) (All-nil (IsBlockButId night)))
 
 -- ---- the last block
 
@@ -77,6 +90,10 @@ same_last xs ys x y e = sym (last_push x xs x) ∙ (ap (last_or x) e ∙ last_pu
 of_last : (P : Block → Type 0) (whole front : List Block) (b : Block) → whole ≡ front ++ b ∷ [] → All P whole → P b
 of_last P whole front b e all = all_in P whole b (recursion_from_All P whole all) (subst (In b) (sym e) (in_right front (b ∷ []) b (inl refl)))
 
+-- and of those before it
+of_front : (P : Block → Type 0) (whole front : List Block) (b : Block) → whole ≡ front ++ b ∷ [] → All P whole → All P front
+of_front P whole front b e all = subst (All P) (ap (take (length front)) e ∙ take-append_seam front (b ∷ [])) (All-take P (length front) whole all)
+
 next_for : (night : Night) (path : List Block) (next : Option ℕ) (d : PathChoice) → IsSomeAnd next (λ u. IsChoice night (masks_of night path) u d) → next ≡ Some (unit_from night d.shape)
 next_for night path None d never = absurd never
 next_for night path (Some u) d is = ap (λ (n : ℕ). Some n) (sym is.shape.first)
@@ -99,6 +116,9 @@ module _ (night : Night) (old new : Trail) (b : Block) (e : old.blocks ≡ new.b
   pub front_runs : PartLaw night → RunsThrough night (placed new.blocks)
   front_runs law = law old.blocks new.blocks (within_all night old.blocks of_old.each) of_old.apart (within_all night new.blocks of_new.each) of_new.apart
       (λ c i. (c, subst (In c) (sym e) (in_left new.blocks (b ∷ []) c i), refl)) more.1.through
+
+  pub front_each : All (IsBlockButId night) new.blocks
+  front_each = of_front (IsBlockButId night) old.blocks new.blocks b e more.1.each
 
   pub last_in : IsInRange night b
   last_in = of_last (IsInRange night) old.blocks new.blocks b e of_old.each
@@ -124,3 +144,6 @@ module _ (night : Night) (old new : Trail) (b : Block) (e : old.blocks ≡ new.b
 
 pub runs_from : {night : Night} {pins path : List Block} → IsPartialPlan night pins path → RunsThrough night (placed path)
 runs_from h = h.through
+
+pub each_from : {night : Night} {pins path : List Block} → IsPartialPlan night pins path → All (IsBlockButId night) path
+each_from h = h.each

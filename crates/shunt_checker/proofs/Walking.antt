@@ -1,11 +1,12 @@
 -- On the way down to a node: whose duals hold there, and what is known behind it.
-use Rattle.std.specs.Prelude.{◌≢◌, IfOk, IfNone, Result, Ok, Err, Option, Some, None, slice_index_or, take, set, replicate, min}
+use Rattle.std.specs.Prelude.{◌≢◌, IfOk, IfNone, All, Result, Ok, Err, Option, Some, None, slice_index_or, take, set, replicate, min}
 use Rattle.std.proofs.Common.{◌≡◌, ⊎_elim, ℕ, zero, suc, ◌+◌, ◌-◌, ◌<◌, ◌≤◌, List, [], ◌∷◌, ◌++◌, length, refl, sym, ap, subst, ◌∙◌, arith}
 use Rattle.std.proofs.lemmas.Bool.{cases_lt, cases_eq}
 use Rattle.std.proofs.lemmas.List.{length-set, get_or-set_same, get_or-set_other, get_or-replicate}
 use Rattle.shunt_base.specs.declared.duals.Case.{Case}
 use Rattle.shunt_instance.specs.defs.Instance.{Night}
 use Rattle.shunt_blocks.specs.declared.records.Block.{Block}
+use Rattle.shunt_blocks.specs.defs.Blocks.{IsBlockButId}
 use Rattle.shunt_blocks.specs.defs.Lists.{RunsThrough, placed, total_cost}
 use Rattle.shunt_choices.specs.defs.Paths.{Trail, IsTrailOf}
 use Rattle.shunt_choices.specs.defs.Choices.{Choice as PathChoice, longer_by, chosen}
@@ -154,10 +155,17 @@ module _ (night : Night) (start : List Block) (c : Certificate) (k : ℕ) (front
       let here : JudgesChild night c k front best None = subst (JudgesChild night c k front best) e found in
       here start fe be
 
-  pub child_at : r ≡ None → (new : Trail) → IsTrailOf night new → new.pins ≡ length start → IfNone r (Leads night c k front new.blocks) → IfNone r (RunsThrough night (placed new.blocks)) → IsAtNode night start c k new
-  child_at e new of pins leads through =
+  pub child_at : r ≡ None → (new : Trail) → IsTrailOf night new → new.pins ≡ length start → IfNone r (Leads night c k front new.blocks) → IfNone r (RunsThrough night (placed new.blocks)) → IfNone r (All (IsBlockButId night) new.blocks)
+      → IsAtNode night start c k new
+  child_at e new of pins leads through each =
       let lead : Leads night c k front new.blocks = subst (λ (o : Option Reason). IfNone o (Leads night c k front new.blocks)) e leads in
-      record { of = of; path = lead start fe; through = subst (λ (o : Option Reason). IfNone o (RunsThrough night (placed new.blocks))) e through; pins = pins }
+      record {
+        of = of;
+        path = lead start fe;
+        through = subst (λ (o : Option Reason). IfNone o (RunsThrough night (placed new.blocks))) e through;
+        each = subst (λ (o : Option Reason). IfNone o (All (IsBlockButId night) new.blocks)) e each;
+        pins = pins;
+      }
 
 -- duals that hold at the parent hold at its child
 pub hold_below : (night : Night) (start : List Block) (c : Certificate) (k above : ℕ) (choice : Choice)
@@ -206,6 +214,7 @@ walked night start c k old new frames best after owner walk at owns lt exact sma
       of = at.of;
       path = at.path ∙ ap (λ (n : ℕ). path_before night start c.nodes n) next;
       through = at.through;
+      each = at.each;
       pins = at.pins;
       long = length-set frames (depth_at c.nodes k) (record { node = k; owner = owner }) ∙ walk.long;
       frames = subst (λ (n : ℕ). AreFrames c.nodes n (set frames (depth_at c.nodes k) (record { node = k; owner = owner }))) next

@@ -1,5 +1,6 @@
 // Whether a node's choice leads on from its parent's path.
-ghost use Rattle.std.specs.Prelude.{◌≡◌, ◌<◌, ◌≤◌, ◌≤ℤ◌, ◌<ℤ◌, ◌↔◌, IsTrue, IfOk, IfSome, IfNone, Some, pos, length};
+ghost use Rattle.std.specs.Prelude.{◌≡◌, ◌<◌, ◌≤◌, ◌≤ℤ◌, ◌<ℤ◌, ◌↔◌, IsTrue, IfOk, IfSome, IfNone, All, Some, pos, length};
+ghost use Rattle.shunt_blocks.specs.defs.Blocks.{IsBlockButId};
 ghost use Rattle.shunt_blocks.specs.defs.Lists.{RunsThrough, placed};
 ghost use Rattle.shunt_choices.specs.defs.Paths.{IsTrailOf};
 ghost use Rattle.shunt_prices.specs.defs.Limits.{AreCases};
@@ -64,6 +65,7 @@ fn there_fault(
     requires some { 1 ≤ k }
     requires there { k < length certificate.now.nodes }
     requires path { IsTrailOf instance.now path.old }
+    requires each { All (IsBlockButId instance.now) path.old.blocks }
     requires choice { (node_at certificate.now.nodes k).choice ≡ Some choice }
     requires fits { FitsChoice instance.now choice }
     ensures found { IfOk result (JudgesBelow instance.now certificate.now k path.old.blocks 1 2) }
@@ -129,6 +131,7 @@ pub(crate) fn child_fault(
     requires there { k < length certificate.now.nodes }
     requires above { above ≡ parent certificate.now.nodes k }
     requires path { IsTrailOf instance.now path.old }
+    requires each { All (IsBlockButId instance.now) path.old.blocks }
     requires cases { AreCases instance.now cases.now }
     requires duals { cases.now ≡ duals_at certificate.now.nodes above }
     requires pins { path.old.pins ≤ length path.old.blocks }
@@ -136,6 +139,7 @@ pub(crate) fn child_fault(
     ensures found { IfOk result (JudgesChild instance.now certificate.now k path.old.blocks best) }
     ensures leads { IfOk result (λ r. IfNone r (Leads instance.now certificate.now k path.old.blocks path.new.blocks)) }
     ensures through { IfOk result (λ r. IfNone r (RunsThrough instance.now (placed path.new.blocks))) }
+    ensures each { IfOk result (λ r. IfNone r (All (IsBlockButId instance.now) path.new.blocks)) }
     ensures of { IsTrailOf instance.now path.new }
     ensures pins { path.new.pins ≡ path.old.pins }
 {

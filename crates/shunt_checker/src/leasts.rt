@@ -1,6 +1,7 @@
 // Bounds with stacks: of a path by its cases, and of a block that comes to it.
-ghost use Rattle.std.specs.Prelude.{◌≡◌, ◌⊎◌, ◌<◌, ◌≤◌, ◌++◌, [], ◌∷◌, ◌↔◌, ◌≤ℤ◌, IsTrue, IfOk, length};
+ghost use Rattle.std.specs.Prelude.{◌≡◌, ◌⊎◌, ◌<◌, ◌≤◌, ◌++◌, [], ◌∷◌, ◌↔◌, ◌≤ℤ◌, IsTrue, IfOk, All, length};
 ghost use Rattle.shunt_blocks.specs.defs.Shapes.{shape_of, IsWithinTrains};
+ghost use Rattle.shunt_blocks.specs.defs.Blocks.{IsBlockButId};
 ghost use Rattle.shunt_blocks.specs.defs.Lists.{RunsThrough, placed};
 ghost use Rattle.shunt_choices.specs.defs.Paths.{IsTrailOf};
 ghost use Rattle.shunt_prices.specs.defs.Limits.{AreCases, case_at};
@@ -63,6 +64,7 @@ pub(crate) fn stack_bound(
 ) -> Result<i64, AllocError>
     requires path { IsTrailOf instance.now path.now }
     requires through { RunsThrough instance.now (placed path.now.blocks) }
+    requires each { All (IsBlockButId instance.now) path.now.blocks }
     requires cases { AreCases instance.now cases.now }
     ensures is { IfOk result (IsStackBound instance.now path.now.blocks cases.now) }
     ensures word { IfOk result IsInWord }
@@ -87,6 +89,7 @@ pub(crate) fn choice_bound(
 ) -> Result<i64, AllocError>
     requires path { IsTrailOf instance.now path.now }
     requires through { RunsThrough instance.now (placed path.now.blocks) }
+    requires each { All (IsBlockButId instance.now) path.now.blocks }
     requires cases { AreCases instance.now cases.now }
     requires within { IsWithinTrains instance.now block.now }
     requires free { IsFreeBlock instance.now path.now.covered (shape_of block.now) block.now.park }

@@ -1,6 +1,7 @@
 // What is the first to be wrong with a node at its path.
 ghost use Rattle.std.specs.Prelude.{◌≡◌, ◌≢◌, ◌<◌, ◌≤◌, ◌≤ℤ◌, ◌<ℤ◌, ◌↔◌, IsTrue, IfOk, IfSome, IfNone, All, Some, pos, length};
 ghost use Rattle.shunt_blocks.specs.defs.Shapes.{IsWithinTrains, AreRunsWithin, IsOnTrack};
+ghost use Rattle.shunt_blocks.specs.defs.Blocks.{IsBlockButId};
 ghost use Rattle.shunt_blocks.specs.defs.Lists.{RunsThrough, placed, total_cost};
 ghost use Rattle.shunt_choices.specs.defs.Paths.{IsTrailOf, next_of};
 ghost use Rattle.shunt_choices.specs.defs.Choices.{chosen};
@@ -226,6 +227,7 @@ fn leaf_fault(
 ) -> Result<Option<Reason>, AllocError>
     requires path { IsTrailOf instance.now path.now }
     requires through { RunsThrough instance.now (placed path.now.blocks) }
+    requires each { All (IsBlockButId instance.now) path.now.blocks }
     requires kind { (node_at certificate.now.nodes k).kind ≡ shows.Leaf }
     requires cases { AreCases instance.now cases.now }
     requires duals { cases.now ≡ duals_at certificate.now.nodes k }
@@ -291,6 +293,7 @@ fn missed_by_stacks(
     requires nodes { AreNodes instance.now certificate.now.nodes }
     requires path { IsTrailOf instance.now path.now }
     requires through { RunsThrough instance.now (placed path.now.blocks) }
+    requires each { All (IsBlockButId instance.now) path.now.blocks }
     requires cases { AreCases instance.now cases.now }
     requires bound { certificate.now.bound ≤ 1000000000000 }
     requires next { next_of path.now.covered ≡ Some u }
@@ -314,6 +317,7 @@ fn missed_at(
     requires nodes { AreNodes instance.now certificate.now.nodes }
     requires path { IsTrailOf instance.now path.now }
     requires through { RunsThrough instance.now (placed path.now.blocks) }
+    requires each { All (IsBlockButId instance.now) path.now.blocks }
     requires cases { AreCases instance.now cases.now }
     requires bound { certificate.now.bound ≤ 1000000000000 }
     requires next { next_of path.now.covered ≡ Some u }
@@ -338,6 +342,7 @@ fn branch_fault(
     requires nodes { AreNodes instance.now certificate.now.nodes }
     requires path { IsTrailOf instance.now path.old }
     requires through { RunsThrough instance.now (placed path.old.blocks) }
+    requires each { All (IsBlockButId instance.now) path.old.blocks }
     requires kind { (node_at certificate.now.nodes k).kind ≡ shows.Branch }
     requires cases { AreCases instance.now cases.now }
     requires duals { cases.now ≡ duals_at certificate.now.nodes k }
@@ -376,6 +381,7 @@ pub(crate) fn shown_fault(
     requires nodes { AreNodes instance.now certificate.now.nodes }
     requires path { IsTrailOf instance.now path.old }
     requires through { RunsThrough instance.now (placed path.old.blocks) }
+    requires each { All (IsBlockButId instance.now) path.old.blocks }
     requires kind { (node_at certificate.now.nodes k).kind ≢ shows.Whole }
     requires cases { AreCases instance.now cases.now }
     requires duals { cases.now ≡ duals_at certificate.now.nodes k }

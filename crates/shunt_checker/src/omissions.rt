@@ -1,6 +1,7 @@
 // Which choice at a branch's path is the first that the branch would have to list and doesn't, with stacks.
-ghost use Rattle.std.specs.Prelude.{◌≡◌, ◌<◌, ◌≤◌, ◌+◌, ◌*◌, ◌+ℤ◌, ◌-ℤ◌, ◌↔◌, IsTrue, IfOk, Some, false, length, pos};
+ghost use Rattle.std.specs.Prelude.{◌≡◌, ◌<◌, ◌≤◌, ◌+◌, ◌*◌, ◌+ℤ◌, ◌-ℤ◌, ◌↔◌, IsTrue, IfOk, All, Some, false, length, pos};
 ghost use Rattle.shunt_blocks.specs.defs.Shapes.{unit_from, AreRunsWithin, IsOnTrack};
+ghost use Rattle.shunt_blocks.specs.defs.Blocks.{IsBlockButId};
 ghost use Rattle.shunt_blocks.specs.defs.Lists.{RunsThrough, placed};
 ghost use Rattle.shunt_choices.specs.defs.Paths.{IsTrailOf, next_of};
 ghost use Rattle.shunt_choices.specs.defs.Choices.{IsFreeShape, longer_by, chosen};
@@ -311,6 +312,7 @@ pub(crate) fn first_omitted(
 ) -> Result<Option<Offer>, AllocError>
     requires path { IsTrailOf instance.now path.now }
     requires through { RunsThrough instance.now (placed path.now.blocks) }
+    requires each { All (IsBlockButId instance.now) path.now.blocks }
     requires cases { AreCases instance.now cases.now }
     requires nodes { AreNodes instance.now nodes.now }
     requires there { node < length nodes.now }

@@ -1,6 +1,7 @@
 // Sums with stacks: of a path, and of a block that comes to it.
-ghost use Rattle.std.specs.Prelude.{◌≡◌, ◌<◌, ◌++◌, [], ◌∷◌, IfOk, length};
+ghost use Rattle.std.specs.Prelude.{◌≡◌, ◌<◌, ◌++◌, [], ◌∷◌, IfOk, All, length};
 ghost use Rattle.shunt_blocks.specs.defs.Shapes.{shape_of, IsWithinTrains};
+ghost use Rattle.shunt_blocks.specs.defs.Blocks.{IsBlockButId};
 ghost use Rattle.shunt_blocks.specs.defs.Lists.{RunsThrough, placed};
 ghost use Rattle.shunt_choices.specs.defs.Paths.{IsTrailOf};
 ghost use Rattle.shunt_prices.specs.defs.Sums.{IsWithin};
@@ -22,7 +23,7 @@ use shunt_recount::{Recount, fall, recount, total};
 use std::alloc::{AllocError, Global};
 
 /// What a case comes to at a path with stacks: its sum, and what the stacks gain.
-#[derive(Debug, Drop)]
+#[derive(Drop)]
 pub(crate) struct Tally {
     pub(crate) sum: i64,
     pub(crate) counted: Recount,
@@ -38,6 +39,7 @@ fn recount_in(
 ) -> Result<Recount, AllocError>
     requires path { IsTrailOf instance.now path.now }
     requires through { RunsThrough instance.now (placed path.now.blocks) }
+    requires each { All (IsBlockButId instance.now) path.now.blocks }
     requires cases { AreCases instance.now cases.now }
     requires there { k < length cases.now }
     ensures { IfOk result (IsRecountOf instance.now path.now.blocks (case_at cases.now k)) }
@@ -103,6 +105,7 @@ pub(crate) fn tally_in(
 ) -> Result<Tally, AllocError>
     requires path { IsTrailOf instance.now path.now }
     requires through { RunsThrough instance.now (placed path.now.blocks) }
+    requires each { All (IsBlockButId instance.now) path.now.blocks }
     requires cases { AreCases instance.now cases.now }
     requires there { k < length cases.now }
     ensures { IfOk result (IsTally instance.now path.now.blocks cases.now k) }
@@ -122,6 +125,7 @@ pub(crate) fn path_sum(
 ) -> Result<i64, AllocError>
     requires path { IsTrailOf instance.now path.now }
     requires through { RunsThrough instance.now (placed path.now.blocks) }
+    requires each { All (IsBlockButId instance.now) path.now.blocks }
     requires cases { AreCases instance.now cases.now }
     requires there { k < length cases.now }
     ensures exact { IfOk result (IsStackSum instance.now path.now.blocks cases.now k) }
@@ -142,6 +146,7 @@ pub(crate) fn choice_sum(
 ) -> Result<i64, AllocError>
     requires path { IsTrailOf instance.now path.now }
     requires through { RunsThrough instance.now (placed path.now.blocks) }
+    requires each { All (IsBlockButId instance.now) path.now.blocks }
     requires cases { AreCases instance.now cases.now }
     requires there { k < length cases.now }
     requires within { IsWithinTrains instance.now block.now }

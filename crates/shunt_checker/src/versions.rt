@@ -1,6 +1,7 @@
 // Bounds in either version.
-ghost use Rattle.std.specs.Prelude.{◌≡◌, ◌<◌, ◌++◌, [], ◌∷◌, List, IfOk, Some, length};
+ghost use Rattle.std.specs.Prelude.{◌≡◌, ◌<◌, ◌++◌, [], ◌∷◌, List, IfOk, All, Some, length};
 ghost use Rattle.shunt_blocks.specs.declared.records.Block.{Block as ABlock};
+ghost use Rattle.shunt_blocks.specs.defs.Blocks.{IsBlockButId};
 ghost use Rattle.shunt_blocks.specs.defs.Lists.{RunsThrough, placed};
 ghost use Rattle.shunt_choices.specs.defs.Paths.{IsTrailOf, next_of};
 ghost use Rattle.shunt_choices.specs.defs.Choices.{IsChoice, longer_by};
@@ -31,6 +32,7 @@ pub(crate) fn path_bound(
 ) -> Result<i64, AllocError>
     requires path { IsTrailOf instance.now path.now }
     requires through { RunsThrough instance.now (placed path.now.blocks) }
+    requires each { All (IsBlockButId instance.now) path.now.blocks }
     requires cases { AreCases instance.now cases.now }
     ensures is { IfOk result (IsBoundIn version instance.now path.now.blocks cases.now) }
     ensures word { IfOk result IsInWord }
@@ -104,6 +106,7 @@ fn offer_choice_bound(
 ) -> Result<i64, AllocError>
     requires path { IsTrailOf instance.now path.now }
     requires through { RunsThrough instance.now (placed path.now.blocks) }
+    requires each { All (IsBlockButId instance.now) path.now.blocks }
     requires cases { AreCases instance.now cases.now }
     requires there { IsChoice instance.now path.now.covered u offer }
     requires longer { RunsThrough instance.now (placed (longer_by path.now.blocks offer)) }
@@ -130,6 +133,7 @@ pub(crate) fn offer_bound(
 ) -> Result<i64, AllocError>
     requires path { IsTrailOf instance.now path.old }
     requires through { RunsThrough instance.now (placed path.old.blocks) }
+    requires each { All (IsBlockButId instance.now) path.old.blocks }
     requires cases { AreCases instance.now cases.now }
     requires next { next_of path.old.covered ≡ Some u }
     requires there { IsChoice instance.now path.old.covered u offer }

@@ -1,6 +1,7 @@
 // From node to node of a certificate, with the duals that hold there and the best cost.
-ghost use Rattle.std.specs.Prelude.{◌≡◌, ◌<◌, ◌≤◌, ◌+◌, ◌-◌, ◌↔◌, IsTrue, IfOk, IfSome, IfNone, List, take, length};
+ghost use Rattle.std.specs.Prelude.{◌≡◌, ◌<◌, ◌≤◌, ◌+◌, ◌-◌, ◌↔◌, IsTrue, IfOk, IfSome, IfNone, All, List, take, length};
 ghost use Rattle.shunt_blocks.specs.declared.records.Block.{Block as ABlock};
+ghost use Rattle.shunt_blocks.specs.defs.Blocks.{IsBlockButId};
 ghost use Rattle.shunt_blocks.specs.defs.Lists.{RunsThrough, placed, total_cost};
 ghost use Rattle.shunt_choices.specs.defs.Paths.{IsTrailOf};
 ghost use Rattle.shunt_proof.specs.declared.records.NodeKind.TheVariants as shows;
@@ -146,6 +147,7 @@ fn parent_fault(
     requires some { 1 ≤ k }
     requires there { k < length certificate.now.nodes }
     requires path { IsTrailOf instance.now path.old }
+    requires each { All (IsBlockButId instance.now) path.old.blocks }
     requires deep { 1 ≤ depth_at certificate.now.nodes k }
     requires long { path.old.pins + depth_at certificate.now.nodes k ≤ length path.old.blocks + 1 }
     requires frame { IsFrame certificate.now.nodes (parent certificate.now.nodes k) frame }
@@ -153,6 +155,7 @@ fn parent_fault(
     ensures found { IfOk result (JudgesChild instance.now certificate.now k (front_of certificate.now.nodes k path.old) best) }
     ensures leads { IfOk result (λ r. IfNone r (Leads instance.now certificate.now k (front_of certificate.now.nodes k path.old) path.new.blocks)) }
     ensures through { IfOk result (λ r. IfNone r (RunsThrough instance.now (placed path.new.blocks))) }
+    ensures each { IfOk result (λ r. IfNone r (All (IsBlockButId instance.now) path.new.blocks)) }
     ensures of { IsTrailOf instance.now path.new }
     ensures pins { path.new.pins ≡ path.old.pins }
 {
@@ -192,6 +195,7 @@ fn own_fault(
     requires path { IsTrailOf instance.now path.old }
     requires owner { Owns certificate.now.nodes k owner }
     requires through { RunsThrough instance.now (placed path.old.blocks) }
+    requires each { All (IsBlockButId instance.now) path.old.blocks }
     requires known { IfSome known (λ held. HoldIn certificate.now.version instance.now path.old.blocks held.now) }
     requires bound { certificate.now.bound ≤ 1000000000000 }
     ensures found { IfOk result (Judges instance.now certificate.now k path.old.blocks 4 8) }
@@ -297,6 +301,7 @@ pub(crate) fn first_fault(
     requires start { path.blocks ≡ start }
     requires pins { path.pins ≡ length start }
     requires through { RunsThrough instance.now (placed path.blocks) }
+    requires each { All (IsBlockButId instance.now) path.blocks }
     ensures { IfOk result (FindsFault instance.now start certificate.now) }
 {
     // The root has duals of its own.

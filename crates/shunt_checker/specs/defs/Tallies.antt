@@ -1,8 +1,9 @@
 -- What cases come to at paths with stacks, and what choices leave of it.
-use Rattle.std.specs.Prelude.{◌≡◌, ℕ, ◌+◌, ◌≤◌, ◌<◌, ℤ, pos, neg_ℤ, ◌-ℤ◌, ◌≤ℤ◌, length, List}
+use Rattle.std.specs.Prelude.{◌≡◌, ℕ, ◌+◌, ◌≤◌, ◌<◌, ℤ, pos, neg_ℤ, ◌-ℤ◌, ◌≤ℤ◌, All, length, List}
 use Rattle.shunt_base.specs.declared.duals.Case.{Case}
 use Rattle.shunt_instance.specs.defs.Instance.{Night}
 use Rattle.shunt_blocks.specs.declared.records.Block.{Block}
+use Rattle.shunt_blocks.specs.defs.Blocks.{IsBlockButId}
 use Rattle.shunt_blocks.specs.defs.Lists.{RunsThrough, placed}
 use Rattle.shunt_choices.specs.defs.Paths.{IsTrailOf}
 use Rattle.shunt_choices.specs.defs.Choices.{Choice as PathChoice, IsChoiceAt, longer_by, chosen}
@@ -33,12 +34,13 @@ pub record IsLone (night : Night) (path : List Block) (cases : List Case) (k : �
   pub is_whole : IsStackSum night path cases k whole
   pub is : lone ≡ whole -ℤ gain night (case_at cases k) (chosen (length path + 1) c)
 
--- a path with the block of a choice there more, whose run goes through
+-- a path of blocks with that of a choice there more, whose run goes through
 pub record IsOneMore (night : Night) (front path : List Block) : Type 0 where
   pub choice : PathChoice
   pub there : IsChoiceAt night front choice
   pub is : path ≡ longer_by front choice
   pub through : RunsThrough night (placed path)
+  pub each : All (IsBlockButId night) path
 
 -- the path, the cases and the nodes of a branch with stacks are the night's, and the tallies are those of its first and its last case
 pub record IsStackedLook (night : Night) (b : Stacked) : Type 0 where

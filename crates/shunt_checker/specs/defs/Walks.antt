@@ -1,7 +1,8 @@
 -- What is known of a certificate's nodes before a number, on the way down to it.
-use Rattle.std.specs.Prelude.{◌≡◌, ◌≢◌, ℕ, zero, suc, ◌+◌, ◌-◌, ◌<◌, ◌≤◌, take, length, slice_index_or, List, Option, Some, None}
+use Rattle.std.specs.Prelude.{◌≡◌, ◌≢◌, ℕ, zero, suc, ◌+◌, ◌-◌, ◌<◌, ◌≤◌, All, take, length, slice_index_or, List, Option, Some, None}
 use Rattle.shunt_instance.specs.defs.Instance.{Night}
 use Rattle.shunt_blocks.specs.declared.records.Block.{Block}
+use Rattle.shunt_blocks.specs.defs.Blocks.{IsBlockButId}
 use Rattle.shunt_blocks.specs.defs.Lists.{RunsThrough, placed}
 use Rattle.shunt_choices.specs.defs.Paths.{Trail, IsTrailOf}
 use Rattle.shunt_proof.specs.declared.records.NodeKind.TheVariants.{Whole}
@@ -57,6 +58,7 @@ pub record IsWalk (night : Night) (start : List Block) (c : Certificate) (k : �
   pub of : IsTrailOf night t
   pub path : t.blocks ≡ path_before night start c.nodes k
   pub through : RunsThrough night (placed t.blocks)
+  pub each : All (IsBlockButId night) t.blocks
   pub pins : t.pins ≡ length start
   pub long : length table ≡ 161
   pub frames : AreFrames c.nodes k table
@@ -64,11 +66,12 @@ pub record IsWalk (night : Night) (start : List Block) (c : Certificate) (k : �
   pub small : least ≤ 4000000000
   pub sound : AreSound night start c k
 
--- a path is that of a node, and its run goes through
+-- a path of blocks is that of a node, and its run goes through
 pub record IsAtNode (night : Night) (start : List Block) (c : Certificate) (k : ℕ) (t : Trail) : Type 0 where
   pub of : IsTrailOf night t
   pub path : t.blocks ≡ path_at night start c.nodes k
   pub through : RunsThrough night (placed t.blocks)
+  pub each : All (IsBlockButId night) t.blocks
   pub pins : t.pins ≡ length start
 
 -- the reason that is told first of a node, or nothing is wrong with it and a path is the node's

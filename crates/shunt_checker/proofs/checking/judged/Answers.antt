@@ -3,7 +3,7 @@ use Rattle.std.proofs.lemmas.List.Sorted.{length_permutation}
 use Rattle.shunt_proof.specs.declared.records.Node.{Node}
 use Rattle.shunt_proof.specs.defs.Nodes.{AreNodes}
 use Rattle.shunt_proof.specs.defs.CertificateRows.{row_of}
-use Rattle.shunt_checker.proofs.Stepping.{runs_from}
+use Rattle.shunt_checker.proofs.Stepping.{runs_from, each_from}
 use Rattle.shunt_checker.proofs.Answering.{of_plan, node_there, of_node, of_end, accepted}
 use Rattle.shunt_checker.proofs.checking.judged.Goals as goal
 
@@ -22,7 +22,10 @@ first_fault-requires c = (
       refl,
       (
         c.in_ok-path.ensures.pins ∙ sym (length_permutation c.args.pins.now c.in_ok-path.path.blocks c.in_ok-path.ensures.same),
-        runs_from (c.starts.ensures.partial c.args.instance.now c.args.pins.now c.in_ok-path.path.blocks c.units.ensures.formed c.requires.pins (record { same = c.in_ok-path.ensures.same; rises = c.in_ok-path.ensures.order })),
+        (
+          runs_from (c.starts.ensures.partial c.args.instance.now c.args.pins.now c.in_ok-path.path.blocks c.units.ensures.formed c.requires.pins (record { same = c.in_ok-path.ensures.same; rises = c.in_ok-path.ensures.order })),
+          each_from (c.starts.ensures.partial c.args.instance.now c.args.pins.now c.in_ok-path.path.blocks c.units.ensures.formed c.requires.pins (record { same = c.in_ok-path.ensures.same; rises = c.in_ok-path.ensures.order })),
+        ),
       ),
     ),
   ),

@@ -1,5 +1,7 @@
+use Rattle.std.specs.Prelude.{All}
 use Rattle.std.proofs.Common.{◌≡◌, ◌+◌, ℕ, List, ap, sym, subst, ◌∙◌}
 use Rattle.shunt_blocks.specs.declared.records.Block.{Block}
+use Rattle.shunt_blocks.specs.defs.Blocks.{IsBlockButId}
 use Rattle.shunt_blocks.specs.defs.Lists.{RunsThrough, placed}
 use Rattle.shunt_proof.specs.defs.Nodes.{FitsChoice}
 use Rattle.shunt_proof.specs.defs.Trees.{depth_at}
@@ -60,6 +62,11 @@ pub returns-clause-through : goal.returns-clause-through
 returns-clause-through c =
     let more = had c.in_ok-misplaced.misplaced _ c.in_default-misplaced.is c.in_ok-misplaced.ensures.more in
     on_none c.lean_reason.result _ (subst (λ (bs : List Block). RunsThrough c.args.instance.now (placed bs)) (sym c.step_bound.ensures.kept) more.through)
+
+pub returns-clause-each : goal.returns-clause-each
+returns-clause-each c =
+    let more = had c.in_ok-misplaced.misplaced _ c.in_default-misplaced.is c.in_ok-misplaced.ensures.more in
+    on_none c.lean_reason.result _ (subst (λ (bs : List Block). All (IsBlockButId c.args.instance.now) bs) (sym c.step_bound.ensures.kept) more.each)
 
 pub returns-clause-found : goal.returns-clause-found
 returns-clause-found c =

@@ -1,5 +1,10 @@
+use Rattle.std.specs.Prelude.{All}
+use Rattle.std.proofs.Common.{List, sym, subst}
+use Rattle.shunt_blocks.specs.declared.records.Block.{Block}
+use Rattle.shunt_blocks.specs.defs.Blocks.{IsBlockButId}
 use Rattle.shunt_proof.specs.defs.Trees.{choice_from}
 use Rattle.shunt_checker.proofs.Placed.{not_there, leads, not_through, all_there}
+use Rattle.shunt_checker.proofs.Stepping.{longer_each}
 use Rattle.shunt_checker.proofs.descent.there_fault.Goals as goal
 
 pub returns-then-not-there-clause-found : goal.returns-then-not-there-clause-found
@@ -32,4 +37,6 @@ returns-clause-more c = record {
   there = c.is_there-there.ensures.0 c.if-not-there.false;
   is = c.push_choice.ensures.blocks;
   through = c.in_ok-through.ensures.0 c.if-not-through.false;
+  each = subst (λ (bs : List Block). All (IsBlockButId c.args.instance.now) bs) (sym c.push_choice.ensures.blocks)
+      (longer_each c.args.instance.now c.args.path.now.blocks (choice_from c.args.instance.now c.args.path.now.blocks c.args.choice) (c.is_there-there.ensures.0 c.if-not-there.false) c.requires.each);
 }

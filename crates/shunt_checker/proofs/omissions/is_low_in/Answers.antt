@@ -1,4 +1,3 @@
-use Rattle.std.specs.Prelude.{Option}
 use Rattle.std.proofs.Common.{◌+◌, length, sym, subst}
 use Rattle.shunt_blocks.specs.declared.records.Block.{Block}
 use Rattle.shunt_blocks.specs.defs.Shapes.{shape_of}

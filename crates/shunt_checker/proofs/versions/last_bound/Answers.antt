@@ -5,7 +5,7 @@ use Rattle.shunt_choices.specs.defs.Paths.{Trail}
 use Rattle.shunt_stacks.specs.defs.Bounds.{IsChoiceBound}
 use Rattle.shunt_proof.specs.declared.records.Version.TheVariants.{Stacks}
 use Rattle.shunt_proof.specs.defs.Versions.{IsStepBoundIn}
-use Rattle.shunt_checker.proofs.Stepping.{front_runs, last_in, last_free, last_next, bound_of_last}
+use Rattle.shunt_checker.proofs.Stepping.{front_runs, front_each, last_in, last_free, last_next, bound_of_last}
 use Rattle.shunt_checker.proofs.versions.last_bound.Goals as goal
 
 pub unreachable-requires : goal.unreachable-requires
@@ -19,6 +19,9 @@ choice_bound-bound-requires-clause-through c =
     let night = c.args.instance.now in
     front_runs night c.args.path.now c.pop.new.self c.in-Some.block c.in-Some.ensures.some.1 c.requires.path c.pop.ensures.of c.requires.more
     (λ blocks others w a wo ao part runs. c.ids_do_not_matter.ensures.placed_part night blocks others c.units.ensures.formed w a wo ao part runs)
+
+pub choice_bound-bound-requires-clause-each : goal.choice_bound-bound-requires-clause-each
+choice_bound-bound-requires-clause-each c = front_each c.args.instance.now c.args.path.now c.pop.new.self c.in-Some.block c.in-Some.ensures.some.1 c.requires.path c.pop.ensures.of c.requires.more
 
 pub choice_bound-bound-requires-clause-free : goal.choice_bound-bound-requires-clause-free
 choice_bound-bound-requires-clause-free c = last_free c.args.instance.now c.args.path.now c.pop.new.self c.in-Some.block c.in-Some.ensures.some.1 c.requires.path c.pop.ensures.of c.requires.more

@@ -16,7 +16,8 @@ loop-k-init g c =
     record {
       of = c.requires.1.0;
       path = c.requires.1.1.0;
-      through = c.requires.1.1.1.1;
+      through = c.requires.1.1.1.1.0;
+      each = c.requires.1.1.1.1.1;
       pins = c.requires.1.1.1.0;
       long = length-replicate {A = Frame} 161 (record { node = 0; owner = 0 });
       frames = first_frames night nodes c.requires.0.nodes c.requires.0.some (λ some. c.parents.ensures.root_duals night nodes c.requires.0.nodes some);

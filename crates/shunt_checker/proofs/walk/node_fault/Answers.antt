@@ -23,6 +23,7 @@ returns-then-is_root g c =
       of = c.requires.1.1.0.of;
       path = root_at night g.start nodes c.args.k c.args.path.now.blocks root c.requires.1.1.0.path (c.parents.ensures.root_path night g.start nodes c.requires.0.nodes c.requires.0.some);
       through = c.requires.1.1.0.through;
+      each = c.requires.1.1.0.each;
       pins = c.requires.1.1.0.pins;
     } in
     let from = root_from night g.start c.args.certificate.now c.args.k root (root_bare night nodes c.args.k root c.requires.0.nodes.root c.requires.1.0 fits) in
@@ -90,7 +91,7 @@ own_fault-requires-2-clause-known g c =
     (λ b d lt le. c.parents.ensures.front night g.start nodes b d c.requires.0.nodes lt le) (λ b lt. c.parents.ensures.size night g.start nodes b c.requires.0.nodes lt)
     deep c.args.path.now c.requires.1.1.0.path c.requires.1.1.0.pins in
     let at = child_at night g.start c.args.certificate.now c.args.k (front_of nodes c.args.k c.args.path.now) came.1 c.args.best c.requires.1.1.0.best c.in_ok-misled.misled c.in_ok-misled.ensures.found c.in_default.is
-    c.parent_fault.new.path c.parent_fault.ensures.of (c.parent_fault.ensures.pins ∙ c.requires.1.1.0.pins) c.in_ok-misled.ensures.leads c.in_ok-misled.ensures.through in
+    c.parent_fault.new.path c.parent_fault.ensures.of (c.parent_fault.ensures.pins ∙ c.requires.1.1.0.pins) c.in_ok-misled.ensures.leads c.in_ok-misled.ensures.through c.in_ok-misled.ensures.each in
     let hold : HoldIn c.args.certificate.now.version night (path_at night g.start nodes (parent nodes c.args.k)) (duals_at nodes (parent nodes c.args.k)) =
     unbroken night g.start c.args.certificate.now (parent nodes c.args.k) (c.requires.1.1.0.sound (parent nodes c.args.k) law.0) (branch_whole (node_at nodes (parent nodes c.args.k)).kind law.2) in
     let choice = c.parents.ensures.choice night nodes c.args.k c.requires.0.nodes some c.requires.1.0 in
@@ -110,7 +111,7 @@ returns g c =
     (λ b d lt le. c.parents.ensures.front night g.start nodes b d c.requires.0.nodes lt le) (λ b lt. c.parents.ensures.size night g.start nodes b c.requires.0.nodes lt)
     deep c.args.path.now c.requires.1.1.0.path c.requires.1.1.0.pins in
     let at = child_at night g.start c.args.certificate.now c.args.k (front_of nodes c.args.k c.args.path.now) came.1 c.args.best c.requires.1.1.0.best c.in_ok-misled.misled c.in_ok-misled.ensures.found c.in_default.is
-    c.parent_fault.new.path c.parent_fault.ensures.of (c.parent_fault.ensures.pins ∙ c.requires.1.1.0.pins) c.in_ok-misled.ensures.leads c.in_ok-misled.ensures.through in
+    c.parent_fault.new.path c.parent_fault.ensures.of (c.parent_fault.ensures.pins ∙ c.requires.1.1.0.pins) c.in_ok-misled.ensures.leads c.in_ok-misled.ensures.through c.in_ok-misled.ensures.each in
     let from = child_passed night g.start c.args.certificate.now c.args.k (front_of nodes c.args.k c.args.path.now) came.1 c.args.best c.requires.1.1.0.best c.in_ok-misled.misled c.in_ok-misled.ensures.found c.in_default.is in
     both_ok c.own_fault-2.result (Judges night c.args.certificate.now c.args.k c.parent_fault.new.path.blocks 4 8) (λ r. IfNone r (c.own_fault-2.new.path ≡ c.parent_fault.new.path))
     (Settles night g.start c.args.certificate.now c.args.k c.own_fault-2.new.path)

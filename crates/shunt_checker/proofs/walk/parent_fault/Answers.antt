@@ -1,9 +1,11 @@
-use Rattle.std.specs.Prelude.{IfOk, IfNone, take}
+use Rattle.std.specs.Prelude.{IfOk, IfNone, All, take}
 use Rattle.std.proofs.Common.{◌≡◌, ◌≤◌, ◌<◌, ◌+◌, ◌-◌, ℕ, List, length, ap, subst, sym, ◌∙◌, arith}
 use Rattle.std.proofs.lemmas.List.{length-take-le}
+use Rattle.std.proofs.lemmas.List.Elements.{All-take}
 use Rattle.shunt_base.specs.declared.duals.Case.{Case}
 use Rattle.shunt_instance.specs.defs.Instance.{unit_total}
 use Rattle.shunt_blocks.specs.declared.records.Block.{Block}
+use Rattle.shunt_blocks.specs.defs.Blocks.{IsBlockButId}
 use Rattle.shunt_prices.specs.defs.Limits.{AreCases}
 use Rattle.shunt_proof.specs.defs.Trees.{depth_at, duals_at, parent}
 use Rattle.shunt_checker.specs.defs.NodeSteps.{JudgesChild, Leads}
@@ -29,6 +31,11 @@ child_fault-requires-clause-cases c =
     let lt : parent nodes c.args.k < length nodes = (let there = c.requires.there in let less = law.0 in omega (arith, there, less)) in
     subst (λ (cs : List Case). AreCases night cs) (sym (c.cases_at-cases.ensures ∙ ap (λ (j : ℕ). duals_at nodes j) c.requires.frame.node))
     (c.parents.ensures.cases night nodes (parent nodes c.args.k) c.requires.nodes lt (branch_whole _ law.2))
+
+pub child_fault-requires-clause-each : goal.child_fault-requires-clause-each
+child_fault-requires-clause-each c =
+    subst (λ (bs : List Block). All (IsBlockButId c.args.instance.now) bs) (sym c.shorten.ensures.blocks)
+    (All-take (IsBlockButId c.args.instance.now) (c.pins.result + (c.depth_at-above.result - 1)) c.args.path.now.blocks c.requires.each)
 
 pub returns-clause-found : goal.returns-clause-found
 returns-clause-found c =

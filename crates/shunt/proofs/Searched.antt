@@ -13,10 +13,11 @@ use Rattle.shunt_choices.specs.defs.Paths.{IsPartialPlan}
 use Rattle.shunt_choices.specs.defs.Choices.{partial_plans}
 use Rattle.shunt_plan.specs.declared.records.Plan.{Plan}
 use Rattle.shunt_proof.specs.declared.records.Node.{Node}
+use Rattle.shunt_proof.specs.declared.records.Version.{Version}
 use Rattle.shunt_proof.specs.declared.records.Certificate.{Certificate}
 use Rattle.shunt_proof.specs.defs.Nodes.{AreNodes}
 use Rattle.shunt_proof.specs.defs.Trees.{IsStart, path_at}
-use Rattle.shunt_proof.specs.defs.Proves.{Proves, IsPlaced, AreRight}
+use Rattle.shunt_proof.specs.defs.Proves.{ProvesIn, IsPlaced, AreRightIn}
 use Rattle.shunt_proof.specs.defs.Accepted.{IsAccepted}
 use Rattle.shunt_inputs.specs.declared.answers.Outcome.{Outcome}
 use Rattle.shunt_inputs.specs.declared.answers.Outcome.TheVariants as outcome
@@ -92,7 +93,7 @@ Bounds = (night : Night) (pins own : List Block) (stated : ℕ) (c : Certificate
 
 -- what the laws of certificates say
 pub record TreeLaws : Type 0 where
-  pub exactly : (night : Night) (start : List Block) (nodes : List Node) (L : ℤ) → AreNodes night nodes → 1 ≤ length nodes → Proves night start nodes L 0 ↔ AreRight night start nodes L
+  pub exactly : (version : Version) (night : Night) (start : List Block) (nodes : List Node) (L : ℤ) → AreNodes night nodes → 1 ≤ length nodes → ProvesIn version night start nodes L 0 ↔ AreRightIn version night start nodes L
   pub partial : (night : Night) (pins start : List Block) (nodes : List Node) (k : ℕ) → IsInstance night → AreNodes night nodes → AreUsable night pins → IsStart night pins start
       → ((i : ℕ) → 1 ≤ i → i < length nodes → IsPlaced night start nodes i) → k < length nodes → IsPartialPlan night pins (path_at night start nodes k)
   pub one : (night : Night) (start : List Block) (nodes : List Node) (j k : ℕ) → IsInstance night → AreNodes night nodes → ((i : ℕ) → 1 ≤ i → i < length nodes → IsPlaced night start nodes i)
@@ -127,7 +128,7 @@ module _ (bounds : Bounds) (pins : List Block) (m : ℕ) (p k : List ℕ) (night
   different laws below =
       let c = is.certificate in
       let a = is.meet.accepted in
-      let right = (laws.exactly night a.start c.nodes (pos c.bound) is.statable.nodes is.statable.some).0 a.root in
+      let right = (laws.exactly c.version night a.start c.nodes (pos c.bound) is.statable.nodes is.statable.some).0 a.root in
       let placed : (i : ℕ) → 1 ≤ i → i < length c.nodes → IsPlaced night a.start c.nodes i = λ i some lt. (right i lt).placed some in
       record {
         many_nodes = is.meet.spent.all below;

@@ -51,8 +51,9 @@ use shunt_compare::laws::same_plans;
 use shunt_drivers::laws::{roster_fault_in_words, stated_values_are_formed, texts_of_rosters};
 use shunt_make::laws::made_nights;
 use shunt_plan::laws::texts_of_plans;
-use shunt_proof::laws::{few_nodes, known_by_paths, proved_bounds, trees};
+use shunt_proof::laws::{few_nodes, known_by_paths, proved_bounds};
 use shunt_proof::text_laws::texts_of_certificates;
+use shunt_proof::version_laws::trees_by_version;
 use shunt_sheet::laws::{sheets_of_plans, texts_of_sheets};
 
 /// `Store` comes only if the store failed in the call, and `Sink` only if the sink did, so neither over a store or a
@@ -494,7 +495,7 @@ pub fn plan_is_unfinished()
     few_nodes();
     known_by_paths();
     proved_bounds();
-    trees();
+    trees_by_version();
 }
 
 /// If both input files are accepted, a matching exists, and more nodes are allowed than there are partial plans, `plan` ends with
@@ -542,7 +543,7 @@ pub fn pinned_is_unfinished()
     few_nodes();
     known_by_paths();
     proved_bounds();
-    trees();
+    trees_by_version();
 }
 
 /// If the input files are accepted, the pins are usable, a matching of what they leave exists, and more nodes are allowed than there are

@@ -1,4 +1,4 @@
--- From what a search found to the answers of `plan` and of `pinned`.
+-- From what a search found to the answers of `plan`, `pinned` and `improve`.
 use Rattle.std.proofs.Common.{◌≡◌, ◌≢◌, ◌∙◌, ℕ, zero, suc, Bool, List, [], ◌∷◌, ◌++◌, length, map, Option, Some, None, Result, Ok, Err, refl, subst, sym, ap, inl, inr, arith, rules, IsPermutation}
 use Rattle.std.proofs.lemmas.List.Sorted.{sum_by-IsPermutation}
 use Rattle.std.specs.List.{range_with_len}
@@ -37,7 +37,7 @@ use Rattle.shunt_inputs.specs.defs.Reading.{HoldingTexts}
 use Rattle.shunt_inputs.proofs.Leading.{none_first}
 use Rattle.shunt_inputs.proofs.Seeing.{FailsWith, fails, front_names, seen_texts}
 use Rattle.shunt_planning.specs.defs.Matched.{IsShortBeside}
-use Rattle.shunt_planning.specs.defs.Planned.{IsPlanned, IsSoughtOver, Lacks, certificate_file, plan_file, search_outcome}
+use Rattle.shunt_planning.specs.defs.Planned.{IsPlannedAt, IsSoughtOver, Lacks, certificate_file, plan_file, search_outcome}
 use Rattle.shunt_planning.specs.defs.Begun.{IsOver, IsFound}
 use Rattle.shunt_planning.proofs.Certified.{finished_text}
 
@@ -83,17 +83,20 @@ module _ (pins : List Block) (most : ℕ) (p k : List ℕ) (night : Night) (plac
   its_write = (k, certificate_file night its) ∷ []
 
   -- the certificate is closed, and then the rest is left
-  pub found_leads : IsPlanInRange night s.plan → s.cost ≡ s.plan.cost → (r : Reply) → r ≡ rest s.cost s.nodes → (old mid new : Known) → Stays old mid → BothTold mid.files new.files (λ a b. b ≡ files_after place a) → BothTold mid.stored new.stored (λ a b. b ≡ stored_after place a)
-      → HasFirst (IsPlanned pins most p k night) old new r
-  found_leads in_range cost r is old mid new same closed noted = record {
+  pub found_leads : (fits : ℕ → Type 0) → fits s.cost → IsPlanInRange night s.plan → s.cost ≡ s.plan.cost → (r : Reply) → r ≡ rest s.cost s.nodes → (old mid new : Known) → Stays old mid → BothTold mid.files new.files (λ a b. b ≡ files_after place a)
+      → BothTold mid.stored new.stored (λ a b. b ≡ stored_after place a) → HasFirst (IsPlannedAt fits pins most p k night) old new r
+  found_leads fits fit in_range cost r is old mid new same closed noted = record {
     first = its_write;
     reply = record {
-      plan = s.plan;
-      certificate = its;
-      in_range = in_range;
-      statable = h.statable;
-      meet = h.meet;
-      reply = ap (with_first its_write) (is ∙ ap (λ (x : ℕ). rest x s.nodes) cost ∙ ap (rest s.plan.cost) h.many);
+      planned = record {
+        plan = s.plan;
+        certificate = its;
+        in_range = in_range;
+        statable = h.statable;
+        meet = h.meet;
+        reply = ap (with_first its_write) (is ∙ ap (λ (x : ℕ). rest x s.nodes) cost ∙ ap (rest s.plan.cost) h.many);
+      };
+      cost = subst fits cost fit;
     };
     files = subst (λ f. BothTold f new.files (λ a b. b ≡ written its_write a)) same.0 (both_map (λ a b. b ≡ files_after place a) (λ a b. b ≡ written its_write a) mid.files new.files closed (λ a b e. e ∙ ap (λ st. files_after st a) h.written));
     stored = subst (λ f. BothTold f new.stored (λ a b. b ≡ a ++ its_write)) same.1 (both_map (λ a b. b ≡ stored_after place a) (λ a b. b ≡ a ++ its_write) mid.stored new.stored noted (λ a b e. e ∙ ap (λ st. stored_after st a) h.written));

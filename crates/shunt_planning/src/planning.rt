@@ -72,7 +72,7 @@ fn sought_answer<S: Store>(
         None => {
             // The call tells that there is no shortage where a matching exists.
             one_shortage();
-            search_answer(alloc, store, instance, pins, nodes, plan, certificate)
+            search_answer(alloc, store, instance, pins, None, nodes, plan, certificate)
         }
     }
 }

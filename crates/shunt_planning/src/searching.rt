@@ -1,10 +1,10 @@
-// The search for a plan that keeps pins.
+// The search for a plan that keeps pins, and costs no more than one in hand, where there is one.
 ghost use Rattle.std.specs.Prelude.{◌≡◌, ◌≤◌, [], ◌∷◌, ℕ, IfOk, IfSome, OnErr, IsErrOf};
 ghost use Rattle.shunt_store.specs.defs.Files.{Closed, Writing};
 ghost use Rattle.shunt_store.specs.defs.Causes.{HasCause};
 ghost use Rattle.shunt_rows.specs.defs.Records.{text_of_row};
-ghost use Rattle.shunt_blocks.specs.defs.Lists.{units_taken, positions_taken};
-ghost use Rattle.shunt_blocks.specs.defs.Pins.{AreUsable};
+ghost use Rattle.shunt_blocks.specs.defs.Lists.{IsFeasible, total_cost, units_taken, positions_taken};
+ghost use Rattle.shunt_blocks.specs.defs.Pins.{AreUsable, Keeps as KeepsPins};
 ghost use Rattle.shunt_matching.specs.declared.types.Shortage.{Shortage as OneShortage};
 ghost use Rattle.shunt_matching.specs.defs.Nights.{IsShortageOf};
 ghost use Rattle.shunt_plan.specs.defs.Plans.{IsPlanInRange};
@@ -17,7 +17,7 @@ ghost use Rattle.shunt_search.specs.defs.Conditions.{MeetsConditions};
 ghost use Rattle.shunt_search.specs.defs.Endings.{IsShown};
 ghost use Rattle.shunt_inputs.specs.defs.Replies.{reply_of};
 ghost use Rattle.shunt_inputs.specs.defs.Writes.{Leads, known};
-ghost use Rattle.shunt_planning.specs.defs.Planned.{IsPlanned, plan_file, search_outcome};
+ghost use Rattle.shunt_planning.specs.defs.Planned.{IsPlannedAt, plan_file, search_outcome};
 ghost use Rattle.shunt_planning.specs.defs.Begun.{IsFound};
 
 use shunt_blocks::Block;
@@ -35,10 +35,13 @@ fn solve_into<S: Store>(
     alloc: Global,
     instance: &Instance,
     pins: &[Block],
+    given: Option<&[Block]>,
     nodes: u32,
     recorder: &mut TextRecorder<'_, S>,
 ) -> Result<Solved, SolveError>
     requires usable { AreUsable instance.now pins.now }
+    requires feasible { IfSome given (λ p. IsFeasible instance.now p.now) }
+    requires keeps { IfSome given (λ p. KeepsPins p.now pins.now) }
     requires some { 1 ≤ nodes }
     requires few { nodes ≤ 5000 }
     requires stage { stage_of (seen recorder.old.version recorder.old.instance.now recorder.old.name.now (S.stage recorder.old.store.now) recorder.old.doing recorder.old.nodes recorder.old.cases) ≡ Open }
@@ -49,6 +52,7 @@ fn solve_into<S: Store>(
     ensures same_reference { recorder.new.store.ghost_name ≡ recorder.old.store.ghost_name }
     ensures meets { IfOk result (MeetsConditions instance.now pins.now nodes) }
     ensures in_range { IfOk result (λ s. IsPlanInRange instance.now s.plan) }
+    ensures never_worse { IfOk result (λ s. IfSome given.entry (λ p. s.cost ≤ total_cost instance.now p.now)) }
     ensures shown { IfOk result (λ s. IsShown instance.now pins.now nodes s.plan s.bound s.nodes (told_of (seen recorder.new.version recorder.new.instance.now recorder.new.name.now (S.stage recorder.new.store.now) recorder.new.doing recorder.new.nodes recorder.new.cases))) }
     ensures finished { IfOk result (λ s. stage_of (seen recorder.new.version recorder.new.instance.now recorder.new.name.now (S.stage recorder.new.store.now) recorder.new.doing recorder.new.nodes recorder.new.cases) ≡ Finished s.cost s.bound) }
     ensures exact { (s : OneShortage) → IsErrOf result (SolveError.NoMatching s) → IsShortageOf instance.now (units_taken instance.now pins.now) (positions_taken instance.now pins.now) s }
@@ -58,7 +62,7 @@ fn solve_into<S: Store>(
     ensures heard { S.heard recorder.new.store.now ≡ S.heard recorder.old.store.now }
     ensures stored { S.stored recorder.new.store.now ≡ S.stored recorder.old.store.now }
 {
-    solve_pinned(alloc, instance, pins, None, nodes, recorder)
+    solve_pinned(alloc, instance, pins, given, nodes, recorder)
 }
 
 // Searches, and writes on in the certificate that was begun. What was written of it is given up where nothing is found.
@@ -67,17 +71,21 @@ fn stream<S: Store>(
     store: &mut S,
     instance: &Instance,
     pins: &[Block],
+    given: Option<&[Block]>,
     nodes: u32,
     certificate: &str,
 ) -> Result<Solved, StoreError>
     requires writing { S.stage store.old ≡ Writing certificate.now (text_of_row (head_row Prices)) }
     requires usable { AreUsable instance.now pins.now }
+    requires feasible { IfSome given (λ p. IsFeasible instance.now p.now) }
+    requires keeps { IfSome given (λ p. KeepsPins p.now pins.now) }
     requires some { 1 ≤ nodes }
     requires few { nodes ≤ 5000 }
     requires matching { (s : OneShortage) → IsShortageOf instance.now (units_taken instance.now pins.now) (positions_taken instance.now pins.now) s → ⊥ }
     ensures found { IfOk result (IsFound instance.now pins.now nodes certificate.now (S.stage store.new)) }
     ensures in_range { IfOk result (λ s. IsPlanInRange instance.now s.plan) }
     ensures cost { IfOk result (λ s. s.cost ≡ s.plan.cost) }
+    ensures never_worse { IfOk result (λ s. IfSome given.entry (λ p. s.cost ≤ total_cost instance.now p.now)) }
     ensures closed { OnErr result (S.stage store.new ≡ Closed) }
     ensures files { S.told store.new ≡ S.told store.old }
     ensures heard { S.heard store.new ≡ S.heard store.old }
@@ -85,7 +93,7 @@ fn stream<S: Store>(
     ensures cause { HasCause StoreError.Fault (S.faults store.old) (S.faults store.new) result }
 {
     let mut recorder = TextRecorder::over(alloc, instance, store, certificate, Version::Prices);
-    match solve_into(alloc, instance, pins, nodes, &mut recorder) {
+    match solve_into(alloc, instance, pins, given, nodes, &mut recorder) {
         Ok(solved) => Ok(solved),
         Err(SolveError::NoMatching(_)) => unreachable!(),
         Err(SolveError::Recorder) => {
@@ -105,17 +113,21 @@ fn search<S: Store>(
     store: &mut S,
     instance: &Instance,
     pins: &[Block],
+    given: Option<&[Block]>,
     nodes: u32,
     certificate: &str,
 ) -> Result<Solved, StoreError>
     requires closed { S.stage store.old ≡ Closed }
     requires usable { AreUsable instance.now pins.now }
+    requires feasible { IfSome given (λ p. IsFeasible instance.now p.now) }
+    requires keeps { IfSome given (λ p. KeepsPins p.now pins.now) }
     requires some { 1 ≤ nodes }
     requires few { nodes ≤ 5000 }
     requires matching { (s : OneShortage) → IsShortageOf instance.now (units_taken instance.now pins.now) (positions_taken instance.now pins.now) s → ⊥ }
     ensures found { IfOk result (IsFound instance.now pins.now nodes certificate.now (S.stage store.new)) }
     ensures in_range { IfOk result (λ s. IsPlanInRange instance.now s.plan) }
     ensures cost { IfOk result (λ s. s.cost ≡ s.plan.cost) }
+    ensures never_worse { IfOk result (λ s. IfSome given.entry (λ p. s.cost ≤ total_cost instance.now p.now)) }
     ensures closed { OnErr result (S.stage store.new ≡ Closed) }
     ensures files { S.told store.new ≡ S.told store.old }
     ensures heard { S.heard store.new ≡ S.heard store.old }
@@ -123,7 +135,7 @@ fn search<S: Store>(
     ensures cause { HasCause StoreError.Fault (S.faults store.old) (S.faults store.new) result }
 {
     match begin_certificate(alloc, store, certificate, Version::Prices) {
-        Ok(()) => stream(alloc, store, instance, pins, nodes, certificate),
+        Ok(()) => stream(alloc, store, instance, pins, given, nodes, certificate),
         Err(e) => Err(e),
     }
 }
@@ -156,28 +168,31 @@ fn found_answer(
     })
 }
 
-/// What is left to be delivered of the plan that a search finds which keeps the pins. Its certificate is stored when all else is at
-/// hand; where there is no answer no file is changed.
+/// What is left to be delivered of the plan that a search finds which keeps the pins, and costs no more than the one that is given. Its
+/// certificate is stored when all else is at hand; where there is no answer no file is changed.
 pub fn search_answer<S: Store>(
     alloc: Global,
     store: &mut S,
     instance: &Instance,
     pins: &[Block],
+    given: Option<&[Block]>,
     nodes: u32,
     plan: &str,
     certificate: &str,
 ) -> Result<Answer, Halt>
     requires closed { S.stage store.old ≡ Closed }
     requires usable { AreUsable instance.now pins.now }
+    requires feasible { IfSome given (λ p. IsFeasible instance.now p.now) }
+    requires keeps { IfSome given (λ p. KeepsPins p.now pins.now) }
     requires some { 1 ≤ nodes }
     requires few { nodes ≤ 5000 }
     requires matching { (s : OneShortage) → IsShortageOf instance.now (units_taken instance.now pins.now) (positions_taken instance.now pins.now) s → ⊥ }
-    ensures leads { Leads (IsPlanned pins.now nodes plan.now certificate.now instance.now) (known (S.told store.old) (S.stored store.old)) (known (S.told store.new) (S.stored store.new)) result }
+    ensures leads { Leads (IsPlannedAt (λ cost. IfSome given.entry (λ p. cost ≤ total_cost instance.now p.now)) pins.now nodes plan.now certificate.now instance.now) (known (S.told store.old) (S.stored store.old)) (known (S.told store.new) (S.stored store.new)) result }
     ensures heard { S.heard store.new ≡ S.heard store.old }
     ensures closed { S.stage store.new ≡ Closed }
     ensures cause { HasCause Halt.Fault (S.faults store.old) (S.faults store.new) result }
 {
-    let solved = match search(alloc, store, instance, pins, nodes, certificate) {
+    let solved = match search(alloc, store, instance, pins, given, nodes, certificate) {
         Ok(solved) => solved,
         Err(StoreError::Fault) => return Err(Halt::Fault),
         Err(StoreError::Memory) => return Err(Halt::Memory),

@@ -11,6 +11,7 @@ use Rattle.shunt_search.specs.defs.Endings.{certificate_of}
 use Rattle.shunt_inputs.specs.defs.Inputs.{Agrees, stated_night, pinned_in}
 use Rattle.shunt_inputs.specs.defs.Replies.{Reply, Decided}
 use Rattle.shunt_planning.specs.defs.Planned.{IsPinned, IsSought, certificate_file}
+use Rattle.shunt_planning.specs.defs.Improved.{IsImproved, in_hand_in}
 
 -- the reply is such an answer over what the files hold, where that is told, or else over some contents of all files
 abbrev pub IsOver : {X : Type 0} → Option Files → (Files → Result X (List ℕ)) → (X → Reply → Type 0) → Reply → Type 0
@@ -27,6 +28,10 @@ IsPlannedOver told s t most p k r = IsOver told (night_in s t) (IsSought most p 
 -- the reply is the answer of `pinned`
 abbrev pub IsPinnedOver : Option Files → List ℕ → List ℕ → List ℕ → ℕ → List ℕ → List ℕ → Reply → Type 0
 IsPinnedOver told s t i most p k r = IsOver told (pinned_in s t i) (IsPinned most p k) r
+
+-- the reply is the answer of `improve`
+abbrev pub IsImprovedOver : Option Files → List ℕ → List ℕ → List ℕ → List ℕ → ℕ → List ℕ → List ℕ → Reply → Type 0
+IsImprovedOver told s t i h most p k r = IsOver told (in_hand_in s t i h) (IsImproved most p k) r
 
 -- what a search found: with its nodes the certificate whose text was written whole under this name and isn't stored yet, which meets
 -- the eight conditions with the plan

@@ -1,4 +1,4 @@
--- What a plan and a certificate say that `plan` and `pinned` leave, in words that speak neither of duals nor of trees.
+-- What a plan and a certificate say that `plan`, `pinned` and `improve` leave, in words that speak neither of duals nor of trees.
 use Rattle.std.specs.Prelude.{◌≡◌, ℕ, ◌<◌, ◌≤◌, List, length, map}
 use Rattle.shunt_instance.specs.defs.Instance.{Night}
 use Rattle.shunt_blocks.specs.declared.records.Block.{Block}

@@ -50,6 +50,11 @@ pub record IsPlanned (pins : List Block) (most : ℕ) (p k : List ℕ) (night : 
   pub meet : MeetConditions night pins most plan certificate
   pub reply : r ≡ planned (search_outcome certificate.cost certificate.bound) p k night plan certificate
 
+-- the same, and what the plan costs is as wanted
+pub record IsPlannedAt (fits : ℕ → Type 0) (pins : List Block) (most : ℕ) (p k : List ℕ) (night : Night) (r : Reply) : Type 0 where
+  pub planned : IsPlanned pins most p k night r
+  pub cost : fits planned.plan.cost
+
 -- the answer of a search on a night over these pins, with at most that many nodes: a plan where the units and positions that these masks
 -- don't leave out have a matching
 abbrev pub IsSoughtOver : List Block → List Bool → List Bool → ℕ → List ℕ → List ℕ → Night → Reply → Type 0

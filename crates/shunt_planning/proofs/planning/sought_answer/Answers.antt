@@ -4,7 +4,7 @@ use Rattle.shunt_blocks.specs.defs.Lists.{units_taken, positions_taken}
 use Rattle.shunt_matching.specs.defs.Nights.{HasMatching}
 use Rattle.shunt_inputs.proofs.Leading.{leads_with, none_first}
 use Rattle.shunt_inputs.specs.defs.Writes.{known}
-use Rattle.shunt_planning.specs.defs.Planned.{IsPlanned, IsSoughtBeside, Lacks}
+use Rattle.shunt_planning.specs.defs.Planned.{IsPlannedAt, IsSoughtBeside, Lacks}
 use Rattle.shunt_planning.proofs.planning.sought_answer.Goals as goal
 
 pub shortage_answer-requires : goal.shortage_answer-requires
@@ -36,5 +36,5 @@ returns-in-None-clause-leads g c =
     let units = units_taken night pins in
     let places = positions_taken night pins in
     let some : HasMatching night units places = subst (Lacks night units places) c.in-None.is c.requires.lacks in
-    leads_with (IsPlanned pins c.args.nodes c.args.plan.now c.args.certificate.now night) (IsSoughtBeside pins c.args.nodes c.args.plan.now c.args.certificate.now night)
-    (known (S.told c.args.store.now) (S.stored c.args.store.now)) (known (S.told c.search_answer.new.store) (S.stored c.search_answer.new.store)) c.search_answer.result (λ r is. inl (some, is)) c.search_answer.ensures.leads
+    leads_with (IsPlannedAt _ pins c.args.nodes c.args.plan.now c.args.certificate.now night) (IsSoughtBeside pins c.args.nodes c.args.plan.now c.args.certificate.now night)
+    (known (S.told c.args.store.now) (S.stored c.args.store.now)) (known (S.told c.search_answer.new.store) (S.stored c.search_answer.new.store)) c.search_answer.result (λ r is. inl (some, is.planned)) c.search_answer.ensures.leads

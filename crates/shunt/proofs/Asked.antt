@@ -30,7 +30,7 @@ use Rattle.shunt_throat.specs.defs.Shared.{Sharable, stated_sharing, IsShared}
 use Rattle.shunt_dispatch.specs.defs.Compared.{Comparable, stated_comparison, IsCompared}
 use Rattle.shunt_dispatch.specs.defs.Followed.{Followable, IsFollowed}
 use Rattle.shunt_exchange.specs.defs.Upgraded.{Upgradable, IsUpgraded}
-use Rattle.shunt.specs.defs.Words.{Call, Match, Follow, Audit, Delay, Report, Check, Compare, Zones, Sheet, Draw, Page, Upgrade, Trial, Drivers, Roster, CheckPinned, Replay, MakePlan, MakePinned, IsUsable, inputs_of}
+use Rattle.shunt.specs.defs.Words.{Call, Match, Follow, Audit, Delay, Report, Check, Compare, Zones, Sheet, Draw, Page, Upgrade, Trial, Drivers, Roster, CheckPinned, Replay, MakePlan, MakePinned, Improve, IsUsable, inputs_of}
 use Rattle.shunt.specs.defs.Replies.{IsReply, IsReplyOver}
 
 -- what leads to an answer over the files leads to one of the command
@@ -58,6 +58,7 @@ inputs_usable (CheckPinned s t i p k) u = u
 inputs_usable (Replay s t p e n) u = front_names (s ∷ t ∷ p ∷ e ∷ []) (n ∷ []) u
 inputs_usable (MakePlan s t m p k) u = front_names (s ∷ t ∷ []) (p ∷ k ∷ []) u.0
 inputs_usable (MakePinned s t i m p k) u = front_names (s ∷ t ∷ i ∷ []) (p ∷ k ∷ []) u.0
+inputs_usable (Improve s t i h m p k) u = front_names (s ∷ t ∷ i ∷ h ∷ []) (p ∷ k ∷ []) u.0
 
 pub inputs_named : (c d : Call) → c ≡ d → IsUsable c → AreNames (inputs_of d)
 inputs_named c d is u = subst (λ x. AreNames (inputs_of x)) is (inputs_usable c u)

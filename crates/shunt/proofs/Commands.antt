@@ -6,7 +6,7 @@ use Rattle.std.specs.Fmt.{decimal}
 use Rattle.std.specs.Str.Parse.{digits_value}
 use Rattle.shunt_base.proofs.Decimal.{value_again}
 use Rattle.shunt_store.specs.defs.Files.{Files}
-use Rattle.shunt.specs.defs.Words.{Call, Match, Follow, Audit, Delay, Report, Check, Compare, Zones, Sheet, Draw, Page, Upgrade, Trial, Drivers, Roster, CheckPinned, Replay, MakePlan, MakePinned, IsUsable, words_of}
+use Rattle.shunt.specs.defs.Words.{Call, Match, Follow, Audit, Delay, Report, Check, Compare, Zones, Sheet, Draw, Page, Upgrade, Trial, Drivers, Roster, CheckPinned, Replay, MakePlan, MakePinned, Improve, IsUsable, words_of}
 use Rattle.shunt_throat.specs.defs.Shared.{stated_sharing, IsShared}
 use Rattle.shunt_inputs.specs.defs.Inputs.{Agrees, stated_night, stated_plans, Holding}
 use Rattle.shunt_judging.specs.defs.Audited.{IsAudited}
@@ -62,7 +62,10 @@ asked (w ∷ s ∷ t ∷ p ∷ e ∷ n ∷ []) =
     else if bytes_eq w (codes "plan") then Some (MakePlan s t (digits_value 10 p) e n)
     else None
 asked (w ∷ s ∷ t ∷ i ∷ m ∷ p ∷ k ∷ []) = if bytes_eq w (codes "pinned") then Some (MakePinned s t i (digits_value 10 m) p k) else None
-asked (w ∷ n ∷ u ∷ m ∷ s ∷ t ∷ p ∷ k ∷ []) = if bytes_eq w (codes "trial") then Some (Trial (digits_value 10 n) (digits_value 10 u) (digits_value 10 m) s t p k) else None
+asked (w ∷ n ∷ u ∷ m ∷ s ∷ t ∷ p ∷ k ∷ []) =
+    if bytes_eq w (codes "trial") then Some (Trial (digits_value 10 n) (digits_value 10 u) (digits_value 10 m) s t p k)
+    else if bytes_eq w (codes "improve") then Some (Improve n u m s (digits_value 10 t) p k)
+    else None
 asked words = None
 
 same_trial : (n a x b m c : ℕ) (s t p k : List ℕ) → n ≡ a → x ≡ b → m ≡ c → Some (Trial n x m s t p k) ≡ Some (Trial a b c s t p k)
@@ -92,6 +95,7 @@ asked_is (CheckPinned s t i p k) u = refl
 asked_is (Replay s t p e n) u = refl
 asked_is (MakePlan s t m p k) u = ap (λ (x : ℕ). Some (MakePlan s t x p k)) (value_again m (let few = u.2 in omega (arith, few)))
 asked_is (MakePinned s t i m p k) u = ap (λ (x : ℕ). Some (MakePinned s t i x p k)) (value_again m (let few = u.2 in omega (arith, few)))
+asked_is (Improve s t i h m p k) u = ap (λ (x : ℕ). Some (Improve s t i h x p k)) (value_again m (let few = u.2 in omega (arith, few)))
 
 -- the words of a command that can be used are those of no other
 pub same_call : (c d : Call) → IsUsable c → IsUsable d → words_of c ≡ words_of d → c ≡ d

@@ -24,7 +24,7 @@ use Rattle.shunt_inputs.specs.declared.answers.Outcome.TheVariants as outcome
 use Rattle.shunt_inputs.specs.defs.Pins.{IsUnusable}
 use Rattle.shunt.specs.declared.running.Status.{Status}
 use Rattle.shunt.specs.declared.running.Status.TheVariants as status
-use Rattle.shunt.specs.defs.Words.{Call, Match, Follow, Audit, Delay, Report, Check, Compare, Zones, Sheet, Draw, Page, Upgrade, Trial, Drivers, Roster, CheckPinned, Replay, MakePlan, MakePinned, outputs_of}
+use Rattle.shunt.specs.defs.Words.{Call, Match, Follow, Audit, Delay, Report, Check, Compare, Zones, Sheet, Draw, Page, Upgrade, Trial, Drivers, Roster, CheckPinned, Replay, MakePlan, MakePinned, Improve, outputs_of}
 use Rattle.shunt.proofs.Writes.{in_some}
 use Rattle.shunt_inputs.specs.defs.Inputs.{Agrees}
 use Rattle.shunt.specs.defs.Inputs.{Value, stated_in, refused}
@@ -48,6 +48,7 @@ use Rattle.shunt_throat.specs.defs.Passed.{meets_outcome}
 use Rattle.shunt_throat.specs.defs.Rostered.{roster_outcome}
 use Rattle.shunt_inputs.specs.defs.Writes.{written, Stays, WritesSome}
 use Rattle.shunt_planning.specs.defs.Planned.{IsSoughtOver, search_outcome}
+use Rattle.shunt_planning.specs.defs.Improved.{IsUnfit}
 use Rattle.shunt.specs.defs.Ends.{Seen, known_of, CutInFiles, CutInText, Delivers, StopsEarly, Ends, IsWhole, Yields, the_status}
 
 -- ---- the status of a delivery
@@ -184,6 +185,10 @@ delays_outcome x r d = ap (λ (r : Reply). r.outcome) d.reply
 pub unusable_outcome : (night : Night) (pins : List Block) (r : Reply) → IsUnusable night pins r → r.outcome ≡ outcome.Findings
 unusable_outcome night pins r u = ap (λ (r : Reply). r.outcome) u.reply
 
+pub unfit_outcome : (night : Night) (pins : List Block) (plan : Plan) (r : Reply) → IsUnfit night pins plan r → r.outcome ≡ outcome.Findings
+unfit_outcome night pins plan r (inl f) = faulty_outcome (night, plan) r f
+unfit_outcome night pins plan r (inr (none, l)) = ap (λ (r : Reply). r.outcome) l.reply
+
 pub lost_outcome : (x : PinChecked) (r : Reply) → IsLost x r → r.outcome ≡ outcome.Findings
 lost_outcome x r l = ap (λ (r : Reply). r.outcome) l.reply
 
@@ -249,6 +254,9 @@ no_input (Replay s t p e n) x r is o = no_input_found is.findings (sym is.outcom
 no_input (MakePlan s t m p k) night r is o = no_input_searched [] [] [] m p k night r is o
 no_input (MakePinned s t i m p k) x r (inl f) o = let e : outcome.Findings ≡ outcome.Input = sym (unusable_outcome x.instance x.pins r f) ∙ o in cc
 no_input (MakePinned s t i m p k) x r (inr is) o = no_input_searched x.pins (units_taken x.instance x.pins) (positions_taken x.instance x.pins) m p k x.instance r is.1 o
+no_input (Improve s t i h m p k) x r (inl f) o = let e : outcome.Findings ≡ outcome.Input = sym (unusable_outcome x.0.instance x.0.pins r f) ∙ o in cc
+no_input (Improve s t i h m p k) x r (inr (usable, inl f)) o = let e : outcome.Findings ≡ outcome.Input = sym (unfit_outcome x.0.instance x.0.pins x.1 r f) ∙ o in cc
+no_input (Improve s t i h m p k) x r (inr (usable, inr is)) o = no_input_sought is.1.planned.certificate.cost is.1.planned.certificate.bound (sym (ap (λ (r : Reply). r.outcome) is.1.planned.reply) ∙ o)
 no_input (Follow s n) x r is o = no_input_followed (followed x.station x.orders) (sym (ap (λ (r : Reply). r.outcome) is) ∙ o)
 no_input (Delay s t p) x r (inl f) o = let e : outcome.Findings ≡ outcome.Input = sym (faulty_outcome x r f) ∙ o in cc
 no_input (Delay s t p) x r (inr d) o = let e : outcome.Done ≡ outcome.Input = sym (delays_outcome x r d) ∙ o in cc
@@ -305,6 +313,10 @@ own_writes (Replay s t p e n) x r name text is w = one_write n _ name text (subs
 own_writes (MakePlan s t m p k) night r name text is w = search_writes [] [] [] m p k night r name text is w
 own_writes (MakePinned s t i m p k) x r name text (inl f) w = absurd (subst (λ (q : Reply). In (name, text) q.writes) f.reply w)
 own_writes (MakePinned s t i m p k) x r name text (inr is) w = search_writes x.pins (units_taken x.instance x.pins) (positions_taken x.instance x.pins) m p k x.instance r name text is.1 w
+own_writes (Improve s t i h m p k) x r name text (inl f) w = absurd (subst (λ (q : Reply). In (name, text) q.writes) f.reply w)
+own_writes (Improve s t i h m p k) x r name text (inr (usable, inl (inl f))) w = absurd (subst (λ (q : Reply). In (name, text) q.writes) f.reply w)
+own_writes (Improve s t i h m p k) x r name text (inr (usable, inl (inr l))) w = absurd (subst (λ (q : Reply). In (name, text) q.writes) l.1.reply w)
+own_writes (Improve s t i h m p k) x r name text (inr (usable, inr is)) w = two_writes p k _ _ name text (subst (λ (q : Reply). In {X = List ℕ × List ℕ} (name, text) q.writes) is.1.planned.reply w)
 own_writes (Follow s o) x r name text is w = subst (λ (q : Reply). In (name, text) q.writes) is w
 own_writes (Delay s t p) x r name text (inl f) w = subst (λ (q : Reply). In (name, text) q.writes) f.reply w
 own_writes (Delay s t p) x r name text (inr d) w = subst (λ (q : Reply). In (name, text) q.writes) d.reply w

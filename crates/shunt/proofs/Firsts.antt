@@ -11,9 +11,9 @@ use Rattle.shunt_inputs.specs.declared.loading.Halt.{Halt}
 use Rattle.shunt_inputs.specs.declared.loading.Halt.TheVariants as halt
 use Rattle.shunt.specs.declared.running.Status.{Status}
 use Rattle.shunt.specs.declared.running.Status.TheVariants as status
-use Rattle.shunt_planning.specs.defs.Begun.{IsPinnedOver, IsPlannedOver}
+use Rattle.shunt_planning.specs.defs.Begun.{IsImprovedOver, IsPinnedOver, IsPlannedOver}
 use Rattle.shunt_inputs.specs.defs.Views.{HearsFirst}
-use Rattle.shunt.specs.defs.Words.{Call, MakePlan, MakePinned, inputs_of}
+use Rattle.shunt.specs.defs.Words.{Call, MakePlan, MakePinned, Improve, inputs_of}
 use Rattle.shunt_inputs.specs.defs.Replies.{Reply, refusal, reply_of}
 use Rattle.shunt.specs.defs.Replies.{IsReplyOver}
 use Rattle.shunt.specs.defs.Ends.{Seen, CutInFiles, CutInText, IsWhole, Delivers}
@@ -99,6 +99,10 @@ planned_leads s t m p k c view old new r is h = subst (λ (d : Call). Leads (IsR
 -- and one of `pinned`
 pub pinned_leads : (s t i : List ℕ) (m : ℕ) (p k : List ℕ) (c : Call) (view : Option Files) (old new : Known) (r : Result Answer Halt) → c ≡ MakePinned s t i m p k → Leads (IsPinnedOver view s t i m p k) old new r → Leads (IsReplyOver c view) old new r
 pinned_leads s t i m p k c view old new r is h = subst (λ (d : Call). Leads (IsReplyOver d view) old new r) (sym is) h
+
+-- and one of `improve`
+pub improved_leads : (s t i h : List ℕ) (m : ℕ) (p k : List ℕ) (c : Call) (view : Option Files) (old new : Known) (r : Result Answer Halt) → c ≡ Improve s t i h m p k → Leads (IsImprovedOver view s t i h m p k) old new r → Leads (IsReplyOver c view) old new r
+improved_leads s t i h m p k c view old new r is leads = subst (λ (d : Call). Leads (IsReplyOver d view) old new r) (sym is) leads
 
 -- the names that a command hears
 pub first_of : (c d : Call) (h0 h1 : Option Entries) → c ≡ d → HearsFirst (inputs_of d) h0 h1 → HearsFirst (inputs_of c) h0 h1

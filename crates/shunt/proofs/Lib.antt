@@ -17,6 +17,7 @@ mod Firsts
 mod Knowing
 mod Searched
 mod Planned
+mod Improved
 mod OwnPlans
 mod Sound
 mod Always

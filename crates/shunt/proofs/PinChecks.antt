@@ -69,7 +69,7 @@ of_all P [] b after h = All-head P b after h
 of_all P (c ∷ before) b after h = of_all P before b after (All-tail P c (before ++ b ∷ after) h)
 
 -- a pin that is lost isn't kept
-lost_kept : (blocks pins : List Block) (id : ℕ) → IsFirstLost blocks pins id → Keeps blocks pins → ⊥
+pub lost_kept : (blocks pins : List Block) (id : ℕ) → IsFirstLost blocks pins id → Keeps blocks pins → ⊥
 lost_kept blocks pins id l keeps =
     l.lost (of_all (IsKept blocks) l.before l.pin l.after (subst (Keeps blocks) l.place keeps))
 

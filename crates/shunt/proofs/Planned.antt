@@ -25,12 +25,13 @@ use Rattle.shunt.proofs.Searched as searched
 
 module _ (s t : List ℕ) (m : ℕ) (p k : List ℕ) where
   abbrev pub plan_search : searched.Search (MakePlan s t m p k)
-  plan_search = record { night = λ night. night; pins = λ night. []; units = λ night. []; places = λ night. []; most = m; plan = p; certificate = k }
+  plan_search = record { night = λ night. night; pins = λ night. []; units = λ night. []; places = λ night. []; most = m; plan = p; certificate = k; ready = λ night. AreUsable night [] }
 
   pub plan_answers : searched.Answers (MakePlan s t m p k) plan_search
   plan_answers = record {
     seeks = λ files night r ok is. inr (usable_none night, is);
     formed = λ files night ok. night_stated (content files s) (content files t) night ok;
+    usable = λ night ready. ready;
   }
 
   pub no_findings : (old new : Seen) → Ends (MakePlan s t m p k) old new status.Findings → ⊥
@@ -49,7 +50,7 @@ abbrev pub UsableLaw : Type 0
 UsableLaw = (night : Night) (pins : List Block) → IsInstance night → AreInRange night pins → (pin_findings night pins ≡ []) ↔ AreUsable night pins
 
 abbrev pub pinned_search : (s t i : List ℕ) (m : ℕ) (p k : List ℕ) → searched.Search (MakePinned s t i m p k)
-pinned_search s t i m p k = record { night = λ x. x.instance; pins = λ x. x.pins; units = λ x. units_taken x.instance x.pins; places = λ x. positions_taken x.instance x.pins; most = m; plan = p; certificate = k }
+pinned_search s t i m p k = record { night = λ x. x.instance; pins = λ x. x.pins; units = λ x. units_taken x.instance x.pins; places = λ x. positions_taken x.instance x.pins; most = m; plan = p; certificate = k; ready = λ x. AreUsable x.instance x.pins }
 
 module _ (law : UsableLaw) (s t i : List ℕ) (m : ℕ) (p k : List ℕ) where
   pinned_seeks : (files : Files) (x : Pinned) (r : Reply) → pinned_in s t i files ≡ Ok x → IsPinned m p k x r → searched.Seeks (MakePinned s t i m p k) (pinned_search s t i m p k) x r
@@ -62,4 +63,5 @@ module _ (law : UsableLaw) (s t i : List ℕ) (m : ℕ) (p k : List ℕ) where
   pinned_answers = record {
     seeks = pinned_seeks;
     formed = λ files x ok. (pins_stated (content files s) (content files t) (content files i) x ok).0;
+    usable = λ x ready. ready;
   }

@@ -143,8 +143,9 @@ module _ (bounds : Bounds) (pins : List Block) (m : ℕ) (p k : List ℕ) (night
 abbrev pub EndsSearch : Status → Type 0
 EndsSearch x = (x ≡ status.Done) ⊎ ((x ≡ status.NoMatching) ⊎ ((x ≡ status.Unfinished) ⊎ (x ≡ status.Memory)))
 
--- what a command searches for, over what its input files state: the night, the pins, what they leave out, and where it is written
-pub record Search (c : Call) : Type 0 where
+-- what a command searches for, over what its input files state: the night, the pins, what they leave out, where it is written, and on what
+-- it searches
+pub record Search (c : Call) : Type 1 where
   pub night : Value c → Night
   pub pins : Value c → List Block
   pub units : Value c → List Bool
@@ -152,6 +153,7 @@ pub record Search (c : Call) : Type 0 where
   pub most : ℕ
   pub plan : List ℕ
   pub certificate : List ℕ
+  pub ready : Value c → Type 0
 
 -- the matching of what the pins leave
 abbrev pub Matched : (c : Call) → Search c → Value c → Type 0
@@ -160,8 +162,8 @@ Matched c q v = HasMatching (q.night v) (q.units v) (q.places v)
 abbrev pub Unmatched : (c : Call) → Search c → Value c → Type 0
 Unmatched c q v = HasNoMatching (q.night v) (q.units v) (q.places v)
 
-abbrev pub HasPins : (c : Call) → Search c → Value c → Type 0
-HasPins c q v = AreUsable (q.night v) (q.pins v)
+abbrev pub IsReady : (c : Call) → Search c → Value c → Type 0
+IsReady c q v = q.ready v
 
 abbrev pub Sought : (c : Call) → Search c → Value c → Reply → Type 0
 Sought c q v r = IsSoughtOver (q.pins v) (q.units v) (q.places v) q.most q.plan q.certificate (q.night v) r
@@ -169,14 +171,15 @@ Sought c q v r = IsSoughtOver (q.pins v) (q.units v) (q.places v) q.most q.plan 
 abbrev pub Found : (c : Call) → Search c → Value c → Reply → Type 0
 Found c q v r = IsPlanned (q.pins v) q.most q.plan q.certificate (q.night v) r
 
--- an answer of findings on pins that aren't usable, or that of a search over usable ones
+-- an answer of findings on what isn't ready for a search, or that of a search
 abbrev pub Seeks : (c : Call) → Search c → Value c → Reply → Type 0
-Seeks c q v r = ((HasPins c q v → ⊥) × (r.outcome ≡ outcome.Findings)) ⊎ (HasPins c q v × Sought c q v r)
+Seeks c q v r = ((IsReady c q v → ⊥) × (r.outcome ≡ outcome.Findings)) ⊎ (IsReady c q v × Sought c q v r)
 
--- that this is how a command answers
+-- that this is how a command answers, which searches over usable pins alone
 pub record Answers (c : Call) (q : Search c) : Type 0 where
   pub seeks : (files : Files) (v : Value c) (r : Reply) → stated_in c files ≡ Ok v → IsAnswer c v r → Seeks c q v r
   pub formed : (files : Files) (v : Value c) → stated_in c files ≡ Ok v → IsInstance (q.night v)
+  pub usable : (v : Value c) → IsReady c q v → AreUsable (q.night v) (q.pins v)
 
 -- a reply with this outcome, over accepted files
 record Tells (c : Call) (q : Search c) (o : Outcome) (old new : Seen) : Type 0 where
@@ -196,7 +199,7 @@ pub record Finds (c : Call) (q : Search c) (o : Outcome) (old new : Seen) : Type
   pub value : Value c
   pub ok : stated_in c files ≡ Ok value
   pub formed : IsInstance (q.night value)
-  pub usable : HasPins c q value
+  pub usable : AreUsable (q.night value) (q.pins value)
   pub reply : Reply
   pub is : Found c q value reply
   pub outcome : search_outcome is.certificate.cost is.certificate.bound ≡ o
@@ -226,40 +229,40 @@ module _ (c : Call) (q : Search c) (answers : Answers c q) where
         whole = h.3;
       }
 
-  -- ---- pins that aren't usable
+  -- ---- what isn't ready
 
-  unusable_outcome : (v : Value c) (r : Reply) → (HasPins c q v → ⊥) → Seeks c q v r → r.outcome ≡ outcome.Findings
+  unusable_outcome : (v : Value c) (r : Reply) → (IsReady c q v → ⊥) → Seeks c q v r → r.outcome ≡ outcome.Findings
   unusable_outcome v r bad (inl is) = is.1
   unusable_outcome v r bad (inr is) = absurd (bad is.0)
 
-  its_search : (v : Value c) (r : Reply) → HasPins c q v → Seeks c q v r → Sought c q v r
+  its_search : (v : Value c) (r : Reply) → IsReady c q v → Seeks c q v r → Sought c q v r
   its_search v r good (inl is) = absurd (is.0 good)
   its_search v r good (inr is) = is.1
 
-  unusable_told : (v : Value c) (r : Reply) → r.outcome ≡ outcome.Findings → Seeks c q v r → HasPins c q v → ⊥
+  unusable_told : (v : Value c) (r : Reply) → r.outcome ≡ outcome.Findings → Seeks c q v r → IsReady c q v → ⊥
   unusable_told v r o (inl is) good = is.0 good
   unusable_told v r o (inr is) good = no_found (q.pins v) (q.units v) (q.places v) q.most q.plan q.certificate (q.night v) r o is.1
 
-  usable_told : (v : Value c) (r : Reply) → (r.outcome ≡ outcome.Findings → ⊥) → Seeks c q v r → HasPins c q v × Sought c q v r
+  usable_told : (v : Value c) (r : Reply) → (r.outcome ≡ outcome.Findings → ⊥) → Seeks c q v r → IsReady c q v × Sought c q v r
   usable_told v r other (inl is) = absurd (other is.1)
   usable_told v r other (inr is) = is
 
-  pub findings_there : (old new : Seen) (x : Status) (files : Files) (v : Value c) → old.files ≡ Some files → stated_in c files ≡ Ok v → (HasPins c q v → ⊥) → Ends c old new x → (x ≡ status.Findings) ⊎ Yields x
+  pub findings_there : (old new : Seen) (x : Status) (files : Files) (v : Value c) → old.files ≡ Some files → stated_in c files ≡ Ok v → (IsReady c q v → ⊥) → Ends c old new x → (x ≡ status.Findings) ⊎ Yields x
   findings_there old new x files v known ok bad e = decides c outcome.Findings old new x files known (λ r is. unusable_outcome v r bad (answer_at files v r ok is)) e
 
-  pub findings_only : (old new : Seen) → Ends c old new status.Findings → (files : Files) × Agrees old.files files × ((v : Value c) × (stated_in c files ≡ Ok v) × (HasPins c q v → ⊥))
+  pub findings_only : (old new : Seen) → Ends c old new status.Findings → (files : Files) × Agrees old.files files × ((v : Value c) × (stated_in c files ≡ Ok v) × (IsReady c q v → ⊥))
   findings_only old new e =
       let f = told outcome.Findings old new (λ e. cc) e in
       (f.files, f.agrees, (f.value, f.ok, unusable_told f.value f.reply f.outcome f.seeks))
 
   -- ---- no matching
 
-  pub no_matching_there : (old new : Seen) (x : Status) (files : Files) (v : Value c) → old.files ≡ Some files → stated_in c files ≡ Ok v → HasPins c q v → Unmatched c q v → Ends c old new x → (x ≡ status.NoMatching) ⊎ Yields x
+  pub no_matching_there : (old new : Seen) (x : Status) (files : Files) (v : Value c) → old.files ≡ Some files → stated_in c files ≡ Ok v → IsReady c q v → Unmatched c q v → Ends c old new x → (x ≡ status.NoMatching) ⊎ Yields x
   no_matching_there old new x files v known ok good none e =
       decides c outcome.NoMatching old new x files known (λ r is.
       none_outcome (q.pins v) (q.units v) (q.places v) q.most q.plan q.certificate (q.night v) r none (its_search v r good (answer_at files v r ok is))) e
 
-  pub no_matching_only : (old new : Seen) → Ends c old new status.NoMatching → (files : Files) × Agrees old.files files × ((v : Value c) × (stated_in c files ≡ Ok v) × HasPins c q v × Unmatched c q v)
+  pub no_matching_only : (old new : Seen) → Ends c old new status.NoMatching → (files : Files) × Agrees old.files files × ((v : Value c) × (stated_in c files ≡ Ok v) × IsReady c q v × Unmatched c q v)
   no_matching_only old new e =
       let f = told outcome.NoMatching old new (λ e. cc) e in
       let is = usable_told f.value f.reply (λ g. (let h : outcome.NoMatching ≡ outcome.Findings = sym f.outcome ∙ g in cc)) f.seeks in
@@ -280,7 +283,7 @@ module _ (c : Call) (q : Search c) (answers : Answers c q) where
         value = v;
         ok = f.ok;
         formed = answers.formed f.files v f.ok;
-        usable = sought.0;
+        usable = answers.usable v sought.0;
         reply = f.reply;
         is = is;
         outcome = end;
@@ -321,7 +324,7 @@ module _ (c : Call) (q : Search c) (answers : Answers c q) where
 
   -- ---- completeness
 
-  pub done_there : (old new : Seen) (x : Status) (files : Files) (v : Value c) → old.files ≡ Some files → stated_in c files ≡ Ok v → HasPins c q v → Matched c q v → partial_plans (q.night v) (q.pins v) < q.most → Ends c old new x → (x ≡ status.Done) ⊎ Yields x
+  pub done_there : (old new : Seen) (x : Status) (files : Files) (v : Value c) → old.files ≡ Some files → stated_in c files ≡ Ok v → IsReady c q v → Matched c q v → partial_plans (q.night v) (q.pins v) < q.most → Ends c old new x → (x ≡ status.Done) ⊎ Yields x
   done_there old new x files v known ok good matching fewer e =
       decides c outcome.Done old new x files known (λ r is.
       all_fit (q.pins v) (q.units v) (q.places v) q.most q.plan q.certificate (q.night v) r matching fewer (its_search v r good (answer_at files v r ok is))) e

@@ -1,14 +1,14 @@
 //! What follows from the contract of `run` on when each status comes and what then stands: of every command, and then of each.
 //! The files of a `Seen` are those that can be known, as the definition `AreKnown` has it: they are told by the store; or before a run they are
 //! any that hold what was read in it, and after it these with what was stored. So each law holds of the real folder too, over what was read.
-ghost use Rattle.std.specs.Prelude.{◌≡◌, ◌⊎◌, List, [], ◌++◌, ◌<◌, ℕ, Some, Ok, ◌∷◌, ◌+◌, length};
+ghost use Rattle.std.specs.Prelude.{◌≡◌, ◌⊎◌, List, [], ◌++◌, ◌<◌, ◌≤◌, ℕ, Some, Ok, ◌∷◌, ◌+◌, length};
 ghost use Rattle.std.specs.FinMap as map;
 ghost use Rattle.shunt_lists.specs.defs.Members.{In};
 ghost use Rattle.shunt_store.specs.defs.Files.{Files, BothTold, content};
 ghost use Rattle.shunt_store.specs.defs.Causes.{Rose};
 ghost use Rattle.shunt_instance.specs.defs.Instance.{Night};
 ghost use Rattle.shunt_matching.specs.defs.Nights.{HasMatching, HasNoMatching, Matches};
-ghost use Rattle.shunt_blocks.specs.defs.Lists.{units_taken, positions_taken};
+ghost use Rattle.shunt_blocks.specs.defs.Lists.{total_cost, units_taken, positions_taken};
 ghost use Rattle.shunt_blocks.specs.defs.Pins.{AreUsable};
 ghost use Rattle.shunt_plan.specs.declared.records.Plan.{Plan};
 ghost use Rattle.shunt_checker.specs.declared.verdict.Verdict.TheVariants as verdict;
@@ -21,13 +21,14 @@ ghost use Rattle.shunt_inputs.specs.declared.answers.Outcome.{Outcome};
 ghost use Rattle.shunt.specs.declared.running.Status.{Status};
 ghost use Rattle.shunt_planning.specs.defs.Planned.{planned};
 ghost use Rattle.shunt_planning.specs.defs.Found.{AreStated, IsBounded, IsCheapest, AreDifferent};
+ghost use Rattle.shunt_planning.specs.defs.Improved.{IsReady, in_hand_in};
 ghost use Rattle.shunt_choices.specs.defs.Choices.{partial_plans};
 ghost use Rattle.shunt_proof.specs.declared.records.Certificate.{Certificate};
 ghost use Rattle.shunt_exchange.specs.defs.Upgraded.{Upgradable, upgrade_in};
 ghost use Rattle.shunt_trial.specs.defs.Tried.{made_night, tried};
 ghost use Rattle.shunt_dispatch.specs.defs.Compared.{Comparable, comparison_in, AreAlike};
 ghost use Rattle.shunt_dispatch.specs.defs.Followed.{Followable, following_in, GoesThrough};
-ghost use Rattle.shunt.specs.defs.Words.{Call, Match, Follow, Audit, Delay, Report, Check, Compare, Zones, Sheet, Draw, Page, Upgrade, Trial, Drivers, Roster, CheckPinned, Replay, MakePlan, MakePinned, IsUsable, outputs_of};
+ghost use Rattle.shunt.specs.defs.Words.{Call, Match, Follow, Audit, Delay, Report, Check, Compare, Zones, Sheet, Draw, Page, Upgrade, Trial, Drivers, Roster, CheckPinned, Replay, MakePlan, MakePinned, Improve, IsUsable, outputs_of};
 ghost use Rattle.shunt_inputs.specs.declared.pins.Pinned.{Pinned};
 ghost use Rattle.shunt_inputs.specs.defs.Inputs.{Agrees, stated_night, pinned_in, plans_in};
 ghost use Rattle.shunt_judging.specs.defs.Checked.{Checkable, check_in, IsProved, BoundsAll};
@@ -54,6 +55,7 @@ use shunt_plan::laws::texts_of_plans;
 use shunt_proof::laws::{few_nodes, known_by_paths, proved_bounds};
 use shunt_proof::text_laws::texts_of_certificates;
 use shunt_proof::version_laws::trees_by_version;
+use shunt_search::laws::kept_matchings;
 use shunt_sheet::laws::{sheets_of_plans, texts_of_sheets};
 
 /// `Store` comes only if the store failed in the call, and `Sink` only if the sink did, so neither over a store or a
@@ -84,7 +86,7 @@ pub fn statuses_are_of_replies()
 /// No file but those that the command writes is changed, whatever the status. After `Store` nothing was printed. After
 /// `Memory` nothing was, or the files of a defined reply were written and a front of its text was printed, as after `Sink`.
 /// After `Store` and `Memory` no file was changed, or the first of the files that a defined reply writes, in their order, hold their whole
-/// texts and all others what they held: so it is of the certificate of `plan` and `pinned` too, and then of their plan. A store that
+/// texts and all others what they held: so it is of the certificate of `plan`, `pinned` and `improve` too, and then of their plan. A store that
 /// doesn't tell its files tells that exactly these were stored.
 pub fn what_stands_after()
     ensures others { (c : Call) (old new : Seen) (status : Status) (name : List ℕ) → (In name (outputs_of c) → ⊥) → Ends c old new status → BothTold old.files new.files (λ a b. map.get b name ≡ map.get a name) }
@@ -554,6 +556,66 @@ pub fn pinned_completes()
     ensures ends { (s t i : List ℕ) (m : ℕ) (p k : List ℕ) (old new : Seen) (status : Status) (files : Files) (x : Pinned) → old.files ≡ Some files → pinned_in s t i files ≡ Ok x → (Rose old.store_faults new.store_faults → ⊥) → (Rose old.sink_faults new.sink_faults → ⊥) → Ends (MakePinned s t i m p k) old new status → (status ≡ Status.Findings) ⊎ ((status ≡ Status.Done) ⊎ ((status ≡ Status.NoMatching) ⊎ ((status ≡ Status.Unfinished) ⊎ (status ≡ Status.Memory)))) }
 {
     laws::pins();
+}
+
+/// `improve` ends with `Findings` exactly when its input files are accepted, and the pins aren't usable, or the plan in hand isn't feasible,
+/// doesn't state its cost or doesn't keep a pin, unless the store, memory or the sink came first.
+pub fn improve_findings_exactly()
+    ensures there { (s t i h : List ℕ) (m : ℕ) (p k : List ℕ) (old new : Seen) (status : Status) (files : Files) (x : Pinned × Plan) → old.files ≡ Some files → in_hand_in s t i h files ≡ Ok x → (IsReady x → ⊥) → Ends (Improve s t i h m p k) old new status → (status ≡ Status.Findings) ⊎ Yields status }
+    ensures only { (s t i h : List ℕ) (m : ℕ) (p k : List ℕ) (old new : Seen) → Ends (Improve s t i h m p k) old new Status.Findings → (files : Files) × Agrees old.files files × ((x : Pinned × Plan) × (in_hand_in s t i h files ≡ Ok x) × (IsReady x → ⊥)) }
+{
+    laws::pins();
+    laws::plan_findings();
+    kept_matchings();
+}
+
+/// Where `improve` ends with `Done`, the new plan file holds the text of a feasible plan that keeps the pins and states its cost, no feasible
+/// plan of the night that keeps them costs less, and that cost was printed as optimal, and as the bound.
+pub fn improve_is_cheapest()
+    ensures { (s t i h : List ℕ) (m : ℕ) (p k : List ℕ) (old new : Seen) → Ends (Improve s t i h m p k) old new Status.Done → (files : Files) × Agrees old.files files × ((x : Pinned × Plan) × (in_hand_in s t i h files ≡ Ok x) × ((plan : Plan) × (c : Certificate) × AreStated x.0.instance x.0.pins plan c × IsCheapest x.0.instance x.0.pins plan × (c.bound ≡ plan.cost) × IsWhole (planned Outcome.Done p k x.0.instance plan c) old new)) }
+{
+    laws::pins();
+    laws::plan_findings();
+    kept_matchings();
+    proved_bounds();
+}
+
+/// Where `improve` ends with `Unfinished`, the certificate file holds the text of exactly as many nodes as were allowed, whose paths are
+/// different partial plans over the pins; the new plan file holds that of a feasible plan that keeps the pins and states its cost; and every
+/// feasible plan of the night that keeps them costs at least the bound that was printed, which is below the plan's cost.
+pub fn improve_is_unfinished()
+    ensures { (s t i h : List ℕ) (m : ℕ) (p k : List ℕ) (old new : Seen) → Ends (Improve s t i h m p k) old new Status.Unfinished → (files : Files) × Agrees old.files files × ((x : Pinned × Plan) × (in_hand_in s t i h files ≡ Ok x) × ((plan : Plan) × (c : Certificate) × AreStated x.0.instance x.0.pins plan c × IsBounded x.0.instance x.0.pins plan c.bound × (c.bound < plan.cost) × AreDifferent x.0.instance x.0.pins c.nodes m × IsWhole (planned Outcome.Unfinished p k x.0.instance plan c) old new)) }
+{
+    laws::pins();
+    laws::plan_findings();
+    kept_matchings();
+    few_nodes();
+    known_by_paths();
+    proved_bounds();
+    trees_by_version();
+}
+
+/// Where `improve` ends with `Done` or `Unfinished`, the new plan file holds the text of a plan that costs no more than the plan in hand.
+pub fn improve_is_never_worse()
+    ensures done { (s t i h : List ℕ) (m : ℕ) (p k : List ℕ) (old new : Seen) → Ends (Improve s t i h m p k) old new Status.Done → (files : Files) × Agrees old.files files × ((x : Pinned × Plan) × (in_hand_in s t i h files ≡ Ok x) × ((plan : Plan) × (c : Certificate) × AreStated x.0.instance x.0.pins plan c × (total_cost x.0.instance plan.blocks ≤ total_cost x.0.instance x.1.blocks) × IsWhole (planned Outcome.Done p k x.0.instance plan c) old new)) }
+    ensures unfinished { (s t i h : List ℕ) (m : ℕ) (p k : List ℕ) (old new : Seen) → Ends (Improve s t i h m p k) old new Status.Unfinished → (files : Files) × Agrees old.files files × ((x : Pinned × Plan) × (in_hand_in s t i h files ≡ Ok x) × ((plan : Plan) × (c : Certificate) × AreStated x.0.instance x.0.pins plan c × (total_cost x.0.instance plan.blocks ≤ total_cost x.0.instance x.1.blocks) × IsWhole (planned Outcome.Unfinished p k x.0.instance plan c) old new)) }
+{
+    laws::pins();
+    laws::plan_findings();
+    kept_matchings();
+}
+
+/// If the input files are accepted, the pins are usable, the plan in hand is feasible, states its cost and keeps them, and more nodes are
+/// allowed than there are partial plans over them, `improve` ends with `Done`, unless the store, memory or the sink came first. If neither
+/// the store nor the sink fails, it ends with `Findings`, `Done`, `Unfinished` or `Memory`, and never with `NoMatching`.
+pub fn improve_completes()
+    ensures done { (s t i h : List ℕ) (m : ℕ) (p k : List ℕ) (old new : Seen) (status : Status) (files : Files) (x : Pinned × Plan) → old.files ≡ Some files → in_hand_in s t i h files ≡ Ok x → IsReady x → partial_plans x.0.instance x.0.pins < m → Ends (Improve s t i h m p k) old new status → (status ≡ Status.Done) ⊎ Yields status }
+    ensures ends { (s t i h : List ℕ) (m : ℕ) (p k : List ℕ) (old new : Seen) (status : Status) (files : Files) (x : Pinned × Plan) → old.files ≡ Some files → in_hand_in s t i h files ≡ Ok x → (Rose old.store_faults new.store_faults → ⊥) → (Rose old.sink_faults new.sink_faults → ⊥) → Ends (Improve s t i h m p k) old new status → (status ≡ Status.Findings) ⊎ ((status ≡ Status.Done) ⊎ ((status ≡ Status.Unfinished) ⊎ (status ≡ Status.Memory))) }
+    ensures no_matching { (s t i h : List ℕ) (m : ℕ) (p k : List ℕ) (old new : Seen) → Ends (Improve s t i h m p k) old new Status.NoMatching → ⊥ }
+{
+    laws::pins();
+    laws::plan_findings();
+    kept_matchings();
 }
 
 /// `check` of the files that `plan` left, whether with `Done` or with `Unfinished`, accepts them, unless the store, memory or the sink

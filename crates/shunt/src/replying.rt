@@ -16,7 +16,7 @@ use shunt_inputs::{
     PlanFile, RosterFile, SheetFile, StationFile, Then, ZonesFile, reply,
 };
 use shunt_judging::{Audit, Check, CheckPinned, Replay};
-use shunt_planning::{Match, reply_to_pinned, reply_to_plan};
+use shunt_planning::{Match, reply_to_improve, reply_to_pinned, reply_to_plan};
 use shunt_store::Store;
 use shunt_throat::{Drivers, Meetings, Roster};
 use shunt_trial::reply_to_trial;
@@ -130,6 +130,19 @@ pub fn answer_to<S: Store>(
         }
         Command::MakePinned(first, second, pins, nodes, plan, certificate) => {
             reply_to_pinned(alloc, store, first, second, pins, nodes, plan, certificate)
+        }
+        Command::Improve(first, second, pins, in_hand, nodes, plan, certificate) => {
+            reply_to_improve(
+                alloc,
+                store,
+                first,
+                second,
+                pins,
+                in_hand,
+                nodes,
+                plan,
+                certificate,
+            )
         }
     }
 }

@@ -44,12 +44,12 @@ pub enum Status {
 /// `check-pinned STATION TIMETABLE PINS PLAN CERT`, `zones STATION TIMETABLE PLAN ZONES`, `sheet STATION TIMETABLE PLAN SHEET`,
 /// `draw STATION TIMETABLE PLAN PICTURE`, `page STATION TIMETABLE PLAN PAGE`, `drivers STATION TIMETABLE PLAN CREW ROSTER`,
 /// `roster STATION TIMETABLE PLAN CREW ROSTER`, `replay STATION TIMETABLE PLAN EDITS NEWPLAN`, `plan STATION TIMETABLE NODES PLAN CERT`,
-/// `pinned STATION TIMETABLE PINS NODES PLAN CERT`, `upgrade STATION TIMETABLE NEWSTATION NEWTIMETABLE` or
-/// `trial NUMBER UNITS NODES STATION TIMETABLE PLAN CERT`, where the files have names that differ and aren't empty, NODES is a number
-/// from 1 to 5,000, NUMBER one up to 2,147,483,647 and UNITS one up to 160, or the answer is `Words` and nothing is read, written or
-/// printed.
-/// The certificate of `plan` and of `pinned` is written while it is found, and stored before the other file. A file is replaced whole or not
-/// at all: after `Store` and `Memory` the first of the files of the answer hold their texts, and the others what they held.
+/// `pinned STATION TIMETABLE PINS NODES PLAN CERT`, `improve STATION TIMETABLE PINS PLAN NODES NEWPLAN CERT`,
+/// `upgrade STATION TIMETABLE NEWSTATION NEWTIMETABLE` or `trial NUMBER UNITS NODES STATION TIMETABLE PLAN CERT`, where the files have names
+/// that differ and aren't empty, NODES is a number from 1 to 5,000, NUMBER one up to 2,147,483,647 and UNITS one up to 160, or the answer is
+/// `Words` and nothing is read, written or printed.
+/// The certificate of `plan`, `pinned` and `improve` is written while it is found, and stored before the other file. A file is replaced
+/// whole or not at all: after `Store` and `Memory` the first of the files of the answer hold their texts, and the others what they held.
 /// `Store` comes only if the store failed in this call and `Sink` only if the sink did; `Memory` may come in place
 /// of any answer but `Words`. Each other status is that of the defined answer, all of which then was written and printed.
 /// The defined answer is the one over the files that the store tells. A store that doesn't, as that of the real folder, tells what was read

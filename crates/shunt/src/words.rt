@@ -47,6 +47,8 @@ pub enum Command<'w> {
     MakePlan(&'w str, &'w str, u32, &'w str, &'w str),
     /// `pinned STATION TIMETABLE PINS NODES PLAN CERT`
     MakePinned(&'w str, &'w str, &'w str, u32, &'w str, &'w str),
+    /// `improve STATION TIMETABLE PINS PLAN NODES NEWPLAN CERT`
+    Improve(&'w str, &'w str, &'w str, &'w str, u32, &'w str, &'w str),
 }
 
 /// The command that the words spell. None exactly when they spell none.
@@ -74,24 +76,8 @@ fn long_command_of(words: &[String]) -> Option<Command<'_>>
     ensures only { (c : Call) → 7 < length words.now → Spells (texts words.now) c → IsSome result }
 {
     match words {
-        [
-            word,
-            number,
-            units,
-            nodes,
-            station,
-            timetable,
-            plan,
-            certificate,
-        ] => of_trial(
-            word,
-            number,
-            units,
-            nodes,
-            station,
-            timetable,
-            plan,
-            certificate,
+        [word, first, second, third, fourth, fifth, sixth, seventh] => of_seven_words(
+            word, first, second, third, fourth, fifth, sixth, seventh,
         ),
         _ => None,
     }
@@ -162,6 +148,37 @@ fn are_five_names(first: &str, second: &str, third: &str, fourth: &str, fifth: &
         return false;
     }
     are_four_names(second, third, fourth, fifth)
+}
+
+fn are_six_names(
+    first: &str,
+    second: &str,
+    third: &str,
+    fourth: &str,
+    fifth: &str,
+    sixth: &str,
+) -> bool
+    ensures { IsTrue result ↔ AreNames (first.now ∷ second.now ∷ third.now ∷ fourth.now ∷ fifth.now ∷ sixth.now ∷ []) }
+{
+    if first.is_empty() {
+        return false;
+    }
+    if first == second {
+        return false;
+    }
+    if first == third {
+        return false;
+    }
+    if first == fourth {
+        return false;
+    }
+    if first == fifth {
+        return false;
+    }
+    if first == sixth {
+        return false;
+    }
+    are_five_names(second, third, fourth, fifth, sixth)
 }
 
 // The command that a word and the names of two files spell.
@@ -360,28 +377,67 @@ fn number_up_to(word: &str, most: u32) -> Option<u32>
     Some(number as u32)
 }
 
-// The trial that a word, three numbers and the names of four files ask for.
-fn of_trial<'w>(
+// The command that a word and seven more spell.
+fn of_seven_words<'w>(
     word: &'w String,
-    number: &'w String,
-    units: &'w String,
-    nodes: &'w String,
-    station: &'w String,
-    timetable: &'w String,
-    plan: &'w String,
-    certificate: &'w String,
+    first: &'w String,
+    second: &'w String,
+    third: &'w String,
+    fourth: &'w String,
+    fifth: &'w String,
+    sixth: &'w String,
+    seventh: &'w String,
 ) -> Option<Command<'w>>
-    ensures some { IfSome result (λ c. Spells (texts (word.now ∷ number.now ∷ units.now ∷ nodes.now ∷ station.now ∷ timetable.now ∷ plan.now ∷ certificate.now ∷ [])) (call_of c)) }
-    ensures only { (c : Call) → Spells (texts (word.now ∷ number.now ∷ units.now ∷ nodes.now ∷ station.now ∷ timetable.now ∷ plan.now ∷ certificate.now ∷ [])) c → IsSome result }
+    ensures some { IfSome result (λ c. Spells (texts (word.now ∷ first.now ∷ second.now ∷ third.now ∷ fourth.now ∷ fifth.now ∷ sixth.now ∷ seventh.now ∷ [])) (call_of c)) }
+    ensures only { (c : Call) → Spells (texts (word.now ∷ first.now ∷ second.now ∷ third.now ∷ fourth.now ∷ fifth.now ∷ sixth.now ∷ seventh.now ∷ [])) c → IsSome result }
 {
-    if word.as_str() != "trial" {
-        return None;
+    let (first, second, third) = (first.as_str(), second.as_str(), third.as_str());
+    let (fourth, fifth) = (fourth.as_str(), fifth.as_str());
+    let (sixth, seventh) = (sixth.as_str(), seventh.as_str());
+    match word.as_str() {
+        "improve" => of_improvement(first, second, third, fourth, fifth, sixth, seventh),
+        "trial" => of_trial(first, second, third, fourth, fifth, sixth, seventh),
+        _ => None,
     }
-    let number = number_up_to(number.as_str(), 2_147_483_647)?;
-    let units = number_up_to(units.as_str(), 160)?;
-    let nodes = node_count(nodes.as_str())?;
-    let (station, timetable) = (station.as_str(), timetable.as_str());
-    let (plan, certificate) = (plan.as_str(), certificate.as_str());
+}
+
+// The improvement that the names of six files and a number of nodes ask for.
+fn of_improvement<'w>(
+    first: &'w str,
+    second: &'w str,
+    third: &'w str,
+    fourth: &'w str,
+    number: &'w str,
+    fifth: &'w str,
+    sixth: &'w str,
+) -> Option<Command<'w>>
+    ensures some { IfSome result (λ c. Spells (codes "improve" ∷ first.now ∷ second.now ∷ third.now ∷ fourth.now ∷ number.now ∷ fifth.now ∷ sixth.now ∷ []) (call_of c)) }
+    ensures only { (c : Call) → Spells (codes "improve" ∷ first.now ∷ second.now ∷ third.now ∷ fourth.now ∷ number.now ∷ fifth.now ∷ sixth.now ∷ []) c → IsSome result }
+{
+    let nodes = node_count(number)?;
+    if are_six_names(first, second, third, fourth, fifth, sixth) {
+        Some(Command::Improve(first, second, third, fourth, nodes, fifth, sixth))
+    } else {
+        None
+    }
+}
+
+// The trial that three numbers and the names of four files ask for.
+fn of_trial<'w>(
+    number: &'w str,
+    units: &'w str,
+    nodes: &'w str,
+    station: &'w str,
+    timetable: &'w str,
+    plan: &'w str,
+    certificate: &'w str,
+) -> Option<Command<'w>>
+    ensures some { IfSome result (λ c. Spells (codes "trial" ∷ number.now ∷ units.now ∷ nodes.now ∷ station.now ∷ timetable.now ∷ plan.now ∷ certificate.now ∷ []) (call_of c)) }
+    ensures only { (c : Call) → Spells (codes "trial" ∷ number.now ∷ units.now ∷ nodes.now ∷ station.now ∷ timetable.now ∷ plan.now ∷ certificate.now ∷ []) c → IsSome result }
+{
+    let number = number_up_to(number, 2_147_483_647)?;
+    let units = number_up_to(units, 160)?;
+    let nodes = node_count(nodes)?;
     if are_four_names(station, timetable, plan, certificate) {
         Some(Command::Trial(number, units, nodes, station, timetable, plan, certificate))
     } else {

@@ -3,7 +3,7 @@ use Rattle.std.specs.Prelude.{ℕ, List, Option, Result, Ok}
 use Rattle.shunt_store.specs.defs.Files.{Files, content}
 use Rattle.shunt_instance.specs.defs.Instance.{Night}
 use Rattle.shunt_plan.specs.declared.records.Plan.{Plan}
-use Rattle.shunt.specs.defs.Words.{Call, Match, Follow, Audit, Delay, Report, Check, Compare, Zones, Sheet, Draw, Page, Upgrade, Trial, Drivers, Roster, CheckPinned, Replay, MakePlan, MakePinned}
+use Rattle.shunt.specs.defs.Words.{Call, Match, Follow, Audit, Delay, Report, Check, Compare, Zones, Sheet, Draw, Page, Upgrade, Trial, Drivers, Roster, CheckPinned, Replay, MakePlan, MakePinned, Improve}
 use Rattle.shunt_judging.specs.defs.Checked.{Checkable, check_in}
 use Rattle.shunt_throat.specs.defs.Passed.{Passable, passing_in}
 use Rattle.shunt_throat.specs.defs.Shared.{Sharable, sharing_in}
@@ -16,6 +16,7 @@ use Rattle.shunt_exchange.specs.defs.Upgraded.{Upgradable, upgrade_in}
 use Rattle.std.specs.Result.{result_err}
 use Rattle.shunt_inputs.specs.declared.pins.Pinned.{Pinned}
 use Rattle.shunt_inputs.specs.defs.Inputs.{stated_night, plans_in, pinned_in}
+use Rattle.shunt_planning.specs.defs.Improved.{in_hand_in}
 
 -- what the input files of a command state together
 abbrev pub Value : Call → Type 0
@@ -38,6 +39,7 @@ Value (CheckPinned s t i p k) = PinChecked
 Value (Replay s t p e n) = Replayable
 Value (MakePlan s t m p k) = Night
 Value (MakePinned s t i m p k) = Pinned
+Value (Improve s t i h m p k) = Pinned × Plan
 
 -- the value that they state, judged in the order of the words, or the line for the first of them that isn't accepted
 abbrev pub stated_in : (c : Call) → Files → Result (Value c) (List ℕ)
@@ -60,6 +62,7 @@ stated_in (CheckPinned s t i p k) files = pin_check_in s t i p k files
 stated_in (Replay s t p e n) files = turns_in s t p e files
 stated_in (MakePlan s t m p k) files = stated_night (content files s) (content files t)
 stated_in (MakePinned s t i m p k) files = pinned_in s t i files
+stated_in (Improve s t i h m p k) files = in_hand_in s t i h files
 
 -- the line for the first input file that isn't accepted
 abbrev pub refused : Call → Files → Option (List ℕ)

@@ -1,12 +1,13 @@
 -- The defined answer of a command, over the contents of its files.
 use Rattle.std.specs.Prelude.{Option}
 use Rattle.shunt_store.specs.defs.Files.{Files}
-use Rattle.shunt.specs.defs.Words.{Call, Match, Follow, Audit, Delay, Report, Check, Compare, Zones, Sheet, Draw, Page, Upgrade, Trial, Drivers, Roster, CheckPinned, Replay, MakePlan, MakePinned}
+use Rattle.shunt.specs.defs.Words.{Call, Match, Follow, Audit, Delay, Report, Check, Compare, Zones, Sheet, Draw, Page, Upgrade, Trial, Drivers, Roster, CheckPinned, Replay, MakePlan, MakePinned, Improve}
 use Rattle.shunt.specs.defs.Inputs.{Value, stated_in}
 use Rattle.shunt_inputs.specs.defs.Inputs.{Agrees}
 use Rattle.shunt_inputs.specs.defs.Replies.{Reply, Decided}
 use Rattle.shunt_planning.specs.defs.Matched.{IsMatched}
 use Rattle.shunt_planning.specs.defs.Planned.{IsPinned, IsSought}
+use Rattle.shunt_planning.specs.defs.Improved.{IsImproved}
 use Rattle.shunt_judging.specs.defs.Audited.{IsAudited}
 use Rattle.shunt_judging.specs.defs.Checked.{IsChecked}
 use Rattle.shunt_judging.specs.defs.Pinned.{IsPinChecked}
@@ -45,6 +46,7 @@ IsAnswer (CheckPinned s t i p k) x r = IsPinChecked x r
 IsAnswer (Replay s t p e n) x r = IsReplayed n x r
 IsAnswer (MakePlan s t m p k) night r = IsSought m p k night r
 IsAnswer (MakePinned s t i m p k) x r = IsPinned m p k x r
+IsAnswer (Improve s t i h m p k) x r = IsImproved m p k x r
 
 -- the defined answer of a command: the first input file that isn't accepted decides, else the command's own answer
 abbrev pub IsReply : Call → Files → Reply → Type 0

@@ -30,6 +30,7 @@ pub data Call : Type 0 where
   Replay : List ℕ → List ℕ → List ℕ → List ℕ → List ℕ → Call
   MakePlan : List ℕ → List ℕ → ℕ → List ℕ → List ℕ → Call
   MakePinned : List ℕ → List ℕ → List ℕ → ℕ → List ℕ → List ℕ → Call
+  Improve : List ℕ → List ℕ → List ℕ → List ℕ → ℕ → List ℕ → List ℕ → Call
 
 abbrev pub call_of : Command → Call
 call_of (command.Match s t) = Match s.now t.now
@@ -51,6 +52,7 @@ call_of (command.CheckPinned s t i p k) = CheckPinned s.now t.now i.now p.now k.
 call_of (command.Replay s t p e n) = Replay s.now t.now p.now e.now n.now
 call_of (command.MakePlan s t m p k) = MakePlan s.now t.now m p.now k.now
 call_of (command.MakePinned s t i m p k) = MakePinned s.now t.now i.now m p.now k.now
+call_of (command.Improve s t i h m p k) = Improve s.now t.now i.now h.now m p.now k.now
 
 -- the words that ask for it
 abbrev pub words_of : Call → List (List ℕ)
@@ -73,6 +75,7 @@ words_of (CheckPinned s t i p k) = codes "check-pinned" ∷ s ∷ t ∷ i ∷ p 
 words_of (Replay s t p e n) = codes "replay" ∷ s ∷ t ∷ p ∷ e ∷ n ∷ []
 words_of (MakePlan s t m p k) = codes "plan" ∷ s ∷ t ∷ decimal m ∷ p ∷ k ∷ []
 words_of (MakePinned s t i m p k) = codes "pinned" ∷ s ∷ t ∷ i ∷ decimal m ∷ p ∷ k ∷ []
+words_of (Improve s t i h m p k) = codes "improve" ∷ s ∷ t ∷ i ∷ h ∷ decimal m ∷ p ∷ k ∷ []
 
 -- the files that are read, in the order of the words
 abbrev pub inputs_of : Call → List (List ℕ)
@@ -95,6 +98,7 @@ inputs_of (CheckPinned s t i p k) = s ∷ t ∷ i ∷ p ∷ k ∷ []
 inputs_of (Replay s t p e n) = s ∷ t ∷ p ∷ e ∷ []
 inputs_of (MakePlan s t m p k) = s ∷ t ∷ []
 inputs_of (MakePinned s t i m p k) = s ∷ t ∷ i ∷ []
+inputs_of (Improve s t i h m p k) = s ∷ t ∷ i ∷ h ∷ []
 
 -- the files that are written, in the order of the words
 abbrev pub outputs_of : Call → List (List ℕ)
@@ -117,6 +121,7 @@ outputs_of (CheckPinned s t i p k) = []
 outputs_of (Replay s t p e n) = n ∷ []
 outputs_of (MakePlan s t m p k) = p ∷ k ∷ []
 outputs_of (MakePinned s t i m p k) = p ∷ k ∷ []
+outputs_of (Improve s t i h m p k) = p ∷ k ∷ []
 
 -- its files have names that can be used, a search is allowed from 1 to 5,000 nodes, and a night is made of a number up to 2,147,483,647 with
 -- at most 160 units
@@ -124,6 +129,7 @@ abbrev pub IsUsable : Call → Type 0
 IsUsable (Trial n u m s t p k) = AreNames (s ∷ t ∷ p ∷ k ∷ []) × (n ≤ 2147483647) × (u ≤ 160) × (1 ≤ m) × (m ≤ 5000)
 IsUsable (MakePlan s t m p k) = AreNames (s ∷ t ∷ p ∷ k ∷ []) × (1 ≤ m) × (m ≤ 5000)
 IsUsable (MakePinned s t i m p k) = AreNames (s ∷ t ∷ i ∷ p ∷ k ∷ []) × (1 ≤ m) × (m ≤ 5000)
+IsUsable (Improve s t i h m p k) = AreNames (s ∷ t ∷ i ∷ h ∷ p ∷ k ∷ []) × (1 ≤ m) × (m ≤ 5000)
 IsUsable c = AreNames (inputs_of c ++ outputs_of c)
 
 -- the words are those of this command, which can be used

@@ -2,7 +2,7 @@ use Rattle.std.proofs.Common.{ap, refl, Ok}
 use Rattle.shunt_inputs.specs.defs.Writes.{known}
 use Rattle.shunt.specs.defs.Words.{call_of}
 use Rattle.shunt.proofs.Asked.{asked, checked_over, compared_over, followed_over, inputs_named, passed_over, pin_checked_over, replayed_over, rostered_over, shared_over, upgraded_over}
-use Rattle.shunt.proofs.Firsts.{first_of, none_heard, pinned_leads, plain, planned_leads}
+use Rattle.shunt.proofs.Firsts.{first_of, none_heard, improved_leads, pinned_leads, plain, planned_leads}
 use Rattle.shunt.proofs.Commands.{trial_answered}
 use Rattle.shunt.proofs.replying.answer_to.Goals as goal
 
@@ -164,6 +164,13 @@ returns-in-MakePinned-clause-leads g c = λ view seen.
     let new = known (S.told c.reply_to_pinned.new.store) (S.stored c.reply_to_pinned.new.store) in
     pinned_leads _ _ _ _ _ _ _ view old new _ (ap call_of c.in-MakePinned.is) (c.reply_to_pinned.ensures.leads view seen)
 
+pub returns-in-Improve-clause-leads : goal.returns-in-Improve-clause-leads
+returns-in-Improve-clause-leads g c = λ view seen.
+    let S = g.S.Store in
+    let old = known (S.told c.args.store.now) (S.stored c.args.store.now) in
+    let new = known (S.told c.reply_to_improve.new.store) (S.stored c.reply_to_improve.new.store) in
+    improved_leads _ _ _ _ _ _ _ _ view old new _ (ap call_of c.in-Improve.is) (c.reply_to_improve.ensures.leads view seen)
+
 pub returns-in_ok-reply_to_trial-in-Trial-clause-leads : goal.returns-in_ok-reply_to_trial-in-Trial-clause-leads
 returns-in_ok-reply_to_trial-in-Trial-clause-leads g c = λ view seen.
     let S = g.S.Store in
@@ -177,6 +184,9 @@ returns-in-MakePlan-clause-first g c = first_of _ _ _ _ (ap call_of c.in-MakePla
 
 pub returns-in-MakePinned-clause-first : goal.returns-in-MakePinned-clause-first
 returns-in-MakePinned-clause-first g c = first_of _ _ _ _ (ap call_of c.in-MakePinned.is) c.reply_to_pinned.ensures.first
+
+pub returns-in-Improve-clause-first : goal.returns-in-Improve-clause-first
+returns-in-Improve-clause-first g c = first_of _ _ _ _ (ap call_of c.in-Improve.is) c.reply_to_improve.ensures.first
 
 pub returns-in_ok-reply_to_trial-in-Trial-clause-first : goal.returns-in_ok-reply_to_trial-in-Trial-clause-first
 returns-in_ok-reply_to_trial-in-Trial-clause-first g c = first_of _ _ _ _ (ap call_of c.in-Trial.is) (none_heard _ _ refl)

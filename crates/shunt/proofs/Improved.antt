@@ -58,6 +58,14 @@ formed s t i h files x is =
       plan = plan_formed night (records_of (content files h)) second.0 (stated_value word.Plan (plan_format night) (content files h) second.0 second.1);
     })
 
+-- the night and the pins are those that the first three files state
+pub pins_in : (s t i h : List ℕ) (files : Files) (x : Pinned × Plan) → in_hand_in s t i h files ≡ Ok x → pinned_in s t i files ≡ Ok x.0
+pins_in s t i h files x is =
+    let first = parted (pinned_in s t i files) _ x is in
+    let second = parted (stated_plan first.0.instance (content files h)) _ x first.2 in
+    let made : (first.0, second.0) ≡ x = cc (second.2) in
+    subst (λ (y : Pinned × Plan). pinned_in s t i files ≡ Ok y.0) made first.1
+
 -- ---- which plans in hand are fit
 
 -- what the laws of the crates below say
@@ -83,7 +91,8 @@ abbrev pub improve_search : (s t i h : List ℕ) (m : ℕ) (p k : List ℕ) → 
 improve_search s t i h m p k = record { night = λ x. x.0.instance; pins = λ x. x.0.pins; units = λ x. units_taken x.0.instance x.0.pins; places = λ x. positions_taken x.0.instance x.0.pins; most = m; plan = p; certificate = k; ready = IsReady }
 
 module _ (laws : ImproveLaws) (s t i h : List ℕ) (m : ℕ) (p k : List ℕ) where
-  seeks : (files : Files) (x : Pinned × Plan) (r : Reply) → in_hand_in s t i h files ≡ Ok x → IsImproved m p k x r → searched.Seeks (Improve s t i h m p k) (improve_search s t i h m p k) x r
+  seeks : (files : Files) (x : Pinned × Plan) (r : Reply) → in_hand_in s t i h files ≡ Ok x → IsImproved m p k x r
+      → searched.Seeks (Improve s t i h m p k) (improve_search s t i h m p k) x r
   seeks files x r ok (inl f) =
       let is = formed s t i h files x ok in
       inl (λ ready. f.some ((laws.usable x.0.instance x.0.pins is.night is.pins).1 ready.usable), unusable_outcome x.0.instance x.0.pins r f)
@@ -107,7 +116,8 @@ module _ (laws : ImproveLaws) (s t i h : List ℕ) (m : ℕ) (p k : List ℕ) wh
       let some = matched f.2.0 f.2.2 in
       f.2.3 some.0 some.1
 
-  pub improve_done : (old new : Seen) (x : Status) (files : Files) (v : Pinned × Plan) → old.files ≡ Some files → in_hand_in s t i h files ≡ Ok v → IsReady v → partial_plans v.0.instance v.0.pins < m → Ends (Improve s t i h m p k) old new x → (x ≡ status.Done) ⊎ Yields x
+  pub improve_done : (old new : Seen) (x : Status) (files : Files) (v : Pinned × Plan) → old.files ≡ Some files → in_hand_in s t i h files ≡ Ok v
+      → IsReady v → partial_plans v.0.instance v.0.pins < m → Ends (Improve s t i h m p k) old new x → (x ≡ status.Done) ⊎ Yields x
   improve_done old new x files v known ok good fewer e = searched.done_there (Improve s t i h m p k) (improve_search s t i h m p k) improve_answers old new x files v known ok good (matched v good) fewer e
 
   pub improve_ends : (old new : Seen) (x : Status) (files : Files) (v : Pinned × Plan) → old.files ≡ Some files → in_hand_in s t i h files ≡ Ok v → (Rose old.store_faults new.store_faults → ⊥) → (Rose old.sink_faults new.sink_faults → ⊥) → Ends (Improve s t i h m p k) old new x
@@ -126,6 +136,7 @@ module _ (laws : ImproveLaws) (s t i h : List ℕ) (m : ℕ) (p k : List ℕ) wh
     plan : Plan
     certificate : Certificate
     stated : AreStated value.0.instance value.0.pins plan certificate
+    ready : IsReady value
     cheap : total_cost value.0.instance plan.blocks ≤ total_cost value.0.instance value.1.blocks
     whole : IsWhole (planned o p k value.0.instance plan certificate) old new
 
@@ -134,7 +145,8 @@ module _ (laws : ImproveLaws) (s t i h : List ℕ) (m : ℕ) (p k : List ℕ) wh
   answered o (Err text) r other e is = absurd (other (sym e ∙ ap (λ (q : Reply). q.outcome) is))
   answered o (Ok v) r other e is = (v, refl, is)
 
-  improves : (o : Outcome) (old new : Seen) (files : Files) (agrees : Agrees old.files files) (v : Pinned × Plan) (r : Reply) → (o ≡ outcome.Findings → ⊥) → in_hand_in s t i h files ≡ Ok v → r.outcome ≡ o → IsWhole r old new → IsImproved m p k v r → Improves o old new
+  improves : (o : Outcome) (old new : Seen) (files : Files) (agrees : Agrees old.files files) (v : Pinned × Plan) (r : Reply) → (o ≡ outcome.Findings → ⊥)
+      → in_hand_in s t i h files ≡ Ok v → r.outcome ≡ o → IsWhole r old new → IsImproved m p k v r → Improves o old new
   improves o old new files agrees v r other ok e whole (inl f) = absurd (other (sym e ∙ unusable_outcome v.0.instance v.0.pins r f))
   improves o old new files agrees v r other ok e whole (inr (usable, inl unfit)) = absurd (other (sym e ∙ unfit_outcome v.0.instance v.0.pins v.1 r unfit))
   improves o old new files agrees v r other ok e whole (inr (usable, inr (fit, is))) =
@@ -150,15 +162,16 @@ module _ (laws : ImproveLaws) (s t i h : List ℕ) (m : ℕ) (p k : List ℕ) wh
         plan = found.plan;
         certificate = found.certificate;
         stated = record { in_range = found.in_range; statable = found.statable; accepted = found.meet.accepted; above_root = found.meet.above_root; steady = found.meet.steady };
+        ready = ready laws v (formed s t i h files v ok) usable fit;
         cheap = omega (arith, states, cost);
         whole = subst (λ q. IsWhole q old new) (found.reply ∙ ap (λ (y : Outcome). planned y p k v.0.instance found.plan found.certificate) end) whole;
       }
 
   pub never_worse : (o : Outcome) (old new : Seen) → (o ≡ outcome.Input → ⊥) → (o ≡ outcome.Findings → ⊥) → Ends (Improve s t i h m p k) old new (the_status o)
       → (files : Files) × Agrees old.files files × ((x : Pinned × Plan) × (in_hand_in s t i h files ≡ Ok x)
-      × ((plan : Plan) × (c : Certificate) × AreStated x.0.instance x.0.pins plan c × (total_cost x.0.instance plan.blocks ≤ total_cost x.0.instance x.1.blocks) × IsWhole (planned o p k x.0.instance plan c) old new))
+      × IsReady x × ((plan : Plan) × (c : Certificate) × AreStated x.0.instance x.0.pins plan c × (total_cost x.0.instance plan.blocks ≤ total_cost x.0.instance x.1.blocks) × IsWhole (planned o p k x.0.instance plan c) old new))
   never_worse o old new input other e =
       let had = has_reply (Improve s t i h m p k) o old new e in
       let at = answered o (in_hand_in s t i h had.1.0) had.0 input had.2 had.1.2 in
       let f = improves o old new had.1.0 had.1.1 at.0 had.0 other at.1 had.2 had.3 at.2 in
-      (f.files, f.agrees, (f.value, f.ok, (f.plan, f.certificate, f.stated, f.cheap, f.whole)))
+      (f.files, f.agrees, (f.value, f.ok, f.ready, (f.plan, f.certificate, f.stated, f.cheap, f.whole)))

@@ -595,10 +595,11 @@ pub fn improve_is_unfinished()
     trees_by_version();
 }
 
-/// Where `improve` ends with `Done` or `Unfinished`, the new plan file holds the text of a plan that costs no more than the plan in hand.
+/// Where `improve` ends with `Done` or `Unfinished`, the pins are usable, the plan in hand is feasible, states its cost and keeps them, and
+/// the new plan file holds the text of a plan that costs no more.
 pub fn improve_is_never_worse()
-    ensures done { (s t i h : List ℕ) (m : ℕ) (p k : List ℕ) (old new : Seen) → Ends (Improve s t i h m p k) old new Status.Done → (files : Files) × Agrees old.files files × ((x : Pinned × Plan) × (in_hand_in s t i h files ≡ Ok x) × ((plan : Plan) × (c : Certificate) × AreStated x.0.instance x.0.pins plan c × (total_cost x.0.instance plan.blocks ≤ total_cost x.0.instance x.1.blocks) × IsWhole (planned Outcome.Done p k x.0.instance plan c) old new)) }
-    ensures unfinished { (s t i h : List ℕ) (m : ℕ) (p k : List ℕ) (old new : Seen) → Ends (Improve s t i h m p k) old new Status.Unfinished → (files : Files) × Agrees old.files files × ((x : Pinned × Plan) × (in_hand_in s t i h files ≡ Ok x) × ((plan : Plan) × (c : Certificate) × AreStated x.0.instance x.0.pins plan c × (total_cost x.0.instance plan.blocks ≤ total_cost x.0.instance x.1.blocks) × IsWhole (planned Outcome.Unfinished p k x.0.instance plan c) old new)) }
+    ensures done { (s t i h : List ℕ) (m : ℕ) (p k : List ℕ) (old new : Seen) → Ends (Improve s t i h m p k) old new Status.Done → (files : Files) × Agrees old.files files × ((x : Pinned × Plan) × (in_hand_in s t i h files ≡ Ok x) × IsReady x × ((plan : Plan) × (c : Certificate) × AreStated x.0.instance x.0.pins plan c × (total_cost x.0.instance plan.blocks ≤ total_cost x.0.instance x.1.blocks) × IsWhole (planned Outcome.Done p k x.0.instance plan c) old new)) }
+    ensures unfinished { (s t i h : List ℕ) (m : ℕ) (p k : List ℕ) (old new : Seen) → Ends (Improve s t i h m p k) old new Status.Unfinished → (files : Files) × Agrees old.files files × ((x : Pinned × Plan) × (in_hand_in s t i h files ≡ Ok x) × IsReady x × ((plan : Plan) × (c : Certificate) × AreStated x.0.instance x.0.pins plan c × (total_cost x.0.instance plan.blocks ≤ total_cost x.0.instance x.1.blocks) × IsWhole (planned Outcome.Unfinished p k x.0.instance plan c) old new)) }
 {
     laws::pins();
     laws::plan_findings();
@@ -634,6 +635,19 @@ pub fn own_pinned_plans_are_accepted()
     ensures { (s t i : List ℕ) (m : ℕ) (p k : List ℕ) (old mid before new : Seen) (first status : Status) (files : Files) → IsUsable (MakePinned s t i m p k) → Ends (MakePinned s t i m p k) old mid first → (first ≡ Status.Done) ⊎ (first ≡ Status.Unfinished) → mid.files ≡ Some files → before.files ≡ Some files → Ends (CheckPinned s t i p k) before new status → (status ≡ Status.Done) ⊎ Yields status }
 {
     laws::pins();
+    reasons();
+    texts_of_plans();
+    texts_of_certificates();
+}
+
+/// `check-pinned` of the new plan and the certificate that `improve` left, whether with `Done` or with `Unfinished`, over the same pins,
+/// accepts them, unless the store, memory or the sink came first.
+pub fn own_improved_plans_are_accepted()
+    ensures { (s t i h : List ℕ) (m : ℕ) (p k : List ℕ) (old mid before new : Seen) (first status : Status) (files : Files) → IsUsable (Improve s t i h m p k) → Ends (Improve s t i h m p k) old mid first → (first ≡ Status.Done) ⊎ (first ≡ Status.Unfinished) → mid.files ≡ Some files → before.files ≡ Some files → Ends (CheckPinned s t i p k) before new status → (status ≡ Status.Done) ⊎ Yields status }
+{
+    laws::pins();
+    laws::plan_findings();
+    kept_matchings();
     reasons();
     texts_of_plans();
     texts_of_certificates();

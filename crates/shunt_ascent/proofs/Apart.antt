@@ -25,4 +25,5 @@ pub apart_more : (prices : List Price) (p : Price) → AreApart prices → All (
 apart_more prices p apart new = subst AreDistinct (sym (map-append place_of_price prices (p ∷ [])))
     (pairs_more (λ x y. x ≢ y) (map place_of_price prices) (place_of_price p) apart
     (λ y i e. let from = of_map place_of_price prices y i in
-    all_in (λ other. place_of_price other ≢ place_of_price p) prices from.0 (recursion_from_All (λ other. place_of_price other ≢ place_of_price p) prices new) from.1 (sym from.2 ∙ e)))
+    all_in (λ other. place_of_price other ≢ place_of_price p) prices from.0 (recursion_from_All (λ other. place_of_price other ≢ place_of_price p) prices new) from.1
+    (sym from.2 ∙ e)))

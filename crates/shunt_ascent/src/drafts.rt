@@ -15,7 +15,7 @@ use std::alloc::{AllocError, Global};
 use std::num::Wrapping;
 
 /// How many prices a case has at most.
-const MOST: usize = 64;
+pub(crate) const MOST: usize = 64;
 
 /// An ascent at a root.
 pub(crate) const FIRST: Ascent = Ascent {
@@ -141,8 +141,8 @@ fn minute_of(instance: &Instance, train: usize) -> u16 {
     instance.arrive(ArrId(train as u8)).minute.number()
 }
 
-// Whether a departure lies behind the moment of an arriving train and before the next.
-fn is_moment(instance: &Instance, train: usize) -> bool {
+/// Whether a departure lies behind the moment of an arriving train and before the next.
+pub(crate) fn is_moment(instance: &Instance, train: usize) -> bool {
     let first = minute_of(instance, train);
     let next = minute_of(instance, train.saturating_add(1));
     for dep in 0..instance.departures() {
@@ -297,17 +297,6 @@ fn counts(kind: PriceKind, room: u32, long: u32, times: u64) -> u64 {
     count_of(kind, room, long).saturating_mul(times)
 }
 
-// The lengths of the shapes of a scene, each once.
-fn lengths_of(alloc: Global, scene: &Scene) -> Result<Vec<u32>, AllocError> {
-    let mut lengths = Vec::with_capacity(alloc, scene.kinds.len())?;
-    for kind in &scene.kinds {
-        lengths.push(kind.long)?;
-    }
-    lengths.sort_unstable();
-    lengths.dedup();
-    Ok(lengths)
-}
-
 // Those of these lengths that a track has room for.
 fn lengths_within(alloc: Global, lengths: &[u32], room: u32) -> Result<Vec<u32>, AllocError> {
     let mut within = Vec::new(alloc);
@@ -357,21 +346,30 @@ fn is_ruled(parts: u8, room: u32, lengths: &[u32]) -> bool {
     false
 }
 
-// Adds the prices of parts for a price's track and moment that may be worth more than that of length, where shapes have these lengths.
-fn add_parts(
+/// The prices of parts for a price's track and moment that may be worth more than that of length, where shapes have these lengths. Err is
+/// want of memory.
+pub(crate) fn parts_beside(
     alloc: Global,
     lengths: &[u32],
     slot: &Slot,
-    draft: &mut Draft,
-) -> Result<(), AllocError> {
+) -> Result<Vec<Slot>, AllocError> {
     let lengths = lengths_within(alloc, lengths, slot.room)?;
+    let mut slots = Vec::new(alloc);
     for parts in 1..=PARTS {
         if are_useful(parts, slot.room, &lengths) && !is_ruled(parts, slot.room, &lengths) {
-            draft.add(Slot {
+            slots.push(Slot {
                 kind: PriceKind::Parts(parts),
                 ..*slot
             })?;
         }
+    }
+    Ok(slots)
+}
+
+// Adds these prices.
+fn add_each(slots: &[Slot], draft: &mut Draft) -> Result<(), AllocError> {
+    for slot in slots {
+        draft.add(*slot)?;
     }
     Ok(())
 }
@@ -393,11 +391,11 @@ fn count_moments(alloc: Global, scene: &Scene) -> Result<usize, AllocError> {
 // The draft of a point of a scene, with prices of parts at its moments.
 fn with_parts(alloc: Global, scene: &Scene, point: &Point) -> Result<Draft, AllocError> {
     let mut all = draft_of(alloc, scene, point.copied(alloc)?)?;
-    let lengths = lengths_of(alloc, scene)?;
+    let lengths = scene.lengths(alloc)?;
     let many = count_moments(alloc, scene)? > MANY;
     for (slot, value) in scene.slots.iter().zip(&point.prices) {
         if !many || *value > NOTHING {
-            add_parts(alloc, &lengths, slot, &mut all)?;
+            add_each(&parts_beside(alloc, &lengths, slot)?, &mut all)?;
         }
     }
     Ok(all)

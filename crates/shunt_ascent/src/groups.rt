@@ -25,9 +25,10 @@ struct Likeness {
     types: u64,
 }
 
-/// Shapes of a length in dm that have the same least ways for each track.
+/// Shapes of a length in dm that have the same ways for each track: the first one, and the least ways.
 #[derive(Drop)]
 pub(crate) struct Kind {
+    pub first: Shape,
     pub long: u32,
     pub ways: Vec<Number>,
 }
@@ -196,6 +197,7 @@ impl Kinds {
         let (number, is_new) = self.known.insert_full(likeness)?;
         if is_new {
             self.all.push(Kind {
+                first: shape,
                 long: likeness.long,
                 ways: ways_of(alloc, instance, shape, likeness.long)?,
             })?;
@@ -204,8 +206,8 @@ impl Kinds {
     }
 }
 
-// The minute at which a departing train leaves, and 0 where there is none.
-fn leaving(instance: &Instance, dep: DepId) -> u16 {
+/// The minute at which a departing train leaves, and 0 where there is none.
+pub(crate) fn leaving(instance: &Instance, dep: DepId) -> u16 {
     if dep.0 as usize >= instance.departures() {
         return 0;
     }

@@ -34,6 +34,13 @@ pub(crate) fn fill(into: &mut [Number], number: Number) {
     }
 }
 
+/// Writes a number over the one at a place, where there is one.
+pub(crate) fn put_at(into: &mut [Number], place: usize, number: Number) {
+    if let Some(old) = into.get_mut(place) {
+        *old = number;
+    }
+}
+
 /// Adds to the number at a place, where there is one.
 pub(crate) fn add_at(into: &mut [Number], place: usize, more: Number) {
     if let Some(number) = into.get_mut(place) {

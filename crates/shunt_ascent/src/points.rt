@@ -11,6 +11,13 @@ pub(crate) struct Point {
     pub multiplier: Number,
 }
 
+/// Values of units beside those of a point, as cases with stacks have them.
+#[derive(Drop)]
+pub(crate) struct Values {
+    pub alpha: Vec<Number>,
+    pub point: Point,
+}
+
 /// The numbers of unparked blocks that a case speaks of.
 #[derive(Clone, Copy, Debug, Drop)]
 pub(crate) struct Span {
@@ -40,6 +47,16 @@ impl Point {
             beta: Vec::from_slice(alloc, &self.beta)?,
             prices: Vec::from_slice(alloc, &self.prices)?,
             multiplier: self.multiplier,
+        })
+    }
+}
+
+impl Values {
+    /// The same values.
+    pub(crate) fn copied(&self, alloc: Global) -> Result<Values, AllocError> {
+        Ok(Values {
+            alpha: Vec::from_slice(alloc, &self.alpha)?,
+            point: self.point.copied(alloc)?,
         })
     }
 }

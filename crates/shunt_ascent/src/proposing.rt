@@ -7,8 +7,10 @@ use crate::drafts::first_point;
 use crate::evaluating::Work;
 use crate::parting::{goal_for, part_cases, values_alone};
 use crate::points::EVERY;
+use crate::roots::{Known, cases_with_stacks};
 use crate::scenes::Scene;
 use crate::settling::{Found, settle};
+use crate::sites::slots_with;
 use crate::slots::Slot;
 use crate::stating::{case_for, cases_of};
 use shunt_base::{Case, Cases};
@@ -66,5 +68,30 @@ impl Proposal {
         let goal = goal_for(cost);
         let parted = part_cases(alloc, &self.scene, one, unparked, goal, &mut work)?;
         cases_of(alloc, instance, &self.scene, &parted, &mut work)
+    }
+
+    /// Cases with stacks at the proposal's path, from cases there without: one, or two that are parted near a number of unparked blocks where
+    /// these are to bound more: that of a good plan, whose cost in cost units no bound has to exceed. Nothing is said of whether they hold, nor
+    /// of what they bound. Err is want of memory.
+    pub fn with_stacks(
+        &self,
+        alloc: Global,
+        instance: &Instance,
+        path: &Path,
+        cases: &Cases,
+        unparked: u8,
+        cost: u64,
+    ) -> Result<Cases, AllocError>
+        requires { IsTrailOf instance.now path.now }
+        ensures cases { IfOk result (AreCases instance.now) }
+        ensures apart { IfOk result (All (λ c. AreApart c.duals.prices)) }
+    {
+        let slots = slots_with(alloc, instance, self, cases)?;
+        let known = Known {
+            unparked,
+            goal: goal_for(cost),
+            was_one: cases.len() < 2,
+        };
+        cases_with_stacks(alloc, instance, path, &slots, cases, known)
     }
 }

@@ -6,6 +6,7 @@ ghost use Rattle.shunt_choices.specs.defs.Paths.{IsTrailOf};
 
 use crate::groups::{Group, Groups, Kind, Kinds, ends, weight, without_prices};
 use crate::numbers::{NOTHING, Number, add_at, in_thousandths};
+use crate::points::{Point, Span};
 use crate::scales::grain;
 use crate::slots::Slot;
 use shunt_blocks::{Block, Shape, are_runs_within, block_length, in_range, position_from};
@@ -253,6 +254,31 @@ impl Scene {
             Some(kind) => &kind.ways,
             None => &[],
         }
+    }
+
+    /// What the path's blocks, prices, the multiplier and the values of free positions come to in a case.
+    pub(crate) fn stated(&self, span: Span, point: &Point) -> Number {
+        let mut sum = self.paid + point.multiplier * (self.left - span.dearest(point.multiplier));
+        for (price, count) in point.prices.iter().zip(&self.counts) {
+            sum += *price * *count;
+        }
+        for (beta, free) in point.beta.iter().zip(&self.free) {
+            if *free {
+                sum += *beta;
+            }
+        }
+        sum
+    }
+
+    /// The lengths of its shapes, each once. Err is want of memory.
+    pub(crate) fn lengths(&self, alloc: Global) -> Result<Vec<u32>, AllocError> {
+        let mut lengths = Vec::with_capacity(alloc, self.kinds.len())?;
+        for kind in &self.kinds {
+            lengths.push(kind.long)?;
+        }
+        lengths.sort_unstable();
+        lengths.dedup();
+        Ok(lengths)
     }
 
     /// Finds what a path's blocks come to.

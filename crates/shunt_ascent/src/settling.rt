@@ -26,8 +26,8 @@ impl Found {
     }
 }
 
-// The same number, made whole.
-fn rounded(number: Number) -> Number {
+/// The same number, made whole.
+pub(crate) fn rounded(number: Number) -> Number {
     whole(number) * Wrapping(ONE)
 }
 

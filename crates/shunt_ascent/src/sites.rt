@@ -6,13 +6,14 @@ ghost use Rattle.shunt_prices.specs.defs.Limits.{IsCase, AreApart, AreCases};
 use crate::ascending::{Ascent, ascend};
 use crate::evaluating::Work;
 use crate::groups::{NO_WAY, block_with, weight};
-use crate::numbers::{NOTHING, Number, ONE, at, whole};
+use crate::numbers::{NOTHING, Number, at, whole};
 use crate::points::{Point, Span};
 use crate::proposing::Proposal;
 use crate::scenes::{Entry, Row, Scene, Stand};
 use crate::settling::{round, settle};
-use crate::slots::{Slot, slot_of};
-use crate::stating::{case_of, two_cases};
+use crate::slots::{Slot, has_slot, slot_of};
+use crate::stated::{point_of, scaled};
+use crate::stating::{Sketch, cases_with};
 use shunt_base::{Case, Cases, Price};
 use shunt_blocks::{Block, Park, are_runs_within, position_from, shape_of, unit_from};
 use shunt_choices::{Path, options};
@@ -65,6 +66,15 @@ pub struct Site {
 }
 
 impl Fixed {
+    // Its numbers, to be stated.
+    fn sketch(&self) -> Sketch<'_> {
+        Sketch {
+            point: &self.point,
+            alpha: &self.alpha,
+            to: self.span.to,
+        }
+    }
+
     /// The greatest number of unparked blocks that it speaks of.
     pub fn to(&self) -> u8 {
         self.span.to
@@ -87,17 +97,8 @@ fn add_slots(
     Ok(())
 }
 
-fn has_slot(slots: &[Slot], slot: &Slot) -> bool {
-    for other in slots {
-        if *other == *slot {
-            return true;
-        }
-    }
-    false
-}
-
-// The prices of a proposal and of these cases.
-fn slots_with(
+/// The prices of a proposal and of these cases. Err is want of memory.
+pub(crate) fn slots_with(
     alloc: Global,
     instance: &Instance,
     proposal: &Proposal,
@@ -159,20 +160,6 @@ fn keep_free(
         }
     }
     Ok(())
-}
-
-// The value of a price in a case, and nothing where it has none.
-fn value_of(prices: &[Price], slot: &Slot) -> Number {
-    for price in prices {
-        if price.kind == slot.kind && price.track == slot.track && price.train == slot.train {
-            return scaled(i64::try_from(price.value).unwrap_or(0));
-        }
-    }
-    NOTHING
-}
-
-fn scaled(value: i64) -> Number {
-    Wrapping(value) * Wrapping(ONE)
 }
 
 // The sum of that many values from one on.
@@ -361,19 +348,7 @@ impl Site {
         case: &Case,
         from: u8,
     ) -> Result<Raised, AllocError> {
-        let mut beta = Vec::new(alloc);
-        for value in case.duals.beta.as_slice() {
-            beta.push(scaled(*value))?;
-        }
-        let mut prices = Vec::with_capacity(alloc, self.scene.slots.len())?;
-        for slot in &self.scene.slots {
-            prices.push(value_of(case.duals.prices.as_slice(), slot))?;
-        }
-        let point = Point {
-            beta,
-            prices,
-            multiplier: scaled(case.multiplier),
-        };
+        let point = point_of(alloc, case, &self.scene.slots)?;
         self.fixed(alloc, Span { from, to: case.to }, point)
     }
 
@@ -416,22 +391,6 @@ impl Site {
         self.fixed(alloc, case.span, found.point)
     }
 
-    // A case as a certificate states it.
-    fn state(
-        &self,
-        alloc: Global,
-        instance: &Instance,
-        case: &Fixed,
-        to: u8,
-    ) -> Result<Case, AllocError>
-        requires { to ≤ 160 }
-        ensures case { IfOk result (IsCase instance.now) }
-        ensures apart { IfOk result (λ c. AreApart c.duals.prices) }
-        ensures to { IfOk result (λ c. c.to ≡ to) }
-    {
-        case_of(alloc, instance, &self.scene, &case.point, &case.alpha, to)
-    }
-
     /// A case, or two of which the first speaks of fewer unparked blocks, as a certificate states them. Err is want of memory.
     pub fn stated(
         &self,
@@ -443,15 +402,11 @@ impl Site {
         ensures cases { IfOk result (AreCases instance.now) }
         ensures apart { IfOk result (All (λ c. AreApart c.duals.prices)) }
     {
-        let last = self.state(alloc, instance, last, 160)?;
-        match first {
-            Some(first) => {
-                let to = first.span.to.min(159);
-                let first = self.state(alloc, instance, first, to)?;
-                Ok(two_cases(first, last))
-            }
-            None => Ok(Cases::one(last)),
-        }
+        let first = match first {
+            Some(first) => Some(first.sketch()),
+            None => None,
+        };
+        cases_with(alloc, instance, &self.scene, first, last.sketch())
     }
 }
 

@@ -48,6 +48,16 @@ pub(crate) fn slot_of(instance: &Instance, price: &Price) -> Option<Slot> {
     })
 }
 
+/// Whether a price is among these.
+pub(crate) fn has_slot(slots: &[Slot], slot: &Slot) -> bool {
+    for other in slots {
+        if *other == *slot {
+            return true;
+        }
+    }
+    false
+}
+
 /// What a kind of price counts of a block of a length on a track with a room.
 pub(crate) fn count_of(kind: PriceKind, room: u32, long: u32) -> u64 {
     match kind {

@@ -149,8 +149,8 @@ fn alphas_of(alloc: Global, instance: &Instance, alpha: &[Number]) -> Result<Vec
     Ok(values)
 }
 
-/// The case of a point whose numbers are whole, with values of units. Err is want of memory.
-pub(crate) fn case_of(
+// The case of a point whose numbers are whole, with values of units.
+fn case_of(
     alloc: Global,
     instance: &Instance,
     scene: &Scene,
@@ -212,12 +212,42 @@ pub(crate) fn case_for(
     state(alloc, instance, scene, found, 160, work)
 }
 
-/// These as cases.
-pub(crate) fn two_cases(first: Case, last: Case) -> Cases
+// These as cases.
+fn two_cases(first: Case, last: Case) -> Cases
     requires rise { first.to < last.to }
     ensures { result ≡ first ∷ last ∷ [] }
 {
     Cases::two(first, last)
+}
+
+/// The numbers of a case, with values of units, and the greatest number of unparked blocks that it speaks of.
+#[derive(Clone, Copy)]
+pub(crate) struct Sketch<'c> {
+    pub point: &'c Point,
+    pub alpha: &'c [Number],
+    pub to: u8,
+}
+
+/// A case, or two of which the first speaks of fewer unparked blocks, as a certificate states them. Err is want of memory.
+pub(crate) fn cases_with(
+    alloc: Global,
+    instance: &Instance,
+    scene: &Scene,
+    first: Option<Sketch<'_>>,
+    last: Sketch<'_>,
+) -> Result<Cases, AllocError>
+    ensures cases { IfOk result (AreCases instance.now) }
+    ensures apart { IfOk result (All (λ c. AreApart c.duals.prices)) }
+{
+    let last = case_of(alloc, instance, scene, last.point, last.alpha, 160)?;
+    match first {
+        Some(draft) => {
+            let to = draft.to.min(159);
+            let first = case_of(alloc, instance, scene, draft.point, draft.alpha, to)?;
+            Ok(two_cases(first, last))
+        }
+        None => Ok(Cases::one(last)),
+    }
 }
 
 /// Cases as a certificate states them. Err is want of memory.

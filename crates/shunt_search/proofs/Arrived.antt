@@ -15,23 +15,23 @@ use Rattle.shunt_blocks.specs.declared.records.Block.{Block}
 use Rattle.shunt_blocks.specs.defs.Lists.{RunsThrough, placed, total_cost}
 use Rattle.shunt_choices.specs.defs.Paths.{masks_of, next_of}
 use Rattle.shunt_choices.specs.defs.Choices.{Choice as PathChoice, IsChoiceAt, longer_by}
-use Rattle.shunt_prices.specs.defs.Cases.{CasesHold}
 use Rattle.shunt_blocks.specs.defs.Pins.{opening_cost}
-use Rattle.shunt_prices.specs.defs.Bounds.{IsCasesBound}
 use Rattle.shunt_proof.specs.declared.records.Choice.{Choice}
 use Rattle.shunt_proof.specs.declared.records.NodeKind.{NodeKind}
 use Rattle.shunt_proof.specs.declared.records.NodeKind.TheVariants.{Branch, Whole}
 use Rattle.shunt_proof.specs.declared.records.Node.{Node}
+use Rattle.shunt_proof.specs.declared.records.Version.{Version}
 use Rattle.shunt_proof.specs.defs.Nodes.{node_at, FitsNode, AreNodes, CanFollow, Follows, StandsAfter}
 use Rattle.shunt_proof.specs.defs.Trees.{depth_at, nearest, choice_from, longer_with, path_at, cases_or, duals_at, best_with, best_before}
-use Rattle.shunt_proof.specs.defs.Proves.{IsPlaced, IsListed, Shows}
-use Rattle.shunt_proof.specs.defs.Accepted.{IsLeanAt, AreLean}
+use Rattle.shunt_proof.specs.defs.Versions.{HoldIn, IsStepBoundIn}
+use Rattle.shunt_proof.specs.defs.Proves.{IsPlaced, IsListed, ShowsIn}
+use Rattle.shunt_proof.specs.defs.Accepted.{IsLeanIn, AreLeanIn}
 use Rattle.shunt_proof.proofs.Depths.{nearest_here, nearest_before, nearest_low, root_path, root_duals}
 use Rattle.shunt_proof.proofs.Fronts.{node_front, nearest_front, duals_front, path_front, depth_front, node_last}
-use Rattle.shunt_proof.proofs.Growing.{one_more, placed_front, lean_front, listed_more}
+use Rattle.shunt_proof.proofs.Growing.{one_more, placed_front, lean_more, listed_more}
 use Rattle.shunt_proof.proofs.Ancestors.{path_size, front_path}
 use Rattle.shunt_proof.proofs.Few.{CountLaws}
-use Rattle.shunt_proof.proofs.Noted.{last_path, last_duals, last_best, last_lean, last_placed, known_listed}
+use Rattle.shunt_proof.proofs.Noted.{last_path, last_duals, last_best, last_leans, last_placed, known_listed}
 use Rattle.shunt_search.specs.declared.children.Child.{Child}
 use Rattle.shunt_search.specs.declared.walking.Pending.{Pending}
 use Rattle.shunt_search.specs.defs.Yards.{choice_of, more_by, choices_in, IsNextBlock, AreChildren}
@@ -40,6 +40,15 @@ use Rattle.shunt_search.proofs.Stays.{place_of}
 use Rattle.shunt_search.proofs.Offered.{longer_is, of_choices}
 use Rattle.shunt_search.proofs.Yarding.{take_less}
 use Rattle.shunt_search.proofs.Walked.{lower, shows_turn, front_pairs, pairs_append}
+
+-- a bound of paths and cases that are called otherwise
+same_step : (version : Version) (night : Night) (path path_too longer longer_too : List Block) (cases cases_too : List Case) (bound : ℤ) → path_too ≡ path → longer_too ≡ longer
+    → cases_too ≡ cases
+    → IsStepBoundIn version night path longer cases bound → IsStepBoundIn version night path_too longer_too cases_too bound
+same_step version night path path_too longer longer_too cases cases_too bound p l c h =
+    subst (λ (x : List Block). IsStepBoundIn version night x longer_too cases_too bound) (sym p)
+    (subst (λ (x : List Block). IsStepBoundIn version night path x cases_too bound) (sym l)
+    (subst (λ (x : List Case). IsStepBoundIn version night path longer x bound) (sym c) h))
 
 -- ---- the children that were added
 
@@ -53,7 +62,8 @@ of_children (p ∷ added) c (inl e) = (p, inl refl, sym e)
 of_children (p ∷ added) c (inr i) = let r = of_children added c i in (r.0, inr r.1, r.2)
 
 -- the choices of the children differ, and so do those that were added
-module _ (night : Night) (path : List Block) (cases : List Case) (best : ℕ) (children : List Child) (C : AreChildren night path cases best children) (added : List Pending) (each : map (λ p. p.child) added ≡ children) where
+module _ (version : Version) (night : Night) (path : List Block) (cases : List Case) (best : ℕ) (children : List Child) (C : AreChildren version night path cases best children)
+    (added : List Pending) (each : map (λ p. p.child) added ≡ children) where
   keeps_all : (p : Pending) → In p added → kept p.child ≡ length path
   keeps_all p i = let id = (C.each p.child (added_child added children each p i)).next.id in omega (arith, id)
 
@@ -78,7 +88,10 @@ module _ (night : Night) (path : List Block) (cases : List Case) (best : ℕ) (c
             (its_choice i d i_in ∙ same_choice ∙ sym (its_choice j d within)),
       )
 
-module _ (night : Night) (formed_night : IsInstance night) (laws : CountLaws) (start : List Block) (stock : List (List Case)) (floor : ℤ) (nodes : List Node) (path : List Block) (left : List Pending) (t : Pending) (best : ℕ) (low : ℤ) (W : IsWalk night start stock floor nodes path (left ++ t ∷ []) best low) (n : Node) (c : Choice) (depth : length start + n.depth ≡ kept t.child + 1) (choice : n.choice ≡ Some c) (is : choice_from night (take (kept t.child) path) c ≡ choice_of t.child.block) (fits : FitsNode night n) (below : t.child.bound <ℤ pos best) where
+module _ (version : Version) (night : Night) (formed_night : IsInstance night) (laws : CountLaws) (start : List Block) (stock : List (List Case)) (floor : ℤ) (nodes : List Node)
+    (path : List Block) (left : List Pending) (t : Pending) (best : ℕ) (low : ℤ) (W : IsWalk version night start stock floor nodes path (left ++ t ∷ []) best low) (n : Node)
+    (c : Choice) (depth : length start + n.depth ≡ kept t.child + 1) (choice : n.choice ≡ Some c) (is : choice_from night (take (kept t.child) path) c ≡ choice_of t.child.block)
+    (fits : FitsNode night n) (below : t.child.bound <ℤ pos best) where
   abbrev Q : List Block
   Q = take (kept t.child) path
 
@@ -88,7 +101,7 @@ module _ (night : Night) (formed_night : IsInstance night) (laws : CountLaws) (s
   abbrev more : List Node
   more = nodes ++ n ∷ []
 
-  p : IsPending night start stock floor nodes path t
+  p : IsPending version night start stock floor nodes path t
   p = W.pending t (in_right left (t ∷ []) t (inl refl))
 
   -- ---- where the child is
@@ -167,15 +180,18 @@ module _ (night : Night) (formed_night : IsInstance night) (laws : CountLaws) (s
   above_cases : duals_at nodes (nearest nodes (n.depth - 1) (length nodes)) ≡ duals_at nodes t.parent
   above_cases = ap (λ k. duals_at nodes k) above_is
 
-  new_lean : IsLeanAt night start more (length nodes)
-  new_lean = last_lean night start nodes n t.child.bound formed W.some
-      (subst (λ (d : List Case). IsCasesBound night (path_at night start more (length nodes)) d t.child.bound) (sym above_cases) (subst (λ (l : List Block). IsCasesBound night l (duals_at nodes t.parent) t.child.bound) (sym new_path) p.bound))
+  new_lean : IsLeanIn version night start more (length nodes)
+  new_lean = last_leans version night start nodes n t.child.bound formed W.some
+      (subst (λ (l : List Block). IsStepBoundIn version night l (path_at night start more (length nodes))
+      (duals_at nodes (nearest nodes (n.depth - 1) (length nodes))) t.child.bound) (p.here ∙ up)
+      (subst (λ (d : List Case). IsStepBoundIn version night (path_at night start nodes t.parent) (path_at night start more (length nodes)) d t.child.bound) (sym above_cases)
+      (subst (λ (l : List Block). IsStepBoundIn version night (path_at night start nodes t.parent) l (duals_at nodes t.parent) t.child.bound) (sym new_path) p.bound)))
       (let cheap = W.cheap in omega (arith, ints, cheap, below))
 
-  all_lean : AreLean night start more
+  all_lean : AreLeanIn version night start more
   all_lean k some lt = ⊎_elim
-      (λ before. (lean_front nodes (n ∷ []) night start k before).0 (W.lean k some before))
-      (λ past. subst (λ j. IsLeanAt night start more j) (let e : length nodes ≡ k = omega (arith, past, lt, size) in e) new_lean)
+      (λ before. (lean_more nodes (n ∷ []) night start version k before).0 (W.lean k some before))
+      (λ past. subst (λ j. IsLeanIn version night start more j) (let e : length nodes ≡ k = omega (arith, past, lt, size) in e) new_lean)
       (cases_lt k (length nodes))
 
   -- ---- the other children of the stack
@@ -204,11 +220,13 @@ module _ (night : Night) (formed_night : IsInstance night) (laws : CountLaws) (s
       let two = length-append (take (kept s.child) path) (s.child.block ∷ []) in
       let long : length goal ≡ length (goal_of path s.child) = ap (λ (l : List Block). length l) e in
       let same : kept s.child ≡ kept t.child = omega (arith, one, two, its, long, kept_is) in
-      let last : get_or goal (kept t.child) t.child.block ≡ t.child.block = ap (λ k. get_or goal k t.child.block) (sym kept_is) ∙ get_or-append_seam Q t.child.block [] t.child.block in
-      let other : get_or (goal_of path s.child) (kept t.child) t.child.block ≡ s.child.block = ap (λ k. get_or (goal_of path s.child) k t.child.block) (sym same ∙ sym its) ∙ get_or-append_seam (take (kept s.child) path) s.child.block [] t.child.block in
+      let last : get_or goal (kept t.child) t.child.block ≡ t.child.block = ap (λ k. get_or goal k t.child.block) (sym kept_is)
+      ∙ get_or-append_seam Q t.child.block [] t.child.block in
+      let other : get_or (goal_of path s.child) (kept t.child) t.child.block ≡ s.child.block = ap (λ k. get_or (goal_of path s.child) k t.child.block) (sym same ∙ sym its)
+      ∙ get_or-append_seam (take (kept s.child) path) s.child.block [] t.child.block in
       a.1 same (ap choice_of (sym other ∙ ap (λ (l : List Block). get_or l (kept t.child) t.child.block) (sym e) ∙ last))
 
-  still_pending : (s : Pending) → In s left → IsPending night start stock floor more goal s
+  still_pending : (s : Pending) → In s left → IsPending version night start stock floor more goal s
   still_pending s i =
       let q = W.pending s (in_left left (t ∷ []) s i) in
       let a = apart_from s i in
@@ -221,19 +239,23 @@ module _ (night : Night) (formed_night : IsInstance night) (laws : CountLaws) (s
         here = path_front nodes (n ∷ []) night start s.parent q.there ∙ q.here ∙ sym (same_front s le);
         long = its ∙ ap (λ d. length start + d) (sym (depth_front nodes (n ∷ []) s.parent q.there));
         last =
-            let other : depth_at more (length nodes) ≡ depth_at more s.parent → ⊥ = (λ e. let here = ap (λ (x : Node). x.depth) (node_last nodes n) in let there = depth_front nodes (n ∷ []) s.parent q.there in absurd (omega (arith, e, here, there, depth, its, le))) in
-            ap (λ k. nearest more (depth_at more s.parent) k) size_suc ∙ nearest_before more (depth_at more s.parent) (length nodes) other ∙ nearest_front nodes (n ∷ []) (depth_at more s.parent) (length nodes) (omega arith)
+            let other : depth_at more (length nodes) ≡ depth_at more s.parent → ⊥ = (λ e. let here = ap (λ (x : Node). x.depth) (node_last nodes n) in let there = depth_front nodes
+            (n ∷ []) s.parent q.there in absurd (omega (arith, e, here, there, depth, its, le))) in
+            ap (λ k. nearest more (depth_at more s.parent) k) size_suc ∙ nearest_before more (depth_at more s.parent) (length nodes) other
+            ∙ nearest_front nodes (n ∷ []) (depth_at more s.parent) (length nodes) (omega arith)
             ∙ ap (λ d. nearest nodes d (length nodes)) (depth_front nodes (n ∷ []) s.parent q.there) ∙ q.last;
         next = subst (λ (l : List Block). IsNextBlock night l s.child.block) (sym (same_front s le)) q.next;
         through = subst (λ (l : List Block). RunsThrough night (placed l)) (sym (same_goal s le)) q.through;
         place = q.place;
         cases = q.cases ∙ sym (duals_front nodes (n ∷ []) s.parent q.there);
-        bound = subst (λ (d : List Case). IsCasesBound night (goal_of goal s.child) d s.child.bound) (sym (duals_front nodes (n ∷ []) s.parent q.there))
-            (subst (λ (l : List Block). IsCasesBound night l (duals_at nodes s.parent) s.child.bound) (sym (same_goal s le)) q.bound);
+        bound = same_step version night (path_at night start nodes s.parent) (path_at night start more s.parent) (goal_of path s.child) (goal_of goal s.child)
+            (duals_at nodes s.parent) (duals_at more s.parent) s.child.bound
+            (path_front nodes (n ∷ []) night start s.parent q.there) (same_goal s le) (duals_front nodes (n ∷ []) s.parent q.there) q.bound;
         above = q.above;
         new = λ j there e. ⊎_elim
             (λ before. q.new j before (sym (path_front nodes (n ∷ []) night start j before) ∙ e ∙ same_goal s le))
-            (λ past. other_goal s a (sym (ap (λ k. path_at night start more k) (let is_last : j ≡ length nodes = omega (arith, past, there, size) in is_last) ∙ new_path) ∙ e ∙ same_goal s le))
+            (λ past. other_goal s a (sym (ap (λ k. path_at night start more k) (let is_last : j ≡ length nodes = omega (arith, past, there, size) in is_last) ∙ new_path) ∙ e
+            ∙ same_goal s le))
             (cases_lt j (length nodes));
       }
     where
@@ -246,20 +268,32 @@ module _ (night : Night) (formed_night : IsInstance night) (laws : CountLaws) (s
   now_listed k d lt e = known_listed laws night formed_night start more formed all_placed k (length nodes) d (omega (arith, lt, size)) (omega (arith, size))
       (new_path ∙ e ∙ ap (λ (l : List Block). longer_by l d) (sym (path_front nodes (n ∷ []) night start k lt)))
 
-  still_known : (added : List Pending) (k : ℕ) (d : PathChoice) → k < length nodes → IsKnown night start nodes path (left ++ t ∷ []) k d → IsKnown night start more goal (left ++ added) k d
+  still_known : (added : List Pending) (k : ℕ) (d : PathChoice) → k < length nodes → IsKnown night start nodes path (left ++ t ∷ []) k d
+      → IsKnown night start more goal (left ++ added) k d
   still_known added k d lt (inl listed) = inl (listed_more nodes (n ∷ []) night start k d lt listed)
   still_known added k d lt (inr known) = ⊎_elim
-      (λ i. inr (known.0, in_left left added known.0 i, known.2, same_goal known.0 (apart_from known.0 i).0 ∙ known.3 ∙ ap (λ (l : List Block). longer_by l d) (sym (path_front nodes (n ∷ []) night start k lt))))
+      (λ i. inr (
+        known.0,
+        in_left left added known.0 i,
+        known.2,
+        same_goal known.0 (apart_from known.0 i).0 ∙ known.3
+            ∙ ap (λ (l : List Block). longer_by l d) (sym (path_front nodes (n ∷ []) night start k lt)),
+      ))
       (λ i. inl (now_listed k d lt (ap (λ (x : Pending). goal_of path x.child) (sym (of_one t known.0 i)) ∙ known.3)))
       (in_cases left (t ∷ []) known.0 known.1)
 
   -- the older nodes show what they did, or less
-  still_shows : (added : List Pending) (now : ℤ) → now ≤ℤ low → (k : ℕ) → k < length nodes → Shows night (path_at night start more k) (duals_at more k) (node_at more k).kind (IsKnown night start more goal (left ++ added) k) now
+  still_shows : (added : List Pending) (now : ℤ) → now ≤ℤ low → (k : ℕ) → k < length nodes
+      → ShowsIn version night (path_at night start more k) (duals_at more k) (node_at more k).kind (IsKnown night start more goal (left ++ added) k) now
   still_shows added now le k lt =
-      subst (λ (x : Node). Shows night (path_at night start more k) (duals_at more k) x.kind (IsKnown night start more goal (left ++ added) k) now) (sym (node_front nodes (n ∷ []) k lt))
-      (subst (λ (d : List Case). Shows night (path_at night start more k) d (node_at nodes k).kind (IsKnown night start more goal (left ++ added) k) now) (sym (duals_front nodes (n ∷ []) k lt))
-      (subst (λ (l : List Block). Shows night l (duals_at nodes k) (node_at nodes k).kind (IsKnown night start more goal (left ++ added) k) now) (sym (path_front nodes (n ∷ []) night start k lt))
-      (shows_turn night (path_at night start nodes k) (duals_at nodes k) (node_at nodes k).kind (IsKnown night start nodes path (left ++ t ∷ []) k) (IsKnown night start more goal (left ++ added) k) low now le
+      subst (λ (x : Node). ShowsIn version night (path_at night start more k) (duals_at more k) x.kind (IsKnown night start more goal (left ++ added) k) now)
+      (sym (node_front nodes (n ∷ []) k lt))
+      (subst (λ (d : List Case). ShowsIn version night (path_at night start more k) d (node_at nodes k).kind (IsKnown night start more goal (left ++ added) k) now)
+      (sym (duals_front nodes (n ∷ []) k lt))
+      (subst (λ (l : List Block). ShowsIn version night l (duals_at nodes k) (node_at nodes k).kind (IsKnown night start more goal (left ++ added) k) now)
+      (sym (path_front nodes (n ∷ []) night start k lt))
+      (shows_turn version night (path_at night start nodes k) (duals_at nodes k) (node_at nodes k).kind (IsKnown night start nodes path (left ++ t ∷ []) k)
+      (IsKnown night start more goal (left ++ added) k) low now le
       (λ branch d known. inr (still_known added k d lt known)) (W.shows k lt))))
 
   new_depth : depth_at more (length nodes) ≡ n.depth
@@ -294,7 +328,9 @@ module _ (night : Night) (formed_night : IsInstance night) (laws : CountLaws) (s
 
   -- ---- the new node is a branch
 
-  module _ (kind : n.kind ≡ Branch) (place : ℕ) (in_stock : place < length stock) (own : cases_or n.duals (cases_in stock t.cases) ≡ cases_in stock place) (waiting : List Pending) (adds : AddsChildren night stock best goal (length nodes) place left waiting) (rise : OpensAbove night goal (cases_in stock place) best floor) (holds : CasesHold night goal (cases_in stock place)) (unfinished : IsSome (next_of (masks_of night goal))) where
+  module _ (kind : n.kind ≡ Branch) (place : ℕ) (in_stock : place < length stock) (own : cases_or n.duals (cases_in stock t.cases) ≡ cases_in stock place) (waiting : List Pending)
+      (adds : AddsChildren version night stock best goal (length nodes) place left waiting) (rise : OpensAbove version night goal (cases_in stock place) best floor)
+      (holds : HoldIn version night goal (cases_in stock place)) (unfinished : IsSome (next_of (masks_of night goal))) where
     abbrev cases : List Case
     cases = cases_in stock place
 
@@ -304,14 +340,14 @@ module _ (night : Night) (formed_night : IsInstance night) (laws : CountLaws) (s
     abbrev added : List Pending
     added = adds.adds.added
 
-    C : AreChildren night goal cases best children
+    C : AreChildren version night goal cases best children
     C = adds.are
 
     pub new_duals : duals_at more (length nodes) ≡ cases
     new_duals = last_duals night nodes n formed W.some ∙ ap (λ (d : List Case). cases_or n.duals d) (above_cases ∙ sym p.cases) ∙ own
 
     pub keeps_goal : (s : Pending) → In s added → kept s.child ≡ length goal
-    keeps_goal s i = keeps_all night goal cases best children C added adds.adds.each s i
+    keeps_goal s i = keeps_all version night goal cases best children C added adds.adds.each s i
 
     front_is : (s : Pending) → In s added → take (kept s.child) goal ≡ goal
     front_is s i = ap (λ k. take k goal) (keeps_goal s i) ∙ take-length goal
@@ -333,7 +369,7 @@ module _ (night : Night) (formed_night : IsInstance night) (laws : CountLaws) (s
         let front : take (length start + n.depth) (more_by goal b) ≡ goal = ap (λ k. take k (more_by goal b)) (sym new_size) ∙ take-append_seam goal (b ∷ []) in
         p.new (nearest nodes n.depth (suc j)) there (up_there ∙ ap (λ (l : List Block). take (length start + n.depth) l) e ∙ front)
 
-    now_pending : (s : Pending) → In s added → IsPending night start stock floor more goal s
+    now_pending : (s : Pending) → In s added → IsPending version night start stock floor more goal s
     now_pending s i =
         let o = C.each s.child (added_child added children adds.adds.each s i) in
         let of = adds.adds.parents s i in
@@ -343,13 +379,14 @@ module _ (night : Night) (formed_night : IsInstance night) (laws : CountLaws) (s
           branch = ap (λ k. (node_at more k).kind) up ∙ new_kind Branch kind;
           here = ap (λ k. path_at night start more k) up ∙ new_path ∙ sym (front_is s i);
           long = keeps_goal s i ∙ new_size ∙ ap (λ d. length start + d) (sym (ap (λ k. depth_at more k) up ∙ new_depth));
-          last = ap (λ j. nearest more (depth_at more j) (length more)) up ∙ ap (λ k. nearest more (depth_at more (length nodes)) k) all_more ∙ nearest_here more (depth_at more (length nodes)) (length nodes) refl ∙ sym up;
+          last = ap (λ j. nearest more (depth_at more j) (length more)) up ∙ ap (λ k. nearest more (depth_at more (length nodes)) k) all_more
+              ∙ nearest_here more (depth_at more (length nodes)) (length nodes) refl ∙ sym up;
           next = subst (λ (l : List Block). IsNextBlock night l s.child.block) (sym (front_is s i)) o.next;
           through = subst (λ (l : List Block). RunsThrough night (placed l)) (sym (goal_is s i)) o.through;
           place = subst (λ (k : ℕ). k < length stock) (sym of.1) in_stock;
           cases = ap (λ k. cases_in stock k) of.1 ∙ sym (ap (λ k. duals_at more k) up ∙ new_duals);
-          bound = subst (λ (d : List Case). IsCasesBound night (goal_of goal s.child) d s.child.bound) (sym (ap (λ k. duals_at more k) up ∙ new_duals))
-              (subst (λ (l : List Block). IsCasesBound night l cases s.child.bound) (sym (goal_is s i)) o.is);
+          bound = same_step version night goal (path_at night start more s.parent) (more_by goal s.child.block) (goal_of goal s.child) cases (duals_at more s.parent) s.child.bound
+              (ap (λ k. path_at night start more k) up ∙ new_path) (goal_is s i) (ap (λ k. duals_at more k) up ∙ new_duals) o.is;
           above = rise s.child o;
           new = λ j there e. ⊎_elim
               (λ before. not_there s.child.block j before (sym (path_front nodes (n ∷ []) night start j before) ∙ e ∙ goal_is s i))
@@ -362,7 +399,7 @@ module _ (night : Night) (formed_night : IsInstance night) (laws : CountLaws) (s
         }
 
     all_apart : AllPairs IsApart (left ++ added)
-    all_apart = pairs_append IsApart left added (front_pairs IsApart left (t ∷ []) W.apart) (added_apart night goal cases best children C added adds.adds.each)
+    all_apart = pairs_append IsApart left added (front_pairs IsApart left (t ∷ []) W.apart) (added_apart version night goal cases best children C added adds.adds.each)
         (λ s x i j.
         let a = apart_from s i in
         let le = a.0 in
@@ -383,21 +420,24 @@ module _ (night : Night) (formed_night : IsInstance night) (laws : CountLaws) (s
           goal_is r.0 r.1 ∙ sym (longer_is goal r.0.child.block o.next.id) ∙ ap (λ (k : PathChoice). longer_by goal k) its ∙ ap (λ (l : List Block). longer_by l d) (sym new_path),
         )
 
-    new_shows : Shows night (path_at night start more (length nodes)) (duals_at more (length nodes)) (node_at more (length nodes)).kind (IsKnown night start more goal (left ++ added) (length nodes)) low
+    new_shows : ShowsIn version night (path_at night start more (length nodes)) (duals_at more (length nodes)) (node_at more (length nodes)).kind
+        (IsKnown night start more goal (left ++ added) (length nodes)) low
     new_shows =
-        subst (λ kd. Shows night (path_at night start more (length nodes)) (duals_at more (length nodes)) kd (IsKnown night start more goal (left ++ added) (length nodes)) low) (sym (new_kind Branch kind))
-        (subst (λ (d : List Case). Shows night (path_at night start more (length nodes)) d Branch (IsKnown night start more goal (left ++ added) (length nodes)) low) (sym new_duals)
-        (subst (λ (l : List Block). Shows night l cases Branch (IsKnown night start more goal (left ++ added) (length nodes)) low) (sym new_path) (record {
+        subst (λ kd. ShowsIn version night (path_at night start more (length nodes)) (duals_at more (length nodes)) kd
+        (IsKnown night start more goal (left ++ added) (length nodes)) low) (sym (new_kind Branch kind))
+        (subst (λ (d : List Case). ShowsIn version night (path_at night start more (length nodes)) d Branch (IsKnown night start more goal (left ++ added) (length nodes)) low)
+        (sym new_duals)
+        (subst (λ (l : List Block). ShowsIn version night l cases Branch (IsKnown night start more goal (left ++ added) (length nodes)) low) (sym new_path) (record {
           unfinished = unfinished;
           holds = holds;
           each = λ d at through. ⊎_elim
-              (λ closed. inl (lower night (longer_by goal d) cases (pos best) low W.within (closed through)))
-              (λ i. let r = of_choices night goal cases best children d i in inr (now_known d r.0 r.1 r.2))
+              (λ closed. inl (lower version night goal (longer_by goal d) cases (pos best) low W.within (closed through)))
+              (λ i. let r = of_choices version night goal cases best children d i in inr (now_known d r.0 r.1 r.2))
               (C.others d at);
         })))
 
-    pub walk_branch : IsWalk night start stock floor more goal waiting best low
-    walk_branch = subst (λ (l : List Pending). IsWalk night start stock floor more goal l best low) (sym adds.adds.is) (record {
+    pub walk_branch : IsWalk version night start stock floor more goal waiting best low
+    walk_branch = subst (λ (l : List Pending). IsWalk version night start stock floor more goal l best low) (sym adds.adds.is) (record {
       formed = formed;
       some = omega (arith, size);
       here = new_here;
@@ -406,26 +446,33 @@ module _ (night : Night) (formed_night : IsInstance night) (laws : CountLaws) (s
       lean = all_lean;
       pending = λ s i. ⊎_elim (λ l. still_pending s l) (λ r. now_pending s r) (in_cases left added s i);
       apart = all_apart;
-      shows = each_node (λ k. Shows night (path_at night start more k) (duals_at more k) (node_at more k).kind (IsKnown night start more goal (left ++ added) k) low) (still_shows added low (omega (arith, ints))) new_shows;
+      shows = each_node (λ k. ShowsIn version night (path_at night start more k) (duals_at more k) (node_at more k).kind (IsKnown night start more goal (left ++ added) k) low)
+          (still_shows added low (omega (arith, ints))) new_shows;
       within = W.within;
       cheap = let cheap = W.cheap in let e = new_best Branch kind in omega (arith, cheap, e);
     })
 
   -- ---- the new node is whole
 
-  module _ (kind : n.kind ≡ Whole) (now : ℕ) (lesser : ℤ) (less : now ≤ best) (cost : now ≤ total_cost night goal) (falls : lesser ≤ℤ low) (within : lesser ≤ℤ pos now) (covers : next_of (masks_of night goal) ≡ None) where
-    whole_shows : Shows night (path_at night start more (length nodes)) (duals_at more (length nodes)) (node_at more (length nodes)).kind (IsKnown night start more goal left (length nodes)) lesser
+  module _ (kind : n.kind ≡ Whole) (now : ℕ) (lesser : ℤ) (less : now ≤ best) (cost : now ≤ total_cost night goal) (falls : lesser ≤ℤ low) (within : lesser ≤ℤ pos now)
+      (covers : next_of (masks_of night goal) ≡ None) where
+    whole_shows : ShowsIn version night (path_at night start more (length nodes)) (duals_at more (length nodes)) (node_at more (length nodes)).kind
+        (IsKnown night start more goal left (length nodes)) lesser
     whole_shows =
-        subst (λ kd. Shows night (path_at night start more (length nodes)) (duals_at more (length nodes)) kd (IsKnown night start more goal left (length nodes)) lesser) (sym (new_kind Whole kind))
-        (subst (λ (l : List Block). Shows night l (duals_at more (length nodes)) Whole (IsKnown night start more goal left (length nodes)) lesser) (sym new_path) (record {
+        subst (λ kd. ShowsIn version night (path_at night start more (length nodes)) (duals_at more (length nodes)) kd (IsKnown night start more goal left (length nodes)) lesser)
+        (sym (new_kind Whole kind))
+        (subst (λ (l : List Block). ShowsIn version night l (duals_at more (length nodes)) Whole (IsKnown night start more goal left (length nodes)) lesser) (sym new_path)
+        (record {
           covers = covers;
           cost = omega (arith, ints, cost, within);
         }))
 
-    older_shows : (k : ℕ) → k < length nodes → Shows night (path_at night start more k) (duals_at more k) (node_at more k).kind (IsKnown night start more goal left k) lesser
-    older_shows k lt = subst (λ (l : List Pending). Shows night (path_at night start more k) (duals_at more k) (node_at more k).kind (IsKnown night start more goal l k) lesser) (append-nil left) (still_shows [] lesser falls k lt)
+    older_shows : (k : ℕ) → k < length nodes → ShowsIn version night (path_at night start more k) (duals_at more k) (node_at more k).kind
+        (IsKnown night start more goal left k) lesser
+    older_shows k lt = subst (λ (l : List Pending). ShowsIn version night (path_at night start more k) (duals_at more k) (node_at more k).kind
+        (IsKnown night start more goal l k) lesser) (append-nil left) (still_shows [] lesser falls k lt)
 
-    pub walk_whole : IsWalk night start stock floor more goal left now lesser
+    pub walk_whole : IsWalk version night start stock floor more goal left now lesser
     walk_whole = record {
       formed = formed;
       some = omega (arith, size);
@@ -435,7 +482,8 @@ module _ (night : Night) (formed_night : IsInstance night) (laws : CountLaws) (s
       lean = all_lean;
       pending = still_pending;
       apart = front_pairs IsApart left (t ∷ []) W.apart;
-      shows = each_node (λ k. Shows night (path_at night start more k) (duals_at more k) (node_at more k).kind (IsKnown night start more goal left k) lesser) older_shows whole_shows;
+      shows = each_node (λ k. ShowsIn version night (path_at night start more k) (duals_at more k) (node_at more k).kind (IsKnown night start more goal left k) lesser) older_shows
+          whole_shows;
       within = within;
       cheap =
           let cheap = W.cheap in
@@ -449,7 +497,7 @@ module _ (night : Night) (formed_night : IsInstance night) (laws : CountLaws) (s
 none_formed : (night : Night) → AreNodes night []
 none_formed night = record { each = λ k d lt. absurd (omega (arith, lt)); root = λ lt. absurd (omega (arith, lt)); follow = λ k lt. absurd (omega (arith, lt)) }
 
-module _ (night : Night) (start : List Block) (stock : List (List Case)) (floor : ℤ) (n : Node) (fits : FitsNode night n) (depth : n.depth ≡ 0) where
+module _ (version : Version) (night : Night) (start : List Block) (stock : List (List Case)) (floor : ℤ) (n : Node) (fits : FitsNode night n) (depth : n.depth ≡ 0) where
   abbrev alone : List Node
   alone = n ∷ []
 
@@ -463,9 +511,13 @@ module _ (night : Night) (start : List Block) (stock : List (List Case)) (floor 
   only_root P h k lt = subst P (let e : 0 ≡ k = omega (arith, lt) in e) h
 
   first_best : (k : NodeKind) → n.kind ≡ k → best_before night start alone 1 ≡ best_with k (total_cost night start) (opening_cost night start)
-  first_best k e = ap (λ kd. best_with kd (total_cost night (path_at night start alone 0)) (opening_cost night start)) e ∙ ap (λ (l : List Block). best_with k (total_cost night l) (opening_cost night start)) root_at
+  first_best k e = ap (λ kd. best_with kd (total_cost night (path_at night start alone 0)) (opening_cost night start)) e
+      ∙ ap (λ (l : List Block). best_with k (total_cost night l) (opening_cost night start)) root_at
 
-  module _ (best : ℕ) (low : ℤ) (opening : best ≤ opening_cost night start) (within : low ≤ℤ pos best) (kind : n.kind ≡ Branch) (place : ℕ) (in_stock : place < length stock) (own : cases_or n.duals [] ≡ cases_in stock place) (waiting : List Pending) (adds : AddsChildren night stock best start 0 place [] waiting) (above : OpensAbove night start (cases_in stock place) best floor) (holds : CasesHold night start (cases_in stock place)) (unfinished : IsSome (next_of (masks_of night start))) where
+  module _ (best : ℕ) (low : ℤ) (opening : best ≤ opening_cost night start) (within : low ≤ℤ pos best) (kind : n.kind ≡ Branch) (place : ℕ) (in_stock : place < length stock)
+      (own : cases_or n.duals [] ≡ cases_in stock place) (waiting : List Pending) (adds : AddsChildren version night stock best start 0 place [] waiting)
+      (above : OpensAbove version night start (cases_in stock place) best floor) (holds : HoldIn version night start (cases_in stock place))
+      (unfinished : IsSome (next_of (masks_of night start))) where
     abbrev first_cases : List Case
     first_cases = cases_in stock place
 
@@ -475,14 +527,14 @@ module _ (night : Night) (start : List Block) (stock : List (List Case)) (floor 
     abbrev first_added : List Pending
     first_added = adds.adds.added
 
-    D : AreChildren night start first_cases best first_children
+    D : AreChildren version night start first_cases best first_children
     D = adds.are
 
     alone_duals : duals_at alone 0 ≡ first_cases
     alone_duals = root_duals night alone alone_formed (omega arith) ∙ own
 
     keeps_start : (s : Pending) → In s first_added → kept s.child ≡ length start
-    keeps_start s i = keeps_all night start first_cases best first_children D first_added adds.adds.each s i
+    keeps_start s i = keeps_all version night start first_cases best first_children D first_added adds.adds.each s i
 
     start_is : (s : Pending) → In s first_added → take (kept s.child) start ≡ start
     start_is s i = ap (λ k. take k start) (keeps_start s i) ∙ take-length start
@@ -490,7 +542,7 @@ module _ (night : Night) (start : List Block) (stock : List (List Case)) (floor 
     below_is : (s : Pending) → In s first_added → goal_of start s.child ≡ more_by start s.child.block
     below_is s i = ap (λ (l : List Block). more_by l s.child.block) (start_is s i)
 
-    first_pending : (s : Pending) → In s first_added → IsPending night start stock floor alone start s
+    first_pending : (s : Pending) → In s first_added → IsPending version night start stock floor alone start s
     first_pending s i =
         let o = D.each s.child (added_child first_added first_children adds.adds.each s i) in
         let of = adds.adds.parents s i in
@@ -505,8 +557,9 @@ module _ (night : Night) (start : List Block) (stock : List (List Case)) (floor 
           through = subst (λ (l : List Block). RunsThrough night (placed l)) (sym (below_is s i)) o.through;
           place = subst (λ (k : ℕ). k < length stock) (sym of.1) in_stock;
           cases = ap (λ k. cases_in stock k) of.1 ∙ sym (ap (λ k. duals_at alone k) up ∙ alone_duals);
-          bound = subst (λ (d : List Case). IsCasesBound night (goal_of start s.child) d s.child.bound) (sym (ap (λ k. duals_at alone k) up ∙ alone_duals))
-              (subst (λ (l : List Block). IsCasesBound night l first_cases s.child.bound) (sym (below_is s i)) o.is);
+          bound = same_step version night start (path_at night start alone s.parent) (more_by start s.child.block) (goal_of start s.child) first_cases
+              (duals_at alone s.parent) s.child.bound
+              (ap (λ k. path_at night start alone k) up ∙ root_at) (below_is s i) (ap (λ k. duals_at alone k) up ∙ alone_duals) o.is;
           above = above s.child o;
           new = only_root (λ j. path_at night start alone j ≢ goal_of start s.child) (λ e.
               let same : start ≡ more_by start s.child.block = sym root_at ∙ e ∙ below_is s i in
@@ -523,24 +576,25 @@ module _ (night : Night) (start : List Block) (stock : List (List Case)) (floor 
           r.0,
           r.1,
           (adds.adds.parents r.0 r.1).0,
-          below_is r.0 r.1 ∙ sym (longer_is start r.0.child.block o.next.id) ∙ ap (λ (k : PathChoice). longer_by start k) its ∙ ap (λ (l : List Block). longer_by l d) (sym root_at),
+          below_is r.0 r.1 ∙ sym (longer_is start r.0.child.block o.next.id) ∙ ap (λ (k : PathChoice). longer_by start k) its
+              ∙ ap (λ (l : List Block). longer_by l d) (sym root_at),
         )
 
-    first_shows : Shows night (path_at night start alone 0) (duals_at alone 0) n.kind (IsKnown night start alone start first_added 0) low
+    first_shows : ShowsIn version night (path_at night start alone 0) (duals_at alone 0) n.kind (IsKnown night start alone start first_added 0) low
     first_shows =
-        subst (λ kd. Shows night (path_at night start alone 0) (duals_at alone 0) kd (IsKnown night start alone start first_added 0) low) (sym kind)
-        (subst (λ (d : List Case). Shows night (path_at night start alone 0) d Branch (IsKnown night start alone start first_added 0) low) (sym alone_duals)
-        (subst (λ (l : List Block). Shows night l first_cases Branch (IsKnown night start alone start first_added 0) low) (sym root_at) (record {
+        subst (λ kd. ShowsIn version night (path_at night start alone 0) (duals_at alone 0) kd (IsKnown night start alone start first_added 0) low) (sym kind)
+        (subst (λ (d : List Case). ShowsIn version night (path_at night start alone 0) d Branch (IsKnown night start alone start first_added 0) low) (sym alone_duals)
+        (subst (λ (l : List Block). ShowsIn version night l first_cases Branch (IsKnown night start alone start first_added 0) low) (sym root_at) (record {
           unfinished = unfinished;
           holds = holds;
           each = λ d at through. ⊎_elim
-              (λ closed. inl (lower night (longer_by start d) first_cases (pos best) low within (closed through)))
-              (λ i. let r = of_choices night start first_cases best first_children d i in inr (first_known d r.0 r.1 r.2))
+              (λ closed. inl (lower version night start (longer_by start d) first_cases (pos best) low within (closed through)))
+              (λ i. let r = of_choices version night start first_cases best first_children d i in inr (first_known d r.0 r.1 r.2))
               (D.others d at);
         })))
 
-    pub walk_root : IsWalk night start stock floor alone start waiting best low
-    walk_root = subst (λ (l : List Pending). IsWalk night start stock floor alone start l best low) (sym adds.adds.is) (record {
+    pub walk_root : IsWalk version night start stock floor alone start waiting best low
+    walk_root = subst (λ (l : List Pending). IsWalk version night start stock floor alone start l best low) (sym adds.adds.is) (record {
       formed = alone_formed;
       some = omega arith;
       here = sym root_at;
@@ -548,19 +602,22 @@ module _ (night : Night) (start : List Block) (stock : List (List Case)) (floor 
       placed = λ k some lt. absurd (omega (arith, some, lt));
       lean = λ k some lt. absurd (omega (arith, some, lt));
       pending = first_pending;
-      apart = added_apart night start first_cases best first_children D first_added adds.adds.each;
-      shows = only_root (λ k. Shows night (path_at night start alone k) (duals_at alone k) (node_at alone k).kind (IsKnown night start alone start first_added k) low) first_shows;
+      apart = added_apart version night start first_cases best first_children D first_added adds.adds.each;
+      shows = only_root (λ k. ShowsIn version night (path_at night start alone k) (duals_at alone k) (node_at alone k).kind (IsKnown night start alone start first_added k) low)
+          first_shows;
       within = within;
       cheap = let e = first_best Branch kind in omega (arith, opening, e);
     })
 
-  module _ (now : ℕ) (lesser : ℤ) (opening : now ≤ opening_cost night start) (cost : now ≤ total_cost night start) (within : lesser ≤ℤ pos now) (kind : n.kind ≡ Whole) (covers : next_of (masks_of night start) ≡ None) where
-    alone_shows : Shows night (path_at night start alone 0) (duals_at alone 0) n.kind (IsKnown night start alone start [] 0) lesser
+  module _ (now : ℕ) (lesser : ℤ) (opening : now ≤ opening_cost night start) (cost : now ≤ total_cost night start) (within : lesser ≤ℤ pos now) (kind : n.kind ≡ Whole)
+      (covers : next_of (masks_of night start) ≡ None) where
+    alone_shows : ShowsIn version night (path_at night start alone 0) (duals_at alone 0) n.kind (IsKnown night start alone start [] 0) lesser
     alone_shows =
-        subst (λ kd. Shows night (path_at night start alone 0) (duals_at alone 0) kd (IsKnown night start alone start [] 0) lesser) (sym kind)
-        (subst (λ (l : List Block). Shows night l (duals_at alone 0) Whole (IsKnown night start alone start [] 0) lesser) (sym root_at) (record { covers = covers; cost = omega (arith, ints, cost, within) }))
+        subst (λ kd. ShowsIn version night (path_at night start alone 0) (duals_at alone 0) kd (IsKnown night start alone start [] 0) lesser) (sym kind)
+        (subst (λ (l : List Block). ShowsIn version night l (duals_at alone 0) Whole (IsKnown night start alone start [] 0) lesser) (sym root_at)
+        (record { covers = covers; cost = omega (arith, ints, cost, within) }))
 
-    pub walk_alone : IsWalk night start stock floor alone start [] now lesser
+    pub walk_alone : IsWalk version night start stock floor alone start [] now lesser
     walk_alone = record {
       formed = alone_formed;
       some = omega arith;
@@ -570,7 +627,8 @@ module _ (night : Night) (start : List Block) (stock : List (List Case)) (floor 
       lean = λ k some lt. absurd (omega (arith, some, lt));
       pending = λ s i. absurd i;
       apart = λ i j d before within. absurd (omega (arith, within));
-      shows = only_root (λ k. Shows night (path_at night start alone k) (duals_at alone k) (node_at alone k).kind (IsKnown night start alone start [] k) lesser) alone_shows;
+      shows = only_root (λ k. ShowsIn version night (path_at night start alone k) (duals_at alone k) (node_at alone k).kind (IsKnown night start alone start [] k) lesser)
+          alone_shows;
       within = within;
       cheap =
           let e = first_best Whole kind in

@@ -9,14 +9,15 @@ use Rattle.shunt_blocks.specs.declared.records.Block.{Block}
 use Rattle.shunt_blocks.specs.defs.Lists.{IsFeasible, total_cost}
 use Rattle.shunt_blocks.specs.defs.Pins.{AreUsable, Keeps, opening_cost}
 use Rattle.shunt_choices.specs.defs.Paths.{Masks, Trail, IsTrailOf, IsPartialPlan, masks_of, next_of}
-use Rattle.shunt_prices.specs.defs.Cases.{CasesHold}
-use Rattle.shunt_prices.specs.defs.Bounds.{IsCasesBound}
+use Rattle.shunt_choices.proofs.Given.{all_within}
 use Rattle.shunt_proof.specs.declared.records.NodeKind.TheVariants.{Branch, Whole}
 use Rattle.shunt_proof.specs.declared.records.Node.{Node}
+use Rattle.shunt_proof.specs.declared.records.Version.{Version}
+use Rattle.shunt_proof.specs.declared.records.Version.TheVariants.{Prices, Stacks}
 use Rattle.shunt_proof.specs.defs.Nodes.{AreStatable, FitsNode, CanFollow}
 use Rattle.shunt_proof.specs.defs.Certificates.{own_cases, case_total}
 use Rattle.shunt_proof.specs.defs.Trees.{IsStart, cases_or, duals_at}
-use Rattle.shunt_proof.specs.defs.Proves.{Reaches}
+use Rattle.shunt_proof.specs.defs.Versions.{HoldIn, IsBoundIn, ReachesIn}
 use Rattle.shunt_search.specs.declared.yard.Yard.{Yard}
 use Rattle.shunt_search.specs.declared.known.Known.{Known}
 use Rattle.shunt_search.specs.declared.walking.Pending.{Pending}
@@ -27,24 +28,30 @@ use Rattle.shunt_search.specs.defs.Walking.{cases_in, IsLifted, IsWalk, AddsChil
 use Rattle.shunt_search.specs.defs.Steady.{IsSteady}
 use Rattle.shunt_search.specs.defs.Searching.{IsSearch, IsFresh, Begins, Takes, whole_root, branch_root, TellsRoot}
 use Rattle.shunt_search.proofs.Lowest.{CostLaw}
-use Rattle.shunt_search.proofs.Searched.{RiseLaw, opens_above, same_walk, same_best}
+use Rattle.shunt_search.proofs.Searched.{RiseLaw, SomeLaw, opens_above, same_walk, same_best}
 
 -- what the laws of the walk and of the crates below say
 pub record BeginLaws : Type 0 where
-  pub branch : (night : Night) (start : List Block) (stock : List (List Case)) (floor : ℤ) (n : Node) (best : ℕ) (low : ℤ) (place : ℕ) (waiting : List Pending) → FitsNode night n → n.depth ≡ 0 → n.kind ≡ Branch → cases_or n.duals [] ≡ cases_in stock place → place < length stock
-      → best ≤ opening_cost night start → low ≤ℤ pos best → AddsChildren night stock best start 0 place [] waiting → OpensAbove night start (cases_in stock place) best floor → CasesHold night start (cases_in stock place) → IsSome (next_of (masks_of night start))
-      → IsWalk night start stock floor (n ∷ []) start waiting best low
-  pub whole : (night : Night) (start : List Block) (stock : List (List Case)) (floor : ℤ) (n : Node) (best : ℕ) (low : ℤ) → FitsNode night n → n.depth ≡ 0 → n.kind ≡ Whole → best ≤ opening_cost night start → best ≤ total_cost night start → low ≤ℤ pos best
-      → next_of (masks_of night start) ≡ None → IsWalk night start stock floor (n ∷ []) start [] best low
+  pub branch : (version : Version) (night : Night) (start : List Block) (stock : List (List Case)) (floor : ℤ) (n : Node) (best : ℕ) (low : ℤ) (place : ℕ) (waiting : List Pending)
+      → FitsNode night n → n.depth ≡ 0 → n.kind ≡ Branch → cases_or n.duals [] ≡ cases_in stock place → place < length stock
+      → best ≤ opening_cost night start → low ≤ℤ pos best → AddsChildren version night stock best start 0 place [] waiting
+      → OpensAbove version night start (cases_in stock place) best floor → HoldIn version night start (cases_in stock place) → IsSome (next_of (masks_of night start))
+      → IsWalk version night start stock floor (n ∷ []) start waiting best low
+  pub whole : (version : Version) (night : Night) (start : List Block) (stock : List (List Case)) (floor : ℤ) (n : Node) (best : ℕ) (low : ℤ) → FitsNode night n → n.depth ≡ 0
+      → n.kind ≡ Whole → best ≤ opening_cost night start → best ≤ total_cost night start → low ≤ℤ pos best
+      → next_of (masks_of night start) ≡ None → IsWalk version night start stock floor (n ∷ []) start [] best low
   pub kept_plan : (night : Night) (pins : List Block) (t : Trail) (old new : Known) → IsInstance night → IsTrailOf night t → IsPartialPlan night pins t.blocks
-      → next_of t.covered ≡ None → position_total night ≡ unit_total night → IsBest night pins old.blocks.items old.cost → KeepsCheaper night t.blocks old new → IsBest night pins new.blocks.items new.cost
+      → next_of t.covered ≡ None → position_total night ≡ unit_total night → IsBest night pins old.blocks.items old.cost → KeepsCheaper night t.blocks old new
+      → IsBest night pins new.blocks.items new.cost
   pub opening : (night : Night) (pins others : List Block) → IsPermutation pins others → opening_cost night others ≡ opening_cost night pins
   pub partial : (night : Night) (pins start : List Block) → IsInstance night → AreUsable night pins → IsStart night pins start → IsPartialPlan night pins start
-  pub steady : (night : Night) (start : List Block) (n : Node) (path : List Block) (waiting : List Pending) (best : ℕ) (low : ℤ) → low ≡ pos best → IsSteady night start (n ∷ []) path waiting best low
+  pub steady : (version : Version) (night : Night) (start : List Block) (n : Node) (path : List Block) (waiting : List Pending) (best : ℕ) (low : ℤ) → low ≡ pos best
+      → IsSteady version night start (n ∷ []) path waiting best low
   pub cost : CostLaw
   pub rise : RiseLaw
-  pub of_cases : (night : Night) (path : List Block) (cases : List Case) → 1 ≤ length cases → (bound : ℤ) × IsCasesBound night path cases bound
-  pub one_of_cases : (night : Night) (path : List Block) (cases : List Case) (bound other : ℤ) → IsCasesBound night path cases bound → IsCasesBound night path cases other → bound ≡ other
+  pub some : SomeLaw
+  pub one : (version : Version) (night : Night) (path : List Block) (cases : List Case) (bound other : ℤ) → IsBoundIn version night path cases bound
+      → IsBoundIn version night path cases other → bound ≡ other
 
 one_told : (told now : Option (List Node)) (n : Node) → TellsRoot n told now → IfSome now (λ l. l ≡ n ∷ [])
 one_told None None n tells = tt
@@ -57,18 +64,25 @@ pub root_follows : (told : Option (List Node)) (n : Node) → n.depth ≡ 0 → 
 root_follows None n e is = tt
 root_follows (Some a) n e is = subst (λ (l : List Node). CanFollow l n) (sym is) e
 
+-- without cases a path has no bound
+no_bound : (version : Version) (night : Night) (path : List Block) (bound : ℤ) → IsBoundIn version night path [] bound → ⊥
+no_bound Prices night path bound is = let none : is.number < 0 = is.opens.there in absurd (omega (arith, none))
+no_bound Stacks night path bound is = let none : is.least.number < 0 = is.least.opens.there in absurd (omega (arith, none))
+
 not_whole : Branch ≢ Whole
 not_whole e = cc
 
 -- the first cases of a stock are as good as those of a root's own
-pub first_lifts : RiseLaw → (night : Night) → IsInstance night → (pins : List Block) (stock : List (List Case)) (s : Search) → IsFresh night pins stock s → IsLifted night stock s.yard.path.blocks s.known.cost s.floor 0
-first_lifts rise night i pins stock s f = record {
+pub first_lifts : RiseLaw → (version : Version) (night : Night) → IsInstance night → (pins : List Block) (stock : List (List Case)) (s : Search)
+    → IsFresh version night pins stock s → IsLifted version night stock s.yard.path.blocks s.known.cost s.floor 0
+first_lifts rise version night i pins stock s f = record {
   there = f.stocked.some;
   hold = f.rooted.hold;
-  opens = opens_above rise night i s.yard.path f.yard.path (cases_in stock 0) s.known.cost s.floor f.rooted.hold f.lowest.reach;
+  opens = opens_above rise version night i s.yard.path f.yard.path (cases_in stock 0) s.known.cost s.floor f.rooted.hold f.lowest.reach;
 }
 
-module _ (laws : BeginLaws) (night : Night) (i : IsInstance night) (pins : List Block) (stock : List (List Case)) (told now : Option (List Node)) (count cases : ℕ) (s : Search) (f : IsFresh night pins stock s) (first : count ≡ 1) where
+module _ (laws : BeginLaws) (version : Version) (night : Night) (i : IsInstance night) (pins : List Block) (stock : List (List Case)) (told now : Option (List Node))
+    (count cases : ℕ) (s : Search) (f : IsFresh version night pins stock s) (first : count ≡ 1) where
   abbrev start : List Block
   start = s.yard.path.blocks
 
@@ -76,8 +90,9 @@ module _ (laws : BeginLaws) (night : Night) (i : IsInstance night) (pins : List 
   floor = f.rooted.floor
 
   -- a plan that keeps the pins costs at least what cases bound their path by
-  costs : (cases : List Case) (least : ℤ) → AreStatable night cases → CasesHold night start cases → Reaches night start cases least → (plan : List Block) → IsFeasible night plan → Keeps plan pins → least ≤ℤ pos (total_cost night plan)
-  costs own least statable hold reach plan feasible keeps = laws.cost night pins start own least plan i f.usable f.begins statable.within hold reach feasible keeps
+  costs : (cases : List Case) (least : ℤ) → AreStatable night cases → HoldIn version night start cases → ReachesIn version night start cases least → (plan : List Block)
+      → IsFeasible night plan → Keeps plan pins → least ≤ℤ pos (total_cost night plan)
+  costs own least statable hold reach plan feasible keeps = laws.cost version night pins start own least plan i f.usable f.begins statable.within hold reach feasible keeps
 
   abbrev first_cases : List Case
   first_cases = cases_in stock 0
@@ -85,14 +100,16 @@ module _ (laws : BeginLaws) (night : Night) (i : IsInstance night) (pins : List 
   opened : s.known.cost ≤ opening_cost night start
   opened = let least = f.opening in let same = laws.opening night pins start f.begins.same in omega (arith, least, same)
 
-  lowest_at : (z : Search) → z.floor ≡ s.floor → IsFloor night start (cases_in stock 0) floor z.floor
-  lowest_at z e = subst (λ (x : ℤ). IsFloor night start (cases_in stock 0) floor x) (sym e) f.lowest
+  lowest_at : (z : Search) → z.floor ≡ s.floor → IsFloor version night start (cases_in stock 0) floor z.floor
+  lowest_at z e = subst (λ (x : ℤ). IsFloor version night start (cases_in stock 0) floor x) (sym e) f.lowest
 
-  pub whole_begins : (z w : Search) → TellsRoot whole_root told now → cases ≡ 0 → Begins s z cases → z.waiting.items ≡ [] → next_of (masks_of night start) ≡ None → Takes night z w → IsSearch night pins stock now count cases w.waiting.items w
+  pub whole_begins : (z w : Search) → TellsRoot whole_root told now → cases ≡ 0 → Begins s z cases → z.waiting.items ≡ [] → next_of (masks_of night start) ≡ None → Takes night z w
+      → IsSearch version night pins stock now count cases w.waiting.items w
   whole_begins z w tells none b empty covers takes =
       let yard_is : w.yard ≡ s.yard = takes.yard ∙ b.yard in
       let path_is : w.yard.path.blocks ≡ start = ap (λ (y : Yard). y.path.blocks) yard_is in
-      let cheaper : KeepsCheaper night start s.known w.known = subst (λ (l : List Block). KeepsCheaper night l s.known w.known) (ap (λ (y : Yard). y.path.blocks) b.yard) (subst (λ (k : Known). KeepsCheaper night z.yard.path.blocks k w.known) b.known takes.cheaper) in
+      let cheaper : KeepsCheaper night start s.known w.known = subst (λ (l : List Block). KeepsCheaper night l s.known w.known) (ap (λ (y : Yard). y.path.blocks) b.yard)
+      (subst (λ (k : Known). KeepsCheaper night z.yard.path.blocks k w.known) b.known takes.cheaper) in
       let less = cheaper.known in
       let known = opened in
       let low : w.known.cost ≤ opening_cost night start = omega (arith, less, known) in
@@ -104,7 +121,7 @@ module _ (laws : BeginLaws) (night : Night) (i : IsInstance night) (pins : List 
       let cost_is = best.cost in
       let second = takes.low.second in
       let low_is : z.low ≡ pos s.known.cost = b.low ∙ f.low in
-      let walk = laws.whole night start stock s.floor whole_root w.known.cost w.low fits refl refl low cheaper.path_too second covers in
+      let walk = laws.whole version night start stock s.floor whole_root w.known.cost w.low fits refl refl low cheaper.path_too second covers in
       let same : w.low ≡ pos w.known.cost = ⊎_elim (λ e. omega (arith, ints, e, low_is, less, second)) (λ e. e) takes.low.either in
       record {
         start = start;
@@ -118,11 +135,12 @@ module _ (laws : BeginLaws) (night : Night) (i : IsInstance night) (pins : List 
         floor = s.floor;
         base = record {
           least = let same_floor : w.floor ≡ s.floor = takes.floor ∙ b.floor in omega (arith, ints, same_floor);
-          root = λ bound is. (let none : is.number < 0 = is.opens.there in absurd (omega (arith, none)));
+          root = λ bound is. absurd (no_bound version night start bound is);
           plans = plans;
         };
-        walk = same_walk night start stock s.floor (whole_root ∷ []) start w.yard.path.blocks [] w.waiting.items w.known.cost w.known.cost w.low w.low path_is (takes.waiting ∙ empty) refl refl walk;
-        steady = laws.steady night start whole_root w.yard.path.blocks w.waiting.items w.known.cost w.low same;
+        walk = same_walk version night start stock s.floor (whole_root ∷ []) start w.yard.path.blocks [] w.waiting.items w.known.cost w.known.cost w.low w.low path_is
+            (takes.waiting ∙ empty) refl refl walk;
+        steady = laws.steady version night start whole_root w.yard.path.blocks w.waiting.items w.known.cost w.low same;
         high = omega (arith, ints, same, cost, cost_is);
         tells = one_told told now whole_root tells;
         many = first;
@@ -138,7 +156,7 @@ module _ (laws : BeginLaws) (night : Night) (i : IsInstance night) (pins : List 
       }
 
   -- a floor of what a root's own cases show, with those that they bound its children by
-  module _ (place : ℕ) (lifts : IsLifted night stock start s.known.cost s.floor place) where
+  module _ (place : ℕ) (lifts : IsLifted version night stock start s.known.cost s.floor place) where
     abbrev own : List Case
     own = cases_in stock place
 
@@ -146,16 +164,17 @@ module _ (laws : BeginLaws) (night : Night) (i : IsInstance night) (pins : List 
     root = branch_root own
 
     abbrev IsLow : ℤ → Type 0
-    IsLow low = IsBase night pins start (root ∷ []) s.floor low × OpensAbove night start own s.known.cost low
+    IsLow low = IsBase version night pins start (root ∷ []) s.floor low × OpensAbove version night start own s.known.cost low
 
     statable : AreStatable night own
     statable = f.stocked.each place [] lifts.there
 
-    its : (bound : ℤ) × IsCasesBound night start own bound
-    its = laws.of_cases night start own statable.within.some
+    its : (bound : ℤ) × IsBoundIn version night start own bound
+    its = let plan = laws.partial night pins start i f.usable f.begins in laws.some version night start own i
+        (all_within night start plan.each) plan.apart plan.through statable.within.some
 
-    its_root : (low : ℤ) → its.0 ≤ℤ low → (bound : ℤ) → IsCasesBound night start (duals_at (root ∷ []) 0) bound → bound ≤ℤ low
-    its_root low le bound is = let same = laws.one_of_cases night start own bound its.0 is its.1 in omega (arith, ints, le, same)
+    its_root : (low : ℤ) → its.0 ≤ℤ low → (bound : ℤ) → IsBoundIn version night start (duals_at (root ∷ []) 0) bound → bound ≤ℤ low
+    its_root low le bound is = let same = laws.one version night start own bound its.0 is its.1 in omega (arith, ints, le, same)
 
     -- the floor of the search, or the bound of the root where this is more
     low_floor : (low : ℤ) × IsLow low
@@ -168,7 +187,7 @@ module _ (laws : BeginLaws) (night : Night) (i : IsInstance night) (pins : List 
               root = its_root its.0 (omega (arith, ints));
               plans = costs own its.0 statable lifts.hold (its.0, its.1, omega (arith, ints));
             },
-            opens_above laws.rise night i s.yard.path f.yard.path own s.known.cost its.0 lifts.hold (its.0, its.1, omega (arith, ints)),
+            opens_above laws.rise version night i s.yard.path f.yard.path own s.known.cost its.0 lifts.hold (its.0, its.1, omega (arith, ints)),
           ),
         ))
         (λ le. (
@@ -183,8 +202,10 @@ module _ (laws : BeginLaws) (night : Night) (i : IsInstance night) (pins : List 
           ),
         ))
 
-  pub branch_begins : (z : Search) (place : ℕ) → IsLifted night stock start s.known.cost s.floor place → TellsRoot (branch_root (cases_in stock place)) told now → cases ≡ length (cases_in stock place) → Begins s z cases → IsSome (next_of (masks_of night start)) → AddsChildren night stock s.known.cost start 0 place [] z.waiting.items
-      → IsSearch night pins stock now count cases z.waiting.items z
+  pub branch_begins : (z : Search) (place : ℕ) → IsLifted version night stock start s.known.cost s.floor place → TellsRoot (branch_root (cases_in stock place)) told now
+      → cases ≡ length (cases_in stock place) → Begins s z cases → IsSome (next_of (masks_of night start))
+      → AddsChildren version night stock s.known.cost start 0 place [] z.waiting.items
+      → IsSearch version night pins stock now count cases z.waiting.items z
   branch_begins z place lifts tells owns b unfinished adds =
       let own = cases_in stock place in
       let root = branch_root (cases_in stock place) in
@@ -192,7 +213,8 @@ module _ (laws : BeginLaws) (night : Night) (i : IsInstance night) (pins : List 
       let fits : FitsNode night (branch_root (cases_in stock place)) = record { depth = omega arith; choice = refl; duals = (not_whole, can_state) } in
       let low = low_floor place lifts in
       let low_is = f.low in
-      let walk = laws.branch night start stock low.0 root s.known.cost s.low place z.waiting.items fits refl refl refl lifts.there opened (omega (arith, ints, low_is)) adds low.1.1 lifts.hold unfinished in
+      let walk = laws.branch version night start stock low.0 root s.known.cost s.low place z.waiting.items fits refl refl refl lifts.there opened
+      (omega (arith, ints, low_is)) adds low.1.1 lifts.hold unfinished in
       let cost_is : z.known.cost ≡ s.known.cost = ap (λ (k : Known). k.cost) b.known in
       let cost = low.1.0.plans s.known.blocks.items f.best.feasible f.best.keeps in
       let best_is = f.best.cost in
@@ -207,9 +229,10 @@ module _ (laws : BeginLaws) (night : Night) (i : IsInstance night) (pins : List 
         rooted = f.rooted;
         lowest = lowest_at z b.floor;
         floor = low.0;
-        base = subst (λ (x : ℤ). IsBase night pins start (root ∷ []) x low.0) (sym b.floor) low.1.0;
-        walk = same_walk night start stock low.0 (root ∷ []) start z.yard.path.blocks z.waiting.items z.waiting.items s.known.cost z.known.cost s.low z.low (ap (λ (y : Yard). y.path.blocks) b.yard) refl cost_is b.low walk;
-        steady = laws.steady night start root z.yard.path.blocks z.waiting.items z.known.cost z.low (b.low ∙ f.low ∙ ap pos (sym cost_is));
+        base = subst (λ (x : ℤ). IsBase version night pins start (root ∷ []) x low.0) (sym b.floor) low.1.0;
+        walk = same_walk version night start stock low.0 (root ∷ []) start z.yard.path.blocks z.waiting.items z.waiting.items s.known.cost z.known.cost s.low z.low
+            (ap (λ (y : Yard). y.path.blocks) b.yard) refl cost_is b.low walk;
+        steady = laws.steady version night start root z.yard.path.blocks z.waiting.items z.known.cost z.low (b.low ∙ f.low ∙ ap pos (sym cost_is));
         high = omega (arith, ints, low_too, low_is, cost, best_is);
         tells = one_told told now root tells;
         many = first;

@@ -52,9 +52,13 @@ apart (b ∷ blocks) h = (
 others_apart : (blocks : List Block) (k : ℕ) (d : Block) → k < length blocks → Apart blocks → AllByRecursion (λ c. c.id ≢ (get_or blocks k d).id) (others_of blocks k)
 others_apart [] k d lt a = absurd (omega arith)
 others_apart (b ∷ blocks) zero d lt a = all_from (λ c. c.id ≢ b.id) blocks (λ c i e. all_in (λ c. b.id ≢ c.id) blocks c a.0 i (sym e))
-others_apart (b ∷ blocks) (suc k) d lt a = (λ e. all_in (λ c. b.id ≢ c.id) blocks (get_or blocks k d) a.0 (in_place blocks k d (omega arith)) e, others_apart blocks k d (omega arith) a.1)
+others_apart (b ∷ blocks) (suc k) d lt a = (
+  λ e. all_in (λ c. b.id ≢ c.id) blocks (get_or blocks k d) a.0 (in_place blocks k d (omega arith)) e,
+  others_apart blocks k d (omega arith) a.1,
+)
 
-pub other_ids : (blocks : List Block) (k : ℕ) (d : Block) → k < length blocks → AreDistinct (map (λ b. b.id) blocks) → AllByRecursion (λ c. c.id ≢ (get_or blocks k d).id) (others_of blocks k)
+pub other_ids : (blocks : List Block) (k : ℕ) (d : Block) → k < length blocks → AreDistinct (map (λ b. b.id) blocks)
+    → AllByRecursion (λ c. c.id ≢ (get_or blocks k d).id) (others_of blocks k)
 other_ids blocks k d lt h = others_apart blocks k d lt (apart blocks h)
 
 -- ---- another option for the one at a place
@@ -75,19 +79,23 @@ untouched : (b : Block) (option : Option Park) (blocks : List Block) → AllByRe
 untouched b option [] a = refl
 untouched b option (c ∷ blocks) a = ap (λ x. x ∷ with_option b option blocks) (keeps b c option a.0) ∙ ap (λ l. c ∷ l) (untouched b option blocks a.1)
 
-is_set : (blocks : List Block) (k : ℕ) (d : Block) (option : Option Park) → k < length blocks → Apart blocks → with_option (get_or blocks k d) option blocks ≡ set blocks k (with_park (get_or blocks k d) option)
+is_set : (blocks : List Block) (k : ℕ) (d : Block) (option : Option Park) → k < length blocks → Apart blocks
+    → with_option (get_or blocks k d) option blocks ≡ set blocks k (with_park (get_or blocks k d) option)
 is_set [] k d option lt a = absurd (omega arith)
 is_set (b ∷ blocks) zero d option lt a = ap (λ x. x ∷ with_option b option blocks) (changes b option) ∙ ap (λ l. with_park b option ∷ l) (untouched b option blocks a.0)
 is_set (b ∷ blocks) (suc k) d option lt a =
-    ap (λ x. x ∷ with_option (get_or blocks k d) option blocks) (keeps (get_or blocks k d) b option (λ e. all_in (λ c. b.id ≢ c.id) blocks (get_or blocks k d) a.0 (in_place blocks k d (omega arith)) (sym e)))
+    ap (λ x. x ∷ with_option (get_or blocks k d) option blocks) (keeps (get_or blocks k d) b option
+    (λ e. all_in (λ c. b.id ≢ c.id) blocks (get_or blocks k d) a.0 (in_place blocks k d (omega arith)) (sym e)))
     ∙ ap (λ l. b ∷ l) (is_set blocks k d option (omega arith) a.1)
 
-pub with_option_is : (blocks : List Block) (k : ℕ) (d : Block) (option : Option Park) → k < length blocks → AreDistinct (map (λ b. b.id) blocks) → with_option (get_or blocks k d) option blocks ≡ set blocks k (with_park (get_or blocks k d) option)
+pub with_option_is : (blocks : List Block) (k : ℕ) (d : Block) (option : Option Park) → k < length blocks → AreDistinct (map (λ b. b.id) blocks)
+    → with_option (get_or blocks k d) option blocks ≡ set blocks k (with_park (get_or blocks k d) option)
 with_option_is blocks k d option lt h = is_set blocks k d option lt (apart blocks h)
 
 -- ---- what stays as it is
 
-pub same_fields : {Y : Type 0} (f : Block → Y) (blocks : List Block) (k : ℕ) (d : Block) (option : Option Park) → ((b : Block) → f (with_park b option) ≡ f b) → map f (set blocks k (with_park (get_or blocks k d) option)) ≡ map f blocks
+pub same_fields : {Y : Type 0} (f : Block → Y) (blocks : List Block) (k : ℕ) (d : Block) (option : Option Park) → ((b : Block) → f (with_park b option) ≡ f b)
+    → map f (set blocks k (with_park (get_or blocks k d) option)) ≡ map f blocks
 same_fields f [] k d option same = refl
 same_fields f (b ∷ blocks) zero d option same = ap (λ y. y ∷ map f blocks) (same b)
 same_fields f (b ∷ blocks) (suc k) d option same = ap (λ l. f b ∷ l) (same_fields f blocks k d option same)
@@ -95,13 +103,16 @@ same_fields f (b ∷ blocks) (suc k) d option same = ap (λ l. f b ∷ l) (same_
 abbrev worth : Bool → ℕ
 worth t = cond t 1 0
 
-pub same_count : (test : Block → Bool) (blocks : List Block) (k : ℕ) (d : Block) (option : Option Park) → k < length blocks → ((b : Block) → test (with_park b option) ≡ test b) → count_by test (set blocks k (with_park (get_or blocks k d) option)) ≡ count_by test blocks
+pub same_count : (test : Block → Bool) (blocks : List Block) (k : ℕ) (d : Block) (option : Option Park) → k < length blocks → ((b : Block) → test (with_park b option) ≡ test b)
+    → count_by test (set blocks k (with_park (get_or blocks k d) option)) ≡ count_by test blocks
 same_count test blocks k d option lt same =
     let e = sum_by-set (λ b. worth (test b)) blocks k (with_park (get_or blocks k d) option) d lt in
     let f : worth (test (with_park (get_or blocks k d) option)) ≡ worth (test (get_or blocks k d)) = ap worth (same (get_or blocks k d)) in
     omega (arith, e, f)
 
-pub cost_change : (night : Night) (blocks : List Block) (k : ℕ) (d : Block) (option : Option Park) → k < length blocks → total_cost night (set blocks k (with_park (get_or blocks k d) option)) + block_cost night (get_or blocks k d) ≡ total_cost night blocks + block_cost night (with_park (get_or blocks k d) option)
+pub cost_change : (night : Night) (blocks : List Block) (k : ℕ) (d : Block) (option : Option Park) → k < length blocks
+    → total_cost night (set blocks k (with_park (get_or blocks k d) option)) + block_cost night (get_or blocks k d)
+    ≡ total_cost night blocks + block_cost night (with_park (get_or blocks k d) option)
 cost_change night blocks k d option lt = sum_by-set (block_cost night) blocks k (with_park (get_or blocks k d) option) d lt
 
 pub on_track : (night : Night) (s : Shape) (option : Option Park) → IsOption night s option → IsOnTrack night.station option
@@ -115,7 +126,9 @@ still_block night b option h is = record {
   option = is;
 }
 
-pub still_feasible : (night : Night) (blocks : List Block) (k : ℕ) (d : Block) (option : Option Park) → k < length blocks → IsFeasible night blocks → IsOption night (shape_of (get_or blocks k d)) option → RunsThrough night (set blocks k (with_park (get_or blocks k d) option)) → IsFeasible night (set blocks k (with_park (get_or blocks k d) option))
+pub still_feasible : (night : Night) (blocks : List Block) (k : ℕ) (d : Block) (option : Option Park) → k < length blocks → IsFeasible night blocks
+    → IsOption night (shape_of (get_or blocks k d)) option → RunsThrough night (set blocks k (with_park (get_or blocks k d) option))
+    → IsFeasible night (set blocks k (with_park (get_or blocks k d) option))
 still_feasible night blocks k d option lt h is through = record {
   ids = subst AreDistinct (sym (same_fields (λ b. b.id) blocks k d option (λ b. refl))) h.ids;
   each = All-set (IsBlock night) blocks k (with_park (get_or blocks k d) option) (still_block night (get_or blocks k d) option (h.each k d lt) is) h.each;
@@ -143,7 +156,8 @@ module _ (night : Night) (blocks : List Block) (k : ℕ) (b : Block) (lt : k < l
       )
 
   pub stays_long : length (stays_of night (set blocks k b)) ≡ length (cons_option (stay_of night b) (stays_of night (others_of blocks k)))
-  stays_long = ap (λ (l : List Stay). length l) all_stays ∙ as_long (stay_of night b) (stays_of night (take k blocks)) (stays_of night (drop (suc k) blocks)) ∙ ap (λ (l : List Stay). length (cons_option (stay_of night b) l)) (sym other_stays)
+  stays_long = ap (λ (l : List Stay). length l) all_stays ∙ as_long (stay_of night b) (stays_of night (take k blocks)) (stays_of night (drop (suc k) blocks))
+      ∙ ap (λ (l : List Stay). length (cons_option (stay_of night b) l)) (sym other_stays)
 
 pub length_others : {X : Type 0} (xs : List X) (k : ℕ) → k < length xs → length (take k xs ++ drop (suc k) xs) + 1 ≡ length xs
 length_others [] k lt = absurd (omega arith)

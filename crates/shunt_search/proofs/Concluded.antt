@@ -10,7 +10,8 @@ use Rattle.shunt_proof.specs.declared.records.Node.{Node}
 use Rattle.shunt_search.specs.declared.walking.Pending.{Pending}
 use Rattle.shunt_search.specs.defs.Endings.{IsLeft, IsShown}
 
-pub low_enough : (night : Night) (blocks slice items : List Block) (cost : ℕ) → slice ≡ items → total_cost night blocks ≤ total_cost night slice → cost ≡ total_cost night items → total_cost night blocks ≤ cost
+pub low_enough : (night : Night) (blocks slice items : List Block) (cost : ℕ) → slice ≡ items → total_cost night blocks ≤ total_cost night slice → cost ≡ total_cost night items
+    → total_cost night blocks ≤ cost
 low_enough night blocks slice items cost e le is = let same = ap (λ (l : List Block). total_cost night l) e in omega (arith, le, is, same)
 
 pub left_of : (waiting items : List Pending) (start low : ℤ) → waiting ≡ items → low ≤ℤ start → ((t : Pending) → In t waiting → low ≤ℤ t.child.bound)
@@ -20,7 +21,8 @@ left_of waiting items start low e within left least =
     subst (λ (l : List Pending). IsLeft l start low) e is
 
 -- the same nodes are told at the end
-pub shown_at_end : (night : Night) (pins : List Block) (most : ℕ) (plan : Plan) (b count number : ℕ) (told now : Option (List Node)) → count ≡ number → now ≡ told → IsShown night pins most plan b number told → IsShown night pins most plan b count now
+pub shown_at_end : (night : Night) (pins : List Block) (most : ℕ) (plan : Plan) (b count number : ℕ) (told now : Option (List Node)) → count ≡ number → now ≡ told
+    → IsShown night pins most plan b number told → IsShown night pins most plan b count now
 shown_at_end night pins most plan b count number told now is same h = record {
   nodes = h.nodes;
   tells = subst (λ (o : Option (List Node)). IfSome o (λ l. l ≡ h.nodes)) (sym same) h.tells;

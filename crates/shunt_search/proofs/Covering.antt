@@ -55,10 +55,12 @@ count_more : (test : Block → Bool) (b : Block) (blocks : List Block) → count
 count_more test b blocks = sum_by-cons (λ x. worth (test x)) b blocks
 
 -- the counts of runs add up to their lengths
-counts_sum : (n : ℕ) (from : Block → ℕ) (blocks : List Block) → ((b : Block) → In b blocks → from b + b.n ≤ n) → sum_below n (λ u. count_by (λ b. nat_le (from b) u && nat_lt u (from b + b.n)) blocks) ≡ sum_by (λ b. b.n) blocks
+counts_sum : (n : ℕ) (from : Block → ℕ) (blocks : List Block) → ((b : Block) → In b blocks → from b + b.n ≤ n)
+    → sum_below n (λ u. count_by (λ b. nat_le (from b) u && nat_lt u (from b + b.n)) blocks) ≡ sum_by (λ b. b.n) blocks
 counts_sum n from [] within = sum_below-zero n (λ u. count_by (λ b. nat_le (from b) u && nat_lt u (from b + b.n)) []) (λ i lt. refl)
 counts_sum n from (b ∷ blocks) within =
-    let split = sum_below-same n (λ u. count_by (λ x. nat_le (from x) u && nat_lt u (from x + x.n)) (b ∷ blocks)) (λ u. worth (nat_le (from b) u && nat_lt u (from b + b.n)) + count_by (λ x. nat_le (from x) u && nat_lt u (from x + x.n)) blocks)
+    let split = sum_below-same n (λ u. count_by (λ x. nat_le (from x) u && nat_lt u (from x + x.n)) (b ∷ blocks))
+    (λ u. worth (nat_le (from b) u && nat_lt u (from b + b.n)) + count_by (λ x. nat_le (from x) u && nat_lt u (from x + x.n)) blocks)
     (λ u lt. count_more (λ x. nat_le (from x) u && nat_lt u (from x + x.n)) b blocks) in
     let add = sum_below-add n (λ u. worth (nat_le (from b) u && nat_lt u (from b + b.n))) (λ u. count_by (λ x. nat_le (from x) u && nat_lt u (from x + x.n)) blocks) in
     let first = sum_below-times n (λ u. nat_le (from b) u && nat_lt u (from b + b.n)) 1 in
@@ -74,7 +76,8 @@ each_one (suc n) f most all i lt =
     let few = sum_below-small n 1 f most in
     let last = most n in
     let front : sum_below n f ≡ n = omega (arith, all, few, last) in
-    ⊎_elim (λ before. each_one n f most front i before) (λ past. let same : n ≡ i = omega (arith, past, lt) in let one : f n ≡ 1 = omega (arith, all, few, last) in subst (λ m. f m ≡ 1) same one) (cases_lt i n)
+    ⊎_elim (λ before. each_one n f most front i before) (λ past. let same : n ≡ i = omega (arith, past, lt) in let one : f n
+    ≡ 1 = omega (arith, all, few, last) in subst (λ m. f m ≡ 1) same one) (cases_lt i n)
 
 all_ones : (n : ℕ) (f : ℕ → ℕ) → ((i : ℕ) → i < n → f i ≡ 1) → sum_below n f ≡ n
 all_ones zero f one = refl
@@ -95,7 +98,9 @@ none_passes p xs k d e lt =
     let past : length xs ≤ position_or_len p xs = grind (arith, common_steps) in
     fails_before_first p xs k d (omega (arith, past, lt))
 
-module _ (night : Night) (path : List Block) (apart : ShareNothing night path) (whole : next_of (masks_of night path) ≡ None) (same : position_total night ≡ unit_total night) (units : (b : Block) → In b path → unit_from night (shape_of b) + b.n ≤ unit_total night) (positions : (b : Block) → In b path → position_from night (shape_of b) + b.n ≤ position_total night) where
+module _ (night : Night) (path : List Block) (apart : ShareNothing night path) (whole : next_of (masks_of night path) ≡ None) (same : position_total night ≡ unit_total night)
+    (units : (b : Block) → In b path → unit_from night (shape_of b) + b.n ≤ unit_total night) (positions : (b : Block) → In b path
+    → position_from night (shape_of b) + b.n ≤ position_total night) where
   each_unit : (u : ℕ) → u < unit_total night → times_unit night path u ≡ 1
   each_unit u lt =
       let passes = none_passes (λ c. not c) (masks_of night path).units u false whole (omega (arith, lt, length_units night path)) in

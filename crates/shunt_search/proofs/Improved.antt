@@ -41,7 +41,8 @@ can_stand night blocks each ids = record {
 }
 
 -- the same of a stay that may be there
-pub with_first : (o : Option Stay) (stays : List Stay) → IfSome o IsWellFormed → ((s t : Stay) → o ≡ Some s → In t stays → t.id ≢ s.id) → AreStays stays → AreStays (cons_option o stays)
+pub with_first : (o : Option Stay) (stays : List Stay) → IfSome o IsWellFormed → ((s t : Stay) → o ≡ Some s → In t stays → t.id ≢ s.id) → AreStays stays
+    → AreStays (cons_option o stays)
 with_first None stays formed new are = are
 with_first (Some s) stays formed new are = (formed, all_from (λ t. s.id ≢ t.id) stays (λ t i e. new s t refl i (sym e)), are)
 
@@ -49,7 +50,8 @@ pub first_formed : (o : Option Stay) → ((s : Stay) → o ≡ Some s → IsWell
 first_formed None h = tt
 first_formed (Some s) h = h s refl
 
-module _ (night : Night) (L : Laws night) (xs : List Block) (k : ℕ) (d : Block) (lt : k < length xs) (h : IsFeasible night xs) (after : Holding) (st : Stand night (others_of xs k) after) (are : AreStays after.stays) where
+module _ (night : Night) (L : Laws night) (xs : List Block) (k : ℕ) (d : Block) (lt : k < length xs) (h : IsFeasible night xs) (after : Holding)
+    (st : Stand night (others_of xs k) after) (are : AreStays after.stays) where
   abbrev b : Block
   b = get_or xs k d
 
@@ -69,8 +71,10 @@ module _ (night : Night) (L : Laws night) (xs : List Block) (k : ℕ) (d : Block
     -- the stays of all of them are those of the others with that of the block
     pub all : (s : Stay) → In s (stays_of night ys) ↔ In s (cons_option (stay_with night b o) after.stays)
     all s = (
-      λ i. ⊎_elim (λ e. first (stay_with night b o) after.stays s e) (λ j. rest (stay_with night b o) after.stays s ((st.stays s).0 j)) (first_or_rest (stay_with night b o) (stays_of night (others_of xs k)) s ((stays_front night xs k (with_park b o) lt s).0 i)),
-      λ i. (stays_front night xs k (with_park b o) lt s).1 (⊎_elim (λ e. first (stay_with night b o) (stays_of night (others_of xs k)) s e) (λ j. rest (stay_with night b o) (stays_of night (others_of xs k)) s ((st.stays s).1 j)) (first_or_rest (stay_with night b o) after.stays s i)),
+      λ i. ⊎_elim (λ e. first (stay_with night b o) after.stays s e) (λ j. rest (stay_with night b o) after.stays s ((st.stays s).0 j))
+          (first_or_rest (stay_with night b o) (stays_of night (others_of xs k)) s ((stays_front night xs k (with_park b o) lt s).0 i)),
+      λ i. (stays_front night xs k (with_park b o) lt s).1 (⊎_elim (λ e. first (stay_with night b o) (stays_of night (others_of xs k)) s e)
+          (λ j. rest (stay_with night b o) (stays_of night (others_of xs k)) s ((st.stays s).1 j)) (first_or_rest (stay_with night b o) after.stays s i)),
     )
 
     pub long : length (cons_option (stay_with night b o) after.stays) ≡ length (stays_of night ys)
@@ -89,7 +93,8 @@ module _ (night : Night) (L : Laws night) (xs : List Block) (k : ℕ) (d : Block
     on_all = L.tracks ys can
 
     on_with : AreOnTracks (track_lengths night.station) (cons_option (stay_with night b o) after.stays)
-    on_with = to_all (λ s. s.track.0 < length (track_lengths night.station)) (cons_option (stay_with night b o) after.stays) (λ s i. of_all (λ t. t.track.0 < length (track_lengths night.station)) (stays_of night ys) s on_all ((all s).1 i))
+    on_with = to_all (λ s. s.track.0 < length (track_lengths night.station)) (cons_option (stay_with night b o) after.stays)
+        (λ s i. of_all (λ t. t.track.0 < length (track_lengths night.station)) (stays_of night ys) s on_all ((all s).1 i))
 
     -- and the run of the one list goes through where that of the other does
     pub runs_of : RunsWith night b o after → RunsThrough night ys
@@ -104,7 +109,8 @@ module _ (night : Night) (L : Laws night) (xs : List Block) (k : ℕ) (d : Block
     feasible r = still_feasible night xs k d o lt h is (runs_of r)
 
     -- the timelines once the block's stay has come
-    pub settled : (held : Holding) → ((s : Stay) → In s held.stays ↔ In s (cons_option (stay_with night b o) after.stays)) → length held.stays ≡ length (cons_option (stay_with night b o) after.stays) → held.lengths ≡ after.lengths → Stand night ys held
+    pub settled : (held : Holding) → ((s : Stay) → In s held.stays ↔ In s (cons_option (stay_with night b o) after.stays))
+        → length held.stays ≡ length (cons_option (stay_with night b o) after.stays) → held.lengths ≡ after.lengths → Stand night ys held
     settled held came count lengths = record {
       lengths = lengths ∙ st.lengths;
       stays = λ s. (λ i. (came s).1 ((all s).0 i), λ i. (all s).1 ((came s).0 i));
@@ -112,7 +118,8 @@ module _ (night : Night) (L : Laws night) (xs : List Block) (k : ℕ) (d : Block
     }
 
   -- no option is cheaper than the cheapest one with which the block goes through
-  pub is_least : (o : Option Park) → IsOption night (shape_of b) o → ((p : Option Park) → IsOption night (shape_of b) p → NoLess night b after (cost_with night (shape_of b) o) p) → block_cost night b ≤ block_cost night (with_park b o) → IsLeast night xs b
+  pub is_least : (o : Option Park) → IsOption night (shape_of b) o → ((p : Option Park) → IsOption night (shape_of b) p → NoLess night b after (cost_with night (shape_of b) o) p)
+      → block_cost night b ≤ block_cost night (with_park b o) → IsLeast night xs b
   is_least o is least cost p ok feasible_p =
       let same = with_option_is xs k d p lt h.ids in
       let runs = of_runs p ok (subst (RunsThrough night) same feasible_p.through) in
@@ -128,23 +135,29 @@ module _ (night : Night) (L : Laws night) (xs : List Block) (k : ℕ) (d : Block
   pub others_run : GoesThrough after.lengths after.stays
   others_run = subst (λ (l : List ℕ). GoesThrough l after.stays) (sym st.lengths)
       (L.part (track_lengths night.station) (stays_of night xs) after.stays (L.stays xs can_now) (L.tracks xs can_now) are
-      (λ s i. subst (λ (l : List Block). In s (stays_of night l)) (set-get_or xs k d) ((stays_front night xs k b lt s).1 (rest (stay_of night b) (stays_of night (others_of xs k)) s ((st.stays s).1 i)))) h.through)
+      (λ s i. subst (λ (l : List Block). In s (stays_of night l)) (set-get_or xs k d)
+      ((stays_front night xs k b lt s).1 (rest (stay_of night b) (stays_of night (others_of xs k)) s ((st.stays s).1 i)))) h.through)
 
   -- the timelines once the block's stay has come again
-  pub back : (held : Holding) → ((s : Stay) → In s held.stays ↔ In s (cons_option (stay_of night b) after.stays)) → length held.stays ≡ length (cons_option (stay_of night b) after.stays) → held.lengths ≡ after.lengths → Stand night xs held
+  pub back : (held : Holding) → ((s : Stay) → In s held.stays ↔ In s (cons_option (stay_of night b) after.stays))
+      → length held.stays ≡ length (cons_option (stay_of night b) after.stays) → held.lengths ≡ after.lengths → Stand night xs held
   back held came count lengths = subst (λ (l : List Block). Stand night l held) (set-get_or xs k d) (settled b.park (h.each k d lt).option held came count lengths)
 
 -- what may be done with the block at a place
 pub record Choices (night : Night) (xs : List Block) (k : ℕ) (after : Holding) (b : Block) : Type 0 where
   pub block : IsBlock night b
   pub feasible : (o : Option Park) → IsOption night (shape_of b) o → RunsWith night b o after → IsFeasible night (set xs k (with_park b o))
-  pub settled : (o : Option Park) → IsOption night (shape_of b) o → (held : Holding) → ((s : Stay) → In s held.stays ↔ In s (cons_option (stay_with night b o) after.stays)) → length held.stays ≡ length (cons_option (stay_with night b o) after.stays) → held.lengths ≡ after.lengths → Stand night (set xs k (with_park b o)) held
-  pub back : (held : Holding) → ((s : Stay) → In s held.stays ↔ In s (cons_option (stay_of night b) after.stays)) → length held.stays ≡ length (cons_option (stay_of night b) after.stays) → held.lengths ≡ after.lengths → Stand night xs held
-  pub least : (o : Option Park) → IsOption night (shape_of b) o → ((p : Option Park) → IsOption night (shape_of b) p → NoLess night b after (cost_with night (shape_of b) o) p) → block_cost night b ≤ block_cost night (with_park b o) → IsLeast night xs b
+  pub settled : (o : Option Park) → IsOption night (shape_of b) o → (held : Holding) → ((s : Stay) → In s held.stays ↔ In s (cons_option (stay_with night b o) after.stays))
+      → length held.stays ≡ length (cons_option (stay_with night b o) after.stays) → held.lengths ≡ after.lengths → Stand night (set xs k (with_park b o)) held
+  pub back : (held : Holding) → ((s : Stay) → In s held.stays ↔ In s (cons_option (stay_of night b) after.stays))
+      → length held.stays ≡ length (cons_option (stay_of night b) after.stays) → held.lengths ≡ after.lengths → Stand night xs held
+  pub least : (o : Option Park) → IsOption night (shape_of b) o → ((p : Option Park) → IsOption night (shape_of b) p → NoLess night b after (cost_with night (shape_of b) o) p)
+      → block_cost night b ≤ block_cost night (with_park b o) → IsLeast night xs b
   pub shapes : (o : Option Park) → map unparked (set xs k (with_park b o)) ≡ map unparked xs
   pub cost : (o : Option Park) → total_cost night (set xs k (with_park b o)) + block_cost night b ≡ total_cost night xs + block_cost night (with_park b o)
 
-pub choices : (night : Night) (L : Laws night) (xs : List Block) (k : ℕ) (d : Block) (lt : k < length xs) (h : IsFeasible night xs) (after : Holding) → Stand night (others_of xs k) after → AreStays after.stays → (b : Block) → get_or xs k d ≡ b → Choices night xs k after b
+pub choices : (night : Night) (L : Laws night) (xs : List Block) (k : ℕ) (d : Block) (lt : k < length xs) (h : IsFeasible night xs) (after : Holding)
+    → Stand night (others_of xs k) after → AreStays after.stays → (b : Block) → get_or xs k d ≡ b → Choices night xs k after b
 choices night L xs k d lt h after st are b e = subst (Choices night xs k after) e (record {
   block = h.each k d lt;
   feasible = λ o is r. feasible night L xs k d lt h after st are o is r;
@@ -157,21 +170,25 @@ choices night L xs k d lt h after st are b e = subst (Choices night xs k after) 
 
 -- the same of the block as it is parked then
 module _ (night : Night) (xs : List Block) (k : ℕ) (after : Holding) (b : Block) (w : Choices night xs k after b) (o : Option Park) (p : Block) (e : with_park b o ≡ p) where
-  pub settled_as : IsOption night (shape_of b) o → (held : Holding) → ((s : Stay) → In s held.stays ↔ In s (cons_option (stay_of night p) after.stays)) → length held.stays ≡ length (cons_option (stay_of night p) after.stays) → held.lengths ≡ after.lengths → Stand night (set xs k p) held
+  pub settled_as : IsOption night (shape_of b) o → (held : Holding) → ((s : Stay) → In s held.stays ↔ In s (cons_option (stay_of night p) after.stays))
+      → length held.stays ≡ length (cons_option (stay_of night p) after.stays) → held.lengths ≡ after.lengths → Stand night (set xs k p) held
   settled_as is held came count lengths =
-      subst (λ (x : Block). ((s : Stay) → In s held.stays ↔ In s (cons_option (stay_of night x) after.stays)) → length held.stays ≡ length (cons_option (stay_of night x) after.stays) → Stand night (set xs k x) held) e
+      subst (λ (x : Block). ((s : Stay) → In s held.stays ↔ In s (cons_option (stay_of night x) after.stays))
+      → length held.stays ≡ length (cons_option (stay_of night x) after.stays) → Stand night (set xs k x) held) e
       (λ m n. w.settled o is held m n lengths) came count
 
   pub cheaper_as : (m n : ℕ) → m ≡ block_cost night p → n ≡ block_cost night b → m < n → total_cost night (set xs k p) < total_cost night xs
   cheaper_as m n is_m is_n lt =
-      let change : total_cost night (set xs k p) + block_cost night b ≡ total_cost night xs + block_cost night p = subst (λ (x : Block). total_cost night (set xs k x) + block_cost night b ≡ total_cost night xs + block_cost night x) e (w.cost o) in
+      let change : total_cost night (set xs k p) + block_cost night b ≡ total_cost night xs + block_cost night p = subst
+      (λ (x : Block). total_cost night (set xs k x) + block_cost night b ≡ total_cost night xs + block_cost night x) e (w.cost o) in
       omega (arith, change, is_m, is_n, lt)
 
   pub no_cheaper : (m n : ℕ) → m ≡ block_cost night p → n ≡ block_cost night b → n ≤ m → block_cost night b ≤ block_cost night (with_park b o)
   no_cheaper m n is_m is_n le = subst (λ (x : Block). block_cost night b ≤ block_cost night x) (sym e) (omega (arith, is_m, is_n, le))
 
 -- the timelines without the stay of the block at a place
-module _ (night : Night) (xs : List Block) (k : ℕ) (d : Block) (lt : k < length xs) (ids : AreDistinct (map (λ c. c.id) xs)) (held after : Holding) (st : Stand night xs held) (gone : (s : Stay) → In s after.stays → s.id ≢ (get_or xs k d).id) (lengths : after.lengths ≡ held.lengths) where
+module _ (night : Night) (xs : List Block) (k : ℕ) (d : Block) (lt : k < length xs) (ids : AreDistinct (map (λ c. c.id) xs)) (held after : Holding) (st : Stand night xs held)
+    (gone : (s : Stay) → In s after.stays → s.id ≢ (get_or xs k d).id) (lengths : after.lengths ≡ held.lengths) where
   abbrev c : Block
   c = get_or xs k d
 
@@ -187,7 +204,8 @@ module _ (night : Night) (xs : List Block) (k : ℕ) (d : Block) (lt : k < lengt
   apart : AllByRecursion (λ x. x.id ≢ c.id) (others_of xs k)
   apart = other_ids xs k d lt ids
 
-  pub without : (u : Option Stay) → IfSome u (λ t. (t.id ≡ c.id) × IsPermutation (t ∷ after.stays) held.stays × (after.spare ≡ held.spare + 1)) → OnSome u (length after.stays + 1 ≡ length held.stays) → IfNone u (after ≡ held) → Stand night (others_of xs k) after
+  pub without : (u : Option Stay) → IfSome u (λ t. (t.id ≡ c.id) × IsPermutation (t ∷ after.stays) held.stays × (after.spare ≡ held.spare + 1))
+      → OnSome u (length after.stays + 1 ≡ length held.stays) → IfNone u (after ≡ held) → Stand night (others_of xs k) after
   without (Some t) some fewer none = record {
     lengths = lengths ∙ st.lengths;
     stays = one_taken night c (others_of xs k) apart held.stays after.stays all_now gone t some.0 some.1;
@@ -199,10 +217,12 @@ module _ (night : Night) (xs : List Block) (k : ℕ) (d : Block) (lt : k < lengt
     count = none_less night c (others_of xs k) apart held.stays after.stays all_now gone (ap (λ (g : Holding). g.stays) none) count_now;
   }
 
-  pub room : (u : Option Stay) → IfSome u (λ t. (t.id ≡ c.id) × IsPermutation (t ∷ after.stays) held.stays × (after.spare ≡ held.spare + 1)) → OnSome u (length after.stays + 1 ≡ length held.stays) → IfNone u (after ≡ held) → after.spare + length after.stays ≡ held.spare + length held.stays
+  pub room : (u : Option Stay) → IfSome u (λ t. (t.id ≡ c.id) × IsPermutation (t ∷ after.stays) held.stays × (after.spare ≡ held.spare + 1))
+      → OnSome u (length after.stays + 1 ≡ length held.stays) → IfNone u (after ≡ held) → after.spare + length after.stays ≡ held.spare + length held.stays
   room (Some t) some fewer none = let spare = some.2 in omega (arith, spare, fewer)
   room None some fewer none = ap (λ (g : Holding). g.spare + length g.stays) none
 
 -- there are fewer stays than blocks
 pub few_others : (night : Night) (xs : List Block) (k : ℕ) (held : Holding) → k < length xs → Stand night (others_of xs k) held → length held.stays < length xs
-few_others night xs k held lt st = let count = st.count in let few = few_some (stay_of night) (others_of xs k) in let fewer = length_others xs k lt in omega (arith, count, few, fewer)
+few_others night xs k held lt st = let count = st.count in let few = few_some (stay_of night) (others_of xs k) in let fewer = length_others xs k lt in omega
+    (arith, count, few, fewer)

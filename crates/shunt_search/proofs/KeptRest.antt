@@ -97,7 +97,8 @@ partner_there night u b has = record { from = omega arith; to = omega (arith, ha
 -- ---- what pins have
 
 -- where no pin passes one test, none passes another that one block of the plan alone passes, which passes both
-other_free : (pins blocks : List Block) → Keeps blocks pins → (F G : Shape → Bool) (b : Block) → count_by (λ c. G (shape_of c)) blocks ≤ 1 → In b blocks → F (shape_of b) ≡ true → G (shape_of b) ≡ true
+other_free : (pins blocks : List Block) → Keeps blocks pins → (F G : Shape → Bool) (b : Block) → count_by (λ c. G (shape_of c)) blocks ≤ 1 → In b blocks → F (shape_of b) ≡ true
+    → G (shape_of b) ≡ true
     → count_by (λ c. F (shape_of c)) pins ≡ 0 → count_by (λ c. G (shape_of c)) pins ≡ 0
 other_free pins blocks keeps F G b few there f g none = ⊎_elim
     (λ lt. omega (arith, lt))
@@ -163,7 +164,8 @@ module _ (places : PlaceLaws) (night : Night) (pins blocks : List Block) (feasib
       let v = partner_in night u x.block in
       let none = none_left_out (times_unit night pins) (unit_total night) u lt left in
       let one = feasible.covers.positions v x.below in
-      let free = other_free pins blocks keeps (λ s. has_unit night s u) (λ s. has_position night s v) x.block (omega (arith, one)) x.there (unit_to night x.block u x.has) x.goes none in
+      let free = other_free pins blocks keeps (λ s. has_unit night s u) (λ s. has_position night s v) x.block (omega (arith, one)) x.there
+      (unit_to night x.block u x.has) x.goes none in
       let below = x.below in
       subst (λ w. IsOfRest (position_entries night) vm w) (sym x.place)
       (record { there = omega (arith, below, positions); left = left_in (times_position night pins) (position_total night) v x.below free })
@@ -230,7 +232,8 @@ module _ (places : PlaceLaws) (night : Night) (pins blocks : List Block) (feasib
       its_place =
           let x = has_place first first_in in
           let one = feasible.covers.units first first_in in
-          let same : x.block ≡ c = one_holder (λ y. has_unit night (shape_of y) first) blocks x.block c (omega (arith, one)) x.there of.1 (unit_to night x.block first x.has) (unit_to night c first first_has) in
+          let same : x.block ≡ c = one_holder (λ y. has_unit night (shape_of y) first) blocks x.block c (omega (arith, one)) x.there of.1 (unit_to night x.block first x.has)
+          (unit_to night c first first_has) in
           let goes_from = goes.from in
           let at : partner_in night first c ≡ v = omega (arith, goes_from) in
           x.place ∙ ap (λ y. partner_in night first y) same ∙ at

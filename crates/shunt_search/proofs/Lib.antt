@@ -21,6 +21,7 @@ mod Covering
 mod Singles
 mod Carried
 mod Rooted
+mod Climbed
 mod Lowest
 mod Searched
 mod Begun

@@ -43,8 +43,10 @@ pushes places night t b of few next =
     let c = r.2 in
     let id = next.id in
     let in_range : IsInRange night b = record { from = omega (arith, id); to = omega (arith, id, few); within = next_within night t.blocks b next } in
-    let units : (u : ℕ) → HasUnit night (shape_of b) u → slice_index_or t.covered.units u true ≡ false = (λ u has. subst (λ m. slice_index_or m.units u true ≡ false) (sym of.covered) (c.shape.units u has)) in
-    let positions : (v : ℕ) → HasPosition night (shape_of b) v → slice_index_or t.covered.places v true ≡ false = (λ v has. subst (λ m. slice_index_or m.places v true ≡ false) (sym of.covered) (c.shape.positions v has)) in
+    let units : (u : ℕ) → HasUnit night (shape_of b) u → slice_index_or t.covered.units u true
+    ≡ false = (λ u has. subst (λ m. slice_index_or m.units u true ≡ false) (sym of.covered) (c.shape.units u has)) in
+    let positions : (v : ℕ) → HasPosition night (shape_of b) v → slice_index_or t.covered.places v true
+    ≡ false = (λ v has. subst (λ m. slice_index_or m.places v true ≡ false) (sym of.covered) (c.shape.positions v has)) in
     let trail = pushed places night t b of in_range units positions in
     record {
       in_range = in_range;

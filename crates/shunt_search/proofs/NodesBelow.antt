@@ -29,7 +29,8 @@ use Rattle.shunt_search.proofs.Nexts.{at_unit}
 
 -- which units a shape has
 abbrev pub UnitLaw : Type 0
-UnitLaw = (night : Night) (s : Shape) (k : ℕ) → AreRunsWithin night s → k < s.n → unit_at night (unit_from night s + k) ≡ make_unit s.arr.0 (s.p + k) (kind_at (train_at night.arrive s.arr.0) (s.p + k))
+UnitLaw = (night : Night) (s : Shape) (k : ℕ) → AreRunsWithin night s → k < s.n → unit_at night (unit_from night s + k)
+    ≡ make_unit s.arr.0 (s.p + k) (kind_at (train_at night.arrive s.arr.0) (s.p + k))
 
 is_train : (s : Station) (trains : List Train) → All (IsTrain s) trains → (k : ℕ) → k < length trains → IsTrain s (train_at trains k)
 is_train s trains all k lt = all k _ lt
@@ -73,14 +74,16 @@ module _ (night : Night) (path : List Block) (b : Block) (next : IsNextBlock nig
 in_stock : (night : Night) (stock : List (List Case)) (place : ℕ) → All (AreStatable night) stock → place < length stock → AreStatable night (cases_in stock place)
 in_stock night stock place all lt = all place [] lt
 
-pub is_node_of : UnitLaw → (night : Night) → IsOrderedNight night → (stock : List (List Case)) (start path : List Block) (t : Child) (how : Noted) → All (AreStatable night) stock → IsInStock stock how → IsNextBlock night (take (kept t) path) t.block → length start < t.block.id → t.block.id ≤ length start + 160
+pub is_node_of : UnitLaw → (night : Night) → IsOrderedNight night → (stock : List (List Case)) (start path : List Block) (t : Child) (how : Noted) → All (AreStatable night) stock
+    → IsInStock stock how → IsNextBlock night (take (kept t) path) t.block → length start < t.block.id → t.block.id ≤ length start + 160
     → IsNodeOf night start path t (node_below (length start) t.block stock how)
 is_node_of law night h stock start path t how statable there next deep few = of how there
   where
     apart : Branch ≢ Whole
     apart e = cc
 
-    with_duals : (k : NodeKind) (d : NodeDuals) → FitDuals night (t.block.id - length start) k d → IsNodeOf night start path t (record { depth = t.block.id - length start; choice = Some (stated t.block); kind = k; duals = d })
+    with_duals : (k : NodeKind) (d : NodeDuals) → FitDuals night (t.block.id - length start) k d
+        → IsNodeOf night start path t (record { depth = t.block.id - length start; choice = Some (stated t.block); kind = k; duals = d })
     with_duals k d fit = record {
       depth = let id = next.id in omega (arith, deep, id);
       choice = stated t.block;

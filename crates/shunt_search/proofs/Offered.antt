@@ -18,7 +18,8 @@ use Rattle.shunt_choices.specs.defs.Paths.{Masks, Trail, IsTrailOf, masks_of, ne
 use Rattle.shunt_choices.specs.defs.Choices.{Choice, IsChoiceAt, longer_by, choices_with, choices_where, choices_of, choices_at, shapes_of}
 use Rattle.shunt_choices.proofs.Trails.{length_units, length_places}
 use Rattle.shunt_choices.specs.defs.Free.{AreMasksOf}
-use Rattle.shunt_proof.specs.defs.Proves.{Reaches}
+use Rattle.shunt_proof.specs.declared.records.Version.{Version}
+use Rattle.shunt_proof.specs.defs.Versions.{StepReachesIn}
 use Rattle.shunt_search.specs.declared.children.Child.{Child}
 use Rattle.shunt_search.specs.defs.Yards.{choice_of, more_by, choices_in, IsNextBlock, IsOpen, IsClosed, IsTried, AreOpen, AreChildren}
 use Rattle.shunt_search.proofs.Stays.{place_of, of_all, to_all}
@@ -28,8 +29,10 @@ use Rattle.shunt_search.proofs.Stays.{place_of, of_all, to_all}
 pub longer_is : (path : List Block) (b : Block) → b.id ≡ length path + 1 → longer_by path (choice_of b) ≡ more_by path b
 longer_is path b e = ap (λ n. path ++ record b { id = n } ∷ []) (sym e)
 
-pub is_closed : (night : Night) (path : List Block) (cases : List Case) (best : ℕ) (b : Block) → b.id ≡ length path + 1 → (RunsThrough night (placed (more_by path b)) → Reaches night (more_by path b) cases (pos best)) → IsClosed night path cases best (choice_of b)
-is_closed night path cases best b e h = subst (λ (l : List Block). RunsThrough night (placed l) → Reaches night l cases (pos best)) (sym (longer_is path b e)) h
+pub is_closed : (version : Version) (night : Night) (path : List Block) (cases : List Case) (best : ℕ) (b : Block) → b.id ≡ length path + 1
+    → (RunsThrough night (placed (more_by path b)) → StepReachesIn version night path (more_by path b) cases (pos best)) → IsClosed version night path cases best (choice_of b)
+is_closed version night path cases best b e h = subst (λ (l : List Block). RunsThrough night (placed l) → StepReachesIn version night path l cases (pos best))
+    (sym (longer_is path b e)) h
 
 pub next_in : (night : Night) (path : List Block) (u : ℕ) → next_of (masks_of night path) ≡ Some u → u < unit_total night
 next_in night path u e = omega (arith, (position-Some (λ c. not c) (masks_of night path).units u false e).0, length_units night path)
@@ -66,18 +69,18 @@ snoc_to (x ∷ xs) k h new = (
 
 -- ---- one choice more was tried
 
-module _ (night : Night) (path : List Block) (cases : List Case) (best : ℕ) where
+module _ (version : Version) (night : Night) (path : List Block) (cases : List Case) (best : ℕ) where
   abbrev pub Open : List Choice → List Child → Type 0
-  Open tried children = AreOpen night path cases best tried children
+  Open tried children = AreOpen version night path cases best tried children
 
   none_tried : Open [] []
   none_tried = record { among = λ c i. i; each = λ c i. absurd i; others = λ k i. absurd i; once = λ h. h }
 
-  pub closed_more : (tried : List Choice) (children : List Child) (k : Choice) → IsClosed night path cases best k → Open tried children → Open (tried ++ k ∷ []) children
+  pub closed_more : (tried : List Choice) (children : List Child) (k : Choice) → IsClosed version night path cases best k → Open tried children → Open (tried ++ k ∷ []) children
   closed_more tried children k closed h = record {
     among = λ c i. in_left tried (k ∷ []) (choice_of c.block) (h.among c i);
     each = h.each;
-    others = λ j i. ⊎_elim (λ l. h.others j l) (λ r. inl (subst (IsClosed night path cases best) (sym (of_one k j r)) closed)) (in_cases tried (k ∷ []) j i);
+    others = λ j i. ⊎_elim (λ l. h.others j l) (λ r. inl (subst (IsClosed version night path cases best) (sym (of_one k j r)) closed)) (in_cases tried (k ∷ []) j i);
     once = λ d. h.once (of_distinct tried (snoc_from tried k (to_distinct (tried ++ k ∷ []) d)).0);
   }
 
@@ -89,32 +92,39 @@ module _ (night : Night) (path : List Block) (cases : List Case) (best : ℕ) wh
   of_choices (c ∷ children) k (inl e) = (c, inl refl, e)
   of_choices (c ∷ children) k (inr i) = let r = of_choices children k i in (r.0, inr r.1, r.2)
 
-  pub open_more : (tried : List Choice) (children : List Child) (k : Choice) (c : Child) → choice_of c.block ≡ k → IsOpen night path cases best c.block c.bound → Open tried children → Open (tried ++ k ∷ []) (children ++ c ∷ [])
+  pub open_more : (tried : List Choice) (children : List Child) (k : Choice) (c : Child) → choice_of c.block ≡ k → IsOpen version night path cases best c.block c.bound
+      → Open tried children → Open (tried ++ k ∷ []) (children ++ c ∷ [])
   open_more tried children k c e fits h = record {
     among = λ x i. ⊎_elim
         (λ l. in_left tried (k ∷ []) (choice_of x.block) (h.among x l))
         (λ r. in_right tried (k ∷ []) (choice_of x.block) (inl (ap (λ (y : Child). choice_of y.block) (of_one c x r) ∙ e)))
         (in_cases children (c ∷ []) x i);
-    each = λ x i. ⊎_elim (λ l. h.each x l) (λ r. subst (λ (y : Child). IsOpen night path cases best y.block y.bound) (sym (of_one c x r)) fits) (in_cases children (c ∷ []) x i);
+    each = λ x i. ⊎_elim (λ l. h.each x l) (λ r. subst (λ (y : Child). IsOpen version night path cases best y.block y.bound) (sym (of_one c x r)) fits)
+        (in_cases children (c ∷ []) x i);
     others = λ j i. ⊎_elim
-        (λ l. ⊎_elim (λ closed. inl closed) (λ there. inr (subst (λ (l : List Choice). In j l) (sym (more_choices children c)) (in_left (choices_in children) (choice_of c.block ∷ []) j there))) (h.others j l))
+        (λ l. ⊎_elim (λ closed. inl closed) (λ there. inr (subst (λ (l : List Choice). In j l) (sym (more_choices children c))
+        (in_left (choices_in children) (choice_of c.block ∷ []) j there))) (h.others j l))
         (λ r. inr (subst (λ (l : List Choice). In j l) (sym (more_choices children c)) (in_right (choices_in children) (choice_of c.block ∷ []) j (inl (of_one k j r ∙ sym e)))))
         (in_cases tried (k ∷ []) j i);
     once = λ d.
         let r = snoc_from tried k (to_distinct (tried ++ k ∷ []) d) in
         subst (λ (l : List Choice). AreDistinct l) (sym (more_choices children c))
-        (of_distinct (choices_in children ++ choice_of c.block ∷ []) (snoc_to (choices_in children) (choice_of c.block) (to_distinct (choices_in children) (h.once (of_distinct tried r.0)))
+        (of_distinct (choices_in children ++ choice_of c.block ∷ []) (snoc_to (choices_in children) (choice_of c.block)
+        (to_distinct (choices_in children) (h.once (of_distinct tried r.0)))
         (λ there. let at = of_choices children (choice_of c.block) there in r.1 (subst (λ (x : Choice). In x tried) (sym at.2 ∙ e) (h.among at.0 at.1)))));
   }
 
   -- a list of next blocks of which one more was tried
-  pub tried_more : (blocks : List Block) (k : ℕ) (d : Block) → k < length blocks → (old new : List Child) → IsTried night path cases best (get_or blocks k d) old new → Open (map choice_of (take k blocks)) old → Open (map choice_of (take (k + 1) blocks)) new
+  pub tried_more : (blocks : List Block) (k : ℕ) (d : Block) → k < length blocks → (old new : List Child) → IsTried version night path cases best (get_or blocks k d) old new
+      → Open (map choice_of (take k blocks)) old → Open (map choice_of (take (k + 1) blocks)) new
   tried_more blocks k d lt old new is h =
       let more : map choice_of (take (k + 1) blocks) ≡ map choice_of (take k blocks) ++ choice_of (get_or blocks k d) ∷ [] =
       ap (λ (l : List Block). map choice_of l) (take_more blocks k d lt) ∙ map-append choice_of (take k blocks) (get_or blocks k d ∷ []) in
       subst (λ (l : List Choice). Open l new) (sym more) (⊎_elim
-      (λ closed. subst (λ (l : List Child). Open (map choice_of (take k blocks) ++ choice_of (get_or blocks k d) ∷ []) l) (sym closed.1) (closed_more (map choice_of (take k blocks)) old (choice_of (get_or blocks k d)) closed.0 h))
-      (λ found. subst (λ (l : List Child). Open (map choice_of (take k blocks) ++ choice_of (get_or blocks k d) ∷ []) l) (sym found.3) (open_more (map choice_of (take k blocks)) old (choice_of (get_or blocks k d)) found.0 (ap choice_of found.1) found.2 h))
+      (λ closed. subst (λ (l : List Child). Open (map choice_of (take k blocks) ++ choice_of (get_or blocks k d) ∷ []) l) (sym closed.1)
+      (closed_more (map choice_of (take k blocks)) old (choice_of (get_or blocks k d)) closed.0 h))
+      (λ found. subst (λ (l : List Child). Open (map choice_of (take k blocks) ++ choice_of (get_or blocks k d) ∷ []) l) (sym found.3)
+      (open_more (map choice_of (take k blocks)) old (choice_of (get_or blocks k d)) found.0 (ap choice_of found.1) found.2 h))
       is)
 
   pub none_tried_yet : (now : List Child) → now ≡ [] → Open [] now
@@ -124,14 +134,16 @@ module _ (night : Night) (path : List Block) (cases : List Case) (best : ℕ) wh
   tried_all blocks k now le h = subst (λ (l : List Block). Open (map choice_of l) now) (take_all k blocks le) h
 
   -- where these are the blocks of all choices, the open ones are the children
-  pub are_children : (choices : List Choice) (now : List Child) → ((k : Choice) → In k choices ↔ IsChoiceAt night path k) → AreDistinct choices → Open choices now → AreChildren night path cases best now
+  pub are_children : (choices : List Choice) (now : List Child) → ((k : Choice) → In k choices ↔ IsChoiceAt night path k) → AreDistinct choices → Open choices now
+      → AreChildren version night path cases best now
   are_children choices now members once h = record {
     each = h.each;
     others = λ k at. h.others k ((members k).1 at);
     once = h.once once;
   }
 
-  pub are_next : (blocks : List Block) (choices : List Choice) → ((k : Choice) → In k choices ↔ IsChoiceAt night path k) → map choice_of blocks ≡ choices → All (λ b. b.id ≡ length path + 1) blocks → All (IsNextBlock night path) blocks
+  pub are_next : (blocks : List Block) (choices : List Choice) → ((k : Choice) → In k choices ↔ IsChoiceAt night path k) → map choice_of blocks ≡ choices
+      → All (λ b. b.id ≡ length path + 1) blocks → All (IsNextBlock night path) blocks
   are_next blocks choices members e ids = to_all (IsNextBlock night path) blocks (λ b i. record {
     choice = (members (choice_of b)).0 (subst (λ (l : List Choice). In (choice_of b) l) e (in_map choice_of blocks b i));
     id = of_all (λ x. x.id ≡ length path + 1) blocks b ids i;
@@ -139,7 +151,8 @@ module _ (night : Night) (path : List Block) (cases : List Case) (best : ℕ) wh
 
 -- ---- the choices at a path differ
 
-pub choices_differ : (night : Night) (path : List Block) → ((covered : Masks) (u : ℕ) → u < unit_total night → AreDistinct (choices_of night covered u)) → AreDistinct (choices_at night path)
+pub choices_differ : (night : Night) (path : List Block) → ((covered : Masks) (u : ℕ) → u < unit_total night → AreDistinct (choices_of night covered u))
+    → AreDistinct (choices_at night path)
 choices_differ night path law = at (next_of (masks_of night path)) refl
   where
     at : (o : Option ℕ) → next_of (masks_of night path) ≡ o → AreDistinct (choices_where night (masks_of night path) o)
@@ -151,7 +164,8 @@ choices_differ night path law = at (next_of (masks_of night path)) refl
 abbrev pub with_shape : Shape → Option Park → Choice
 with_shape s o = record { shape = s; option = o }
 
-pub next_option : (s : Shape) (o : Option Park) (left rest : List (Option Park)) (xs ys : List Block) (b : Block) (all : List Choice) → left ≡ o ∷ rest → ys ≡ xs ++ b ∷ [] → choice_of b ≡ with_shape s o
+pub next_option : (s : Shape) (o : Option Park) (left rest : List (Option Park)) (xs ys : List Block) (b : Block) (all : List Choice) → left ≡ o ∷ rest → ys ≡ xs ++ b ∷ []
+    → choice_of b ≡ with_shape s o
     → map choice_of xs ++ map (with_shape s) left ≡ all → map choice_of ys ++ map (with_shape s) rest ≡ all
 next_option s o left rest xs ys b all l e is h =
     ap (λ (x : List Block). map choice_of x ++ map (with_shape s) rest) e
@@ -161,10 +175,12 @@ next_option s o left rest xs ys b all l e is h =
     ∙ ap (λ (x : List (Option Park)). map choice_of xs ++ map (with_shape s) x) (sym l)
     ∙ h
 
-pub last_option : (s : Shape) (left : List (Option Park)) (xs : List Block) (all : List Choice) → left ≡ [] → map choice_of xs ++ map (with_shape s) left ≡ all → map choice_of xs ≡ all
+pub last_option : (s : Shape) (left : List (Option Park)) (xs : List Block) (all : List Choice) → left ≡ [] → map choice_of xs ++ map (with_shape s) left ≡ all
+    → map choice_of xs ≡ all
 last_option s left xs all l h = sym (append-nil (map choice_of xs)) ∙ ap (λ (x : List (Option Park)). map choice_of xs ++ map (with_shape s) x) (sym l) ∙ h
 
-pub next_shape : (night : Night) (s : Shape) (left rest : List Shape) (xs ys : List Block) (all : List Choice) → left ≡ s ∷ rest → map choice_of ys ≡ map choice_of xs ++ choices_with night s
+pub next_shape : (night : Night) (s : Shape) (left rest : List Shape) (xs ys : List Block) (all : List Choice) → left ≡ s ∷ rest
+    → map choice_of ys ≡ map choice_of xs ++ choices_with night s
     → map choice_of xs ++ flat_map (choices_with night) left ≡ all → map choice_of ys ++ flat_map (choices_with night) rest ≡ all
 next_shape night s left rest xs ys all l e h =
     ap (λ (x : List Choice). x ++ flat_map (choices_with night) rest) e

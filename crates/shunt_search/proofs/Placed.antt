@@ -59,17 +59,21 @@ module _ (night : Night) (ys : List Block) (c : Block) where
       )
 
   long_next : length (stays_of night (ys ++ c ∷ [])) ≡ length (cons_option (stay_of night c) (stays_of night ys))
-  long_next = ap (λ (l : List Stay). length l) stays_next ∙ as_long (stay_of night c) (stays_of night ys) [] ∙ ap (λ (l : List Stay). length (cons_option (stay_of night c) l)) alone
+  long_next = ap (λ (l : List Stay). length l) stays_next ∙ as_long (stay_of night c) (stays_of night ys) []
+      ∙ ap (λ (l : List Stay). length (cons_option (stay_of night c) l)) alone
 
   module _ (held : Holding) (st : Stand night ys held) where
     -- what the timelines have with it
     all : (s : Stay) → In s (stays_of night (ys ++ c ∷ [])) ↔ In s (cons_option (stay_of night c) held.stays)
     all s = (
-      λ j. ⊎_elim (λ e. first (stay_of night c) held.stays s e) (λ k. rest (stay_of night c) held.stays s ((st.stays s).0 k)) (first_or_rest (stay_of night c) (stays_of night ys) s ((in_next s).0 j)),
-      λ j. (in_next s).1 (⊎_elim (λ e. first (stay_of night c) (stays_of night ys) s e) (λ k. rest (stay_of night c) (stays_of night ys) s ((st.stays s).1 k)) (first_or_rest (stay_of night c) held.stays s j)),
+      λ j. ⊎_elim (λ e. first (stay_of night c) held.stays s e) (λ k. rest (stay_of night c) held.stays s ((st.stays s).0 k))
+          (first_or_rest (stay_of night c) (stays_of night ys) s ((in_next s).0 j)),
+      λ j. (in_next s).1 (⊎_elim (λ e. first (stay_of night c) (stays_of night ys) s e) (λ k. rest (stay_of night c) (stays_of night ys) s ((st.stays s).1 k))
+          (first_or_rest (stay_of night c) held.stays s j)),
     )
 
-    pub more_stand : (after : Holding) → after.lengths ≡ held.lengths → ((s : Stay) → In s after.stays ↔ In s (cons_option (stay_of night c) held.stays)) → length after.stays ≡ length (cons_option (stay_of night c) held.stays) → Stand night (ys ++ c ∷ []) after
+    pub more_stand : (after : Holding) → after.lengths ≡ held.lengths → ((s : Stay) → In s after.stays ↔ In s (cons_option (stay_of night c) held.stays))
+        → length after.stays ≡ length (cons_option (stay_of night c) held.stays) → Stand night (ys ++ c ∷ []) after
     more_stand after lengths came count = record {
       lengths = lengths ∙ st.lengths;
       stays = λ s. (λ j. (came s).1 ((all s).0 j), λ j. (all s).1 ((came s).0 j));
@@ -90,7 +94,8 @@ module _ (night : Night) (ys : List Block) (c : Block) where
       on_all = L.tracks (ys ++ c ∷ []) can
 
       on_with : AreOnTracks (track_lengths night.station) (cons_option (stay_of night c) held.stays)
-      on_with = to_all (λ s. s.track.0 < length (track_lengths night.station)) (cons_option (stay_of night c) held.stays) (λ s i. of_all (λ t. t.track.0 < length (track_lengths night.station)) (stays_of night (ys ++ c ∷ [])) s on_all ((all s).1 i))
+      on_with = to_all (λ s. s.track.0 < length (track_lengths night.station)) (cons_option (stay_of night c) held.stays)
+          (λ s i. of_all (λ t. t.track.0 < length (track_lengths night.station)) (stays_of night (ys ++ c ∷ [])) s on_all ((all s).1 i))
 
       pub more_runs : RunsWith night c c.park held ↔ RunsThrough night (ys ++ c ∷ [])
       more_runs = (
@@ -116,8 +121,10 @@ module _ (night : Night) (xs : List Block) (held : Holding) (st : Stand night (p
   few_yet = let count = st.count in let few = few_some (stay_of night) (placed xs) in let long = placed_long xs in omega (arith, count, few, long)
 
   module _ (b c : Block) (is : c ≡ record b { id = length xs + 1 }) where
-    pub grown : (after : Holding) → after.lengths ≡ held.lengths → ((s : Stay) → In s after.stays ↔ In s (cons_option (stay_of night c) held.stays)) → length after.stays ≡ length (cons_option (stay_of night c) held.stays) → Stand night (placed (xs ++ b ∷ [])) after
-    grown after lengths came count = subst (λ (l : List Block). Stand night l after) (ap (λ (x : Block). placed xs ++ x ∷ []) is ∙ sym (placed_more xs b)) (more_stand night (placed xs) c held st after lengths came count)
+    pub grown : (after : Holding) → after.lengths ≡ held.lengths → ((s : Stay) → In s after.stays ↔ In s (cons_option (stay_of night c) held.stays))
+        → length after.stays ≡ length (cons_option (stay_of night c) held.stays) → Stand night (placed (xs ++ b ∷ [])) after
+    grown after lengths came count = subst (λ (l : List Block). Stand night l after) (ap (λ (x : Block). placed xs ++ x ∷ []) is ∙ sym (placed_more xs b))
+        (more_stand night (placed xs) c held st after lengths came count)
 
     pub grown_runs : Laws night → CanStand night (placed (xs ++ b ∷ [])) → AreStays held.stays → RunsWith night c c.park held ↔ RunsThrough night (placed (xs ++ b ∷ []))
     grown_runs L can are =
@@ -135,9 +142,11 @@ module _ (xs : List Block) (k : ℕ) (lt : k < length xs) (b : Block) (is : b �
   pub next_placed : (c : Block) → c ≡ record b { id = k + 1 } → placed (take (k + 1) xs) ≡ placed (take k xs) ++ c ∷ []
   next_placed c e =
       let size = length-take-le k xs (omega (arith, lt)) in
-      ap (λ (l : List Block). placed l) firsts ∙ placed_more (take k xs) b ∙ ap (λ n. placed (take k xs) ++ record b { id = n + 1 } ∷ []) size ∙ ap (λ (x : Block). placed (take k xs) ++ x ∷ []) (sym e)
+      ap (λ (l : List Block). placed l) firsts ∙ placed_more (take k xs) b ∙ ap (λ n. placed (take k xs) ++ record b { id = n + 1 } ∷ []) size
+      ∙ ap (λ (x : Block). placed (take k xs) ++ x ∷ []) (sym e)
 
-pub next_cost : (night : Night) (xs : List Block) (k : ℕ) → k < length xs → (b : Block) → b ≡ get_or xs k b → total_cost night (take (k + 1) xs) ≡ total_cost night (take k xs) + block_cost night b
+pub next_cost : (night : Night) (xs : List Block) (k : ℕ) → k < length xs → (b : Block) → b ≡ get_or xs k b
+    → total_cost night (take (k + 1) xs) ≡ total_cost night (take k xs) + block_cost night b
 next_cost night xs k lt b is =
     let split = sum_by-append (block_cost night) (take k xs) (b ∷ []) in
     let one = sum_by-cons (block_cost night) b [] in

@@ -15,11 +15,13 @@ covered_as night pins t of start = of.covered ∙ sym (same_masks night pins t.b
 
 -- what the laws of the crates below say
 pub record MatchLaws : Type 0 where
-  pub of_rest : (night : Night) (pins : List Block) (place : List ℕ) → IsInstance night → AreUsable night pins → IsMatchingOfRest (unit_entries night) (position_entries night) (units_taken night pins) (positions_taken night pins) place
+  pub of_rest : (night : Night) (pins : List Block) (place : List ℕ) → IsInstance night → AreUsable night pins
+      → IsMatchingOfRest (unit_entries night) (position_entries night) (units_taken night pins) (positions_taken night pins) place
       → (whole : List ℕ) × IsMatching (unit_entries night) (position_entries night) whole
   pub as_many : (night : Night) (place : List ℕ) → Matches night place → position_total night ≡ unit_total night
 
-pub matched_all : MatchLaws → (night : Night) (pins : List Block) (t : Trail) (place : List ℕ) → IsInstance night → AreUsable night pins → IsTrailOf night t → IsStart night pins t.blocks
+pub matched_all : MatchLaws → (night : Night) (pins : List Block) (t : Trail) (place : List ℕ) → IsInstance night → AreUsable night pins → IsTrailOf night t
+    → IsStart night pins t.blocks
     → MatchesRest night t.covered.units t.covered.places place → ((whole : List ℕ) × Matches night whole) × (position_total night ≡ unit_total night)
 matched_all laws night pins t place i usable of start matching =
     let rest = subst (λ (m : Masks). MatchesRest night m.units m.places place) (covered_as night pins t of start) matching in

@@ -9,6 +9,7 @@ use Rattle.shunt_stays.proofs.Sorting.{in_permuted, of_permuted}
 use Rattle.shunt_base.specs.declared.duals.Case.{Case}
 use Rattle.shunt_instance.specs.defs.Instance.{Night}
 use Rattle.shunt_blocks.specs.declared.records.Block.{Block}
+use Rattle.shunt_proof.specs.declared.records.Version.{Version}
 use Rattle.shunt_search.specs.declared.children.Child.{Child}
 use Rattle.shunt_search.specs.defs.Yards.{choice_of, choices_in, AreChildren}
 
@@ -57,8 +58,9 @@ distinct_permuted : {X : Type 0} (xs ys : List X) → IsPermutation xs ys → Ar
 distinct_permuted xs ys p h = differ ys (IsPermutation-keeps xs OncePlaced (once xs h) swapped ys p)
 
 -- the children of a path in another order
-pub reordered : (night : Night) (path : List Block) (cases : List Case) (best : ℕ) (old new : List Child) → IsPermutation old new → AreChildren night path cases best old → AreChildren night path cases best new
-reordered night path cases best old new p h =
+pub reordered : (version : Version) (night : Night) (path : List Block) (cases : List Case) (best : ℕ) (old new : List Child) → IsPermutation old new
+    → AreChildren version night path cases best old → AreChildren version night path cases best new
+reordered version night path cases best old new p h =
     let choices = IsPermutation-map (λ (c : Child). choice_of c.block) old new p in
     record {
       each = λ c i. h.each c (of_permuted old new c p i);

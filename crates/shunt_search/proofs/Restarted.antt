@@ -8,8 +8,9 @@ use Rattle.shunt_base.specs.declared.duals.Case.{Case}
 use Rattle.shunt_instance.specs.defs.Instance.{Night}
 use Rattle.shunt_blocks.specs.declared.records.Block.{Block}
 use Rattle.shunt_blocks.specs.defs.Pins.{opening_cost}
-use Rattle.shunt_prices.specs.defs.Cases.{CasesHold}
 use Rattle.shunt_proof.specs.declared.records.Node.{Node}
+use Rattle.shunt_proof.specs.declared.records.Version.{Version}
+use Rattle.shunt_proof.specs.defs.Versions.{HoldIn}
 use Rattle.shunt_proof.specs.defs.Trees.{IsStart, best_before}
 use Rattle.shunt_search.specs.declared.known.Known.{Known}
 use Rattle.shunt_search.specs.declared.walking.Pending.{Pending}
@@ -26,8 +27,9 @@ pub record RestartLaws : Type 0 where
   pub opening : (night : Night) (pins others : List Block) → IsPermutation pins others → opening_cost night others ≡ opening_cost night pins
   pub before_opening : (night : Night) (start : List Block) (nodes : List Node) (k : ℕ) → best_before night start nodes k ≤ opening_cost night start
 
-pub restarted : RestartLaws → (night : Night) (pins : List Block) (stock : List (List Case)) (told : Option (List Node)) (number owned : ℕ) (s z : Search) → IsSearch night pins stock told number owned s.waiting.items s → StartsAgain night pins s z → IsFresh night pins stock z
-restarted laws night pins stock told number owned s z S a =
+pub restarted : RestartLaws → (version : Version) (night : Night) (pins : List Block) (stock : List (List Case)) (told : Option (List Node)) (number owned : ℕ) (s z : Search)
+    → IsSearch version night pins stock told number owned s.waiting.items s → StartsAgain night pins s z → IsFresh version night pins stock z
+restarted laws version night pins stock told number owned s z S a =
     let same_cost : z.known.cost ≡ s.known.cost = ap (λ (k : Known). k.cost) a.known in
     let same_start = laws.one night pins S.start z.yard.path.blocks S.begins a.begins in
     record {
@@ -37,12 +39,13 @@ restarted laws night pins stock told number owned s z S a =
       stocked = S.stocked;
       rooted = record {
         statable = S.rooted.statable;
-        hold = subst (λ (l : List Block). CasesHold night l (cases_in stock 0)) same_start S.rooted.hold;
+        hold = subst (λ (l : List Block). HoldIn version night l (cases_in stock 0)) same_start S.rooted.hold;
         floor = S.rooted.floor;
         assignment = S.rooted.assignment;
-        above = subst (λ (l : List Block). IsAbove night l (cases_in stock 0) S.rooted.floor) same_start S.rooted.above;
+        above = subst (λ (l : List Block). IsAbove version night l (cases_in stock 0) S.rooted.floor) same_start S.rooted.above;
       };
-      lowest = subst (λ (l : List Block). IsFloor night l (cases_in stock 0) S.rooted.floor z.floor) same_start (subst (λ (x : ℤ). IsFloor night S.start (cases_in stock 0) S.rooted.floor x) (sym a.floor) S.lowest);
+      lowest = subst (λ (l : List Block). IsFloor version night l (cases_in stock 0) S.rooted.floor z.floor) same_start
+          (subst (λ (x : ℤ). IsFloor version night S.start (cases_in stock 0) S.rooted.floor x) (sym a.floor) S.lowest);
       yard = a.yard;
       long = let many = a.many in let same = length_permutation pins z.yard.path.blocks a.begins.same in omega (arith, many, same);
       best = same_best night pins s.known z.known a.known S.best;
@@ -63,7 +66,8 @@ told_none None (Some y) both = absurd both
 told_none (Some x) None both = absurd both
 told_none (Some x) (Some y) both = both
 
-pub done_at : {number most count cost : ℕ} {low : ℤ} {waiting : List Pending} → count ≡ number → number ≤ most → low ≤ℤ pos cost → (number ≡ most) ⊎ (waiting ≡ []) → (most ≤ count) ⊎ (pos cost ≤ℤ low) → IsDone number most waiting cost low
+pub done_at : {number most count cost : ℕ} {low : ℤ} {waiting : List Pending} → count ≡ number → number ≤ most → low ≤ℤ pos cost → (number ≡ most) ⊎ (waiting ≡ [])
+    → (most ≤ count) ⊎ (pos cost ≤ℤ low) → IsDone number most waiting cost low
 done_at counted few within done which = ⊎_elim
     (λ all. inl (omega (arith, counted, few, all)))
     (λ high. ⊎_elim inl (λ none. inr (none, omega (arith, ints, within, high))) done)

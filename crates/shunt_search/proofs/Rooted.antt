@@ -13,6 +13,7 @@ use Rattle.shunt_prices.specs.defs.Cases.{DualsHold}
 use Rattle.shunt_prices.specs.defs.Bounds.{IsBoundOf, case_sum, duals_sum}
 use Rattle.shunt_dual.specs.defs.Assignments.{IsAssignmentBound}
 use Rattle.shunt_proof.specs.defs.Nodes.{AreStatable}
+use Rattle.shunt_proof.specs.declared.records.Version.TheVariants.{Prices}
 use Rattle.shunt_search.specs.defs.Roots.{IsAbove, AreRooted}
 
 pub record RootLaws : Type 0 where
@@ -43,16 +44,21 @@ module _ (laws : RootLaws) (night : Night) (path : List Block) (d : Duals) where
   only : (k : ℕ) → k < length (plain d) → k ≡ 0
   only k lt = let e : length (plain d) ≡ 1 = refl in omega (arith, lt, e)
 
-  above : (sum : ℤ) (b : ℕ) → sum ≤ℤ duals_sum night path d → IsBoundOf sum (pos b) → IsAbove night path (plain d) b
+  above : (sum : ℤ) (b : ℕ) → sum ≤ℤ duals_sum night path d → IsBoundOf sum (pos b) → IsAbove Prices night path (plain d) b
   above sum b le is bound h =
       let own = subst (λ (k : ℕ). IsBoundOf (case_sum night path (plain d) k) bound) (only h.number h.opens.there) h.is in
       laws.rise sum (duals_sum night path d) (pos b) bound le is own
 
-  pub rooted : (total : ℕ) → AreDuals night d → AreApart d.prices → DualsHold night path d → pos total ≤ℤ duals_sum night path d → ((b : ℕ) → IsBoundOf (pos total) (pos b) → IsAssignmentBound night b)
-      → AreRooted night path (plain d)
+  pub rooted : (total : ℕ) → AreDuals night d → AreApart d.prices → DualsHold night path d → pos total ≤ℤ duals_sum night path d
+      → ((b : ℕ) → IsBoundOf (pos total) (pos b) → IsAssignmentBound night b)
+      → AreRooted Prices night path (plain d)
   rooted total are apart hold le assignment =
       let some = laws.there (pos total) in
       let number = whole total some.0 some.1 in
       let is = subst (λ (z : ℤ). IsBoundOf (pos total) z) number.1 some.1 in
-      let statable : AreStatable night (plain d) = record { within = laws.one_case night d are; apart = All-cons (λ (c : Case). AreApart c.duals.prices) (record { to = 160; multiplier = pos 0; duals = d }) [] apart (All-nil (λ (c : Case). AreApart c.duals.prices)) } in
+      let statable : AreStatable night (plain d) = record {
+        within = laws.one_case night d are;
+        apart = All-cons (λ (c : Case). AreApart c.duals.prices)
+            (record { to = 160; multiplier = pos 0; duals = d }) [] apart (All-nil (λ (c : Case). AreApart c.duals.prices));
+      } in
       record { statable = statable; hold = hold; floor = number.0; assignment = assignment number.0 is; above = above (pos total) number.0 le is }

@@ -23,12 +23,14 @@ module _ (night : Night) (pins : List Block) (covered : Masks) (place : List ℕ
       ap (λ (m : Masks). slice_index_or m.units u false) is
       ∙ get_or-map-range_with_len (λ k. not (times_unit night pins k == 0)) 0 (unit_total night) u u false lt (omega arith)
 
-  next_singles : (u : ℕ) → u < unit_total night → singles_below night pins place (u + 1) ≡ singles_below night pins place u ++ cond (slice_index_or covered.units u false) [] (single night u (place_of place u) ∷ [])
+  next_singles : (u : ℕ) → u < unit_total night → singles_below night pins place (u + 1) ≡ singles_below night pins place u
+      ++ cond (slice_index_or covered.units u false) [] (single night u (place_of place u) ∷ [])
   next_singles u lt =
       let e : u + 1 ≡ suc u = omega arith in
       ap (λ (k : ℕ). singles_below night pins place k) e
       ∙ ap (λ (l : List Block). singles_below night pins place u ++ l)
-      (sym (turned (times_unit night pins u == 0) [] (single night u (place_of place u) ∷ [])) ∙ ap (λ (b : Bool). cond b [] (single night u (place_of place u) ∷ [])) (sym (taken u lt)))
+      (sym (turned (times_unit night pins u == 0) [] (single night u (place_of place u) ∷ []))
+      ∙ ap (λ (b : Bool). cond b [] (single night u (place_of place u) ∷ [])) (sym (taken u lt)))
 
   -- the blocks up to a unit become those up to the next one
   pub more_singles : (us : List Bool) → us ≡ covered.units → (u : ℕ) → u < unit_total night → (old new : List Block) → old ≡ pins ++ singles_below night pins place u
@@ -51,6 +53,9 @@ same_values f g (x ∷ xs) h = let one = h x in let rest = same_values f g xs h 
 
 pub same_masks : (night : Night) (blocks others : List Block) → IsPermutation blocks others → masks_of night blocks ≡ masks_of night others
 same_masks night blocks others same =
-    let units : units_taken night blocks ≡ units_taken night others = same_values (λ u. not (times_unit night blocks u == 0)) (λ u. not (times_unit night others u == 0)) (range_with_len 0 (unit_total night)) (λ u. ap (λ n. not (n == 0)) (sym (sum_by-IsPermutation _ blocks others same))) in
-    let positions : positions_taken night blocks ≡ positions_taken night others = same_values (λ v. not (times_position night blocks v == 0)) (λ v. not (times_position night others v == 0)) (range_with_len 0 (position_total night)) (λ v. ap (λ n. not (n == 0)) (sym (sum_by-IsPermutation _ blocks others same))) in
-    ap (λ (us : List Bool). record { units = us; places = positions_taken night blocks }) units ∙ ap (λ (vs : List Bool). record { units = units_taken night others; places = vs }) positions
+    let units : units_taken night blocks ≡ units_taken night others = same_values (λ u. not (times_unit night blocks u == 0)) (λ u. not (times_unit night others u == 0))
+    (range_with_len 0 (unit_total night)) (λ u. ap (λ n. not (n == 0)) (sym (sum_by-IsPermutation _ blocks others same))) in
+    let positions : positions_taken night blocks ≡ positions_taken night others = same_values (λ v. not (times_position night blocks v == 0))
+    (λ v. not (times_position night others v == 0)) (range_with_len 0 (position_total night)) (λ v. ap (λ n. not (n == 0)) (sym (sum_by-IsPermutation _ blocks others same))) in
+    ap (λ (us : List Bool). record { units = us; places = positions_taken night blocks }) units
+    ∙ ap (λ (vs : List Bool). record { units = units_taken night others; places = vs }) positions

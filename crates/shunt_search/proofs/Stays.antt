@@ -50,8 +50,10 @@ first (Some z) ys y e = inl (some_is z y e)
 -- an item that may stand in the middle may as well stand in front
 pub to_front : {Y : Type 0} (o : Option Y) (xs ys : List Y) (y : Y) → In y (xs ++ cons_option o ys) ↔ In y (cons_option o (xs ++ ys))
 to_front o xs ys y = (
-  λ i. ⊎_elim (λ l. rest o (xs ++ ys) y (in_left xs ys y l)) (λ r. ⊎_elim (λ e. first o (xs ++ ys) y e) (λ j. rest o (xs ++ ys) y (in_right xs ys y j)) (first_or_rest o ys y r)) (in_cases xs (cons_option o ys) y i),
-  λ i. ⊎_elim (λ e. in_right xs (cons_option o ys) y (first o ys y e)) (λ j. ⊎_elim (λ l. in_left xs (cons_option o ys) y l) (λ r. in_right xs (cons_option o ys) y (rest o ys y r)) (in_cases xs ys y j)) (first_or_rest o (xs ++ ys) y i),
+  λ i. ⊎_elim (λ l. rest o (xs ++ ys) y (in_left xs ys y l)) (λ r. ⊎_elim (λ e. first o (xs ++ ys) y e) (λ j. rest o (xs ++ ys) y (in_right xs ys y j)) (first_or_rest o ys y r))
+      (in_cases xs (cons_option o ys) y i),
+  λ i. ⊎_elim (λ e. in_right xs (cons_option o ys) y (first o ys y e)) (λ j. ⊎_elim (λ l. in_left xs (cons_option o ys) y l) (λ r. in_right xs (cons_option o ys) y (rest o ys y r))
+      (in_cases xs ys y j)) (first_or_rest o (xs ++ ys) y i),
 )
 
 pub as_long : {Y : Type 0} (o : Option Y) (xs ys : List Y) → length (xs ++ cons_option o ys) ≡ length (cons_option o (xs ++ ys))
@@ -104,10 +106,12 @@ others_ids night b blocks apart s i e =
     let r = of_some (stay_of night) blocks s i in
     all_in (λ c. c.id ≢ b.id) blocks r.0 apart r.1 (sym (stay_id night r.0 s r.2) ∙ e)
 
-module _ (night : Night) (b : Block) (others : List Block) (apart : AllByRecursion (λ c. c.id ≢ b.id) others) (before after : List Stay) (all : (s : Stay) → In s (cons_option (stay_of night b) (stays_of night others)) ↔ In s before) (gone : (s : Stay) → In s after → s.id ≢ b.id) where
+module _ (night : Night) (b : Block) (others : List Block) (apart : AllByRecursion (λ c. c.id ≢ b.id) others) (before after : List Stay) (all : (s : Stay)
+    → In s (cons_option (stay_of night b) (stays_of night others)) ↔ In s before) (gone : (s : Stay) → In s after → s.id ≢ b.id) where
   -- where none was taken
   kept_from : after ≡ before → (s : Stay) → In s after → In s (stays_of night others)
-  kept_from e s i = ⊎_elim (λ f. absurd (gone s i (stay_id night b s f))) (λ j. j) (first_or_rest (stay_of night b) (stays_of night others) s ((all s).1 (subst (λ (l : List Stay). In s l) e i)))
+  kept_from e s i = ⊎_elim (λ f. absurd (gone s i (stay_id night b s f))) (λ j. j)
+      (first_or_rest (stay_of night b) (stays_of night others) s ((all s).1 (subst (λ (l : List Stay). In s l) e i)))
 
   pub none_taken : after ≡ before → (s : Stay) → In s (stays_of night others) ↔ In s after
   none_taken e s = (λ i. subst (λ (l : List Stay). In s l) (sym e) ((all s).0 (rest (stay_of night b) (stays_of night others) s i)), kept_from e s)
@@ -115,8 +119,10 @@ module _ (night : Night) (b : Block) (others : List Block) (apart : AllByRecursi
   -- where one was
   pub one_taken : (u : Stay) → u.id ≡ b.id → IsPermutation (u ∷ after) before → (s : Stay) → In s (stays_of night others) ↔ In s after
   one_taken u e p s = (
-    λ i. ⊎_elim (λ f. absurd (others_ids night b others apart s i (ap (λ (t : Stay). t.id) f ∙ e))) (λ j. j) (of_permuted (u ∷ after) before s p ((all s).0 (rest (stay_of night b) (stays_of night others) s i))),
-    λ i. ⊎_elim (λ f. absurd (gone s i (stay_id night b s f))) (λ j. j) (first_or_rest (stay_of night b) (stays_of night others) s ((all s).1 (in_permuted (u ∷ after) before s p (inr i)))),
+    λ i. ⊎_elim (λ f. absurd (others_ids night b others apart s i (ap (λ (t : Stay). t.id) f ∙ e))) (λ j. j)
+        (of_permuted (u ∷ after) before s p ((all s).0 (rest (stay_of night b) (stays_of night others) s i))),
+    λ i. ⊎_elim (λ f. absurd (gone s i (stay_id night b s f))) (λ j. j) (first_or_rest (stay_of night b) (stays_of night others) s
+        ((all s).1 (in_permuted (u ∷ after) before s p (inr i)))),
   )
 
   -- how many stay
@@ -127,18 +133,22 @@ module _ (night : Night) (b : Block) (others : List Block) (apart : AllByRecursi
       at None f = ap (λ (l : List Stay). length l) e ∙ count ∙ ap (λ (o : Option Stay). length (cons_option o (stays_of night others))) f
       at (Some t) f = absurd (gone t (subst (λ (l : List Stay). In t l) (sym e) ((all t).0 (first (stay_of night b) (stays_of night others) t f))) (stay_id night b t f))
 
-  pub one_less : (u : Stay) → u.id ≡ b.id → IsPermutation (u ∷ after) before → length after + 1 ≡ length before → length before ≡ length (cons_option (stay_of night b) (stays_of night others)) → length after ≡ length (stays_of night others)
+  pub one_less : (u : Stay) → u.id ≡ b.id → IsPermutation (u ∷ after) before → length after + 1 ≡ length before
+      → length before ≡ length (cons_option (stay_of night b) (stays_of night others)) → length after ≡ length (stays_of night others)
   one_less u e p fewer count = ⊎_elim
-      (λ f. let n : length (cons_option (stay_of night b) (stays_of night others)) ≡ length (u ∷ stays_of night others) = ap (λ (o : Option Stay). length (cons_option o (stays_of night others))) f in omega (arith, fewer, count, n))
+      (λ f. let n : length (cons_option (stay_of night b) (stays_of night others))
+      ≡ length (u ∷ stays_of night others) = ap (λ (o : Option Stay). length (cons_option o (stays_of night others))) f in omega (arith, fewer, count, n))
       (λ j. absurd (others_ids night b others apart u j e))
       (first_or_rest (stay_of night b) (stays_of night others) u ((all u).1 (in_permuted (u ∷ after) before u p (inl refl))))
 
 -- ---- runs of the same stays
 
 abbrev pub PartRuns : Type 0
-PartRuns = (lengths : List ℕ) (stays part : List Stay) → AreStays stays → AreOnTracks lengths stays → AreStays part → ((s : Stay) → In s part → In s stays) → GoesThrough lengths stays → GoesThrough lengths part
+PartRuns = (lengths : List ℕ) (stays part : List Stay) → AreStays stays → AreOnTracks lengths stays → AreStays part → ((s : Stay) → In s part → In s stays)
+    → GoesThrough lengths stays → GoesThrough lengths part
 
 -- a stay of a new id before stays
-pub are_more : (o : Option Stay) (stays : List Stay) → IfSome o IsWellFormed → ((s : Stay) → o ≡ Some s → (t : Stay) → In t stays → t.id ≢ s.id) → AreStays stays → AreStays (cons_option o stays)
+pub are_more : (o : Option Stay) (stays : List Stay) → IfSome o IsWellFormed → ((s : Stay) → o ≡ Some s → (t : Stay) → In t stays → t.id ≢ s.id) → AreStays stays
+    → AreStays (cons_option o stays)
 are_more None stays formed new are = are
 are_more (Some s) stays formed new are = (formed, all_from (λ t. s.id ≢ t.id) stays (λ t i e. new s refl t i (sym e)), are)

@@ -18,16 +18,19 @@ alone night stock cases e s = subst (λ (l : List (List Case)). IsStock night l 
 )
 
 -- the first of no entries
-pub pushed : (night : Night) (old new : List (List Case)) (cases : List Case) → old ≡ [] → new ≡ old ++ cases ∷ [] → AreStatable night cases → IsStock night new × (cases_in new 0 ≡ cases)
+pub pushed : (night : Night) (old new : List (List Case)) (cases : List Case) → old ≡ [] → new ≡ old ++ cases ∷ [] → AreStatable night cases
+    → IsStock night new × (cases_in new 0 ≡ cases)
 pushed night old new cases none e s = alone night new cases (e ∙ ap (λ (l : List (List Case)). l ++ cases ∷ []) none) s
 
 -- the first of some is replaced
-pub replaced : (night : Night) (old : List (List Case)) (cases : List Case) → 0 < length old → All (AreStatable night) old → AreStatable night cases → IsStock night (set old 0 cases) × (cases_in (set old 0 cases) 0 ≡ cases)
+pub replaced : (night : Night) (old : List (List Case)) (cases : List Case) → 0 < length old → All (AreStatable night) old → AreStatable night cases
+    → IsStock night (set old 0 cases) × (cases_in (set old 0 cases) 0 ≡ cases)
 replaced night old cases some all s = (
   record { some = let same = length-set old 0 cases in omega (arith, same, some); each = All-set (AreStatable night) old 0 cases s all },
   get_or-set_same old 0 cases [] some,
 )
 
 -- cases within the limits whose prices are apart can be stated
-pub all_statable : (night : Night) (stock : List (List Case)) → All (AreCases night) stock → All (λ cases. All (λ c. AreApart c.duals.prices) cases) stock → All (AreStatable night) stock
+pub all_statable : (night : Night) (stock : List (List Case)) → All (AreCases night) stock → All (λ cases. All (λ c. AreApart c.duals.prices) cases) stock
+    → All (AreStatable night) stock
 all_statable night stock within apart k d lt = record { within = within k d lt; apart = apart k d lt }

@@ -35,14 +35,19 @@ module _ (night : Night) (xs : List Block) (i : ℕ) (d : Block) (lt : i < lengt
       )
 
   long_next : length (stays_of night (take (i + 1) xs)) ≡ length (cons_option (stay_of night b) (stays_of night (take i xs)))
-  long_next = ap (λ (l : List Stay). length l) stays_next ∙ as_long (stay_of night b) (stays_of night (take i xs)) [] ∙ ap (λ (l : List Stay). length (cons_option (stay_of night b) l)) alone
+  long_next = ap (λ (l : List Stay). length l) stays_next ∙ as_long (stay_of night b) (stays_of night (take i xs)) []
+      ∙ ap (λ (l : List Stay). length (cons_option (stay_of night b) l)) alone
 
-  pub stand_next : (held after : Holding) → Stand night (take i xs) held → after.lengths ≡ held.lengths → ((s : Stay) → In s after.stays ↔ In s (cons_option (stay_of night b) held.stays)) → length after.stays ≡ length (cons_option (stay_of night b) held.stays) → Stand night (take (i + 1) xs) after
+  pub stand_next : (held after : Holding) → Stand night (take i xs) held → after.lengths ≡ held.lengths
+      → ((s : Stay) → In s after.stays ↔ In s (cons_option (stay_of night b) held.stays)) → length after.stays ≡ length (cons_option (stay_of night b) held.stays)
+      → Stand night (take (i + 1) xs) after
   stand_next held after st lengths came count = record {
     lengths = lengths ∙ st.lengths;
     stays = λ s. (
-      λ j. (came s).1 (⊎_elim (λ e. first (stay_of night b) held.stays s e) (λ k. rest (stay_of night b) held.stays s ((st.stays s).0 k)) (first_or_rest (stay_of night b) (stays_of night (take i xs)) s ((in_next s).0 j))),
-      λ j. (in_next s).1 (⊎_elim (λ e. first (stay_of night b) (stays_of night (take i xs)) s e) (λ k. rest (stay_of night b) (stays_of night (take i xs)) s ((st.stays s).1 k)) (first_or_rest (stay_of night b) held.stays s ((came s).0 j))),
+      λ j. (came s).1 (⊎_elim (λ e. first (stay_of night b) held.stays s e) (λ k. rest (stay_of night b) held.stays s ((st.stays s).0 k))
+          (first_or_rest (stay_of night b) (stays_of night (take i xs)) s ((in_next s).0 j))),
+      λ j. (in_next s).1 (⊎_elim (λ e. first (stay_of night b) (stays_of night (take i xs)) s e) (λ k. rest (stay_of night b) (stays_of night (take i xs)) s ((st.stays s).1 k))
+          (first_or_rest (stay_of night b) held.stays s ((came s).0 j))),
     );
     count = count ∙ same_length (stay_of night b) held.stays (stays_of night (take i xs)) st.count ∙ sym long_next;
   }

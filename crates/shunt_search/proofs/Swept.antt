@@ -40,7 +40,8 @@ of_others (x ∷ xs) (suc k) b (inr i) = inr (of_others xs k b i)
 pub still_kept : (pins xs ys : List Block) (k : ℕ) (d : Block) → k < length xs → (IsKept pins (get_or xs k d) → ⊥) → others_of ys k ≡ others_of xs k → Keeps xs pins → Keeps ys pins
 still_kept pins xs ys k d lt free same keeps = to_all (IsKept ys) pins (λ p i.
     let w = of_all (IsKept xs) pins p keeps i in
-    let other : In w.block (others_of xs k) = ⊎_elim (λ e. absurd (free (record { block = p; there = i; same = sym w.same ∙ ap (λ (b : Block). without_id b) e }))) (λ o. o) (here_or_other xs k d w.block lt w.there) in
+    let other : In w.block (others_of xs k) = ⊎_elim (λ e. absurd (free (record { block = p; there = i; same = sym w.same ∙ ap (λ (b : Block). without_id b) e }))) (λ o. o)
+    (here_or_other xs k d w.block lt w.there) in
     record { block = w.block; there = of_others ys k w.block (subst (λ (l : List Block). In w.block l) (sym same) other); same = w.same })
 
 -- the blocks up to a place have been looked at
@@ -57,13 +58,18 @@ pub record IsSwept (night : Night) (pins : List Block) (place : ℕ) (old now : 
 as_long : (xs ys : List Block) → map unparked xs ≡ map unparked ys → length xs ≡ length ys
 as_long xs ys e = sym (length-map xs unparked) ∙ ap (λ (l : List Block). length l) e ∙ length-map ys unparked
 
-pub count : (night : Night) (pins : List Block) (place : ℕ) (old now : List Block) (held : Holding) (changed : Bool) → IsSwept night pins place old now held changed → length now ≡ length old
+pub count : (night : Night) (pins : List Block) (place : ℕ) (old now : List Block) (held : Holding) (changed : Bool) → IsSwept night pins place old now held changed
+    → length now ≡ length old
 count night pins place old now held changed w = as_long now old w.shapes
 
-no_dearer : (night : Night) (old now : List Block) (changed : Bool) → (IsTrue changed → total_cost night now < total_cost night old) → (now ≡ old) ⊎ IsTrue changed → total_cost night now ≤ total_cost night old
-no_dearer night old now changed cheaper same = ⊎_elim (λ e. subst (λ (l : List Block). total_cost night l ≤ total_cost night old) (sym e) (omega arith)) (λ t. (let lt = cheaper t in omega (arith, lt))) same
+no_dearer : (night : Night) (old now : List Block) (changed : Bool) → (IsTrue changed → total_cost night now < total_cost night old) → (now ≡ old) ⊎ IsTrue changed
+    → total_cost night now ≤ total_cost night old
+no_dearer night old now changed cheaper same = ⊎_elim (λ e. subst (λ (l : List Block). total_cost night l ≤ total_cost night old) (sym e) (omega arith))
+    (λ t. (let lt = cheaper t in omega (arith, lt))) same
 
-module _ (night : Night) (pins : List Block) (place : ℕ) (old now new : List Block) (held after : Holding) (changed : Bool) (w : IsSwept night pins place old now held changed) (feasible : IsFeasible night new) (stand : Stand night new after) (room : length new ≤ after.spare + length after.stays) (shapes : map unparked new ≡ map unparked now) (keeps : Keeps now pins → Keeps new pins) where
+module _ (night : Night) (pins : List Block) (place : ℕ) (old now new : List Block) (held after : Holding) (changed : Bool) (w : IsSwept night pins place old now held changed)
+    (feasible : IsFeasible night new) (stand : Stand night new after) (room : length new ≤ after.spare + length after.stays) (shapes : map unparked new ≡ map unparked now)
+    (keeps : Keeps now pins → Keeps new pins) where
   pub better : total_cost night new < total_cost night now → IsSwept night pins (place + 1) old new after true
   better lt = record {
     feasible = feasible;
@@ -87,10 +93,13 @@ module _ (night : Night) (pins : List Block) (place : ℕ) (old now new : List B
     same = ⊎_elim (λ f. inl (e ∙ f)) inr w.same;
     least = ⊎_elim inl (λ all. ⊎_elim (λ f. inr (λ k d lt within. ⊎_elim (λ less. all k d less within) (λ more. (
         let at : k ≡ place = omega (arith, lt, more) in
-        subst (λ n. IsLeastBut night pins old (slice_index_or old n d)) (sym at) (subst (λ (l : List Block). IsLeastBut night pins l (slice_index_or l place d)) f (least d)))) (cases_lt k place))) inl w.same) w.least;
+        subst (λ n. IsLeastBut night pins old (slice_index_or old n d)) (sym at) (subst (λ (l : List Block). IsLeastBut night pins l (slice_index_or l place d)) f (least d))))
+        (cases_lt k place))) inl w.same) w.least;
   }
 
-  pub step : (found next : Bool) → (IsTrue found → total_cost night new < total_cost night now) → (new ≡ now) ⊎ IsTrue found → ((d : Block) → IsTrue found ⊎ IsLeastBut night pins now (slice_index_or now place d)) → ((found ≡ true) × (next ≡ true)) ⊎ ((found ≡ false) × (next ≡ changed)) → IsSwept night pins (place + 1) old new after next
+  pub step : (found next : Bool) → (IsTrue found → total_cost night new < total_cost night now) → (new ≡ now) ⊎ IsTrue found
+      → ((d : Block) → IsTrue found ⊎ IsLeastBut night pins now (slice_index_or now place d)) → ((found ≡ true) × (next ≡ true)) ⊎ ((found ≡ false) × (next ≡ changed))
+      → IsSwept night pins (place + 1) old new after next
   step found next cheaper same least (inl is) = subst (λ (t : Bool). IsSwept night pins (place + 1) old new after t) (sym is.1) (better (cheaper is.0))
   step found next cheaper same least (inr is) =
       let never : IsTrue found → ⊥ = λ t. absurd (cc) in
@@ -111,14 +120,16 @@ first_part {X} n xs rest e = subst (λ (m : ℕ). take m (xs ++ rest) ≡ xs) e 
 -- ---- pins that were looked at
 
 -- none of the pins up to a place is the block but for its id
-pub no_pin_yet : (pins : List Block) (b d : Block) (k : ℕ) → k < length pins → (without_id (get_or pins k d) ≡ without_id b → ⊥) → All (λ (q : Block). without_id q ≢ without_id b) (take k pins) → All (λ (q : Block). without_id q ≢ without_id b) (take (k + 1) pins)
+pub no_pin_yet : (pins : List Block) (b d : Block) (k : ℕ) → k < length pins → (without_id (get_or pins k d) ≡ without_id b → ⊥)
+    → All (λ (q : Block). without_id q ≢ without_id b) (take k pins) → All (λ (q : Block). without_id q ≢ without_id b) (take (k + 1) pins)
 no_pin_yet pins b d k lt other before =
     subst (λ (l : List Block). All (λ (q : Block). without_id q ≢ without_id b) l) (sym (take_more pins k d lt))
     (All-push (λ (q : Block). without_id q ≢ without_id b) (take k pins) (get_or pins k d) before other)
 
 pub is_no_pin : (pins : List Block) (b : Block) (k : ℕ) → length pins ≤ k → All (λ (q : Block). without_id q ≢ without_id b) (take k pins) → IsKept pins b → ⊥
 is_no_pin pins b k all none kept =
-    of_all (λ (q : Block). without_id q ≢ without_id b) pins kept.block (subst (λ (l : List Block). All (λ (q : Block). without_id q ≢ without_id b) l) (take_all k pins all) none) kept.there kept.same
+    of_all (λ (q : Block). without_id q ≢ without_id b) pins kept.block (subst (λ (l : List Block). All (λ (q : Block). without_id q ≢ without_id b) l) (take_all k pins all) none)
+    kept.there kept.same
 
 pub is_a_pin : (pins : List Block) (b d : Block) (k : ℕ) → k < length pins → without_id (get_or pins k d) ≡ without_id b → IsKept pins b
 is_a_pin pins b d k lt same = record { block = get_or pins k d; there = in_place pins k d lt; same = same }

@@ -32,6 +32,7 @@ tells_at_end None (Some y) q P tells same holds = absurd tells
 tells_at_end (Some x) None q P tells same holds = absurd tells
 tells_at_end (Some x) (Some y) q P tells same holds = subst (λ (z : Option (List Node)). BothTold (Some x) z (λ old new. P new)) (sym same) holds
 
-pub told_to_end : (r : Result Solved SolveError) (o p q : Option (List Node)) (P : Solved → List Node → Type 0) → TellsOn o p → OnOk r (q ≡ p) → IfOk r (λ s. IfSome p (P s)) → IfOk r (λ s. BothTold o q (λ old new. P s new))
+pub told_to_end : (r : Result Solved SolveError) (o p q : Option (List Node)) (P : Solved → List Node → Type 0) → TellsOn o p → OnOk r (q ≡ p) → IfOk r (λ s. IfSome p (P s))
+    → IfOk r (λ s. BothTold o q (λ old new. P s new))
 told_to_end (Ok s) o p q P tells same holds = tells_at_end o p q (P s) tells same holds
 told_to_end (Err e) o p q P tells same holds = tt

@@ -28,22 +28,28 @@ track_where : (soon : Bool) (t s : Stay) (n : ℕ) → (if soon then None else S
 track_where true t s n e lt = absurd (none-some _ e)
 track_where false t s n e lt = let same : t ≡ s = cc in subst (λ (u : Stay). u.track.0 < n) same lt
 
-track_with : (night : Night) (b : Block) (option : Option Park) (s : Stay) → stay_with night b option ≡ Some s → IsOnTrack night.station option → s.track.0 < length night.station.tracks
+track_with : (night : Night) (b : Block) (option : Option Park) (s : Stay) → stay_with night b option ≡ Some s → IsOnTrack night.station option
+    → s.track.0 < length night.station.tracks
 track_with night b None s e on = absurd (none-some _ e)
 track_with night b (Some k) s e on = track_where (is_too_soon night (shape_of b)) (parked_stay night b k) s (length night.station.tracks) e on
 
 -- the stay of a block is on one of the tracks
-pub on_a_track : (night : Night) (b : Block) (s : Stay) (lengths : List ℕ) → lengths ≡ track_lengths night.station → IsOnTrack night.station b.park → stay_of night b ≡ Some s → s.track.0 < length lengths
-on_a_track night b s lengths e on is = subst (λ (l : List ℕ). s.track.0 < length l) (sym e) (subst (λ n. s.track.0 < n) (sym (length-map night.station.tracks (λ t. t.length))) (track_with night b b.park s is on))
+pub on_a_track : (night : Night) (b : Block) (s : Stay) (lengths : List ℕ) → lengths ≡ track_lengths night.station → IsOnTrack night.station b.park → stay_of night b ≡ Some s
+    → s.track.0 < length lengths
+on_a_track night b s lengths e on is = subst (λ (l : List ℕ). s.track.0 < length l) (sym e)
+    (subst (λ n. s.track.0 < n) (sym (length-map night.station.tracks (λ t. t.length))) (track_with night b b.park s is on))
 
-module _ (law : Counts) (lengths : List ℕ) (stays : List Stay) (s : Stay) (formed : IsWellFormed s) (track : s.track.0 < length lengths) (new : (x : Stay) → In x stays → x.id ≢ s.id) (are : AreStays stays) (on : AreOnTracks lengths stays) where
+module _ (law : Counts) (lengths : List ℕ) (stays : List Stay) (s : Stay) (formed : IsWellFormed s) (track : s.track.0 < length lengths) (new : (x : Stay) → In x stays
+    → x.id ≢ s.id) (are : AreStays stays) (on : AreOnTracks lengths stays) where
   are_more : AreStays (s ∷ stays)
   are_more = (formed, all_from (λ x. s.id ≢ x.id) stays (λ x i e. new x i (sym e)), are)
 
   on_more : AreOnTracks lengths (s ∷ stays)
-  on_more = to_all (λ x. x.track.0 < length lengths) (s ∷ stays) (λ x i. ⊎_elim (λ e. subst (λ (y : Stay). y.track.0 < length lengths) (sym e) track) (λ j. of_all (λ y. y.track.0 < length lengths) stays x on j) i)
+  on_more = to_all (λ x. x.track.0 < length lengths) (s ∷ stays) (λ x i. ⊎_elim (λ e. subst (λ (y : Stay). y.track.0 < length lengths) (sym e) track)
+      (λ j. of_all (λ y. y.track.0 < length lengths) stays x on j) i)
 
-  pub joined : (o : Option Stay) (t : Bool) → o ≡ Some s → (IsTrue t ↔ (pairs_in (s ∷ stays) ≡ 0) × (overs_in lengths (s ∷ stays) ≡ 0)) → IsTrue t ↔ GoesThrough lengths (cons_option o stays)
+  pub joined : (o : Option Stay) (t : Bool) → o ≡ Some s → (IsTrue t ↔ (pairs_in (s ∷ stays) ≡ 0) × (overs_in lengths (s ∷ stays) ≡ 0))
+      → IsTrue t ↔ GoesThrough lengths (cons_option o stays)
   joined o t e q =
       let g = law lengths (s ∷ stays) are_more on_more in
       subst (λ (x : Option Stay). IsTrue t ↔ GoesThrough lengths (cons_option x stays)) (sym e) (λ is. g.1 (q.0 is), λ r. q.1 (g.0 r))
@@ -52,5 +58,6 @@ module _ (law : Counts) (lengths : List ℕ) (stays : List Stay) (s : Stay) (for
 pub is_new : (stays : List Stay) (id : ℕ) (s : Stay) → All (λ x. x.id ≢ id) stays → s.id ≡ id → (x : Stay) → In x stays → x.id ≢ s.id
 is_new stays id s new e x i same = of_all (λ y. y.id ≢ id) stays x new i (same ∙ e)
 
-pub counted : (t : Bool) (clash : Clash) (lengths : List ℕ) (stays : List Stay) → clash ≡ clash_of lengths stays → (IsTrue t ↔ (clash.pairs ≡ 0) × (clash.over ≡ 0)) → IsTrue t ↔ (pairs_in stays ≡ 0) × (overs_in lengths stays ≡ 0)
+pub counted : (t : Bool) (clash : Clash) (lengths : List ℕ) (stays : List Stay) → clash ≡ clash_of lengths stays → (IsTrue t ↔ (clash.pairs ≡ 0) × (clash.over ≡ 0))
+    → IsTrue t ↔ (pairs_in stays ≡ 0) × (overs_in lengths stays ≡ 0)
 counted t clash lengths stays e p = subst (λ (c : Clash). IsTrue t ↔ (c.pairs ≡ 0) × (c.over ≡ 0)) e p

@@ -25,8 +25,10 @@ pub record TidyLaws : Type 0 where
   pub placed_too : (night : Night) (blocks : List Block) → IsInstance night → IsFeasible night blocks → IsFeasible night (placed blocks)
   pub apart : (night : Night) (blocks : List Block) → IsFeasible night blocks → ShareNothing night blocks
   pub cost : (night : Night) (blocks : List Block) → total_cost night (placed blocks) ≡ total_cost night blocks
-  pub no_ids : (night : Night) (blocks : List Block) → IsInstance night → All (IsBlockButId night) blocks → Covers night blocks → RunsThrough night (placed blocks) → IsFeasible night (placed blocks)
-  pub part : (night : Night) (blocks others : List Block) → IsInstance night → All (IsWithinTrains night) blocks → ShareNothing night blocks → All (IsWithinTrains night) others → ShareNothing night others
+  pub no_ids : (night : Night) (blocks : List Block) → IsInstance night → All (IsBlockButId night) blocks → Covers night blocks → RunsThrough night (placed blocks)
+      → IsFeasible night (placed blocks)
+  pub part : (night : Night) (blocks others : List Block) → IsInstance night → All (IsWithinTrains night) blocks → ShareNothing night blocks → All (IsWithinTrains night) others
+      → ShareNothing night others
       → ((c : Block) → In c others → (b : Block) × In b blocks × (without_id b ≡ without_id c)) → RunsThrough night (placed blocks) → RunsThrough night (placed others)
   pub keeps : (pins others : List Block) → Keeps (placed (pins ++ others)) pins
 
@@ -37,8 +39,10 @@ module _ (laws : TidyLaws) where
       let fits_too = All-permutation (IsBlockButId night) blocks sorted same fits in
       let apart = laws.apart night blocks h in
       let covers : Covers night sorted = record {
-        units = λ u lt. (let e = sum_by-IsPermutation (λ (b : Block). cond (has_unit night (shape_of b) u) 1 0) blocks sorted same in let one = h.covers.units u lt in omega (arith, e, one));
-        positions = λ v lt. (let e = sum_by-IsPermutation (λ (b : Block). cond (has_position night (shape_of b) v) 1 0) blocks sorted same in let one = h.covers.positions v lt in omega (arith, e, one));
+        units = λ u lt. (let e = sum_by-IsPermutation (λ (b : Block). cond (has_unit night (shape_of b) u) 1 0) blocks sorted same in let one = h.covers.units u lt in omega
+            (arith, e, one));
+        positions = λ v lt. (let e = sum_by-IsPermutation (λ (b : Block). cond (has_position night (shape_of b) v) 1 0) blocks sorted same in let one = h.covers.positions v lt in
+            omega (arith, e, one));
       } in
       let through = laws.part night blocks sorted i (all_within night blocks fits) apart (all_within night sorted fits_too) (share_nothing night blocks sorted same apart)
       (λ c there. (c, of_permuted blocks sorted c same there, refl)) (laws.placed_too night blocks i h).through in
@@ -76,7 +80,8 @@ in_order_as : (night : Night) (xs ys : List Block) → map shape_of ys ≡ map s
 in_order_as night xs ys same order i j d before within =
     let long : length ys ≡ length xs = sym (length-map ys shape_of) ∙ ap (λ (l : List Shape). length l) same ∙ length-map xs shape_of in
     let at : (k : ℕ) → k < length ys → unit_from night (shape_of (get_or ys k d)) ≡ unit_from night (shape_of (get_or xs k d)) = λ k lt.
-    ap (λ (s : Shape). unit_from night s) (sym (get_or-map shape_of ys k d (shape_of d) lt) ∙ ap (λ (l : List Shape). get_or l k (shape_of d)) same ∙ get_or-map shape_of xs k d (shape_of d) (omega (arith, lt, long))) in
+    ap (λ (s : Shape). unit_from night s) (sym (get_or-map shape_of ys k d (shape_of d) lt) ∙ ap (λ (l : List Shape). get_or l k (shape_of d)) same
+    ∙ get_or-map shape_of xs k d (shape_of d) (omega (arith, lt, long))) in
     let first = at i (omega (arith, before, within)) in
     let second = at j within in
     let less = order i j d before (omega (arith, within, long)) in

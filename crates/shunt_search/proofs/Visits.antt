@@ -14,7 +14,8 @@ use Rattle.shunt_search.specs.defs.Walking.{kept, goal_of, IsNodeOf, IsInStock, 
 
 -- what is known of the nodes of children
 abbrev pub NextLaw : Type 0
-NextLaw = (night : Night) (stock : List (List Case)) (start path : List Block) (t : Child) (how : Noted) → IsInstance night → All (AreStatable night) stock → IsInStock stock how → IsNextBlock night (take (kept t) path) t.block
+NextLaw = (night : Night) (stock : List (List Case)) (start path : List Block) (t : Child) (how : Noted) → IsInstance night → All (AreStatable night) stock → IsInStock stock how
+    → IsNextBlock night (take (kept t) path) t.block
     → length start < t.block.id → t.block.id ≤ length start + 160 → IsNodeOf night start path t (node_below (length start) t.block stock how)
 
 module _ (night : Night) (path : List Block) (t : Child) (next : IsNextBlock night (take (kept t) path) t.block) where
@@ -27,7 +28,8 @@ module _ (night : Night) (path : List Block) (t : Child) (next : IsNextBlock nig
       let long : length now ≡ length (take (kept t) path) + 1 = ap (λ (l : List Block). length l) e ∙ length-append (take (kept t) path) (t.block ∷ []) in
       omega (arith, id, long, le)
 
-  pub fits : NextLaw → IsInstance night → (stock : List (List Case)) → All (AreStatable night) stock → (how : Noted) → IsInStock stock how → (pins : ℕ) → pins ≤ length path → pins < t.block.id → t.block.id ≤ pins + 160 → FitsNode night (node_below pins t.block stock how)
+  pub fits : NextLaw → IsInstance night → (stock : List (List Case)) → All (AreStatable night) stock → (how : Noted) → IsInStock stock how → (pins : ℕ) → pins ≤ length path
+      → pins < t.block.id → t.block.id ≤ pins + 160 → FitsNode night (node_below pins t.block stock how)
   fits law formed stock statable how there pins le deep few =
       let size = length-take-le pins path le in
       subst (λ n. FitsNode night (node_below n t.block stock how)) size

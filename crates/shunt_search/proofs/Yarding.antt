@@ -44,7 +44,8 @@ take_less (suc n) (suc m) (x ∷ xs) le = ap (λ l. x ∷ l) (take_less n m xs (
 pub within_placed : (night : Night) (b c : Block) (n : ℕ) → IsWithinTrains night b → c ≡ record b { id = n } → IsWithinTrains night c
 within_placed night b c n w e = subst (IsWithinTrains night) (sym e) (record { runs = w.runs; track = w.track })
 
-module _ (night : Night) (xs : List Block) (k : ℕ) (lt : k < length xs) (b c : Block) (is : b ≡ get_or xs k b) (e : c ≡ record b { id = k + 1 }) (held : Holding) (st : Stand night (placed (take k xs)) held) where
+module _ (night : Night) (xs : List Block) (k : ℕ) (lt : k < length xs) (b c : Block) (is : b ≡ get_or xs k b) (e : c ≡ record b { id = k + 1 }) (held : Holding)
+    (st : Stand night (placed (take k xs)) held) where
   size : length (take k xs) ≡ k
   size = length-take-le k xs (omega (arith, lt))
 
@@ -57,8 +58,10 @@ module _ (night : Night) (xs : List Block) (k : ℕ) (lt : k < length xs) (b c :
   pub few_at : length held.stays ≤ k
   few_at = let le = few_yet night (take k xs) held st in omega (arith, le, size)
 
-  pub next_at : (after : Holding) → after.lengths ≡ held.lengths → ((s : Stay) → In s after.stays ↔ In s (cons_option (stay_of night c) held.stays)) → length after.stays ≡ length (cons_option (stay_of night c) held.stays) → Stand night (placed (take (k + 1) xs)) after
-  next_at after lengths came count = subst (λ (l : List Block). Stand night (placed l) after) (ap (λ (x : Block). take k xs ++ x ∷ []) is ∙ sym (take_more xs k b lt)) (grown night (take k xs) held st b c numbered after lengths came count)
+  pub next_at : (after : Holding) → after.lengths ≡ held.lengths → ((s : Stay) → In s after.stays ↔ In s (cons_option (stay_of night c) held.stays))
+      → length after.stays ≡ length (cons_option (stay_of night c) held.stays) → Stand night (placed (take (k + 1) xs)) after
+  next_at after lengths came count = subst (λ (l : List Block). Stand night (placed l) after) (ap (λ (x : Block). take k xs ++ x ∷ []) is ∙ sym (take_more xs k b lt))
+      (grown night (take k xs) held st b c numbered after lengths came count)
 
 -- ---- a block comes
 
@@ -82,8 +85,10 @@ module _ (night : Night) (places : PlaceLaws) (y : Yard) (is : IsYard night y) (
   itself : b ≡ record b { id = length y.path.blocks + 1 }
   itself = ap (λ n. record b { id = n }) next.id
 
-  pub with_next : (path : Trail) (held : Holding) → path ≡ record y.path { blocks = more_by y.path.blocks b; covered = masks_of night (more_by y.path.blocks b) } → IsTrailOf night path
-      → held.lengths ≡ y.timelines.lengths → ((s : Stay) → In s held.stays ↔ In s (cons_option (stay_of night b) y.timelines.stays)) → length held.stays ≡ length (cons_option (stay_of night b) y.timelines.stays)
+  pub with_next : (path : Trail) (held : Holding) → path ≡ record y.path { blocks = more_by y.path.blocks b; covered = masks_of night (more_by y.path.blocks b) }
+      → IsTrailOf night path
+      → held.lengths ≡ y.timelines.lengths → ((s : Stay) → In s held.stays ↔ In s (cons_option (stay_of night b) y.timelines.stays))
+      → length held.stays ≡ length (cons_option (stay_of night b) y.timelines.stays)
       → held.spare + length held.stays ≡ y.timelines.spare + length y.timelines.stays → IsYard night (record { path = path; timelines = held })
   with_next path held e of lengths came count same = record {
     path = of;
@@ -92,17 +97,20 @@ module _ (night : Night) (places : PlaceLaws) (y : Yard) (is : IsYard night y) (
         let pins : path.pins ≡ y.path.pins = ap (λ (t : Trail). t.pins) e in
         let le = is.pins in
         omega (arith, blocks, pins, le);
-    stand = subst (λ (l : List Block). Stand night (placed l) held) (sym (ap (λ (t : Trail). t.blocks) e)) (grown night y.path.blocks y.timelines is.stand b b itself held lengths came count);
+    stand = subst (λ (l : List Block). Stand night (placed l) held) (sym (ap (λ (t : Trail). t.blocks) e))
+        (grown night y.path.blocks y.timelines is.stand b b itself held lengths came count);
     room = let enough = is.room in omega (arith, enough, same);
   }
 
-  pub runs_with : Laws night → CanStand night (placed (more_by y.path.blocks b)) → AreStays y.timelines.stays → RunsWith night b b.park y.timelines ↔ RunsThrough night (placed (more_by y.path.blocks b))
+  pub runs_with : Laws night → CanStand night (placed (more_by y.path.blocks b)) → AreStays y.timelines.stays
+      → RunsWith night b b.park y.timelines ↔ RunsThrough night (placed (more_by y.path.blocks b))
   runs_with L can are = grown_runs night y.path.blocks y.timelines is.stand b b itself L can are
 
 -- ---- a block goes
 
 -- the path that is left, where one block was taken away
-pub left : (o : Option Block) (old new : Trail) → IfSome o (λ b. (old.pins < length old.blocks) × (old.blocks ≡ new.blocks ++ b ∷ [])) → IfNone o ((length old.blocks ≤ old.pins) × (new ≡ old)) → old.pins < length old.blocks
+pub left : (o : Option Block) (old new : Trail) → IfSome o (λ b. (old.pins < length old.blocks) × (old.blocks ≡ new.blocks ++ b ∷ []))
+    → IfNone o ((length old.blocks ≤ old.pins) × (new ≡ old)) → old.pins < length old.blocks
     → (b : Block) × (old.blocks ≡ new.blocks ++ b ∷ [])
 left (Some b) old new some none more = (b, some.1)
 left None old new some none more = let le = none.0 in absurd (omega (arith, more, le))
@@ -118,7 +126,10 @@ module _ (old new : Trail) (b : Block) (e : old.blocks ≡ new.blocks ++ b ∷ [
   pub front : new.blocks ≡ take (length new.blocks) old.blocks
   front = sym (ap (λ (l : List Block). take (length new.blocks) l) e ∙ take-append_seam new.blocks (b ∷ []))
 
-module _ (night : Night) (old new : Trail) (b : Block) (e : old.blocks ≡ new.blocks ++ b ∷ []) (can : CanStand night (placed old.blocks)) (held after : Holding) (st : Stand night (placed old.blocks) held) (lengths : after.lengths ≡ held.lengths) (id : ℕ) (is : id ≡ length old.blocks) (gone : All (λ s. s.id ≢ id) after.stays) (u : Option Stay) (some : IfSome u (λ t. (t.id ≡ id) × IsPermutation (t ∷ after.stays) held.stays × (after.spare ≡ held.spare + 1))) (fewer : OnSome u (length after.stays + 1 ≡ length held.stays)) (none : IfNone u (after ≡ held)) where
+module _ (night : Night) (old new : Trail) (b : Block) (e : old.blocks ≡ new.blocks ++ b ∷ []) (can : CanStand night (placed old.blocks)) (held after : Holding)
+    (st : Stand night (placed old.blocks) held) (lengths : after.lengths ≡ held.lengths) (id : ℕ) (is : id ≡ length old.blocks) (gone : All (λ s. s.id ≢ id) after.stays)
+    (u : Option Stay) (some : IfSome u (λ t. (t.id ≡ id) × IsPermutation (t ∷ after.stays) held.stays × (after.spare ≡ held.spare + 1)))
+    (fewer : OnSome u (length after.stays + 1 ≡ length held.stays)) (none : IfNone u (after ≡ held)) where
   abbrev c : Block
   c = record b { id = length new.blocks + 1 }
 
@@ -154,7 +165,8 @@ module _ (night : Night) (old new : Trail) (b : Block) (e : old.blocks ≡ new.b
   room_left : after.spare + length after.stays ≡ held.spare + length held.stays
   room_left = room night (placed old.blocks) k c within can.ids held after st gone_now lengths u some_now fewer none
 
-  pub left_yard : IsTrailOf night new → new.pins ≡ old.pins → old.pins < length old.blocks → unit_total night ≤ held.spare + length held.stays → IsYard night (record { path = new; timelines = after })
+  pub left_yard : IsTrailOf night new → new.pins ≡ old.pins → old.pins < length old.blocks → unit_total night ≤ held.spare + length held.stays
+      → IsYard night (record { path = new; timelines = after })
   left_yard of pins more enough = record {
     path = of;
     pins = let one = shorter old new b e in omega (arith, pins, more, one);
@@ -174,7 +186,9 @@ front_of init now keep e n = e ∙ ap (λ k. take k init) n
 pub enough_room : (old new : Holding) (n : ℕ) → new ≡ record old { spare = max old.spare n } → n ≤ new.spare
 enough_room old new n e = subst (λ (h : Holding). n ≤ h.spare) (sym e) (le-max_right old.spare n)
 
-pub start_yard : (night : Night) (pins blocks : List Block) (t : Trail) (held : Holding) (room n : ℕ) → IsTrailOf night t → t.pins ≡ length pins → IsPermutation pins t.blocks → blocks ≡ t.blocks → Stand night (placed blocks) held → held.spare + length held.stays ≡ room → n ≤ room → n ≡ unit_total night → IsYard night (record { path = t; timelines = held })
+pub start_yard : (night : Night) (pins blocks : List Block) (t : Trail) (held : Holding) (room n : ℕ) → IsTrailOf night t → t.pins ≡ length pins → IsPermutation pins t.blocks
+    → blocks ≡ t.blocks → Stand night (placed blocks) held → held.spare + length held.stays ≡ room → n ≤ room → n ≡ unit_total night
+    → IsYard night (record { path = t; timelines = held })
 start_yard night pins blocks t held room n of many same e stand all enough is = record {
   path = of;
   pins = omega (arith, many, length_permutation pins t.blocks same);

@@ -8,6 +8,8 @@ ghost use Rattle.shunt_blocks.specs.declared.records.Block.{Block as OneBlock};
 ghost use Rattle.shunt_blocks.specs.defs.Pins.{AreUsable};
 ghost use Rattle.shunt_matching.specs.declared.types.Shortage.{Shortage as OneShortage};
 ghost use Rattle.shunt_proof.specs.declared.records.Node.{Node as OneNode};
+ghost use Rattle.shunt_proof.specs.declared.records.Version.{Version};
+ghost use Rattle.shunt_proof.specs.declared.records.Version.TheVariants.{Prices};
 ghost use Rattle.shunt_proof.specs.defs.Recording.{Open, Failed};
 ghost use Rattle.shunt_search.specs.declared.searching.Search.{Search as OneSearch};
 ghost use Rattle.shunt_search.specs.defs.Searching.{IsSearch, IsFresh, StartsAgain, TellsOn};
@@ -26,8 +28,8 @@ use std::alloc::{AllocError, Global};
 
 /// A search that starts again is one that is to begin.
 fn searches_restart()
-    ensures { (night : Night) (pins : List OneBlock) (stock : List (List OneCase)) (told : Option (List OneNode)) (number owned : ℕ) (s z : OneSearch) →
-        IsSearch night pins stock told number owned s.waiting.items s → StartsAgain night pins s z → IsFresh night pins stock z }
+    ensures { (version : Version) (night : Night) (pins : List OneBlock) (stock : List (List OneCase)) (told : Option (List OneNode)) (number owned : ℕ) (s z : OneSearch) →
+        IsSearch version night pins stock told number owned s.waiting.items s → StartsAgain night pins s z → IsFresh version night pins stock z }
 {
     best_costs();
     starts();
@@ -65,7 +67,7 @@ fn attempt<R: Recorder>(
     search: &mut Search,
     recorder: &mut R,
 ) -> Result<(), SolveError>
-    requires fresh { IsFresh instance.now pins.now tree.now.stock.items search.old }
+    requires fresh { IsFresh Prices instance.now pins.now tree.now.stock.items search.old }
     requires some { 1 ≤ nodes }
     requires few { nodes ≤ 5000 }
     requires stage { R.stage recorder.old ≡ Open }
@@ -73,7 +75,7 @@ fn attempt<R: Recorder>(
     requires none { R.number recorder.old ≡ 0 }
     requires no_cases { R.cases recorder.old ≡ 0 }
     requires told { IfSome (R.told recorder.old) (λ told. told ≡ []) }
-    ensures search { OnOk result (IsSearch instance.now pins.now tree.now.stock.items (R.told recorder.new) (R.number recorder.new) (R.cases recorder.new) search.new.waiting.items search.new) }
+    ensures search { OnOk result (IsSearch Prices instance.now pins.now tree.now.stock.items (R.told recorder.new) (R.number recorder.new) (R.cases recorder.new) search.new.waiting.items search.new) }
     ensures most { OnOk result (R.number recorder.new ≤ nodes) }
     ensures done { OnOk result ((R.number recorder.new ≡ nodes) ⊎ (search.new.waiting.items ≡ [])) }
     ensures plain { OnOk result (search.new.plain ≡ search.old.plain) }
@@ -104,12 +106,12 @@ fn walk_again<R: Recorder>(
     search: &mut Search,
     recorder: &mut R,
 ) -> Result<(), SolveError>
-    requires search { IsSearch instance.now pins.now tree.now.stock.items (R.told recorder.old) (R.number recorder.old) (R.cases recorder.old) search.old.waiting.items search.old }
+    requires search { IsSearch Prices instance.now pins.now tree.now.stock.items (R.told recorder.old) (R.number recorder.old) (R.cases recorder.old) search.old.waiting.items search.old }
     requires some { 1 ≤ nodes }
     requires few { nodes ≤ 5000 }
     requires stage { R.stage recorder.old ≡ Open }
     requires own { R.owns recorder.old instance.now }
-    ensures search { OnOk result (IsSearch instance.now pins.now tree.now.stock.items (R.told recorder.new) (R.number recorder.new) (R.cases recorder.new) search.new.waiting.items search.new) }
+    ensures search { OnOk result (IsSearch Prices instance.now pins.now tree.now.stock.items (R.told recorder.new) (R.number recorder.new) (R.cases recorder.new) search.new.waiting.items search.new) }
     ensures most { OnOk result (R.number recorder.new ≤ nodes) }
     ensures done { OnOk result ((R.number recorder.new ≡ nodes) ⊎ (search.new.waiting.items ≡ [])) }
     ensures plain { OnOk result (search.new.plain ≡ plain) }
@@ -141,12 +143,12 @@ fn walk_plainly<R: Recorder>(
     search: &mut Search,
     recorder: &mut R,
 ) -> Result<(), SolveError>
-    requires search { IsSearch instance.now pins.now tree.now.stock.items (R.told recorder.old) (R.number recorder.old) (R.cases recorder.old) search.old.waiting.items search.old }
+    requires search { IsSearch Prices instance.now pins.now tree.now.stock.items (R.told recorder.old) (R.number recorder.old) (R.cases recorder.old) search.old.waiting.items search.old }
     requires some { 1 ≤ nodes }
     requires few { nodes ≤ 5000 }
     requires stage { R.stage recorder.old ≡ Open }
     requires own { R.owns recorder.old instance.now }
-    ensures search { OnOk result (IsSearch instance.now pins.now tree.now.stock.items (R.told recorder.new) (R.number recorder.new) (R.cases recorder.new) search.new.waiting.items search.new) }
+    ensures search { OnOk result (IsSearch Prices instance.now pins.now tree.now.stock.items (R.told recorder.new) (R.number recorder.new) (R.cases recorder.new) search.new.waiting.items search.new) }
     ensures most { OnOk result (R.number recorder.new ≤ nodes) }
     ensures done { OnOk result (IsDone (R.number recorder.new) nodes search.new.waiting.items search.new.known.cost search.new.low) }
     ensures cheaper { OnOk result (search.new.known.cost ≤ search.old.known.cost) }
@@ -187,7 +189,7 @@ fn walk_twice<R: Recorder>(
     search: &mut Search,
     recorder: &mut R,
 ) -> Result<(), SolveError>
-    requires fresh { IsFresh instance.now pins.now tree.now.stock.items search.old }
+    requires fresh { IsFresh Prices instance.now pins.now tree.now.stock.items search.old }
     requires some { 1 ≤ nodes }
     requires few { nodes ≤ 5000 }
     requires stage { R.stage recorder.old ≡ Open }
@@ -195,7 +197,7 @@ fn walk_twice<R: Recorder>(
     requires none { R.number recorder.old ≡ 0 }
     requires no_cases { R.cases recorder.old ≡ 0 }
     requires told { IfSome (R.told recorder.old) (λ told. told ≡ []) }
-    ensures search { OnOk result (IsSearch instance.now pins.now tree.now.stock.items (R.told recorder.new) (R.number recorder.new) (R.cases recorder.new) search.new.waiting.items search.new) }
+    ensures search { OnOk result (IsSearch Prices instance.now pins.now tree.now.stock.items (R.told recorder.new) (R.number recorder.new) (R.cases recorder.new) search.new.waiting.items search.new) }
     ensures most { OnOk result (R.number recorder.new ≤ nodes) }
     ensures done { OnOk result ((R.number recorder.new ≡ nodes) ⊎ (search.new.waiting.items ≡ [])) }
     ensures cheaper { OnOk result (search.new.known.cost ≤ search.old.known.cost) }
@@ -231,7 +233,7 @@ pub(crate) fn walk_whole<R: Recorder>(
     search: &mut Search,
     recorder: &mut R,
 ) -> Result<(), SolveError>
-    requires fresh { IsFresh instance.now pins.now tree.now.stock.items search.old }
+    requires fresh { IsFresh Prices instance.now pins.now tree.now.stock.items search.old }
     requires some { 1 ≤ nodes }
     requires few { nodes ≤ 5000 }
     requires stage { R.stage recorder.old ≡ Open }
@@ -239,7 +241,7 @@ pub(crate) fn walk_whole<R: Recorder>(
     requires none { R.number recorder.old ≡ 0 }
     requires no_cases { R.cases recorder.old ≡ 0 }
     requires told { IfSome (R.told recorder.old) (λ told. told ≡ []) }
-    ensures search { OnOk result (IsSearch instance.now pins.now tree.now.stock.items (R.told recorder.new) (R.number recorder.new) (R.cases recorder.new) search.new.waiting.items search.new) }
+    ensures search { OnOk result (IsSearch Prices instance.now pins.now tree.now.stock.items (R.told recorder.new) (R.number recorder.new) (R.cases recorder.new) search.new.waiting.items search.new) }
     ensures most { OnOk result (R.number recorder.new ≤ nodes) }
     ensures done { OnOk result (IsDone (R.number recorder.new) nodes search.new.waiting.items search.new.known.cost search.new.low) }
     ensures cheaper { OnOk result (search.new.known.cost ≤ search.old.known.cost) }

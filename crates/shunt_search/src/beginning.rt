@@ -8,6 +8,8 @@ ghost use Rattle.shunt_blocks.specs.declared.records.Block.{Block as OneBlock};
 ghost use Rattle.shunt_choices.specs.defs.Paths.{masks_of, next_of};
 ghost use Rattle.shunt_matching.specs.declared.types.Shortage.{Shortage as OneShortage};
 ghost use Rattle.shunt_proof.specs.declared.records.Node.{Node as OneNode};
+ghost use Rattle.shunt_proof.specs.declared.records.Version.{Version};
+ghost use Rattle.shunt_proof.specs.declared.records.Version.TheVariants.{Prices};
 ghost use Rattle.shunt_proof.specs.defs.Nodes.{AreStatable};
 ghost use Rattle.shunt_proof.specs.defs.Recording.{Open, Failed};
 ghost use Rattle.shunt_search.specs.declared.searching.Search.{Search as OneSearch};
@@ -19,6 +21,7 @@ use crate::floors::floors;
 use crate::known::kept_plans;
 use crate::listing::add_children;
 use crate::noting::cases_in;
+use crate::rising::bounds_rise_in_versions;
 use crate::searching::{Search, take_whole};
 use crate::solved::SolveError;
 use crate::steadying::walks_stay_steady;
@@ -26,8 +29,8 @@ use crate::visiting::{is_whole, root_place};
 use crate::walking::walks_begin;
 use shunt_blocks::Block;
 use shunt_instance::Instance;
-use shunt_prices::laws::{bounds, bounds_rise};
 use shunt_proof::laws::starts;
+use shunt_proof::version_laws::bounds_by_version;
 use shunt_proof::{Node, NodeDuals, NodeKind, Recorder};
 use shunt_tree::ProposedTree;
 use std::alloc::Global;
@@ -35,21 +38,21 @@ use std::alloc::Global;
 /// How a search begins: with a root that is whole, or with a branch whose children are all still to be walked to. The first cases of the
 /// stock can be the root's.
 fn searches_begin()
-    ensures first { (night : Night) (pins : List OneBlock) (stock : List (List OneCase)) (s : OneSearch) → IsInstance night → IsFresh night pins stock s →
-        IsLifted night stock s.yard.path.blocks s.known.cost s.floor 0 }
-    ensures whole { (night : Night) (pins : List OneBlock) (stock : List (List OneCase)) (told now : Option (List OneNode)) (count cases : ℕ) (s z w : OneSearch) →
-        IsInstance night → IsFresh night pins stock s → TellsRoot whole_root told now → count ≡ 1 → cases ≡ 0 → Begins s z cases → z.waiting.items ≡ [] →
-        next_of (masks_of night s.yard.path.blocks) ≡ None → Takes night z w → IsSearch night pins stock now count cases w.waiting.items w }
-    ensures branch { (night : Night) (pins : List OneBlock) (stock : List (List OneCase)) (told now : Option (List OneNode)) (count cases : ℕ) (s z : OneSearch) (place : ℕ) →
-        IsInstance night → IsFresh night pins stock s → IsLifted night stock s.yard.path.blocks s.known.cost s.floor place → TellsRoot (branch_root (cases_in stock place)) told now → count ≡ 1 → cases ≡ length (cases_in stock place) →
-        Begins s z cases → IsSome (next_of (masks_of night s.yard.path.blocks)) → AddsChildren night stock s.known.cost s.yard.path.blocks 0 place [] z.waiting.items → IsSearch night pins stock now count cases z.waiting.items z }
+    ensures first { (version : Version) (night : Night) (pins : List OneBlock) (stock : List (List OneCase)) (s : OneSearch) → IsInstance night → IsFresh version night pins stock s →
+        IsLifted version night stock s.yard.path.blocks s.known.cost s.floor 0 }
+    ensures whole { (version : Version) (night : Night) (pins : List OneBlock) (stock : List (List OneCase)) (told now : Option (List OneNode)) (count cases : ℕ) (s z w : OneSearch) →
+        IsInstance night → IsFresh version night pins stock s → TellsRoot whole_root told now → count ≡ 1 → cases ≡ 0 → Begins s z cases → z.waiting.items ≡ [] →
+        next_of (masks_of night s.yard.path.blocks) ≡ None → Takes night z w → IsSearch version night pins stock now count cases w.waiting.items w }
+    ensures branch { (version : Version) (night : Night) (pins : List OneBlock) (stock : List (List OneCase)) (told now : Option (List OneNode)) (count cases : ℕ) (s z : OneSearch) (place : ℕ) →
+        IsInstance night → IsFresh version night pins stock s → IsLifted version night stock s.yard.path.blocks s.known.cost s.floor place → TellsRoot (branch_root (cases_in stock place)) told now → count ≡ 1 → cases ≡ length (cases_in stock place) →
+        Begins s z cases → IsSome (next_of (masks_of night s.yard.path.blocks)) → AddsChildren version night stock s.known.cost s.yard.path.blocks 0 place [] z.waiting.items → IsSearch version night pins stock now count cases z.waiting.items z }
 {
     walks_begin();
     walks_stay_steady();
     kept_plans();
     floors();
-    bounds();
-    bounds_rise();
+    bounds_by_version();
+    bounds_rise_in_versions();
     starts();
 }
 
@@ -127,13 +130,13 @@ pub(crate) fn begin<R: Recorder>(
     search: &mut Search,
     recorder: &mut R,
 ) -> Result<(), SolveError>
-    requires fresh { IsFresh instance.now pins.now tree.now.stock.items search.old }
+    requires fresh { IsFresh Prices instance.now pins.now tree.now.stock.items search.old }
     requires stage { R.stage recorder.old ≡ Open }
     requires own { R.owns recorder.old instance.now }
     requires none { R.number recorder.old ≡ 0 }
     requires no_cases { R.cases recorder.old ≡ 0 }
     requires told { IfSome (R.told recorder.old) (λ nodes. nodes ≡ []) }
-    ensures search { OnOk result (IsSearch instance.now pins.now tree.now.stock.items (R.told recorder.new) (R.number recorder.new) (R.cases recorder.new) search.new.waiting.items search.new) }
+    ensures search { OnOk result (IsSearch Prices instance.now pins.now tree.now.stock.items (R.told recorder.new) (R.number recorder.new) (R.cases recorder.new) search.new.waiting.items search.new) }
     ensures number { OnOk result (R.number recorder.new ≡ 1) }
     ensures tells { OnOk result (TellsOn (R.told recorder.old) (R.told recorder.new)) }
     ensures plain { OnOk result (search.new.plain ≡ search.old.plain) }

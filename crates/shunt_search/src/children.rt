@@ -6,6 +6,7 @@ ghost use Rattle.shunt_choices.specs.defs.Choices.{choices_with, choices_at};
 ghost use Rattle.shunt_prices.specs.defs.Limits.{AreCases};
 ghost use Rattle.shunt_prices.specs.defs.Bounds.{IsCasesBound};
 ghost use Rattle.shunt_dual.specs.defs.Longer.{AreSumsAt};
+ghost use Rattle.shunt_proof.specs.declared.records.Version.TheVariants.{Prices};
 ghost use Rattle.shunt_search.specs.defs.Yards.{IsYard, IsNextBlock, IsOpen, IsClosed, IsTried, AreOpen, AreChildren, more_by, choice_of};
 
 use crate::yard::Yard;
@@ -55,8 +56,8 @@ fn open_bound(
     requires cases { AreCases instance.now cases.now }
     requires sums { AreSumsAt instance.now yard.now.path.blocks cases.now sums.now }
     requires best { best ≤ 1000000000000 }
-    ensures some { IfSome result (λ bound. IsOpen instance.now yard.now.path.blocks cases.now best block.now bound) }
-    ensures none { IfNone result (IsClosed instance.now yard.now.path.blocks cases.now best (choice_of block.now)) }
+    ensures some { IfSome result (λ bound. IsOpen Prices instance.now yard.now.path.blocks cases.now best block.now bound) }
+    ensures none { IfNone result (IsClosed Prices instance.now yard.now.path.blocks cases.now best (choice_of block.now)) }
 {
     let bound = bound_with(instance, yard, block, cases, sums);
     if bound >= best as i64 {
@@ -84,7 +85,7 @@ fn offer(
     requires cases { AreCases instance.now cases.now }
     requires sums { AreSumsAt instance.now yard.now.path.blocks cases.now sums.now }
     requires best { best ≤ 1000000000000 }
-    ensures { OnOk result (IsTried instance.now yard.now.path.blocks cases.now best block.now children.old.items children.new.items) }
+    ensures { OnOk result (IsTried Prices instance.now yard.now.path.blocks cases.now best block.now children.old.items children.new.items) }
 {
     if let Some(bound) = open_bound(instance, yard, block, cases, sums, best) {
         children.push(Child {
@@ -110,7 +111,7 @@ fn open_ones(
     requires cases { AreCases instance.now cases.now }
     requires sums { AreSumsAt instance.now yard.now.path.blocks cases.now sums.now }
     requires best { best ≤ 1000000000000 }
-    ensures { IfOk result (λ v. AreOpen instance.now yard.now.path.blocks cases.now best (map choice_of blocks.now) v.items) }
+    ensures { IfOk result (λ v. AreOpen Prices instance.now yard.now.path.blocks cases.now best (map choice_of blocks.now) v.items) }
 {
     let mut children = Vec::new(alloc);
     for block in blocks {
@@ -209,7 +210,7 @@ pub(crate) fn plan_children(
     requires yard { IsYard instance.now yard.now }
     requires cases { AreCases instance.now cases.now }
     requires best { best ≤ 1000000000000 }
-    ensures { IfOk result (λ v. AreChildren instance.now yard.now.path.blocks cases.now best v.items) }
+    ensures { IfOk result (λ v. AreChildren Prices instance.now yard.now.path.blocks cases.now best v.items) }
 {
     // The calls tell that the choices are all and differ.
     choices();

@@ -7,6 +7,7 @@ ghost use Rattle.shunt_blocks.specs.declared.records.Block.{Block as OneBlock};
 ghost use Rattle.shunt_blocks.specs.defs.Pins.{AreUsable};
 ghost use Rattle.shunt_choices.specs.defs.Paths.{IsPartialPlan};
 ghost use Rattle.shunt_prices.specs.defs.Limits.{AreCases};
+ghost use Rattle.shunt_proof.specs.declared.records.Version.{Version};
 ghost use Rattle.shunt_search.specs.declared.children.Child.{Child as OneChild};
 ghost use Rattle.shunt_search.specs.defs.Yards.{IsYard, IsOpen, more_by};
 ghost use Rattle.shunt_search.specs.defs.Walking.{IsBest};
@@ -25,7 +26,7 @@ use std::alloc::{AllocError, Global};
 
 /// A partial plan is one with the block of an open child too.
 fn open_plans()
-    ensures { (night : Night) (pins path : List OneBlock) (cases : List OneCase) (best : ℕ) (c : OneChild) → IsPartialPlan night pins path → IsOpen night path cases best c.block c.bound → IsPartialPlan night pins (more_by path c.block) }
+    ensures { (version : Version) (night : Night) (pins path : List OneBlock) (cases : List OneCase) (best : ℕ) (c : OneChild) → IsPartialPlan night pins path → IsOpen version night path cases best c.block c.bound → IsPartialPlan night pins (more_by path c.block) }
 {
     plans_grow();
 }

@@ -18,6 +18,7 @@ mod opening;
 mod polishing;
 mod preparing;
 mod proposing;
+mod rising;
 mod rooting;
 mod searching;
 mod solved;

@@ -1,5 +1,6 @@
 // The children of a node come to those that are still to be walked to.
 ghost use Rattle.std.specs.Prelude.{◌≡◌, ◌<◌, ◌≤◌, length, All, OnOk};
+ghost use Rattle.shunt_proof.specs.declared.records.Version.TheVariants.{Prices};
 ghost use Rattle.shunt_proof.specs.defs.Nodes.{AreStatable};
 ghost use Rattle.shunt_search.specs.defs.Yards.{IsYard};
 ghost use Rattle.shunt_search.specs.defs.Walking.{AddsChildren, Adds};
@@ -95,7 +96,7 @@ pub(crate) fn add_children(
     requires stock { All (AreStatable instance.now) tree.now.stock.items }
     requires cases { cases < length tree.now.stock.items }
     requires best { best ≤ 1000000000000 }
-    ensures { OnOk result (AddsChildren instance.now tree.now.stock.items best yard.now.path.blocks parent cases waiting.old.items waiting.new.items) }
+    ensures { OnOk result (AddsChildren Prices instance.now tree.now.stock.items best yard.now.path.blocks parent cases waiting.old.items waiting.new.items) }
 {
     let own = cases_in(tree, cases);
     let children = plan_children(alloc, instance, yard, own, best)?;

@@ -8,6 +8,7 @@ ghost use Rattle.shunt_blocks.specs.defs.Pins.{AreUsable, Keeps, opening_cost};
 ghost use Rattle.shunt_choices.specs.defs.Paths.{Trail, IsTrailOf, masks_of};
 ghost use Rattle.shunt_matching.specs.declared.types.Shortage.{Shortage as OneShortage};
 ghost use Rattle.shunt_matching.specs.defs.Nights.{Matches, MatchesRest, IsShortageOf};
+ghost use Rattle.shunt_proof.specs.declared.records.Version.TheVariants.{Prices};
 ghost use Rattle.shunt_proof.specs.defs.Trees.{IsStart};
 ghost use Rattle.shunt_search.specs.defs.Yards.{IsYard};
 ghost use Rattle.shunt_search.specs.defs.Walking.{IsBest};
@@ -106,7 +107,7 @@ fn prepared(
     requires best { IsBest instance.now pins.now known.now.blocks.items known.now.cost }
     requires opening { known.now.cost ≤ opening_cost instance.now pins.now }
     requires small { known.now.cost ≤ 640000000 }
-    ensures fresh { IfOk result (λ s. IsFresh instance.now pins.now s.1.stock.items s.0) }
+    ensures fresh { IfOk result (λ s. IsFresh Prices instance.now pins.now s.1.stock.items s.0) }
     ensures cheaper { IfOk result (λ s. s.0.known.cost ≤ known.now.cost) }
 {
     let proposal = Proposal::new(alloc, instance, &yard.path)?;
@@ -152,7 +153,7 @@ pub(crate) fn prepare(
     requires usable { AreUsable instance.now pins.now }
     requires feasible { IfSome given (λ p. IsFeasible instance.now p.now) }
     requires keeps { IfSome given (λ p. Keeps p.now pins.now) }
-    ensures fresh { IfOk result (λ s. IsFresh instance.now pins.now s.1.stock.items s.0) }
+    ensures fresh { IfOk result (λ s. IsFresh Prices instance.now pins.now s.1.stock.items s.0) }
     ensures never_worse { IfOk result (λ s. IfSome given.entry (λ p. s.0.known.cost ≤ total_cost instance.now p.now)) }
     ensures exact { (s : OneShortage) → IsErrOf result (SolveError.NoMatching s) → IsShortageOf instance.now (units_taken instance.now pins.now) (positions_taken instance.now pins.now) s }
     ensures only { (s : OneShortage) → IsShortageOf instance.now (units_taken instance.now pins.now) (positions_taken instance.now pins.now) s → IsErrOf result (SolveError.NoMatching s) ⊎ IsErrOf result SolveError.Memory }

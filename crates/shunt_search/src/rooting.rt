@@ -12,6 +12,7 @@ ghost use Rattle.shunt_prices.specs.defs.Limits.{AreDuals, AreApart, AreCases, p
 ghost use Rattle.shunt_prices.specs.defs.Cases.{CasesHold, DualsHold};
 ghost use Rattle.shunt_prices.specs.defs.Bounds.{IsBoundOf, IsCasesBound, case_sum, duals_sum};
 ghost use Rattle.shunt_dual.specs.defs.Assignments.{IsAssignmentBound};
+ghost use Rattle.shunt_proof.specs.declared.records.Version.TheVariants.{Prices};
 ghost use Rattle.shunt_search.specs.defs.Roots.{AreRooted, IsRoot};
 
 use crate::known::Known;
@@ -60,7 +61,7 @@ pub(crate) fn carried_cases()
 /// Duals that hold at a path are cases for a root there, where their sum is at least what is rounded to the assignment bound.
 fn rooted_duals()
     ensures { (night : Night) (path : List OneBlock) (d : SomeDuals) (total : ℕ) → AreDuals night d → AreApart d.prices → DualsHold night path d → pos total ≤ℤ duals_sum night path d →
-        ((b : ℕ) → IsBoundOf (pos total) (pos b) → IsAssignmentBound night b) → AreRooted night path (plain d) }
+        ((b : ℕ) → IsBoundOf (pos total) (pos b) → IsAssignmentBound night b) → AreRooted Prices night path (plain d) }
 {
     bounds();
     weak_duality();
@@ -72,7 +73,7 @@ fn assigned_cases(alloc: Global, instance: &Instance, path: &Path) -> Result<Cas
     requires each { All (IsBlockButId instance.now) path.now.blocks }
     requires through { RunsThrough instance.now (placed path.now.blocks) }
     requires matching { (place : List ℕ) × Matches instance.now place }
-    ensures { IfOk result (AreRooted instance.now path.now.blocks) }
+    ensures { IfOk result (AreRooted Prices instance.now path.now.blocks) }
 {
     // The calls tell that the duals hold at the path too, and that they are cases for a root.
     carried_cases();
@@ -93,7 +94,7 @@ fn raised_cases(alloc: Global, instance: &Instance, path: &Path) -> Result<Cases
     requires each { All (IsBlockButId instance.now) path.now.blocks }
     requires through { RunsThrough instance.now (placed path.now.blocks) }
     requires matching { (place : List ℕ) × Matches instance.now place }
-    ensures { IfOk result (AreRooted instance.now path.now.blocks) }
+    ensures { IfOk result (AreRooted Prices instance.now path.now.blocks) }
 {
     // The calls tell that the duals hold at the path too, and that they are cases for a root.
     carried_cases();
@@ -112,8 +113,8 @@ fn raised_cases(alloc: Global, instance: &Instance, path: &Path) -> Result<Cases
 /// Cases for a root, with their bound of its path as the floor.
 fn root_of(instance: &Instance, path: &Path, cases: Cases) -> Root
     requires path { IsTrailOf instance.now path.now }
-    requires cases { AreRooted instance.now path.now.blocks cases }
-    ensures { IsRoot instance.now path.now.blocks result }
+    requires cases { AreRooted Prices instance.now path.now.blocks cases }
+    ensures { IsRoot Prices instance.now path.now.blocks result }
 {
     Root {
         floor: cases_bound(instance, path, &cases),
@@ -124,10 +125,10 @@ fn root_of(instance: &Instance, path: &Path, cases: Cases) -> Root
 /// What is proposed, as cases for a root, where it holds at a path and bounds it no less than the floor of others there.
 fn if_better(instance: &Instance, path: &Path, known: Root, proposed: Cases) -> Option<Root>
     requires path { IsTrailOf instance.now path.now }
-    requires known { IsRoot instance.now path.now.blocks known }
+    requires known { IsRoot Prices instance.now path.now.blocks known }
     requires cases { AreCases instance.now proposed }
     requires apart { All (λ c. AreApart c.duals.prices) proposed }
-    ensures { IfSome result (IsRoot instance.now path.now.blocks) }
+    ensures { IfSome result (IsRoot Prices instance.now path.now.blocks) }
 {
     // The call tells that a path has one bound by cases.
     bounds();
@@ -168,7 +169,7 @@ pub(crate) fn root_cases(
     requires each { All (IsBlockButId instance.now) path.now.blocks }
     requires through { RunsThrough instance.now (placed path.now.blocks) }
     requires matching { (place : List ℕ) × Matches instance.now place }
-    ensures { IfOk result (IsRoot instance.now path.now.blocks) }
+    ensures { IfOk result (IsRoot Prices instance.now path.now.blocks) }
 {
     let unparked = unparked_in(&plan.blocks);
     let proposed = proposal.parted(alloc, instance, unparked, plan.cost)?;

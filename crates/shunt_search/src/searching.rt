@@ -7,6 +7,8 @@ ghost use Rattle.shunt_instance.specs.defs.Instance.{Night, IsInstance};
 ghost use Rattle.shunt_blocks.specs.declared.records.Block.{Block as OneBlock};
 ghost use Rattle.shunt_matching.specs.declared.types.Shortage.{Shortage as OneShortage};
 ghost use Rattle.shunt_proof.specs.declared.records.Node.{Node as OneNode};
+ghost use Rattle.shunt_proof.specs.declared.records.Version.{Version};
+ghost use Rattle.shunt_proof.specs.declared.records.Version.TheVariants.{Prices};
 ghost use Rattle.shunt_proof.specs.defs.Recording.{Open, Failed};
 ghost use Rattle.shunt_search.specs.declared.walking.Pending.{Pending as OnePending};
 ghost use Rattle.shunt_search.specs.declared.noting.Noted.{Noted as OneNoted};
@@ -18,6 +20,7 @@ ghost use Rattle.shunt_search.specs.defs.Searching.{IsSearch, IsReady, Arrives, 
 
 use crate::known::{Known, keep_cheaper, kept_plans};
 use crate::noting::{Noted, next_nodes};
+use crate::rising::bounds_rise_in_versions;
 use crate::solved::SolveError;
 use crate::steadying::walks_stay_steady;
 use crate::visiting::visit;
@@ -28,9 +31,9 @@ use shunt_blocks::laws::few_blocks;
 use shunt_choices::laws::plans_grow;
 use shunt_instance::Instance;
 use shunt_instance::laws::unit_numbers;
-use shunt_prices::laws::bounds_rise;
 use shunt_proof::Recorder;
 use shunt_proof::laws::few_nodes;
+use shunt_proof::version_laws::bounds_by_version;
 use shunt_tree::ProposedTree;
 use std::alloc::{AllocError, Global};
 
@@ -57,24 +60,25 @@ pub struct Search {
 /// How a search goes on: its next child can become a node, a branch whose children come in its place, or a whole path; and children that
 /// are closed or passed over are no part of it.
 fn searches_go_on()
-    ensures ready { (night : Night) (pins : List OneBlock) (stock : List (List OneCase)) (told : Option (List OneNode)) (number owned : ℕ) (left : List OnePending) (t : OnePending) (s : OneSearch) →
-        IsInstance night → IsSearch night pins stock told number owned (left ++ t ∷ []) s → t.child.bound <ℤ pos s.known.cost → IsReady night stock told s.yard t }
-    ensures branch { (night : Night) (pins : List OneBlock) (stock : List (List OneCase)) (told now : Option (List OneNode)) (number count owned cases : ℕ) (left : List OnePending) (t : OnePending) (s z : OneSearch) (how : OneNoted) →
-        IsInstance night → IsSearch night pins stock told number owned (left ++ t ∷ []) s → t.child.bound <ℤ pos s.known.cost → Arrives night stock s z t how left → how ≢ noted.Whole →
+    ensures ready { (version : Version) (night : Night) (pins : List OneBlock) (stock : List (List OneCase)) (told : Option (List OneNode)) (number owned : ℕ) (left : List OnePending) (t : OnePending) (s : OneSearch) →
+        IsInstance night → IsSearch version night pins stock told number owned (left ++ t ∷ []) s → t.child.bound <ℤ pos s.known.cost → IsReady night stock told s.yard t }
+    ensures branch { (version : Version) (night : Night) (pins : List OneBlock) (stock : List (List OneCase)) (told now : Option (List OneNode)) (number count owned cases : ℕ) (left : List OnePending) (t : OnePending) (s z : OneSearch) (how : OneNoted) →
+        IsInstance night → IsSearch version night pins stock told number owned (left ++ t ∷ []) s → t.child.bound <ℤ pos s.known.cost → Arrives version night stock s z t how left → how ≢ noted.Whole →
         count ≡ number + 1 → cases ≡ owned + cases_of stock how → BothTold told now (λ old new. new ≡ old ++ node_below s.yard.path.pins t.child.block stock how ∷ []) →
-        IsSearch night pins stock now count cases z.waiting.items z }
-    ensures whole { (night : Night) (pins : List OneBlock) (stock : List (List OneCase)) (told now : Option (List OneNode)) (number count owned cases : ℕ) (left : List OnePending) (t : OnePending) (s z w : OneSearch) →
-        IsInstance night → IsSearch night pins stock told number owned (left ++ t ∷ []) s → t.child.bound <ℤ pos s.known.cost → Arrives night stock s z t noted.Whole left →
+        IsSearch version night pins stock now count cases z.waiting.items z }
+    ensures whole { (version : Version) (night : Night) (pins : List OneBlock) (stock : List (List OneCase)) (told now : Option (List OneNode)) (number count owned cases : ℕ) (left : List OnePending) (t : OnePending) (s z w : OneSearch) →
+        IsInstance night → IsSearch version night pins stock told number owned (left ++ t ∷ []) s → t.child.bound <ℤ pos s.known.cost → Arrives version night stock s z t noted.Whole left →
         count ≡ number + 1 → cases ≡ owned + cases_of stock noted.Whole → BothTold told now (λ old new. new ≡ old ++ node_below s.yard.path.pins t.child.block stock noted.Whole ∷ []) → Takes night z w →
-        IsSearch night pins stock now count cases w.waiting.items w }
-    ensures closed { (night : Night) (pins : List OneBlock) (stock : List (List OneCase)) (told : Option (List OneNode)) (number owned : ℕ) (waiting left : List OnePending) (s z : OneSearch) →
-        IsSearch night pins stock told number owned waiting s → Falls s z waiting left → IsSearch night pins stock told number owned left z }
+        IsSearch version night pins stock now count cases w.waiting.items w }
+    ensures closed { (version : Version) (night : Night) (pins : List OneBlock) (stock : List (List OneCase)) (told : Option (List OneNode)) (number owned : ℕ) (waiting left : List OnePending) (s z : OneSearch) →
+        IsSearch version night pins stock told number owned waiting s → Falls s z waiting left → IsSearch version night pins stock told number owned left z }
 {
     walks_go_on();
     walks_stay_steady();
     next_nodes();
     kept_plans();
-    bounds_rise();
+    bounds_rise_in_versions();
+    bounds_by_version();
     few_nodes();
     plans_grow();
     few_blocks();
@@ -126,12 +130,12 @@ fn arrive<R: Recorder>(
     search: &mut Search,
     recorder: &mut R,
 ) -> Result<(), SolveError>
-    requires search { IsSearch instance.now pins.now tree.now.stock.items (R.told recorder.old) (R.number recorder.old) (R.cases recorder.old) (search.old.waiting.items ++ next ∷ []) search.old }
+    requires search { IsSearch Prices instance.now pins.now tree.now.stock.items (R.told recorder.old) (R.number recorder.old) (R.cases recorder.old) (search.old.waiting.items ++ next ∷ []) search.old }
     requires below { next.child.bound <ℤ pos search.old.known.cost }
     requires stage { R.stage recorder.old ≡ Open }
     requires own { R.owns recorder.old instance.now }
     requires room { R.number recorder.old < 5000 }
-    ensures search { OnOk result (IsSearch instance.now pins.now tree.now.stock.items (R.told recorder.new) (R.number recorder.new) (R.cases recorder.new) search.new.waiting.items search.new) }
+    ensures search { OnOk result (IsSearch Prices instance.now pins.now tree.now.stock.items (R.told recorder.new) (R.number recorder.new) (R.cases recorder.new) search.new.waiting.items search.new) }
     ensures number { OnOk result (R.number recorder.new ≡ R.number recorder.old + 1) }
     ensures plain { OnOk result (search.new.plain ≡ search.old.plain) }
     ensures cheaper { OnOk result (search.new.known.cost ≤ search.old.known.cost) }
@@ -189,11 +193,11 @@ fn advance<R: Recorder>(
     search: &mut Search,
     recorder: &mut R,
 ) -> Result<bool, SolveError>
-    requires search { IsSearch instance.now pins.now tree.now.stock.items (R.told recorder.old) (R.number recorder.old) (R.cases recorder.old) search.old.waiting.items search.old }
+    requires search { IsSearch Prices instance.now pins.now tree.now.stock.items (R.told recorder.old) (R.number recorder.old) (R.cases recorder.old) search.old.waiting.items search.old }
     requires stage { R.stage recorder.old ≡ Open }
     requires own { R.owns recorder.old instance.now }
     requires room { R.number recorder.old < 5000 }
-    ensures search { OnOk result (IsSearch instance.now pins.now tree.now.stock.items (R.told recorder.new) (R.number recorder.new) (R.cases recorder.new) search.new.waiting.items search.new) }
+    ensures search { OnOk result (IsSearch Prices instance.now pins.now tree.now.stock.items (R.told recorder.new) (R.number recorder.new) (R.cases recorder.new) search.new.waiting.items search.new) }
     ensures more { IfOk result (λ more. more ≡ true → R.number recorder.new ≡ R.number recorder.old + 1) }
     ensures done { IfOk result (λ more. more ≡ false → (R.number recorder.new ≡ R.number recorder.old) × (search.new.waiting.items ≡ [])) }
     ensures plain { OnOk result (search.new.plain ≡ search.old.plain) }
@@ -226,13 +230,13 @@ pub(crate) fn walk_on<R: Recorder>(
     search: &mut Search,
     recorder: &mut R,
 ) -> Result<(), SolveError>
-    requires search { IsSearch instance.now pins.now tree.now.stock.items (R.told recorder.old) (R.number recorder.old) (R.cases recorder.old) search.old.waiting.items search.old }
+    requires search { IsSearch Prices instance.now pins.now tree.now.stock.items (R.told recorder.old) (R.number recorder.old) (R.cases recorder.old) search.old.waiting.items search.old }
     requires first { R.number recorder.old ≡ 1 }
     requires some { 1 ≤ nodes }
     requires few { nodes ≤ 5000 }
     requires stage { R.stage recorder.old ≡ Open }
     requires own { R.owns recorder.old instance.now }
-    ensures search { OnOk result (IsSearch instance.now pins.now tree.now.stock.items (R.told recorder.new) (R.number recorder.new) (R.cases recorder.new) search.new.waiting.items search.new) }
+    ensures search { OnOk result (IsSearch Prices instance.now pins.now tree.now.stock.items (R.told recorder.new) (R.number recorder.new) (R.cases recorder.new) search.new.waiting.items search.new) }
     ensures most { OnOk result (R.number recorder.new ≤ nodes) }
     ensures done { OnOk result ((R.number recorder.new ≡ nodes) ⊎ (search.new.waiting.items ≡ [])) }
     ensures plain { OnOk result (search.new.plain ≡ search.old.plain) }

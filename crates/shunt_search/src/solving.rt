@@ -10,6 +10,7 @@ ghost use Rattle.shunt_blocks.specs.defs.Pins.{AreUsable, Keeps, opening_cost};
 ghost use Rattle.shunt_plan.specs.defs.Plans.{IsPlanInRange};
 ghost use Rattle.shunt_matching.specs.declared.types.Shortage.{Shortage as OneShortage};
 ghost use Rattle.shunt_matching.specs.defs.Nights.{IsShortageOf};
+ghost use Rattle.shunt_proof.specs.declared.records.Version.TheVariants.{Prices};
 ghost use Rattle.shunt_proof.specs.defs.Certificates.{IsCertificate};
 ghost use Rattle.shunt_proof.specs.defs.Recording.{Open, Finished, Failed};
 ghost use Rattle.shunt_search.specs.defs.Conditions.{MeetConditions, MeetsConditions, IsBoundForPlans};
@@ -55,7 +56,7 @@ fn conclude<R: Recorder>(
     search: Search,
     recorder: &mut R,
 ) -> Result<Solved, SolveError>
-    requires search { (stock : List (List OneCase)) × IsSearch instance.now pins.now stock (R.told recorder.old) (R.number recorder.old) (R.cases recorder.old) search.waiting.items search }
+    requires search { (stock : List (List OneCase)) × IsSearch Prices instance.now pins.now stock (R.told recorder.old) (R.number recorder.old) (R.cases recorder.old) search.waiting.items search }
     requires most { R.number recorder.old ≤ nodes }
     requires few { nodes ≤ 5000 }
     requires done { IsDone (R.number recorder.old) nodes search.waiting.items search.known.cost search.low }

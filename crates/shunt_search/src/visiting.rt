@@ -5,6 +5,7 @@ ghost use Rattle.shunt_store.specs.defs.Files.{BothTold};
 ghost use Rattle.shunt_instance.specs.defs.Instance.{Night};
 ghost use Rattle.shunt_choices.specs.defs.Paths.{next_of};
 ghost use Rattle.shunt_matching.specs.declared.types.Shortage.{Shortage as OneShortage};
+ghost use Rattle.shunt_proof.specs.declared.records.Version.TheVariants.{Prices};
 ghost use Rattle.shunt_proof.specs.defs.Nodes.{AreStatable};
 ghost use Rattle.shunt_proof.specs.defs.Recording.{Open, Failed};
 ghost use Rattle.shunt_search.specs.defs.Yards.{IsYard};
@@ -22,8 +23,8 @@ use shunt_blocks::laws::few_blocks;
 use shunt_choices::Path;
 use shunt_dual::cases_hold;
 use shunt_instance::Instance;
-use shunt_prices::laws::bounds;
 use shunt_proof::Recorder;
+use shunt_proof::version_laws::bounds_by_version;
 use shunt_tree::ProposedTree;
 use std::alloc::{AllocError, Global};
 
@@ -59,10 +60,10 @@ fn lifts(
     requires yard { IsYard instance.now yard.now }
     requires stock { All (AreStatable instance.now) tree.now.stock.items }
     requires best { best ≤ 1000000000000 }
-    ensures { IfOk result (λ yes. yes ≡ true → IsLifted instance.now tree.now.stock.items yard.now.path.blocks best least place) }
+    ensures { IfOk result (λ yes. yes ≡ true → IsLifted Prices instance.now tree.now.stock.items yard.now.path.blocks best least place) }
 {
     // The call tells that a path has one bound by cases.
-    bounds();
+    bounds_by_version();
     if place >= tree.stock.len() {
         return Ok(false);
     }
@@ -103,8 +104,8 @@ pub(crate) fn root_place(
     requires yard { IsYard instance.now search.now.yard }
     requires stock { All (AreStatable instance.now) tree.now.stock.items }
     requires best { search.now.known.cost ≤ 1000000000000 }
-    requires first { IsLifted instance.now tree.now.stock.items search.now.yard.path.blocks search.now.known.cost search.now.floor 0 }
-    ensures { IfOk result (IsLifted instance.now tree.now.stock.items search.now.yard.path.blocks search.now.known.cost search.now.floor) }
+    requires first { IsLifted Prices instance.now tree.now.stock.items search.now.yard.path.blocks search.now.known.cost search.now.floor 0 }
+    ensures { IfOk result (IsLifted Prices instance.now tree.now.stock.items search.now.yard.path.blocks search.now.known.cost search.now.floor) }
 {
     let Some(place) = proposed_cases(tree, Some(0)) else {
         return Ok(0);
@@ -131,7 +132,7 @@ fn noted_as(
     requires stock { All (AreStatable instance.now) tree.now.stock.items }
     requires best { search.now.known.cost ≤ 1000000000000 }
     requires room { search.now.owned ≤ 8000 }
-    ensures noted { IfOk result (IsNoted instance.now tree.now.stock.items search.now.yard.path.blocks search.now.known.cost next.now.child.bound) }
+    ensures noted { IfOk result (IsNoted Prices instance.now tree.now.stock.items search.now.yard.path.blocks search.now.known.cost next.now.child.bound) }
     ensures there { IfOk result (IsInStock tree.now.stock.items) }
     ensures room { IfOk result (λ how. search.now.owned + cases_of tree.now.stock.items how ≤ 8000) }
 {
@@ -179,7 +180,7 @@ fn list_children(
     requires inherits { next.now.cases < length tree.now.stock.items }
     requires there { IsInStock tree.now.stock.items how }
     requires best { search.old.known.cost ≤ 1000000000000 }
-    ensures opens { OnOk result (Opens instance.now tree.now.stock.items search.old.known.cost search.old.yard.path.blocks search.old.count (place_of how next.now.cases) search.old.waiting.items search.new.waiting.items) }
+    ensures opens { OnOk result (Opens Prices instance.now tree.now.stock.items search.old.known.cost search.old.yard.path.blocks search.old.count (place_of how next.now.cases) search.old.waiting.items search.new.waiting.items) }
     ensures yard { search.new.yard ≡ search.old.yard }
     ensures known { search.new.known ≡ search.old.known }
     ensures low { search.new.low ≡ search.old.low }
@@ -224,7 +225,7 @@ pub(crate) fn visit<R: Recorder>(
     requires count { search.old.count ≡ R.number recorder.old }
     requires cases { search.old.owned ≡ R.cases recorder.old }
     requires case_room { R.cases recorder.old ≤ 8000 }
-    ensures arrives { IfOk result (λ how. Arrives instance.now tree.now.stock.items search.old search.new next.now how search.old.waiting.items) }
+    ensures arrives { IfOk result (λ how. Arrives Prices instance.now tree.now.stock.items search.old search.new next.now how search.old.waiting.items) }
     ensures told { IfOk result (λ how. BothTold (R.told recorder.old) (R.told recorder.new) (λ old new. new ≡ old ++ node_below search.old.yard.path.pins next.now.child.block tree.now.stock.items how ∷ [])) }
     ensures number { OnOk result (R.number recorder.new ≡ R.number recorder.old + 1) }
     ensures cases { IfOk result (λ how. R.cases recorder.new ≡ R.cases recorder.old + cases_of tree.now.stock.items how) }

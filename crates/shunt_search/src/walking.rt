@@ -7,20 +7,21 @@ ghost use Rattle.shunt_blocks.specs.declared.records.Block.{Block as OneBlock};
 ghost use Rattle.shunt_blocks.specs.defs.Lists.{total_cost};
 ghost use Rattle.shunt_blocks.specs.defs.Pins.{opening_cost};
 ghost use Rattle.shunt_choices.specs.defs.Paths.{masks_of, next_of};
-ghost use Rattle.shunt_prices.specs.defs.Cases.{CasesHold};
 ghost use Rattle.shunt_proof.specs.declared.records.NodeKind.TheVariants.{Branch, Whole};
 ghost use Rattle.shunt_proof.specs.declared.records.Node.{Node as OneNode};
+ghost use Rattle.shunt_proof.specs.declared.records.Version.{Version};
 ghost use Rattle.shunt_proof.specs.defs.Nodes.{FitsNode, CanFollow};
 ghost use Rattle.shunt_proof.specs.defs.Trees.{cases_or};
-ghost use Rattle.shunt_proof.specs.defs.Proves.{Reaches, AreRight};
+ghost use Rattle.shunt_proof.specs.defs.Versions.{HoldIn, IsStepBoundIn};
+ghost use Rattle.shunt_proof.specs.defs.Proves.{AreRightIn};
 ghost use Rattle.shunt_search.specs.declared.walking.Pending.{Pending as OnePending};
 ghost use Rattle.shunt_search.specs.defs.Yards.{IsNextBlock};
 ghost use Rattle.shunt_search.specs.defs.Walking.{kept, goal_of, cases_in, IsNodeOf, IsWalk, Passes, AddsChildren, OpensAbove, IsLesser};
 
 use crate::children::Child;
+use crate::rising::bounds_rise_in_versions;
 use shunt_blocks::laws::few_blocks;
 use shunt_choices::laws::{choices, plans_grow};
-use shunt_prices::laws::longer_paths;
 
 /// A child that is still to be walked to.
 #[derive(Clone, Copy)]
@@ -36,42 +37,42 @@ pub struct Pending {
 
 /// How a walk begins: with the root, whose children are all still to be walked to, or which is whole.
 pub(crate) fn walks_begin()
-    ensures branch { (night : Night) (start : List OneBlock) (stock : List (List OneCase)) (floor : ℤ) (n : OneNode) (best : ℕ) (low : ℤ) (place : ℕ) (waiting : List OnePending) → FitsNode night n → n.depth ≡ 0 →
-        n.kind ≡ Branch → cases_or n.duals [] ≡ cases_in stock place → place < length stock → best ≤ opening_cost night start → low ≤ℤ pos best → AddsChildren night stock best start 0 place [] waiting →
-        OpensAbove night start (cases_in stock place) best floor → CasesHold night start (cases_in stock place) → IsSome (next_of (masks_of night start)) → IsWalk night start stock floor (n ∷ []) start waiting best low }
-    ensures whole { (night : Night) (start : List OneBlock) (stock : List (List OneCase)) (floor : ℤ) (n : OneNode) (best : ℕ) (low : ℤ) → FitsNode night n → n.depth ≡ 0 →
-        n.kind ≡ Whole → best ≤ opening_cost night start → best ≤ total_cost night start → low ≤ℤ pos best → next_of (masks_of night start) ≡ None → IsWalk night start stock floor (n ∷ []) start [] best low }
+    ensures branch { (version : Version) (night : Night) (start : List OneBlock) (stock : List (List OneCase)) (floor : ℤ) (n : OneNode) (best : ℕ) (low : ℤ) (place : ℕ) (waiting : List OnePending) → FitsNode night n → n.depth ≡ 0 →
+        n.kind ≡ Branch → cases_or n.duals [] ≡ cases_in stock place → place < length stock → best ≤ opening_cost night start → low ≤ℤ pos best → AddsChildren version night stock best start 0 place [] waiting →
+        OpensAbove version night start (cases_in stock place) best floor → HoldIn version night start (cases_in stock place) → IsSome (next_of (masks_of night start)) → IsWalk version night start stock floor (n ∷ []) start waiting best low }
+    ensures whole { (version : Version) (night : Night) (start : List OneBlock) (stock : List (List OneCase)) (floor : ℤ) (n : OneNode) (best : ℕ) (low : ℤ) → FitsNode night n → n.depth ≡ 0 →
+        n.kind ≡ Whole → best ≤ opening_cost night start → best ≤ total_cost night start → low ≤ℤ pos best → next_of (masks_of night start) ≡ None → IsWalk version night start stock floor (n ∷ []) start [] best low }
 {}
 
 /// How a walk goes on: the last child becomes a node, a branch whose children come in its place, or a whole path; or it is closed or passed
 /// over. Its node can follow the others, its parent's cases are in the stock and hold at its path, and its bound is by them. If what is
 /// left isn't walked to, each node is locally right for what neither the low bound nor a bound that is left is below.
 pub(crate) fn walks_go_on()
-    ensures branch { (night : Night) (start : List OneBlock) (stock : List (List OneCase)) (floor : ℤ) (nodes : List OneNode) (path : List OneBlock) (left waiting : List OnePending) (t : OnePending) (best : ℕ) (low : ℤ) (n : OneNode) (place : ℕ) →
-        IsInstance night → IsWalk night start stock floor nodes path (left ++ t ∷ []) best low → IsNodeOf night start path t.child n → t.child.bound <ℤ pos best → n.kind ≡ Branch →
-        cases_or n.duals (cases_in stock t.cases) ≡ cases_in stock place → place < length stock → AddsChildren night stock best (goal_of path t.child) (length nodes) place left waiting →
-        OpensAbove night (goal_of path t.child) (cases_in stock place) best floor →
-        CasesHold night (goal_of path t.child) (cases_in stock place) → IsSome (next_of (masks_of night (goal_of path t.child))) →
-        IsWalk night start stock floor (nodes ++ n ∷ []) (goal_of path t.child) waiting best low }
-    ensures whole { (night : Night) (start : List OneBlock) (stock : List (List OneCase)) (floor : ℤ) (nodes : List OneNode) (path : List OneBlock) (left : List OnePending) (t : OnePending) (best now : ℕ) (low lower : ℤ) (n : OneNode) →
-        IsInstance night → IsWalk night start stock floor nodes path (left ++ t ∷ []) best low → IsNodeOf night start path t.child n → t.child.bound <ℤ pos best → n.kind ≡ Whole →
+    ensures branch { (version : Version) (night : Night) (start : List OneBlock) (stock : List (List OneCase)) (floor : ℤ) (nodes : List OneNode) (path : List OneBlock) (left waiting : List OnePending) (t : OnePending) (best : ℕ) (low : ℤ) (n : OneNode) (place : ℕ) →
+        IsInstance night → IsWalk version night start stock floor nodes path (left ++ t ∷ []) best low → IsNodeOf night start path t.child n → t.child.bound <ℤ pos best → n.kind ≡ Branch →
+        cases_or n.duals (cases_in stock t.cases) ≡ cases_in stock place → place < length stock → AddsChildren version night stock best (goal_of path t.child) (length nodes) place left waiting →
+        OpensAbove version night (goal_of path t.child) (cases_in stock place) best floor →
+        HoldIn version night (goal_of path t.child) (cases_in stock place) → IsSome (next_of (masks_of night (goal_of path t.child))) →
+        IsWalk version night start stock floor (nodes ++ n ∷ []) (goal_of path t.child) waiting best low }
+    ensures whole { (version : Version) (night : Night) (start : List OneBlock) (stock : List (List OneCase)) (floor : ℤ) (nodes : List OneNode) (path : List OneBlock) (left : List OnePending) (t : OnePending) (best now : ℕ) (low lower : ℤ) (n : OneNode) →
+        IsInstance night → IsWalk version night start stock floor nodes path (left ++ t ∷ []) best low → IsNodeOf night start path t.child n → t.child.bound <ℤ pos best → n.kind ≡ Whole →
         now ≤ best → now ≤ total_cost night (goal_of path t.child) → lower ≤ℤ low → lower ≤ℤ pos now → next_of (masks_of night (goal_of path t.child)) ≡ None →
-        IsWalk night start stock floor (nodes ++ n ∷ []) (goal_of path t.child) left now lower }
-    ensures follows { (night : Night) (start : List OneBlock) (stock : List (List OneCase)) (floor : ℤ) (nodes : List OneNode) (path : List OneBlock) (left : List OnePending) (t : OnePending) (best : ℕ) (low : ℤ) (n : OneNode) →
-        IsInstance night → IsWalk night start stock floor nodes path (left ++ t ∷ []) best low → IsNodeOf night start path t.child n → t.child.bound <ℤ pos best → CanFollow nodes n }
-    ensures next { (night : Night) (start : List OneBlock) (stock : List (List OneCase)) (floor : ℤ) (nodes : List OneNode) (path : List OneBlock) (left : List OnePending) (t : OnePending) (best : ℕ) (low : ℤ) →
-        IsWalk night start stock floor nodes path (left ++ t ∷ []) best low → (length start ≤ kept t.child) × (kept t.child ≤ length path) × IsNextBlock night (take (kept t.child) path) t.child.block }
-    ensures hold { (night : Night) (start : List OneBlock) (stock : List (List OneCase)) (floor : ℤ) (nodes : List OneNode) (path : List OneBlock) (left : List OnePending) (t : OnePending) (best : ℕ) (low : ℤ) →
-        IsWalk night start stock floor nodes path (left ++ t ∷ []) best low → (t.cases < length stock) × CasesHold night (goal_of path t.child) (cases_in stock t.cases) × Reaches night (goal_of path t.child) (cases_in stock t.cases) t.child.bound }
-    ensures closed { (night : Night) (start : List OneBlock) (stock : List (List OneCase)) (floor : ℤ) (nodes : List OneNode) (path : List OneBlock) (waiting left : List OnePending) (best : ℕ) (low now : ℤ) →
-        IsWalk night start stock floor nodes path waiting best low → Passes waiting left low now → IsWalk night start stock floor nodes path left best now }
-    ensures right { (night : Night) (start : List OneBlock) (stock : List (List OneCase)) (floor : ℤ) (nodes : List OneNode) (path : List OneBlock) (waiting : List OnePending) (best : ℕ) (low bound : ℤ) →
-        IsWalk night start stock floor nodes path waiting best low → bound ≤ℤ low → ((t : OnePending) → In t waiting → bound ≤ℤ t.child.bound) → AreRight night start nodes bound }
+        IsWalk version night start stock floor (nodes ++ n ∷ []) (goal_of path t.child) left now lower }
+    ensures follows { (version : Version) (night : Night) (start : List OneBlock) (stock : List (List OneCase)) (floor : ℤ) (nodes : List OneNode) (path : List OneBlock) (left : List OnePending) (t : OnePending) (best : ℕ) (low : ℤ) (n : OneNode) →
+        IsInstance night → IsWalk version night start stock floor nodes path (left ++ t ∷ []) best low → IsNodeOf night start path t.child n → t.child.bound <ℤ pos best → CanFollow nodes n }
+    ensures next { (version : Version) (night : Night) (start : List OneBlock) (stock : List (List OneCase)) (floor : ℤ) (nodes : List OneNode) (path : List OneBlock) (left : List OnePending) (t : OnePending) (best : ℕ) (low : ℤ) →
+        IsWalk version night start stock floor nodes path (left ++ t ∷ []) best low → (length start ≤ kept t.child) × (kept t.child ≤ length path) × IsNextBlock night (take (kept t.child) path) t.child.block }
+    ensures hold { (version : Version) (night : Night) (start : List OneBlock) (stock : List (List OneCase)) (floor : ℤ) (nodes : List OneNode) (path : List OneBlock) (left : List OnePending) (t : OnePending) (best : ℕ) (low : ℤ) →
+        IsWalk version night start stock floor nodes path (left ++ t ∷ []) best low → (t.cases < length stock) × HoldIn version night (goal_of path t.child) (cases_in stock t.cases) × IsStepBoundIn version night (take (kept t.child) path) (goal_of path t.child) (cases_in stock t.cases) t.child.bound }
+    ensures closed { (version : Version) (night : Night) (start : List OneBlock) (stock : List (List OneCase)) (floor : ℤ) (nodes : List OneNode) (path : List OneBlock) (waiting left : List OnePending) (best : ℕ) (low now : ℤ) →
+        IsWalk version night start stock floor nodes path waiting best low → Passes waiting left low now → IsWalk version night start stock floor nodes path left best now }
+    ensures right { (version : Version) (night : Night) (start : List OneBlock) (stock : List (List OneCase)) (floor : ℤ) (nodes : List OneNode) (path : List OneBlock) (waiting : List OnePending) (best : ℕ) (low bound : ℤ) →
+        IsWalk version night start stock floor nodes path waiting best low → bound ≤ℤ low → ((t : OnePending) → In t waiting → bound ≤ℤ t.child.bound) → AreRightIn version night start nodes bound }
 {
     few_blocks();
     choices();
     plans_grow();
-    longer_paths();
+    bounds_rise_in_versions();
 }
 
 /// The lesser of a bound and that of a child.

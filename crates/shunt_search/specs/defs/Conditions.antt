@@ -8,7 +8,6 @@ use Rattle.shunt_blocks.specs.defs.Polished.{IsPolished}
 use Rattle.shunt_choices.specs.defs.Paths.{AreInOrder}
 use Rattle.shunt_choices.specs.defs.Choices.{partial_plans}
 use Rattle.shunt_plan.specs.declared.records.Plan.{Plan}
-use Rattle.shunt_prices.specs.defs.Bounds.{IsCasesBound}
 use Rattle.shunt_dual.specs.defs.Assignments.{IsAssignmentBound}
 use Rattle.shunt_proof.specs.declared.records.NodeKind.TheVariants.{Whole}
 use Rattle.shunt_proof.specs.declared.records.Node.{Node}
@@ -17,7 +16,8 @@ use Rattle.shunt_proof.specs.declared.recorder.RecordError.{RecordError}
 use Rattle.shunt_proof.specs.declared.recorder.RecordError.TheVariants as record_errors
 use Rattle.shunt_proof.specs.defs.Nodes.{node_at}
 use Rattle.shunt_proof.specs.defs.Trees.{IsStart, path_at, duals_at}
-use Rattle.shunt_proof.specs.defs.Proves.{Proves}
+use Rattle.shunt_proof.specs.defs.Versions.{IsBoundIn}
+use Rattle.shunt_proof.specs.defs.Proves.{ProvesIn}
 use Rattle.shunt_proof.specs.defs.Accepted.{IsAccepted}
 use Rattle.shunt_search.specs.declared.solved.Solved.{Solved}
 use Rattle.shunt_search.specs.declared.solved.SolveError.{SolveError}
@@ -43,7 +43,8 @@ pub record IsTidy (night : Night) (pins : List Block) (plan : Plan) : Type 0 whe
 -- 3: it costs at most the opening cost of the pins, and at most each whole path among the nodes
 pub record IsCheap (night : Night) (pins : List Block) (plan : Plan) (nodes : List Node) : Type 0 where
   pub opening : total_cost night plan.blocks ≤ opening_cost night pins
-  pub wholes : (start : List Block) (k : ℕ) → IsStart night pins start → k < length nodes → (node_at nodes k).kind ≡ Whole → total_cost night plan.blocks ≤ total_cost night (path_at night start nodes k)
+  pub wholes : (start : List Block) (k : ℕ) → IsStart night pins start → k < length nodes → (node_at nodes k).kind ≡ Whole
+      → total_cost night plan.blocks ≤ total_cost night (path_at night start nodes k)
 
 -- 5: the bound is at least the assignment bound
 pub record IsAboveAssignment (night : Night) (bound : ℕ) : Type 0 where
@@ -57,15 +58,15 @@ pub record AreSpent (night : Night) (pins : List Block) (most nodes cost bound :
   pub all : bound < cost → nodes ≡ most
   pub optimal : partial_plans night pins < most → bound ≡ cost
 
--- the bound is at least that of the pins' path by the root's cases, so nodes below never give away what the root bounds
+-- the bound is at least that of the pins' path by the root's cases, in the certificate's version, so nodes below never give away what the root bounds
 abbrev pub IsAboveRoot : Night → List Block → Certificate → Type 0
-IsAboveRoot night pins c = (start : List Block) (bound : ℤ) → IsStart night pins start → IsCasesBound night start (duals_at c.nodes 0) bound → bound ≤ℤ pos c.bound
+IsAboveRoot night pins c = (start : List Block) (bound : ℤ) → IsStart night pins start → IsBoundIn c.version night start (duals_at c.nodes 0) bound → bound ≤ℤ pos c.bound
 
 -- no node gives away a bound: the cases of each branch keep what its parent's bound, and each bound up to the cost that the first of the
 -- nodes prove by themselves is at most the certificate's
 pub record AreSteady (night : Night) (pins : List Block) (c : Certificate) : Type 0 where
-  pub keep : (start : List Block) → IsStart night pins start → KeepBounds night start c.nodes c.cost
-  pub fronts : (start : List Block) (m : ℕ) (L : ℤ) → IsStart night pins start → 1 ≤ m → L ≤ℤ pos c.cost → Proves night start (take m c.nodes) L 0 → L ≤ℤ pos c.bound
+  pub keep : (start : List Block) → IsStart night pins start → KeepBounds c.version night start c.nodes c.cost
+  pub fronts : (start : List Block) (m : ℕ) (L : ℤ) → IsStart night pins start → 1 ≤ m → L ≤ℤ pos c.cost → ProvesIn c.version night start (take m c.nodes) L 0 → L ≤ℤ pos c.bound
 
 -- the eight conditions on a plan and a certificate, with at most that many nodes; and the bound isn't below the root's, nor below what the
 -- first of the nodes prove

@@ -7,6 +7,7 @@ use Rattle.shunt_blocks.specs.defs.Lists.{total_cost}
 use Rattle.shunt_blocks.specs.defs.Pins.{opening_cost}
 use Rattle.shunt_plan.specs.declared.records.Plan.{Plan}
 use Rattle.shunt_proof.specs.declared.records.Node.{Node}
+use Rattle.shunt_proof.specs.declared.records.Version.{Version}
 use Rattle.shunt_proof.specs.declared.records.Version.TheVariants.{Prices}
 use Rattle.shunt_proof.specs.declared.records.Certificate.{Certificate}
 use Rattle.shunt_proof.specs.defs.Certificates.{IsCertificate}
@@ -23,26 +24,34 @@ pub record IsLeft (waiting : List Pending) (low bound : ℤ) : Type 0 where
 abbrev pub IsDone : ℕ → ℕ → List Pending → ℕ → ℤ → Type 0
 IsDone number most waiting best low = (number ≡ most) ⊎ ((waiting ≡ []) × (low ≡ pos best))
 
--- nodes of version 1 with a plan's cost and a bound
+-- nodes of a version with a plan's cost and a bound
+abbrev pub certificate_in : Version → Plan → ℕ → List Node → Certificate
+certificate_in version plan bound nodes = record { version = version; cost = plan.cost; bound = bound; nodes = nodes }
+
+-- nodes of version 1 with them
 abbrev pub certificate_of : Plan → ℕ → List Node → Certificate
-certificate_of plan bound nodes = record { version = Prices; cost = plan.cost; bound = bound; nodes = nodes }
+certificate_of plan bound nodes = certificate_in Prices plan bound nodes
 
 -- some nodes, that many, and those that are told where any are told, are with the plan's cost and the bound a certificate that a file can
 -- state, and meet the conditions with the plan
-pub record IsShown (night : Night) (pins : List Block) (most : ℕ) (plan : Plan) (b number : ℕ) (told : Option (List Node)) : Type 0 where
+pub record IsShownIn (version : Version) (night : Night) (pins : List Block) (most : ℕ) (plan : Plan) (b number : ℕ) (told : Option (List Node)) : Type 0 where
   pub nodes : List Node
   pub tells : IfSome told (λ now. now ≡ nodes)
   pub many : number ≡ length nodes
-  pub stated : IsCertificate night (certificate_of plan b nodes)
-  pub meet : MeetConditions night pins most plan (certificate_of plan b nodes)
+  pub stated : IsCertificate night (certificate_in version plan b nodes)
+  pub meet : MeetConditions night pins most plan (certificate_in version plan b nodes)
+
+-- the same in version 1
+abbrev pub IsShown : Night → List Block → ℕ → Plan → ℕ → ℕ → Option (List Node) → Type 0
+IsShown night pins most plan b number told = IsShownIn Prices night pins most plan b number told
 
 -- the plan costs at most the opening cost, the bound is one for all plans, and what speaks of no node holds; the nodes that are told, where any are told, are a certificate that a
 -- file can state, and meet the conditions
-pub record IsEnd (night : Night) (pins : List Block) (most nodes : ℕ) (plan : Plan) (b : ℕ) (told : Option (List Node)) : Type 0 where
+pub record IsEnd (version : Version) (night : Night) (pins : List Block) (most nodes : ℕ) (plan : Plan) (b : ℕ) (told : Option (List Node)) : Type 0 where
   pub opening : total_cost night plan.blocks ≤ opening_cost night pins
   pub above : IsAboveAssignment night b
   pub spent : AreSpent night pins most nodes plan.cost b
   pub for_plans : IsBoundForPlans night pins b
   pub within : b ≤ plan.cost
-  pub certificate : IfSome told (λ ns. IsCertificate night (certificate_of plan b ns) × MeetConditions night pins most plan (certificate_of plan b ns))
-  pub shown : IsShown night pins most plan b nodes told
+  pub certificate : IfSome told (λ ns. IsCertificate night (certificate_in version plan b ns) × MeetConditions night pins most plan (certificate_in version plan b ns))
+  pub shown : IsShownIn version night pins most plan b nodes told

@@ -40,7 +40,8 @@ NoLess night b held cost option = RunsWith night b option held → cost ≤ cost
 
 -- no other option of this block gives a feasible plan of lower cost
 abbrev pub IsLeast : Night → List Block → Block → Type 0
-IsLeast night blocks b = (option : Option Park) → IsOption night (shape_of b) option → IsFeasible night (with_option b option blocks) → total_cost night blocks ≤ total_cost night (with_option b option blocks)
+IsLeast night blocks b = (option : Option Park) → IsOption night (shape_of b) option → IsFeasible night (with_option b option blocks)
+    → total_cost night blocks ≤ total_cost night (with_option b option blocks)
 
 -- the same of a block that is no pin
 abbrev pub IsLeastBut : Night → List Block → List Block → Block → Type 0

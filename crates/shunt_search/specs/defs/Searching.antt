@@ -8,6 +8,7 @@ use Rattle.shunt_blocks.specs.defs.Pins.{AreUsable, opening_cost}
 use Rattle.shunt_proof.specs.declared.records.NodeKind.TheVariants.{Branch, Whole}
 use Rattle.shunt_proof.specs.declared.records.NodeDuals.TheVariants.{New, Bare}
 use Rattle.shunt_proof.specs.declared.records.Node.{Node}
+use Rattle.shunt_proof.specs.declared.records.Version.{Version}
 use Rattle.shunt_proof.specs.defs.Nodes.{AreStatable, CanFollow}
 use Rattle.shunt_proof.specs.defs.Certificates.{case_total}
 use Rattle.shunt_proof.specs.defs.Trees.{IsStart}
@@ -28,19 +29,20 @@ pub record IsStock (night : Night) (stock : List (List Case)) : Type 0 where
 -- some nodes are a walk from the pins to the yard's path, with these children left: they are the nodes that are told, where any are told,
 -- and that many, with that many cases of their own; what they show is at least the bound of the pins by the root's cases, and at least the
 -- search's floor, which isn't below the assignment bound; and the low bound is the best cost where the walk is plain
-pub record IsSearch (night : Night) (pins : List Block) (stock : List (List Case)) (told : Option (List Node)) (number owned : ℕ) (waiting : List Pending) (s : Search) : Type 0 where
+pub record IsSearch (version : Version) (night : Night) (pins : List Block) (stock : List (List Case)) (told : Option (List Node)) (number owned : ℕ) (waiting : List Pending)
+    (s : Search) : Type 0 where
   pub start : List Block
   pub nodes : List Node
   pub usable : AreUsable night pins
   pub even : position_total night ≡ unit_total night
   pub begins : IsStart night pins start
   pub stocked : IsStock night stock
-  pub rooted : AreRooted night start (cases_in stock 0)
-  pub lowest : IsFloor night start (cases_in stock 0) rooted.floor s.floor
+  pub rooted : AreRooted version night start (cases_in stock 0)
+  pub lowest : IsFloor version night start (cases_in stock 0) rooted.floor s.floor
   pub floor : ℤ
-  pub base : IsBase night pins start nodes s.floor floor
-  pub walk : IsWalk night start stock floor nodes s.yard.path.blocks waiting s.known.cost s.low
-  pub steady : IsSteady night start nodes s.yard.path.blocks waiting s.known.cost s.low
+  pub base : IsBase version night pins start nodes s.floor floor
+  pub walk : IsWalk version night start stock floor nodes s.yard.path.blocks waiting s.known.cost s.low
+  pub steady : IsSteady version night start nodes s.yard.path.blocks waiting s.known.cost s.low
   pub high : floor ≤ℤ s.low
   pub tells : IfSome told (λ now. now ≡ nodes)
   pub many : number ≡ length nodes
@@ -63,12 +65,12 @@ pub record IsReady (night : Night) (stock : List (List Case)) (told : Option (Li
   pub place : (how : Noted) → IsInStock stock how → IfSome told (λ nodes. CanFollow nodes (node_below y.path.pins t.child.block stock how))
 
 -- a search has gone to a child, and has noted its path
-pub record Arrives (night : Night) (stock : List (List Case)) (s z : Search) (t : Pending) (how : Noted) (left : List Pending) : Type 0 where
+pub record Arrives (version : Version) (night : Night) (stock : List (List Case)) (s z : Search) (t : Pending) (how : Noted) (left : List Pending) : Type 0 where
   pub path : z.yard.path.blocks ≡ goal_of s.yard.path.blocks t.child
   pub pins : z.yard.path.pins ≡ s.yard.path.pins
   pub yard : IsYard night z.yard
-  pub is_noted : IsNoted night stock (goal_of s.yard.path.blocks t.child) s.known.cost t.child.bound how
-  pub opens : Opens night stock s.known.cost (goal_of s.yard.path.blocks t.child) s.count (place_of how t.cases) left z.waiting.items
+  pub is_noted : IsNoted version night stock (goal_of s.yard.path.blocks t.child) s.known.cost t.child.bound how
+  pub opens : Opens version night stock s.known.cost (goal_of s.yard.path.blocks t.child) s.count (place_of how t.cases) left z.waiting.items
   pub known : z.known ≡ s.known
   pub low : z.low ≡ s.low
   pub floor : z.floor ≡ s.floor
@@ -100,13 +102,13 @@ pub record Falls (s z : Search) (old left : List Pending) : Type 0 where
   pub cases_counted : z.owned ≡ s.owned
 
 -- a search that is to begin: the path is the pins in order, and the plan that is known costs at most the one that parks nothing else
-pub record IsFresh (night : Night) (pins : List Block) (stock : List (List Case)) (s : Search) : Type 0 where
+pub record IsFresh (version : Version) (night : Night) (pins : List Block) (stock : List (List Case)) (s : Search) : Type 0 where
   pub usable : AreUsable night pins
   pub even : position_total night ≡ unit_total night
   pub begins : IsStart night pins s.yard.path.blocks
   pub stocked : IsStock night stock
-  pub rooted : AreRooted night s.yard.path.blocks (cases_in stock 0)
-  pub lowest : IsFloor night s.yard.path.blocks (cases_in stock 0) rooted.floor s.floor
+  pub rooted : AreRooted version night s.yard.path.blocks (cases_in stock 0)
+  pub lowest : IsFloor version night s.yard.path.blocks (cases_in stock 0) rooted.floor s.floor
   pub yard : IsYard night s.yard
   pub long : s.yard.path.pins ≡ length s.yard.path.blocks
   pub best : IsBest night pins s.known.blocks.items s.known.cost

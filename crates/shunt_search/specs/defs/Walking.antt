@@ -8,16 +8,16 @@ use Rattle.shunt_blocks.specs.defs.Lists.{RunsThrough, IsFeasible, placed, total
 use Rattle.shunt_blocks.specs.defs.Pins.{Keeps}
 use Rattle.shunt_choices.specs.defs.Paths.{masks_of, next_of}
 use Rattle.shunt_choices.specs.defs.Choices.{Choice as PathChoice, longer_by}
-use Rattle.shunt_prices.specs.defs.Cases.{CasesHold}
-use Rattle.shunt_prices.specs.defs.Bounds.{IsCasesBound}
+use Rattle.shunt_proof.specs.declared.records.Version.{Version}
 use Rattle.shunt_proof.specs.declared.records.NodeKind.TheVariants.{Branch, Whole}
 use Rattle.shunt_proof.specs.declared.records.NodeDuals.TheVariants.{Same, New, Bare}
 use Rattle.shunt_proof.specs.declared.records.Choice.{Choice}
 use Rattle.shunt_proof.specs.declared.records.Node.{Node}
 use Rattle.shunt_proof.specs.defs.Nodes.{node_at, FitsNode, AreNodes}
 use Rattle.shunt_proof.specs.defs.Trees.{depth_at, nearest, choice_from, path_at, duals_at, best_before}
-use Rattle.shunt_proof.specs.defs.Proves.{Shows, IsListed, IsPlaced}
-use Rattle.shunt_proof.specs.defs.Accepted.{AreLean}
+use Rattle.shunt_proof.specs.defs.Versions.{HoldIn, IsStepBoundIn}
+use Rattle.shunt_proof.specs.defs.Proves.{ShowsIn, IsListed, IsPlaced}
+use Rattle.shunt_proof.specs.defs.Accepted.{AreLeanIn}
 use Rattle.shunt_search.specs.declared.children.Child.{Child}
 use Rattle.shunt_search.specs.declared.known.Known.{Known}
 use Rattle.shunt_search.specs.declared.walking.Pending.{Pending}
@@ -39,7 +39,8 @@ cases_in stock place = slice_index_or stock place []
 
 -- a child of a noted branch that gives a partial plan and is no node yet: its parent's cases are at this place of the stock, and its bound
 -- by them isn't below the floor
-pub record IsPending (night : Night) (start : List Block) (stock : List (List Case)) (floor : ℤ) (nodes : List Node) (path : List Block) (t : Pending) : Type 0 where
+pub record IsPending (version : Version) (night : Night) (start : List Block) (stock : List (List Case)) (floor : ℤ) (nodes : List Node) (path : List Block)
+    (t : Pending) : Type 0 where
   pub there : t.parent < length nodes
   pub branch : (node_at nodes t.parent).kind ≡ Branch
   pub here : path_at night start nodes t.parent ≡ take (kept t.child) path
@@ -49,7 +50,7 @@ pub record IsPending (night : Night) (start : List Block) (stock : List (List Ca
   pub through : RunsThrough night (placed (goal_of path t.child))
   pub place : t.cases < length stock
   pub cases : cases_in stock t.cases ≡ duals_at nodes t.parent
-  pub bound : IsCasesBound night (goal_of path t.child) (duals_at nodes t.parent) t.child.bound
+  pub bound : IsStepBoundIn version night (path_at night start nodes t.parent) (goal_of path t.child) (duals_at nodes t.parent) t.child.bound
   pub above : floor ≤ℤ t.child.bound
   pub new : (j : ℕ) → j < length nodes → path_at night start nodes j ≢ goal_of path t.child
 
@@ -59,7 +60,8 @@ IsApart t s = (kept t.child ≤ kept s.child) × (kept t.child ≡ kept s.child 
 
 -- a node lists the choice, or its child with that path is still to be walked to
 abbrev pub IsKnown : Night → List Block → List Node → List Block → List Pending → ℕ → PathChoice → Type 0
-IsKnown night start nodes path waiting k c = IsListed night start nodes k c ⊎ ((t : Pending) × In t waiting × (t.parent ≡ k) × (goal_of path t.child ≡ longer_by (path_at night start nodes k) c))
+IsKnown night start nodes path waiting k c = IsListed night start nodes k c ⊎ ((t : Pending) × In t waiting × (t.parent ≡ k)
+    × (goal_of path t.child ≡ longer_by (path_at night start nodes k) c))
 
 -- a branch or a whole path
 abbrev pub IsWalked : List Node → ℕ → Type 0
@@ -67,16 +69,18 @@ IsWalked nodes k = ((node_at nodes k).kind ≡ Branch) ⊎ ((node_at nodes k).ki
 
 -- the nodes show the low bound, which isn't above the best cost, but for the children that are still to be walked to, the next one at
 -- the end; the last node has this path
-pub record IsWalk (night : Night) (start : List Block) (stock : List (List Case)) (floor : ℤ) (nodes : List Node) (path : List Block) (waiting : List Pending) (best : ℕ) (low : ℤ) : Type 0 where
+pub record IsWalk (version : Version) (night : Night) (start : List Block) (stock : List (List Case)) (floor : ℤ) (nodes : List Node) (path : List Block) (waiting : List Pending)
+    (best : ℕ) (low : ℤ) : Type 0 where
   pub formed : AreNodes night nodes
   pub some : 1 ≤ length nodes
   pub here : path ≡ path_at night start nodes (length nodes - 1)
   pub kinds : (k : ℕ) → k < length nodes → IsWalked nodes k
   pub placed : (k : ℕ) → 1 ≤ k → k < length nodes → IsPlaced night start nodes k
-  pub lean : AreLean night start nodes
-  pub pending : (t : Pending) → In t waiting → IsPending night start stock floor nodes path t
+  pub lean : AreLeanIn version night start nodes
+  pub pending : (t : Pending) → In t waiting → IsPending version night start stock floor nodes path t
   pub apart : AllPairs IsApart waiting
-  pub shows : (k : ℕ) → k < length nodes → Shows night (path_at night start nodes k) (duals_at nodes k) (node_at nodes k).kind (IsKnown night start nodes path waiting k) low
+  pub shows : (k : ℕ) → k < length nodes → ShowsIn version night (path_at night start nodes k) (duals_at nodes k) (node_at nodes k).kind
+      (IsKnown night start nodes path waiting k) low
   pub within : low ≤ℤ pos best
   pub cheap : best ≤ best_before night start nodes (length nodes)
 
@@ -89,8 +93,8 @@ pub record Passes (old left : List Pending) (low now : ℤ) : Type 0 where
   pub least : (now ≡ low) ⊎ ((t : Pending) × In t passed × (now ≡ t.child.bound))
 
 -- no next block that is open at a path has a bound below this
-abbrev pub OpensAbove : Night → List Block → List Case → ℕ → ℤ → Type 0
-OpensAbove night path cases best least = (c : Child) → IsOpen night path cases best c.block c.bound → least ≤ℤ c.bound
+abbrev pub OpensAbove : Version → Night → List Block → List Case → ℕ → ℤ → Type 0
+OpensAbove version night path cases best least = (c : Child) → IsOpen version night path cases best c.block c.bound → least ≤ℤ c.bound
 
 -- the lesser of two bounds
 pub record IsLesser (a b lesser : ℤ) : Type 0 where
@@ -130,16 +134,16 @@ cases_of stock noted.Same = 0
 cases_of stock (noted.Own place) = length (cases_in stock place)
 
 -- the cases at a place of a stock hold at a path, and bound each next block that is open there by this or more
-pub record IsLifted (night : Night) (stock : List (List Case)) (path : List Block) (best : ℕ) (least : ℤ) (place : ℕ) : Type 0 where
+pub record IsLifted (version : Version) (night : Night) (stock : List (List Case)) (path : List Block) (best : ℕ) (least : ℤ) (place : ℕ) : Type 0 where
   pub there : place < length stock
-  pub hold : CasesHold night path (cases_in stock place)
-  pub opens : OpensAbove night path (cases_in stock place) best least
+  pub hold : HoldIn version night path (cases_in stock place)
+  pub opens : OpensAbove version night path (cases_in stock place) best least
 
 -- a path is noted as whole, or as a branch, with cases of its own where they lift it
-abbrev pub IsNoted : Night → List (List Case) → List Block → ℕ → ℤ → Noted → Type 0
-IsNoted night stock path best least noted.Whole = next_of (masks_of night path) ≡ None
-IsNoted night stock path best least noted.Same = IsSome (next_of (masks_of night path))
-IsNoted night stock path best least (noted.Own place) = IsSome (next_of (masks_of night path)) × IsLifted night stock path best least place
+abbrev pub IsNoted : Version → Night → List (List Case) → List Block → ℕ → ℤ → Noted → Type 0
+IsNoted version night stock path best least noted.Whole = next_of (masks_of night path) ≡ None
+IsNoted version night stock path best least noted.Same = IsSome (next_of (masks_of night path))
+IsNoted version night stock path best least (noted.Own place) = IsSome (next_of (masks_of night path)) × IsLifted version night stock path best least place
 
 -- these children have come to those that wait, as those of the node with this number, whose cases are at this place of the stock
 pub record Adds (children : List Child) (parent place : ℕ) (old new : List Pending) : Type 0 where
@@ -149,9 +153,9 @@ pub record Adds (children : List Child) (parent place : ℕ) (old new : List Pen
   pub parents : (p : Pending) → In p added → (p.parent ≡ parent) × (p.cases ≡ place)
 
 -- the children of a path have come
-pub record AddsChildren (night : Night) (stock : List (List Case)) (best : ℕ) (path : List Block) (parent place : ℕ) (old new : List Pending) : Type 0 where
+pub record AddsChildren (version : Version) (night : Night) (stock : List (List Case)) (best : ℕ) (path : List Block) (parent place : ℕ) (old new : List Pending) : Type 0 where
   pub children : List Child
-  pub are : AreChildren night path (cases_in stock place) best children
+  pub are : AreChildren version night path (cases_in stock place) best children
   pub adds : Adds children parent place old new
 
 -- the place in the stock of a node's cases, where its parent's are at this one
@@ -161,9 +165,9 @@ place_of noted.Same above = Some above
 place_of (noted.Own place) above = Some place
 
 -- where a node has cases, its children have come
-abbrev pub Opens : Night → List (List Case) → ℕ → List Block → ℕ → Option ℕ → List Pending → List Pending → Type 0
-Opens night stock best path parent None old new = new ≡ old
-Opens night stock best path parent (Some place) old new = AddsChildren night stock best path parent place old new
+abbrev pub Opens : Version → Night → List (List Case) → ℕ → List Block → ℕ → Option ℕ → List Pending → List Pending → Type 0
+Opens version night stock best path parent None old new = new ≡ old
+Opens version night stock best path parent (Some place) old new = AddsChildren version night stock best path parent place old new
 
 -- the plan that is known stays, or a path has taken its place, with its places as ids: it costs no more than both
 pub record KeepsCheaper (night : Night) (path : List Block) (old new : Known) : Type 0 where

@@ -9,5 +9,6 @@ loop-u-preserved c =
     let high = c.value_of.ensures.high in
     record {
       size = one_more c.loop-u.values.items c.push.new.self.items _ c.loop-u.u c.in_ok-push.ensures.items c.loop-u.invariant.size;
-      each = each_more c.loop-u.values.items c.push.new.self.items _ c.in_ok-push.ensures.items c.loop-u.invariant.each (record { low = omega (arith, ints, low); high = omega (arith, ints, high) });
+      each = each_more c.loop-u.values.items c.push.new.self.items _ c.in_ok-push.ensures.items c.loop-u.invariant.each
+          (record { low = omega (arith, ints, low); high = omega (arith, ints, high) });
     }

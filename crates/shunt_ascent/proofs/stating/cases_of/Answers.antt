@@ -10,4 +10,5 @@ returns-in_ok-first-in-Some-clause-apart c =
     let P : Case → Type 0 = λ k. AreApart k.duals.prices in
     let first = c.in_ok-first-in-Some.first in
     let last = c.in_ok-last.last in
-    subst (λ (l : List Case). All P l) (sym c.two_cases.ensures) (All-cons P first (last ∷ []) c.in_ok-first-in-Some.ensures.apart (All-cons P last [] c.in_ok-last.ensures.apart (All-nil P)))
+    subst (λ (l : List Case). All P l) (sym c.two_cases.ensures) (All-cons P first (last ∷ []) c.in_ok-first-in-Some.ensures.apart
+    (All-cons P last [] c.in_ok-last.ensures.apart (All-nil P)))

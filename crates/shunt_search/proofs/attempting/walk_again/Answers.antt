@@ -1,4 +1,5 @@
 use Rattle.std.proofs.Common.{◌≡◌, [], ap, ◌∙◌, arith}
+use Rattle.shunt_proof.specs.declared.records.Version.TheVariants.{Prices}
 use Rattle.shunt_search.specs.declared.known.Known.{Known}
 use Rattle.shunt_search.proofs.Telling.{tells_both, tells_then}
 use Rattle.shunt_search.proofs.Restarted.{told_none}
@@ -12,7 +13,9 @@ start_again-requires-clause-small g c = c.requires.search.small
 
 pub attempt-requires-clause-fresh : goal.attempt-requires-clause-fresh
 attempt-requires-clause-fresh g c =
-    c.searches_restart.ensures c.args.instance.now c.args.pins.now c.args.tree.now.stock.items (g.R.Recorder.told c.args.recorder.now) (g.R.Recorder.number c.args.recorder.now) (g.R.Recorder.cases c.args.recorder.now) c.args.search.now c.start_again.new.search c.requires.search c.in_ok-start_again.ensures.again
+    c.searches_restart.ensures Prices c.args.instance.now c.args.pins.now c.args.tree.now.stock.items (g.R.Recorder.told c.args.recorder.now)
+    (g.R.Recorder.number c.args.recorder.now) (g.R.Recorder.cases c.args.recorder.now) c.args.search.now c.start_again.new.search c.requires.search
+    c.in_ok-start_again.ensures.again
 
 pub attempt-requires-clause-told : goal.attempt-requires-clause-told
 attempt-requires-clause-told g c = told_none _ _ c.in_ok-restart.ensures.told

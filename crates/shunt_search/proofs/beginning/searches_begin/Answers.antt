@@ -11,12 +11,14 @@ returns c =
       partial = c.starts.ensures.partial;
       steady = c.walks_stay_steady.ensures.root;
       cost = c.floors.ensures;
-      rise = c.bounds_rise.ensures.bound;
-      of_cases = c.bounds.ensures.of_cases;
-      one_of_cases = c.bounds.ensures.one_of_cases;
+      rise = c.bounds_rise_in_versions.ensures.step;
+      some = c.bounds_by_version.ensures.some;
+      one = c.bounds_by_version.ensures.one;
     } in
     record {
-      first = λ night pins stock s i f. first_lifts laws.rise night i pins stock s f;
-      whole = λ night pins stock told now count cases s z w i f tells first none begins empty covers takes. whole_begins laws night i pins stock told now count cases s f first z w tells none begins empty covers takes;
-      branch = λ night pins stock told now count cases s z place i f lifts tells first owns begins unfinished adds. branch_begins laws night i pins stock told now count cases s f first z place lifts tells owns begins unfinished adds;
+      first = λ version night pins stock s i f. first_lifts laws.rise version night i pins stock s f;
+      whole = λ version night pins stock told now count cases s z w i f tells first none begins empty covers takes.
+          whole_begins laws version night i pins stock told now count cases s f first z w tells none begins empty covers takes;
+      branch = λ version night pins stock told now count cases s z place i f lifts tells first owns begins unfinished adds.
+          branch_begins laws version night i pins stock told now count cases s f first z place lifts tells owns begins unfinished adds;
     }

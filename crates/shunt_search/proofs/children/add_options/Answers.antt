@@ -21,7 +21,8 @@ options-preserved c =
     record {
       can_next = tt;
       is_finite = tt;
-      so_far = next_option c.args.shape c.in-Some.option _ _ c.options.blocks.items c.push.new.self.items b _ c.in-Some.ensures.steps c.in_ok-push.ensures.items (ap choice_of c.block_of.ensures) h.so_far;
+      so_far = next_option c.args.shape c.in-Some.option _ _ c.options.blocks.items c.push.new.self.items b _ c.in-Some.ensures.steps c.in_ok-push.ensures.items
+          (ap choice_of c.block_of.ensures) h.so_far;
       ids = one_more (λ x. x.id ≡ c.args.id) c.options.blocks.items c.push.new.self.items b c.in_ok-push.ensures.items h.ids (ap (λ (x : Block). x.id) c.block_of.ensures);
     }
 

@@ -24,8 +24,11 @@ shapes-init c =
       can_next = tt;
       is_finite = tt;
       within = subst (λ (l : List Shape). AllByRecursion (AreRunsWithin night) l) (sym given)
-          (all_from (AreRunsWithin night) (shapes_of night (masks_of night c.args.path.now.blocks) c.args.unit) (λ s i. ((c.free_shapes.ensures.members night (masks_of night c.args.path.now.blocks) c.args.unit s c.units.ensures.formed (next_in night c.args.path.now.blocks c.args.unit c.requires.next)).0 i).shape.within));
-      so_far = ap (λ (l : List Block). map choice_of l ++ flat_map (choices_with night) c.shapes_from-shapes.result) c.requires.none ∙ ap (λ (l : List Shape). flat_map (choices_with night) l) given;
+          (all_from (AreRunsWithin night) (shapes_of night (masks_of night c.args.path.now.blocks) c.args.unit)
+          (λ s i. ((c.free_shapes.ensures.members night (masks_of night c.args.path.now.blocks) c.args.unit s c.units.ensures.formed
+          (next_in night c.args.path.now.blocks c.args.unit c.requires.next)).0 i).shape.within));
+      so_far = ap (λ (l : List Block). map choice_of l ++ flat_map (choices_with night) c.shapes_from-shapes.result) c.requires.none
+          ∙ ap (λ (l : List Shape). flat_map (choices_with night) l) given;
       ids = none_yet (λ (b : Block). b.id ≡ c.args.id) c.args.blocks.now.items c.requires.none;
     }
 
@@ -45,4 +48,5 @@ shapes-preserved c =
     }
 
 pub returns-clause-choices : goal.returns-clause-choices
-returns-clause-choices c = last_shape c.args.instance.now c.args.path.now.blocks c.args.unit _ c.shapes.blocks.items c.requires.next c.in_default.ensures.steps.0 c.shapes.invariant.so_far
+returns-clause-choices c = last_shape c.args.instance.now c.args.path.now.blocks c.args.unit _ c.shapes.blocks.items c.requires.next c.in_default.ensures.steps.0
+    c.shapes.invariant.so_far

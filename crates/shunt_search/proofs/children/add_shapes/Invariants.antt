@@ -12,6 +12,7 @@ invariant-shapes l = record {
   can_next : (goal.iterator-shapes).can_next l.shapes;
   is_finite : (goal.iterator-shapes).is_finite l.shapes;
   within : AllByRecursion (AreRunsWithin l.instance) l.shapes;
-  so_far : map choice_of l.blocks.items ++ flat_map (choices_with l.instance) l.shapes ≡ flat_map (choices_with l.instance) (shapes_of l.instance (masks_of l.instance l.fn.path.blocks) l.fn.unit);
+  so_far : map choice_of l.blocks.items ++ flat_map (choices_with l.instance) l.shapes
+      ≡ flat_map (choices_with l.instance) (shapes_of l.instance (masks_of l.instance l.fn.path.blocks) l.fn.unit);
   ids : All (λ b. b.id ≡ l.id) l.blocks.items;
 }

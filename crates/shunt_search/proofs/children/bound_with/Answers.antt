@@ -11,5 +11,6 @@ longer_bound-requires-clause-within c = next_within c.args.instance.now c.args.y
 
 pub returns : goal.returns
 returns c =
-    subst (IsCasesBound c.args.instance.now (more_by c.args.yard.now.path.blocks c.args.block.now) c.args.cases.now) (sym (to_z-of_z w64 c.longer_bound.result (record { sfits = c.longer_bound.type_inv })))
+    subst (IsCasesBound c.args.instance.now (more_by c.args.yard.now.path.blocks c.args.block.now) c.args.cases.now)
+    (sym (to_z-of_z w64 c.longer_bound.result (record { sfits = c.longer_bound.type_inv })))
     (c.longer_bound.ensures c.args.yard.now.path.blocks c.requires.sums (next_free c.args.instance.now c.args.yard.now.path.blocks c.args.block.now c.requires.next))

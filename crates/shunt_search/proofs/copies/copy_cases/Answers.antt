@@ -6,7 +6,8 @@ use Rattle.shunt_search.proofs.copies.copy_cases.Goals as goal
 
 pub returns-then-count-eq1 : goal.returns-then-count-eq1
 returns-then-count-eq1 c =
-    c.one.ensures ∙ one_of c.args.cases.now c.in_ok-first.first (sym c.len-count.ensures.value ∙ c.if-count-eq1.true) (c.get.ensures ∙ ap (λ (d : Case). Some d) (sym c.in_ok-first.ensures))
+    c.one.ensures ∙ one_of c.args.cases.now c.in_ok-first.first (sym c.len-count.ensures.value ∙ c.if-count-eq1.true)
+    (c.get.ensures ∙ ap (λ (d : Case). Some d) (sym c.in_ok-first.ensures))
 
 pub returns : goal.returns
 returns c =

@@ -5,7 +5,7 @@ pub returns : goal.returns
 returns c =
     let laws : EndLaws = record {
       right = c.walks_go_on.ensures.right;
-      exactly = c.trees.ensures.exactly;
+      exactly = c.trees_by_version.ensures.exactly;
       left = c.walks_stay_steady.ensures.left;
       fronts = c.walks_stay_steady.ensures.fronts;
       costs = c.walks_stay_steady.ensures.costs;
@@ -13,10 +13,11 @@ returns c =
       opening = c.starts.ensures.opening;
       before_opening = c.best_costs.ensures.opening;
       before_whole = c.best_costs.ensures.whole;
-      accepted = c.proved_bounds.ensures.accepted;
+      accepted = λ night pins own stated x plan i h apart a f keeps. c.proved_by_version.ensures.accepted x.version night pins own stated x plan i h apart a f keeps;
       all_plans = c.all_plans.ensures;
     } in
     record {
-      natural = λ night pins stock told number owned s bound i h left. natural laws night i pins stock told number owned s h bound left;
-      end = λ night pins stock told number owned most b s plan i h left for_plan tidy cheap few limit done. end laws night i pins stock told number owned s h most b plan left for_plan tidy cheap few limit done;
+      natural = λ version night pins stock told number owned s bound i h left. natural laws version night i pins stock told number owned s h bound left;
+      end = λ version night pins stock told number owned most b s plan i h left for_plan tidy cheap few limit done.
+          end laws version night i pins stock told number owned s h most b plan left for_plan tidy cheap few limit done;
     }

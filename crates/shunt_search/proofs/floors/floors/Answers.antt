@@ -6,6 +6,7 @@ returns c =
     let laws : FloorLaws = record {
       keeps = c.starts.ensures.keeps;
       begins = c.starts.ensures.partial;
-      dual = c.weak_duality.ensures.cases;
+      dual = c.bounds_rise_in_versions.ensures.plans;
     } in
-    λ night pins start cases floor plan i usable begins are hold reach feasible keeps. cost laws night pins start cases floor plan i usable begins are hold reach feasible keeps
+    λ version night pins start cases floor plan i usable begins are hold reach feasible keeps.
+    cost laws version night pins start cases floor plan i usable begins are hold reach feasible keeps

@@ -13,4 +13,5 @@ pub returns-clause-no_shortage : goal.returns-clause-no_shortage
 returns-clause-no_shortage c =
     let laws : PlaceLaws = record { unit_in = c.places.ensures.unit_in; position_in = c.places.ensures.position_in } in
     λ night pins blocks s feasible keeps short.
-    c.one_shortage.ensures.never (unit_entries night) (position_entries night) (units_taken night pins) (positions_taken night pins) s short _ (rest_matched laws night pins blocks feasible keeps)
+    c.one_shortage.ensures.never (unit_entries night) (position_entries night) (units_taken night pins) (positions_taken night pins) s short _
+    (rest_matched laws night pins blocks feasible keeps)

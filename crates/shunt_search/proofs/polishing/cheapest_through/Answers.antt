@@ -18,7 +18,8 @@ options-init c =
     record {
       can_next = tt;
       is_finite = tt;
-      are = subst (λ (l : List (Option Park)). AllByRecursion (IsOption night (shape_of b)) l) (sym given) (all_from (IsOption night (shape_of b)) (options_of night (shape_of b)) (λ o i. (c.shape_options.ensures.members night (shape_of b) o).0 i));
+      are = subst (λ (l : List (Option Park)). AllByRecursion (IsOption night (shape_of b)) l) (sym given)
+          (all_from (IsOption night (shape_of b)) (options_of night (shape_of b)) (λ o i. (c.shape_options.ensures.members night (shape_of b) o).0 i));
       option = tt;
       cost = c.block_cost-least.ensures.exact ∙ ap (block_cost night) c.with_park.ensures;
       through = c.requires.through;
@@ -40,7 +41,8 @@ options-preserved-in-Some-cheaper c =
       cost = w.cost;
       through = w.through;
       all = λ n le rest. h.all n (let less = w.less in omega (arith, le, less))
-          (subst (λ (l : List (Option Park)). AllByRecursion (NoLess night b c.args.others.now n) l) (sym c.in-Some.ensures.steps) (λ _. (let is = w.cost in omega (arith, le, is)), rest));
+          (subst (λ (l : List (Option Park)). AllByRecursion (NoLess night b c.args.others.now n) l) (sym c.in-Some.ensures.steps)
+          (λ _. (let is = w.cost in omega (arith, le, is)), rest));
     }
 
 pub options-preserved : goal.options-preserved
@@ -57,7 +59,8 @@ options-preserved c =
       cost = h.cost;
       through = h.through;
       all = λ n le rest. h.all n le
-          (subst (λ (l : List (Option Park)). AllByRecursion (NoLess night b c.args.others.now n) l) (sym c.in-Some.ensures.steps) (λ runs. (let least = c.in_default-cheaper.ensures.none runs in omega (arith, le, least)), rest));
+          (subst (λ (l : List (Option Park)). AllByRecursion (NoLess night b c.args.others.now n) l) (sym c.in-Some.ensures.steps)
+          (λ runs. (let least = c.in_default-cheaper.ensures.none runs in omega (arith, le, least)), rest));
     }
 
 pub returns-clause-least : goal.returns-clause-least
@@ -65,7 +68,8 @@ returns-clause-least c =
     let night = c.args.instance.now in
     let b = c.args.block.now in
     let h = c.options.invariant in
-    let all = h.all c.options.least (omega arith) (subst (λ (l : List (Option Park)). AllByRecursion (NoLess night b c.args.others.now c.options.least) l) (sym c.in_default.ensures.steps.0) tt) in
+    let all = h.all c.options.least (omega arith) (subst (λ (l : List (Option Park)). AllByRecursion (NoLess night b c.args.others.now c.options.least) l)
+    (sym c.in_default.ensures.steps.0) tt) in
     λ option is runs. (
     let i = (c.shape_options.ensures.members night (shape_of b) option).1 is in
     let le = all_in (NoLess night b c.args.others.now c.options.least) (options_of night (shape_of b)) option all i runs in

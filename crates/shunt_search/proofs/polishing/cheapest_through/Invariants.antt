@@ -15,5 +15,6 @@ invariant-options l = record {
   option : IsOption l.instance (shape_of l.block) l.best;
   cost : l.least ≡ cost_with l.instance (shape_of l.block) l.best;
   through : RunsWith l.instance l.block l.best l.others;
-  all : (n : ℕ) → n ≤ l.least → AllByRecursion (NoLess l.instance l.block l.others n) l.options → AllByRecursion (NoLess l.instance l.block l.others n) (options_of l.instance (shape_of l.block));
+  all : (n : ℕ) → n ≤ l.least → AllByRecursion (NoLess l.instance l.block l.others n) l.options
+      → AllByRecursion (NoLess l.instance l.block l.others n) (options_of l.instance (shape_of l.block));
 }

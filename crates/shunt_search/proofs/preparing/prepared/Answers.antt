@@ -4,6 +4,7 @@ use Rattle.std.proofs.lemmas.List.Sorted.{length_permutation}
 use Rattle.shunt_base.specs.declared.duals.Case.{Case}
 use Rattle.shunt_prices.specs.defs.Cases.{CasesHold}
 use Rattle.shunt_proof.specs.defs.Nodes.{AreStatable}
+use Rattle.shunt_proof.specs.declared.records.Version.TheVariants.{Prices}
 use Rattle.shunt_search.specs.defs.Roots.{IsAbove, IsFloor}
 use Rattle.shunt_search.proofs.preparing.prepared.Goals as goal
 
@@ -39,10 +40,11 @@ returns-clause-fresh c =
         hold = subst (λ (l : List Case). CasesHold night path.blocks l) root_is root.rooted.hold;
         floor = root.rooted.floor;
         assignment = root.rooted.assignment;
-        above = subst (λ (l : List Case). IsAbove night path.blocks l root.rooted.floor) root_is root.rooted.above;
+        above = subst (λ (l : List Case). IsAbove Prices night path.blocks l root.rooted.floor) root_is root.rooted.above;
       };
-      lowest = subst (λ (l : List Case). IsFloor night path.blocks l root.rooted.floor (to_z w64 (of_z w64 floor))) root_is
-          (subst (λ (z : ℤ). IsFloor night path.blocks c.in_ok-root.root.cases root.rooted.floor z) (sym (to_z-of_z w64 floor (record { sfits = c.floor-floor.type_inv }) ∙ c.floor-floor.ensures)) root.low);
+      lowest = subst (λ (l : List Case). IsFloor Prices night path.blocks l root.rooted.floor (to_z w64 (of_z w64 floor))) root_is
+          (subst (λ (z : ℤ). IsFloor Prices night path.blocks c.in_ok-root.root.cases root.rooted.floor z)
+          (sym (to_z-of_z w64 floor (record { sfits = c.floor-floor.type_inv }) ∙ c.floor-floor.ensures)) root.low);
       yard = c.requires.yard;
       long = let many = c.requires.pins in let same = length_permutation c.args.pins.now path.blocks c.requires.start.same in omega (arith, many, same);
       best = c.in_ok-take_proposed.ensures.best;

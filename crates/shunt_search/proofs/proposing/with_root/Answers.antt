@@ -4,4 +4,5 @@ use Rattle.shunt_search.proofs.Stocked.{replaced}
 use Rattle.shunt_search.proofs.proposing.with_root.Goals as goal
 
 pub returns-clause-stock : goal.returns-clause-stock
-returns-clause-stock c = λ night all statable. (replaced night c.args.tree.stock.items c.args.cases (let empty = c.is_empty-none.ensures in let some = c.if-none.false in grind (arith, common_steps)) all statable).0
+returns-clause-stock c = λ night all statable. (replaced night c.args.tree.stock.items c.args.cases
+    (let empty = c.is_empty-none.ensures in let some = c.if-none.false in grind (arith, common_steps)) all statable).0

@@ -1,6 +1,7 @@
 use Rattle.std.proofs.Common.{◌≡◌, ◌↔◌, ◌≤◌, ◌-◌}
 use Rattle.shunt_instance.specs.defs.Instance.{Night}
 use Rattle.shunt_proof.specs.defs.Recording.{Open}
+use Rattle.shunt_proof.specs.declared.records.Version.TheVariants.{Prices}
 use Rattle.shunt_search.specs.defs.Searching.{IsSearch, TellsOn}
 use Rattle.shunt_search.proofs.searching.walk_on.Given as goal
 
@@ -8,7 +9,7 @@ abbrev pub invariant-walk : goal.invariant-walk
 invariant-walk g l =
     let R = g.R.Recorder in
     record {
-      search : IsSearch l.instance l.pins l.tree.stock.items (R.told l.recorder) (R.number l.recorder) (R.cases l.recorder) l.search.waiting.items l.search;
+      search : IsSearch Prices l.instance l.pins l.tree.stock.items (R.told l.recorder) (R.number l.recorder) (R.cases l.recorder) l.search.waiting.items l.search;
       plain : l.search.plain ≡ l.fn.search.plain;
       cheaper : l.search.known.cost ≤ l.fn.search.known.cost;
       tells : TellsOn (R.told l.fn.recorder) (R.told l.recorder);

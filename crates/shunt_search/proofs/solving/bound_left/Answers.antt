@@ -11,7 +11,8 @@ returns c =
     let low = c.give_up-low.result in
     let least = to_z w64 (of_z w64 c.low_bound-least.result) in
     let is = to_z-of_z w64 c.low_bound-least.result (record { sfits = c.low_bound-least.type_inv }) ∙ c.low_bound-least.ensures in
-    let left = subst (λ (z : ℤ). IsLeft search.waiting.items z low) is (left_of c.deref.result.now search.waiting.items least low c.deref.ensures.value c.give_up-low.ensures.within c.give_up-low.ensures.left c.give_up-low.ensures.least) in
+    let left = subst (λ (z : ℤ). IsLeft search.waiting.items z low) is (left_of c.deref.result.now search.waiting.items least low c.deref.ensures.value c.give_up-low.ensures.within
+    c.give_up-low.ensures.left c.give_up-low.ensures.least) in
     let natural = c.requires low left in
     let seen = to_z-of_z w64 low (record { sfits = c.give_up-low.type_inv }) in
     subst (λ (z : ℤ). IsLeft search.waiting.items search.low z) (natural.1 ∙ sym (ap (λ (z : ℤ). pos (nat_abs z)) (seen ∙ natural.1))) left

@@ -26,9 +26,11 @@ returns-clause-bound g c =
 pub returns-clause-exact : goal.returns-clause-exact
 returns-clause-exact g c = λ s e.
     let night = c.args.instance.now in
-    c.masks_alike.ensures.shortages (unit_entries night) (position_entries night) (units_taken night []) (positions_taken night []) [] [] s (free_units night (length (unit_entries night))) (free_positions night (length (position_entries night))) (c.solve_pinned.ensures.exact s e)
+    c.masks_alike.ensures.shortages (unit_entries night) (position_entries night) (units_taken night []) (positions_taken night []) [] [] s
+    (free_units night (length (unit_entries night))) (free_positions night (length (position_entries night))) (c.solve_pinned.ensures.exact s e)
 
 pub returns-clause-only : goal.returns-clause-only
 returns-clause-only g c = λ s h.
     let night = c.args.instance.now in
-    c.solve_pinned.ensures.only s (c.masks_alike.ensures.shortages (unit_entries night) (position_entries night) [] [] (units_taken night []) (positions_taken night []) s (free_units_back night (length (unit_entries night))) (free_positions_back night (length (position_entries night))) h)
+    c.solve_pinned.ensures.only s (c.masks_alike.ensures.shortages (unit_entries night) (position_entries night) [] [] (units_taken night []) (positions_taken night []) s
+    (free_units_back night (length (unit_entries night))) (free_positions_back night (length (position_entries night))) h)

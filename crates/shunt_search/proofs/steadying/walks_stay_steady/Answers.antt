@@ -13,18 +13,24 @@ returns c =
       grows = c.plans_grow.ensures.grows;
       once = c.plans_grow.ensures.once;
     } in
-    let one = c.bounds.ensures.one_of_cases in
+    let one = c.bounds_by_version.ensures.one_step in
     record {
-      root = λ night start n path waiting best low is. steady_root night start n path waiting best low is;
-      branch = λ night start stock floor nodes path left waiting t best low n place formed walk steady node below kind own there adds rise holds unfinished.
-          steady_branch night formed laws start stock floor nodes path left t best low walk steady n node.choice node.depth node.states node.is node.fits below kind place there own waiting adds rise
-          (opens_floor night start stock floor nodes path left t best low walk (cases_in stock place) rise) holds unfinished;
-      whole = λ night start stock floor nodes path left t best now low lesser n formed walk steady node below kind less within which.
-          steady_whole night formed laws start stock floor nodes path left t best low walk steady n node.choice node.depth node.states node.is node.fits below kind now lesser less within which;
-      closed = λ night start stock floor nodes path waiting left best low now walk steady passes. steady_closed night start stock floor nodes path waiting left best low now walk steady passes;
-      left = λ night start stock floor nodes path waiting best low bound walk steady right le.
-          (low_above one night start nodes walk.formed bound right stock floor path waiting best low walk steady le, left_above one night start nodes walk.formed bound right stock floor path waiting best low walk);
-      fronts = λ night start stock floor nodes path waiting best m low least bound formed walk steady right cheap some front.
-          fronts_right laws one night formed start best least bound cheap nodes m some walk.some (given c.best_costs.ensures.whole night start stock floor nodes path waiting best low walk steady least right) front;
-      costs = λ night start nodes best now le keep. steady_cost night start nodes best now le keep;
+      root = λ version night start n path waiting best low is. steady_root version night start n path waiting best low is;
+      branch = λ version night start stock floor nodes path left waiting t best low n place formed walk steady node below kind own there adds rise holds unfinished.
+          steady_branch version night formed laws start stock floor nodes path left t best low walk steady n node.choice node.depth node.states node.is node.fits below kind place
+          there own waiting adds rise
+          (opens_floor version night start stock floor nodes path left t best low walk (cases_in stock place) rise) holds unfinished;
+      whole = λ version night start stock floor nodes path left t best now low lesser n formed walk steady node below kind less within which.
+          steady_whole version night formed laws start stock floor nodes path left t best low walk steady n node.choice node.depth node.states node.is node.fits below kind now
+          lesser less within which;
+      closed = λ version night start stock floor nodes path waiting left best low now walk steady passes.
+          steady_closed version night start stock floor nodes path waiting left best low now walk steady passes;
+      left = λ version night start stock floor nodes path waiting best low bound walk steady right le. (
+        low_above one version night start nodes walk.formed bound right stock floor path waiting best low walk steady le,
+        left_above one version night start nodes walk.formed bound right stock floor path waiting best low walk,
+      );
+      fronts = λ version night start stock floor nodes path waiting best m low least bound formed walk steady right cheap some front.
+          fronts_right laws one version night formed start best least bound cheap nodes m some walk.some
+          (given c.best_costs.ensures.whole version night start stock floor nodes path waiting best low walk steady least right) front;
+      costs = λ version night start nodes best now le keep. steady_cost version night start nodes best now le keep;
     }

@@ -23,4 +23,5 @@ loop-place-preserved c =
     record { is = omega (arith, next, is, own); small = omega (arith, small, few) }
 
 pub returns-clause-exact : goal.returns-clause-exact
-returns-clause-exact c = c.loop-place.invariant.is ∙ ap (λ (l : List Block). total_cost c.args.instance.now l) (take_all c.loop-place.place c.args.blocks.now (omega (arith, c.loop-place-test.false)))
+returns-clause-exact c = c.loop-place.invariant.is ∙ ap (λ (l : List Block). total_cost c.args.instance.now l)
+    (take_all c.loop-place.place c.args.blocks.now (omega (arith, c.loop-place-test.false)))

@@ -19,5 +19,6 @@ returns-clause-yard c =
     let b = last c in
     left_yard night old c.pop.new.self b.0 b.1
     (c.stays_of_blocks.ensures.placed night old.blocks c.units.ensures.formed (λ k d lt. (c.requires.yard.path.each k d lt).within) c.requires.yard.path.apart)
-    c.args.self.now.timelines c.remove.new.self c.requires.yard.stand c.remove.ensures.lengths _ (ap (λ (l : List Block). length l) c.blocks-2.ensures) c.remove.ensures.gone c.remove.result c.remove.ensures.some c.remove.ensures.count c.remove.ensures.unchanged
+    c.args.self.now.timelines c.remove.new.self c.requires.yard.stand c.remove.ensures.lengths _
+    (ap (λ (l : List Block). length l) c.blocks-2.ensures) c.remove.ensures.gone c.remove.result c.remove.ensures.some c.remove.ensures.count c.remove.ensures.unchanged
     c.pop.ensures.of c.pop.ensures.pins c.requires.more c.requires.yard.room

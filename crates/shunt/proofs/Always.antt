@@ -23,7 +23,8 @@ module _ (c : Call) (good : (v : Value c) (r : Reply) → IsAnswer c v r → r.o
   done_there old new x files v known ok ends = decides c outcome.Done old new x files known (λ r is. good v r (answer_at (stated_in c files) v r ok is)) ends
 
   -- an outcome of accepted files is a good end
-  tells : (x : Result (Value c) (List ℕ)) (r : Reply) (o : Outcome) → (o ≡ outcome.Input → ⊥) → Decided x (IsAnswer c) r → r.outcome ≡ o → (v : Value c) × (x ≡ Ok v) × (o ≡ outcome.Done)
+  tells : (x : Result (Value c) (List ℕ)) (r : Reply) (o : Outcome) → (o ≡ outcome.Input → ⊥) → Decided x (IsAnswer c) r → r.outcome ≡ o
+      → (v : Value c) × (x ≡ Ok v) × (o ≡ outcome.Done)
   tells (Err text) r o other is e = absurd (other (sym e ∙ ap (λ (r : Reply). r.outcome) is))
   tells (Ok v) r o other is e = (v, refl, sym e ∙ good v r is)
 
@@ -48,7 +49,8 @@ module _ (c : Call) (good : (v : Value c) (r : Reply) → IsAnswer c v r → r.o
   pub no_unfinished : (old new : Seen) → Ends c old new status.Unfinished → ⊥
   no_unfinished old new ends = never outcome.Unfinished old new (λ e. cc) (λ e. cc) ends
 
-  pub ends_well : (old new : Seen) (x : Status) (files : Files) (v : Value c) → old.files ≡ Some files → stated_in c files ≡ Ok v → (Rose old.store_faults new.store_faults → ⊥) → (Rose old.sink_faults new.sink_faults → ⊥) → Ends c old new x → (x ≡ status.Done) ⊎ (x ≡ status.Memory)
+  pub ends_well : (old new : Seen) (x : Status) (files : Files) (v : Value c) → old.files ≡ Some files → stated_in c files ≡ Ok v → (Rose old.store_faults new.store_faults → ⊥)
+      → (Rose old.sink_faults new.sink_faults → ⊥) → Ends c old new x → (x ≡ status.Done) ⊎ (x ≡ status.Memory)
   ends_well old new x files v known ok ns nk ends = at (completes c old new x ns nk ends)
     where
       at : EndsAs c old x → (x ≡ status.Done) ⊎ (x ≡ status.Memory)

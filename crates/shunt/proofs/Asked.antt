@@ -34,7 +34,8 @@ use Rattle.shunt.specs.defs.Words.{Call, Match, Follow, Audit, Delay, Report, Ch
 use Rattle.shunt.specs.defs.Replies.{IsReply, IsReplyOver}
 
 -- what leads to an answer over the files leads to one of the command
-pub asked : (P : Reply → Type 0) (c d : Call) (view : Option Files) (old new : Known) (r : Result Answer Halt) → c ≡ d → Leads P old new r → ((reply : Reply) → P reply → IsReplyOver d view reply) → Leads (IsReplyOver c view) old new r
+pub asked : (P : Reply → Type 0) (c d : Call) (view : Option Files) (old new : Known) (r : Result Answer Halt) → c ≡ d → Leads P old new r
+    → ((reply : Reply) → P reply → IsReplyOver d view reply) → Leads (IsReplyOver c view) old new r
 asked P c d view old new r is h step = subst (λ (x : Call). Leads (IsReplyOver x view) old new r) (sym is) (leads_with P (IsReplyOver d view) old new r step h)
 
 -- the names of its input files can be used
@@ -72,35 +73,40 @@ Beside {X = X} {Y = Y} first next P r = Decided (then_stated first (λ x. then_s
 abbrev checkable : Night × Plan → Certificate → Checkable
 checkable x certificate = record { night = x.0; plan = x.1; certificate = certificate }
 
-pub checked_over : (files : Files) (s t p k : List ℕ) (r : Reply) → Beside (plans_in s t p files) (λ x. stated_certificate x.0 (content files k)) (λ (v : (Night × Plan) × Certificate). IsChecked (checkable v.0 v.1)) r → IsReply (Check s t p k) files r
+pub checked_over : (files : Files) (s t p k : List ℕ) (r : Reply) → Beside (plans_in s t p files) (λ x. stated_certificate x.0 (content files k))
+    (λ (v : (Night × Plan) × Certificate). IsChecked (checkable v.0 v.1)) r → IsReply (Check s t p k) files r
 unfolding stated_check
 checked_over files s t p k r h = decided_over (plans_in s t p files) (λ x. stated_certificate x.0 (content files k)) checkable IsChecked r h
 
 abbrev comparable : Night × Plan → Plan → Comparable
 comparable x other = record { night = x.0; plan = x.1; other = other }
 
-pub compared_over : (files : Files) (s t p o : List ℕ) (r : Reply) → Beside (plans_in s t p files) (λ x. stated_other x.0 (content files o)) (λ (v : (Night × Plan) × Plan). IsCompared (comparable v.0 v.1)) r → IsReply (Compare s t p o) files r
+pub compared_over : (files : Files) (s t p o : List ℕ) (r : Reply) → Beside (plans_in s t p files) (λ x. stated_other x.0 (content files o))
+    (λ (v : (Night × Plan) × Plan). IsCompared (comparable v.0 v.1)) r → IsReply (Compare s t p o) files r
 unfolding stated_comparison
 compared_over files s t p o r h = decided_over (plans_in s t p files) (λ x. stated_other x.0 (content files o)) comparable IsCompared r h
 
 abbrev passable : Night × Plan → ThroatZones → Passable
 passable x zones = record { night = x.0; plan = x.1; zones = zones }
 
-pub passed_over : (files : Files) (s t p z : List ℕ) (r : Reply) → Beside (plans_in s t p files) (λ x. stated_zones x.0 (content files z)) (λ (v : (Night × Plan) × ThroatZones). IsPassed (passable v.0 v.1)) r → IsReply (Zones s t p z) files r
+pub passed_over : (files : Files) (s t p z : List ℕ) (r : Reply) → Beside (plans_in s t p files) (λ x. stated_zones x.0 (content files z))
+    (λ (v : (Night × Plan) × ThroatZones). IsPassed (passable v.0 v.1)) r → IsReply (Zones s t p z) files r
 unfolding stated_passing
 passed_over files s t p z r h = decided_over (plans_in s t p files) (λ x. stated_zones x.0 (content files z)) passable IsPassed r h
 
 abbrev replayable : Night × Plan → List Turn → Replayable
 replayable x turns = record { night = x.0; plan = x.1; turns = turns }
 
-pub replayed_over : (files : Files) (s t p e n : List ℕ) (r : Reply) → Beside (plans_in s t p files) (λ x. stated_edits x.0 (content files e)) (λ (v : (Night × Plan) × List Turn). IsReplayed n (replayable v.0 v.1)) r → IsReply (Replay s t p e n) files r
+pub replayed_over : (files : Files) (s t p e n : List ℕ) (r : Reply) → Beside (plans_in s t p files) (λ x. stated_edits x.0 (content files e))
+    (λ (v : (Night × Plan) × List Turn). IsReplayed n (replayable v.0 v.1)) r → IsReply (Replay s t p e n) files r
 unfolding stated_turns
 replayed_over files s t p e n r h = decided_over (plans_in s t p files) (λ x. stated_edits x.0 (content files e)) replayable (IsReplayed n) r h
 
 abbrev sharable : Night × Plan → Crew → Sharable
 sharable x crew = record { night = x.0; plan = x.1; crew = crew }
 
-pub shared_over : (files : Files) (s t p c d : List ℕ) (r : Reply) → Beside (plans_in s t p files) (λ x. stated_crew x.0 (content files c)) (λ (v : (Night × Plan) × Crew). IsShared d (sharable v.0 v.1)) r → IsReply (Drivers s t p c d) files r
+pub shared_over : (files : Files) (s t p c d : List ℕ) (r : Reply) → Beside (plans_in s t p files) (λ x. stated_crew x.0 (content files c))
+    (λ (v : (Night × Plan) × Crew). IsShared d (sharable v.0 v.1)) r → IsReply (Drivers s t p c d) files r
 unfolding stated_sharing
 shared_over files s t p c d r h = decided_over (plans_in s t p files) (λ x. stated_crew x.0 (content files c)) sharable (IsShared d) r h
 
@@ -108,28 +114,35 @@ abbrev rosterable : Sharable → List Duty → Rosterable
 rosterable x duties = record { night = x.night; plan = x.plan; crew = x.crew; duties = duties }
 
 pub rostered_over : (files : Files) (s t p c d : List ℕ) (r : Reply)
-    → Beside (then_stated (plans_in s t p files) (λ x. then_stated (stated_crew x.0 (content files c)) (λ y. Ok (x, y)))) (λ (v : (Night × Plan) × Crew). stated_roster v.0.0 v.0.1 (content files d)) (λ (v : ((Night × Plan) × Crew) × List Duty). IsRostered (rosterable (sharable v.0.0 v.0.1) v.1)) r
+    → Beside (then_stated (plans_in s t p files) (λ x. then_stated (stated_crew x.0 (content files c)) (λ y. Ok (x, y))))
+    (λ (v : (Night × Plan) × Crew). stated_roster v.0.0 v.0.1 (content files d))
+    (λ (v : ((Night × Plan) × Crew) × List Duty). IsRostered (rosterable (sharable v.0.0 v.0.1) v.1)) r
     → IsReply (Roster s t p c d) files r
 unfolding stated_rostering stated_sharing
-rostered_over files s t p c d r h = decided_behind (plans_in s t p files) (λ x. stated_crew x.0 (content files c)) sharable (λ u. stated_roster u.night u.plan (content files d)) rosterable IsRostered r h
+rostered_over files s t p c d r h = decided_behind (plans_in s t p files) (λ x. stated_crew x.0 (content files c)) sharable
+    (λ u. stated_roster u.night u.plan (content files d)) rosterable IsRostered r h
 
-abbrev pin_checkable : Pinned → Plan → Certificate → PinChecked
+abbrev pub pin_checkable : Pinned → Plan → Certificate → PinChecked
 pin_checkable x plan certificate = record { night = x.instance; pins = x.pins; plan = plan; certificate = certificate }
 
 pub pin_checked_over : (files : Files) (s t i p k : List ℕ) (r : Reply)
-    → Beside (then_stated (pinned_in s t i files) (λ x. then_stated (stated_plan x.instance (content files p)) (λ y. Ok (x, y)))) (λ (v : Pinned × Plan). stated_certificate v.0.instance (content files k)) (λ (v : (Pinned × Plan) × Certificate). IsPinChecked (pin_checkable v.0.0 v.0.1 v.1)) r
+    → Beside (then_stated (pinned_in s t i files) (λ x. then_stated (stated_plan x.instance (content files p)) (λ y. Ok (x, y))))
+    (λ (v : Pinned × Plan). stated_certificate v.0.instance (content files k)) (λ (v : (Pinned × Plan) × Certificate). IsPinChecked (pin_checkable v.0.0 v.0.1 v.1)) r
     → IsReply (CheckPinned s t i p k) files r
 unfolding stated_pin_check
-pin_checked_over files s t i p k r h = decided_last (pinned_in s t i files) (λ x. stated_plan x.instance (content files p)) (λ x plan. stated_certificate x.instance (content files k)) pin_checkable IsPinChecked r h
+pin_checked_over files s t i p k r h = decided_last (pinned_in s t i files) (λ x. stated_plan x.instance (content files p))
+    (λ x plan. stated_certificate x.instance (content files k)) pin_checkable IsPinChecked r h
 
 abbrev followable : Station → List Order → Followable
 followable station orders = record { station = station; orders = orders }
 
-pub followed_over : (files : Files) (s o : List ℕ) (r : Reply) → Beside (stated_station (content files s)) (λ x. stated_sheet x (content files o)) (λ (v : Station × List Order). IsFollowed (followable v.0 v.1)) r → IsReply (Follow s o) files r
+pub followed_over : (files : Files) (s o : List ℕ) (r : Reply) → Beside (stated_station (content files s)) (λ x. stated_sheet x (content files o))
+    (λ (v : Station × List Order). IsFollowed (followable v.0 v.1)) r → IsReply (Follow s o) files r
 followed_over files s o r h = decided_over (stated_station (content files s)) (λ x. stated_sheet x (content files o)) followable IsFollowed r h
 
 abbrev upgradable : Station → Timetable → Upgradable
 upgradable station timetable = record { station = station; timetable = timetable }
 
-pub upgraded_over : (files : Files) (s t n m : List ℕ) (r : Reply) → Beside (stated_station (content files s)) (λ x. stated_timetable x (content files t)) (λ (v : Station × Timetable). IsUpgraded n m (upgradable v.0 v.1)) r → IsReply (Upgrade s t n m) files r
+pub upgraded_over : (files : Files) (s t n m : List ℕ) (r : Reply) → Beside (stated_station (content files s)) (λ x. stated_timetable x (content files t))
+    (λ (v : Station × Timetable). IsUpgraded n m (upgradable v.0 v.1)) r → IsReply (Upgrade s t n m) files r
 upgraded_over files s t n m r h = decided_over (stated_station (content files s)) (λ x. stated_timetable x (content files t)) upgradable (IsUpgraded n m) r h

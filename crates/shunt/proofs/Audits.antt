@@ -28,7 +28,8 @@ use Rattle.shunt_inputs.proofs.Stated.{plan_stated}
 
 -- that a plan has no finding exactly when it is feasible and states its cost
 abbrev pub FoundNone : Type 0
-FoundNone = (night : Night) (plan : Plan) → IsInstance night → AreInRange night plan.blocks → (plan_findings night plan ≡ []) ↔ IsFeasible night plan.blocks × (plan.cost ≡ total_cost night plan.blocks)
+FoundNone = (night : Night) (plan : Plan) → IsInstance night → AreInRange night plan.blocks
+    → (plan_findings night plan ≡ []) ↔ IsFeasible night plan.blocks × (plan.cost ≡ total_cost night plan.blocks)
 
 pub sound_where : (law : FoundNone) (s t p : List ℕ) (y : Night × Plan) → stated_plans s t p ≡ Ok y → (plan_findings y.0 y.1 ≡ []) ↔ IsClean y
 sound_where law s t p y e = let h = plan_stated s t p y e in law y.0 y.1 h.0 h.1.blocks
@@ -68,7 +69,8 @@ pub record IsJudged (x : Night × Plan) (r : Reply) : Type 0 where
   pub told : ArePlanFindings x.0 x.1 findings
   pub outcome : r.outcome ≡ audit_outcome findings
 
-judged_by : (P : Night × Plan → Reply → Type 0) (to : (y : Night × Plan) (r : Reply) → P y r → IsJudged y r) (x : Result (Night × Plan) (List ℕ)) (r : Reply) → Decided x P r → Decided x IsJudged r
+judged_by : (P : Night × Plan → Reply → Type 0) (to : (y : Night × Plan) (r : Reply) → P y r → IsJudged y r) (x : Result (Night × Plan) (List ℕ)) (r : Reply) → Decided x P r
+    → Decided x IsJudged r
 judged_by P to (Err text) r is = is
 judged_by P to (Ok y) r is = to y r is
 
@@ -77,7 +79,8 @@ abbrev pub Judges : Call → List ℕ → List ℕ → List ℕ → Type 0
 Judges c s t p = (files : Files) (r : Reply) → IsReply c files r → Decided (plans_in s t p files) IsJudged r
 
 pub audit_judges : (s t p : List ℕ) → Judges (Audit s t p) s t p
-audit_judges s t p files r is = judged_by IsAudited (λ y r a. record { findings = a.findings; told = a.told; outcome = ap (λ (r : Reply). r.outcome) a.reply }) (plans_in s t p files) r is
+audit_judges s t p files r is = judged_by IsAudited (λ y r a. record { findings = a.findings; told = a.told; outcome = ap (λ (r : Reply). r.outcome) a.reply })
+    (plans_in s t p files) r is
 
 pub draw_judges : (s t p n : List ℕ) → Judges (Draw s t p n) s t p
 draw_judges s t p n files r is = judged_by (IsDrawn n) (λ y r d. record { findings = d.findings; told = d.told; outcome = d.outcome }) (plans_in s t p files) r is
@@ -103,21 +106,24 @@ module _ (c : Call) (s t p : List ℕ) (judges : Judges c s t p) where
   judged : (files : Files) (y : Night × Plan) (r : Reply) → plans_in s t p files ≡ Ok y → IsReply c files r → IsJudged y r
   judged files y r e is = subst (λ x. Decided x IsJudged r) e (judges files r is)
 
-  pub done_there : (law : FoundNone) (old new : Seen) (x : Status) (files : Files) (y : Night × Plan) → old.files ≡ Some files → plans_in s t p files ≡ Ok y → IsClean y → Ends c old new x → (x ≡ status.Done) ⊎ Yields x
+  pub done_there : (law : FoundNone) (old new : Seen) (x : Status) (files : Files) (y : Night × Plan) → old.files ≡ Some files → plans_in s t p files ≡ Ok y → IsClean y
+      → Ends c old new x → (x ≡ status.Done) ⊎ Yields x
   done_there law old new x files y told ok sound e =
       let none = (sound_where law (content files s) (content files t) (content files p) y ok).1 sound in
       decides c outcome.Done old new x files told (λ r is.
       let a = judged files y r ok is in
       a.outcome ∙ ap audit_outcome (told_is (content files s) (content files t) (content files p) y a.findings ok a.told ∙ none)) e
 
-  pub findings_there : (law : FoundNone) (old new : Seen) (x : Status) (files : Files) (y : Night × Plan) → old.files ≡ Some files → plans_in s t p files ≡ Ok y → (IsClean y → ⊥) → Ends c old new x → (x ≡ status.Findings) ⊎ Yields x
+  pub findings_there : (law : FoundNone) (old new : Seen) (x : Status) (files : Files) (y : Night × Plan) → old.files ≡ Some files → plans_in s t p files ≡ Ok y → (IsClean y → ⊥)
+      → Ends c old new x → (x ≡ status.Findings) ⊎ Yields x
   findings_there law old new x files y told ok unsound e =
       decides c outcome.Findings old new x files told (λ r is.
       let a = judged files y r ok is in
       let same = told_is (content files s) (content files t) (content files p) y a.findings ok a.told in
       a.outcome ∙ some_found a.findings (λ nil. unsound ((sound_where law (content files s) (content files t) (content files p) y ok).0 (sym same ∙ nil)))) e
 
-  pub done_only : (law : FoundNone) (old new : Seen) → Ends c old new status.Done → (files : Files) × Agrees old.files files × ((y : Night × Plan) × (plans_in s t p files ≡ Ok y) × IsClean y)
+  pub done_only : (law : FoundNone) (old new : Seen) → Ends c old new status.Done
+      → (files : Files) × Agrees old.files files × ((y : Night × Plan) × (plans_in s t p files ≡ Ok y) × IsClean y)
   done_only law old new e =
       let h = has_reply c outcome.Done old new e in
       let files = h.1.0 in
@@ -125,13 +131,22 @@ module _ (c : Call) (s t p : List ℕ) (judges : Judges c s t p) where
       let same = told_is (content files s) (content files t) (content files p) at.plan at.findings at.ok at.told in
       (files, h.1.1, (at.plan, at.ok, (sound_where law (content files s) (content files t) (content files p) at.plan at.ok).0 (sym same ∙ none_found at.findings at.outcome)))
 
-  pub findings_only : (law : FoundNone) (old new : Seen) → Ends c old new status.Findings → (files : Files) × Agrees old.files files × ((y : Night × Plan) × (plans_in s t p files ≡ Ok y) × (IsClean y → ⊥))
+  pub findings_only : (law : FoundNone) (old new : Seen) → Ends c old new status.Findings
+      → (files : Files) × Agrees old.files files × ((y : Night × Plan) × (plans_in s t p files ≡ Ok y) × (IsClean y → ⊥))
   findings_only law old new e =
       let h = has_reply c outcome.Findings old new e in
       let files = h.1.0 in
       let at = tells (plans_in s t p files) h.0 outcome.Findings (λ e. cc) (judges files h.0 h.1.2) h.2 in
-      let same = told_is (content files s) (content files t) (content files p) at.plan at.findings at.ok at.told in
-      (files, h.1.1, (at.plan, at.ok, λ sound. found_some at.findings at.outcome (same ∙ (sound_where law (content files s) (content files t) (content files p) at.plan at.ok).1 sound)))
+      let same = told_is (content files s) (content files t) (content files p) at.plan at.findings at.ok at.told in (
+        files,
+        h.1.1,
+        (
+          at.plan,
+          at.ok,
+          λ sound. found_some at.findings at.outcome (same
+              ∙ (sound_where law (content files s) (content files t) (content files p) at.plan at.ok).1 sound),
+        ),
+      )
 
   never : (o : Outcome) (old new : Seen) → (o ≡ outcome.Done → ⊥) → (o ≡ outcome.Findings → ⊥) → (o ≡ outcome.Input → ⊥) → Ends c old new (the_status o) → ⊥
   never o old new a b d e =
@@ -147,7 +162,8 @@ module _ (c : Call) (s t p : List ℕ) (judges : Judges c s t p) where
 
   -- ---- completeness
 
-  pub ends_well : (old new : Seen) (x : Status) (files : Files) (y : Night × Plan) → old.files ≡ Some files → plans_in s t p files ≡ Ok y → (Rose old.store_faults new.store_faults → ⊥) → (Rose old.sink_faults new.sink_faults → ⊥) → Ends c old new x → EndsWell x
+  pub ends_well : (old new : Seen) (x : Status) (files : Files) (y : Night × Plan) → old.files ≡ Some files → plans_in s t p files ≡ Ok y
+      → (Rose old.store_faults new.store_faults → ⊥) → (Rose old.sink_faults new.sink_faults → ⊥) → Ends c old new x → EndsWell x
   ends_well old new x files y told ok ns nk e = at (completes c old new x ns nk e)
     where
       at : EndsAs c old x → EndsWell x

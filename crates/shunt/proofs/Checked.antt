@@ -67,11 +67,14 @@ keeps_none blocks = λ k d lt. absurd (omega (arith, lt))
 
 -- that it accepts exactly the certificates that are accepted
 abbrev pub Judges : Type 0
-Judges = (night : Night) (pins : List Block) (plan : Plan) (c : Certificate) (v : Verdict) → IsInstance night → IsPlanInRange night plan → Keeps plan.blocks pins → IsCertificate night c → (c.version ≡ Stacks → AreUsable night pins) → IsVerdict night pins plan c v → Accepts v ↔ IsAccepted night pins plan.blocks plan.cost c
+Judges = (night : Night) (pins : List Block) (plan : Plan) (c : Certificate) (v : Verdict) → IsInstance night → IsPlanInRange night plan → Keeps plan.blocks pins
+    → IsCertificate night c → (c.version ≡ Stacks → AreUsable night pins) → IsVerdict night pins plan c v → Accepts v ↔ IsAccepted night pins plan.blocks plan.cost c
 
 -- that the bound with which it accepts is one on every plan
 abbrev pub Bounds : Type 0
-Bounds = (night : Night) (pins : List Block) (plan : Plan) (c : Certificate) (bound : ℕ) (other : List Block) → IsInstance night → IsPlanInRange night plan → Keeps plan.blocks pins → IsCertificate night c → AreUsable night pins → IsVerdict night pins plan c (verdict.Accepted bound) → IsFeasible night other → Keeps other pins → bound ≤ total_cost night other
+Bounds = (night : Night) (pins : List Block) (plan : Plan) (c : Certificate) (bound : ℕ) (other : List Block) → IsInstance night → IsPlanInRange night plan → Keeps plan.blocks pins
+    → IsCertificate night c → AreUsable night pins → IsVerdict night pins plan c (verdict.Accepted bound) → IsFeasible night other → Keeps other pins
+    → bound ≤ total_cost night other
 
 proved_where : (law : Judges) (s t p k : List ℕ) (y : Checkable) (v : Verdict) → stated_check s t p k ≡ Ok y → IsVerdict y.night [] y.plan y.certificate v → Accepts v ↔ IsProved y
 proved_where law s t p k y v is told =
@@ -104,17 +107,20 @@ bound_told night pins plan c (verdict.Rejected row r) h accepts = absurd accepts
 
 -- ---- exactly when each comes
 
-pub done_there : (law : Judges) (s t p k : List ℕ) (old new : Seen) (x : Status) (files : Files) (y : Checkable) → old.files ≡ Some files → check_in s t p k files ≡ Ok y → IsProved y → Ends (Check s t p k) old new x → (x ≡ status.Done) ⊎ Yields x
+pub done_there : (law : Judges) (s t p k : List ℕ) (old new : Seen) (x : Status) (files : Files) (y : Checkable) → old.files ≡ Some files → check_in s t p k files ≡ Ok y
+    → IsProved y → Ends (Check s t p k) old new x → (x ≡ status.Done) ⊎ Yields x
 done_there law s t p k old new x files y known ok proved ends =
     decides (Check s t p k) outcome.Done old new x files known (λ r is.
     let a = checked (check_in s t p k files) y r ok is in
     told_outcome y r a ∙ accepted_done a.verdict ((proved_where law (content files s) (content files t) (content files p) (content files k) y a.verdict ok a.told).1 proved)) ends
 
-pub findings_there : (law : Judges) (s t p k : List ℕ) (old new : Seen) (x : Status) (files : Files) (y : Checkable) → old.files ≡ Some files → check_in s t p k files ≡ Ok y → (IsProved y → ⊥) → Ends (Check s t p k) old new x → (x ≡ status.Findings) ⊎ Yields x
+pub findings_there : (law : Judges) (s t p k : List ℕ) (old new : Seen) (x : Status) (files : Files) (y : Checkable) → old.files ≡ Some files → check_in s t p k files ≡ Ok y
+    → (IsProved y → ⊥) → Ends (Check s t p k) old new x → (x ≡ status.Findings) ⊎ Yields x
 findings_there law s t p k old new x files y known ok never ends =
     decides (Check s t p k) outcome.Findings old new x files known (λ r is.
     let a = checked (check_in s t p k files) y r ok is in
-    told_outcome y r a ∙ rejected_found a.verdict (λ accepts. never ((proved_where law (content files s) (content files t) (content files p) (content files k) y a.verdict ok a.told).0 accepts))) ends
+    told_outcome y r a ∙ rejected_found a.verdict (λ accepts. never ((proved_where law (content files s) (content files t) (content files p)
+    (content files k) y a.verdict ok a.told).0 accepts))) ends
 
 -- an outcome of accepted files is that of the verdict on what they state
 record Tells (x : Result Checkable (List ℕ)) (r : Reply) (o : Outcome) : Type 0 where
@@ -127,25 +133,44 @@ tells : (x : Result Checkable (List ℕ)) (r : Reply) (o : Outcome) → (o ≡ o
 tells (Err text) r o other is e = absurd (other (sym e ∙ ap (λ (r : Reply). r.outcome) is))
 tells (Ok y) r o other is e = record { value = y; ok = refl; is = is; outcome = sym (told_outcome y r is) ∙ e }
 
-pub done_only : (law : Judges) (s t p k : List ℕ) (old new : Seen) → Ends (Check s t p k) old new status.Done → (files : Files) × Agrees old.files files × ((y : Checkable) × (check_in s t p k files ≡ Ok y) × IsProved y)
+pub done_only : (law : Judges) (s t p k : List ℕ) (old new : Seen) → Ends (Check s t p k) old new status.Done
+    → (files : Files) × Agrees old.files files × ((y : Checkable) × (check_in s t p k files ≡ Ok y) × IsProved y)
 done_only law s t p k old new ends =
     let h = has_reply (Check s t p k) outcome.Done old new ends in
     let files = h.1.0 in
-    let at = tells (check_in s t p k files) h.0 outcome.Done (λ e. cc) h.1.2 h.2 in
-    (files, h.1.1, (at.value, at.ok, (proved_where law (content files s) (content files t) (content files p) (content files k) at.value at.is.verdict at.ok at.is.told).0 (done_accepts at.is.verdict at.outcome)))
+    let at = tells (check_in s t p k files) h.0 outcome.Done (λ e. cc) h.1.2 h.2 in (
+      files,
+      h.1.1,
+      (
+        at.value,
+        at.ok,
+        (proved_where law (content files s) (content files t) (content files p) (content files k) at.value at.is.verdict at.ok at.is.told).0
+            (done_accepts at.is.verdict at.outcome),
+      ),
+    )
 
-pub findings_only : (law : Judges) (s t p k : List ℕ) (old new : Seen) → Ends (Check s t p k) old new status.Findings → (files : Files) × Agrees old.files files × ((y : Checkable) × (check_in s t p k files ≡ Ok y) × (IsProved y → ⊥))
+pub findings_only : (law : Judges) (s t p k : List ℕ) (old new : Seen) → Ends (Check s t p k) old new status.Findings
+    → (files : Files) × Agrees old.files files × ((y : Checkable) × (check_in s t p k files ≡ Ok y) × (IsProved y → ⊥))
 findings_only law s t p k old new ends =
     let h = has_reply (Check s t p k) outcome.Findings old new ends in
     let files = h.1.0 in
-    let at = tells (check_in s t p k files) h.0 outcome.Findings (λ e. cc) h.1.2 h.2 in
-    (files, h.1.1, (at.value, at.ok, λ proved. found_rejects at.is.verdict at.outcome ((proved_where law (content files s) (content files t) (content files p) (content files k) at.value at.is.verdict at.ok at.is.told).1 proved)))
+    let at = tells (check_in s t p k files) h.0 outcome.Findings (λ e. cc) h.1.2 h.2 in (
+      files,
+      h.1.1,
+      (
+        at.value,
+        at.ok,
+        λ proved. found_rejects at.is.verdict at.outcome
+            ((proved_where law (content files s) (content files t) (content files p) (content files k) at.value at.is.verdict at.ok at.is.told).1 proved),
+      ),
+    )
 
 neither : (v : Verdict) (o : Outcome) → check_outcome v ≡ o → (o ≡ outcome.Done) ⊎ (o ≡ outcome.Findings)
 neither (verdict.Accepted bound) o e = inl (sym e)
 neither (verdict.Rejected row r) o e = inr (sym e)
 
-never : (s t p k : List ℕ) (o : Outcome) (old new : Seen) → (o ≡ outcome.Done → ⊥) → (o ≡ outcome.Findings → ⊥) → (o ≡ outcome.Input → ⊥) → Ends (Check s t p k) old new (the_status o) → ⊥
+never : (s t p k : List ℕ) (o : Outcome) (old new : Seen) → (o ≡ outcome.Done → ⊥) → (o ≡ outcome.Findings → ⊥) → (o ≡ outcome.Input → ⊥)
+    → Ends (Check s t p k) old new (the_status o) → ⊥
 never s t p k o old new a b d ends =
     let h = has_reply (Check s t p k) o old new ends in
     let at = tells (check_in s t p k h.1.0) h.0 o d h.1.2 h.2 in
@@ -159,20 +184,24 @@ no_unfinished s t p k old new ends = never s t p k outcome.Unfinished old new (�
 
 -- ---- what a good end shows
 
-bounds_all : (judges : Judges) (bounds : Bounds) (s t p k : List ℕ) (y : Checkable) (v : Verdict) → stated_check s t p k ≡ Ok y → IsVerdict y.night [] y.plan y.certificate v → Accepts v → BoundsAll y
+bounds_all : (judges : Judges) (bounds : Bounds) (s t p k : List ℕ) (y : Checkable) (v : Verdict) → stated_check s t p k ≡ Ok y → IsVerdict y.night [] y.plan y.certificate v
+    → Accepts v → BoundsAll y
 bounds_all judges bounds s t p k y v is told accepts =
     let formed = check_stated s t p k y is in
     let proved : IsProved y = (proved_where judges s t p k y v is told).0 accepts in
-    let with_bound : IsVerdict y.night [] y.plan y.certificate (verdict.Accepted y.certificate.bound) = subst (IsVerdict y.night [] y.plan y.certificate) (bound_told y.night [] y.plan y.certificate v told accepts) told in
+    let with_bound : IsVerdict y.night [] y.plan y.certificate (verdict.Accepted y.certificate.bound) = subst (IsVerdict y.night [] y.plan y.certificate)
+    (bound_told y.night [] y.plan y.certificate v told accepts) told in
     record {
       feasible = proved.feasible;
       states = proved.states;
       cost = proved.cost ∙ sym proved.states;
-      least = λ other sound. bounds y.night [] y.plan y.certificate y.certificate.bound other formed.night formed.plan (keeps_none y.plan.blocks) formed.certificate (usable_none y.night) with_bound sound (keeps_none other);
+      least = λ other sound. bounds y.night [] y.plan y.certificate y.certificate.bound other formed.night formed.plan (keeps_none y.plan.blocks) formed.certificate
+          (usable_none y.night) with_bound sound (keeps_none other);
     }
 
 pub done_bounds : (judges : Judges) (bounds : Bounds) (s t p k : List ℕ) (old new : Seen) → Ends (Check s t p k) old new status.Done
-    → (files : Files) × Agrees old.files files × ((y : Checkable) × (check_in s t p k files ≡ Ok y) × BoundsAll y × IsWhole (says outcome.Done (verdict_of y.night y.certificate (verdict.Accepted y.certificate.bound))) old new)
+    → (files : Files) × Agrees old.files files × ((y : Checkable) × (check_in s t p k files ≡ Ok y) × BoundsAll y
+    × IsWhole (says outcome.Done (verdict_of y.night y.certificate (verdict.Accepted y.certificate.bound))) old new)
 done_bounds judges bounds s t p k old new ends =
     let h = has_reply (Check s t p k) outcome.Done old new ends in
     let files = h.1.0 in
@@ -180,7 +209,8 @@ done_bounds judges bounds s t p k old new ends =
     let y = at.value in
     let accepts = done_accepts at.is.verdict at.outcome in
     let told : h.0 ≡ says outcome.Done (verdict_of y.night y.certificate (verdict.Accepted y.certificate.bound)) =
-    at.is.reply ∙ ap (λ (v : Verdict). says (check_outcome v) (verdict_of y.night y.certificate v)) (bound_told y.night [] y.plan y.certificate at.is.verdict at.is.told accepts) in (
+    at.is.reply ∙ ap (λ (v : Verdict). says (check_outcome v) (verdict_of y.night y.certificate v))
+    (bound_told y.night [] y.plan y.certificate at.is.verdict at.is.told accepts) in (
       files,
       h.1.1,
       (
@@ -197,7 +227,8 @@ well : (x : Status) (v : Verdict) → x ≡ the_status (check_outcome v) → End
 well x (verdict.Accepted bound) e = inl e
 well x (verdict.Rejected row r) e = inr (inl e)
 
-pub ends_well : (s t p k : List ℕ) (old new : Seen) (x : Status) (files : Files) (y : Checkable) → old.files ≡ Some files → check_in s t p k files ≡ Ok y → (Rose old.store_faults new.store_faults → ⊥) → (Rose old.sink_faults new.sink_faults → ⊥) → Ends (Check s t p k) old new x → EndsWell x
+pub ends_well : (s t p k : List ℕ) (old new : Seen) (x : Status) (files : Files) (y : Checkable) → old.files ≡ Some files → check_in s t p k files ≡ Ok y
+    → (Rose old.store_faults new.store_faults → ⊥) → (Rose old.sink_faults new.sink_faults → ⊥) → Ends (Check s t p k) old new x → EndsWell x
 ends_well s t p k old new x files y known ok ns nk ends = at (completes (Check s t p k) old new x ns nk ends)
   where
     at : EndsAs (Check s t p k) old x → EndsWell x

@@ -38,13 +38,15 @@ some_files : (told : Option Files) → (files : Files) × Agrees told files
 some_files None = (finmap.empty, tt)
 some_files (Some files) = (files, refl)
 
-pub trial_answered : (told : Option Files) (c : Call) (n u m : ℕ) (s t p k : List ℕ) (r : Result Answer Halt) → c ≡ Trial n u m s t p k → Replies reply_of r (IsTried n u m s t p k) → IsAnswered told r c
+pub trial_answered : (told : Option Files) (c : Call) (n u m : ℕ) (s t p k : List ℕ) (r : Result Answer Halt) → c ≡ Trial n u m s t p k → Replies reply_of r (IsTried n u m s t p k)
+    → IsAnswered told r c
 trial_answered told c n u m s t p k r is h = let f = some_files told in subst (IsAnswered told r) (sym is) (f.0, f.1, h)
 
 -- the command that words ask for
 abbrev asked : List (List ℕ) → Option Call
 asked (w ∷ s ∷ t ∷ []) = if bytes_eq w (codes "match") then Some (Match s t) else if bytes_eq w (codes "follow") then Some (Follow s t) else None
-asked (w ∷ s ∷ t ∷ p ∷ []) = if bytes_eq w (codes "audit") then Some (Audit s t p) else if bytes_eq w (codes "delay") then Some (Delay s t p) else if bytes_eq w (codes "report") then Some (Report s t p) else None
+asked (w ∷ s ∷ t ∷ p ∷ []) = if bytes_eq w (codes "audit") then Some (Audit s t p) else if bytes_eq w (codes "delay") then Some (Delay s t p) else if bytes_eq w
+    (codes "report") then Some (Report s t p) else None
 asked (w ∷ s ∷ t ∷ p ∷ k ∷ []) =
     if bytes_eq w (codes "check") then Some (Check s t p k)
     else if bytes_eq w (codes "compare") then Some (Compare s t p k)
@@ -88,7 +90,8 @@ asked_is (Trial n x m s t p k) u =
     let small = u.1 in
     let units = u.2 in
     let few = u.4 in
-    same_trial (digits_value 10 (decimal n)) n (digits_value 10 (decimal x)) x (digits_value 10 (decimal m)) m s t p k (value_again n (omega (arith, small))) (value_again x (omega (arith, units))) (value_again m (omega (arith, few)))
+    same_trial (digits_value 10 (decimal n)) n (digits_value 10 (decimal x)) x (digits_value 10 (decimal m)) m s t p k (value_again n (omega (arith, small)))
+    (value_again x (omega (arith, units))) (value_again m (omega (arith, few)))
 asked_is (Drivers s t p c d) u = refl
 asked_is (Roster s t p c d) u = refl
 asked_is (CheckPinned s t i p k) u = refl

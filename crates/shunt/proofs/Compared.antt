@@ -87,14 +87,19 @@ module _ (none : FoundNone) (compares : Compares) (y : Comparable) (f : IsFormed
 
   -- a plan with findings isn't clean
   found : (plan : Plan) (r : Reply) → IsPlanInRange y.night plan → IsFaulty (y.night, plan) r → IsClean (y.night, plan) → ⊥
-  found plan r range faulty sound = faulty.some (only_plan y.night plan faulty.findings range.blocks faulty.told.in_order faulty.told.exactly ∙ (none y.night plan f.night range.blocks).1 sound)
+  found plan r range faulty sound = faulty.some (only_plan y.night plan faulty.findings range.blocks faulty.told.in_order faulty.told.exactly
+      ∙ (none y.night plan f.night range.blocks).1 sound)
 
   -- how the answer ends, and what that tells of the two plans
   ends_as : (r : Reply) → IsCompared y r → ((r.outcome ≡ outcome.Done) × AreAlike y) ⊎ ((r.outcome ≡ outcome.Findings) × (AreAlike y → ⊥))
   ends_as r (inl faulty) = inr (faulty_outcome (y.night, y.plan) r faulty, λ alike. found y.plan r f.plan faulty alike.clean)
   ends_as r (inr (inl h)) = inr (faulty_outcome (y.night, y.other) r h.faulty, λ alike. found y.other r f.other h.faulty alike.other_clean)
   ends_as r (inr (inr d)) = ⊎_elim
-      (λ e. inl (compared_is y r d ∙ e, let same = law.0 (done_nothing d.comparison.changes d.comparison.regrouped e) in record { clean = of_plan; other_clean = of_other; keeps = same.0; kept = same.1 }))
+      (λ e. inl (
+        compared_is y r d ∙ e,
+        let same = law.0 (done_nothing d.comparison.changes d.comparison.regrouped e) in
+            record { clean = of_plan; other_clean = of_other; keeps = same.0; kept = same.1 },
+      ))
       (λ e. inr (
         compared_is y r d ∙ e,
         λ alike. let nothing = law.1 (alike.keeps, alike.kept) in
@@ -127,25 +132,44 @@ module _ (none : FoundNone) (compares : Compares) (s t p o : List ℕ) (old new 
   at_files : (files : Files) (y : Comparable) → comparison_in s t p o files ≡ Ok y → IsFormed y
   at_files files y ok = formed (content files s) (content files t) (content files p) (content files o) y ok
 
-  pub done_there : (x : Status) (files : Files) (y : Comparable) → old.files ≡ Some files → comparison_in s t p o files ≡ Ok y → AreAlike y → Ends (Compare s t p o) old new x → (x ≡ status.Done) ⊎ Yields x
+  pub done_there : (x : Status) (files : Files) (y : Comparable) → old.files ≡ Some files → comparison_in s t p o files ≡ Ok y → AreAlike y → Ends (Compare s t p o) old new x
+      → (x ≡ status.Done) ⊎ Yields x
   done_there x files y known ok alike ends = decides (Compare s t p o) outcome.Done old new x files known
       (λ r is. ⊎_elim (λ h. h.0) (λ h. absurd (h.1 alike)) (ends_as none compares y (at_files files y ok) r (compared (comparison_in s t p o files) y r ok is))) ends
 
-  pub findings_there : (x : Status) (files : Files) (y : Comparable) → old.files ≡ Some files → comparison_in s t p o files ≡ Ok y → (AreAlike y → ⊥) → Ends (Compare s t p o) old new x → (x ≡ status.Findings) ⊎ Yields x
+  pub findings_there : (x : Status) (files : Files) (y : Comparable) → old.files ≡ Some files → comparison_in s t p o files ≡ Ok y → (AreAlike y → ⊥)
+      → Ends (Compare s t p o) old new x → (x ≡ status.Findings) ⊎ Yields x
   findings_there x files y known ok never ends = decides (Compare s t p o) outcome.Findings old new x files known
       (λ r is. ⊎_elim (λ h. absurd (never h.1)) (λ h. h.0) (ends_as none compares y (at_files files y ok) r (compared (comparison_in s t p o files) y r ok is))) ends
 
   pub done_only : Ends (Compare s t p o) old new status.Done → (files : Files) × Agrees old.files files × ((y : Comparable) × (comparison_in s t p o files ≡ Ok y) × AreAlike y)
   done_only ends =
       let h = has_reply (Compare s t p o) outcome.Done old new ends in
-      let at = tells (comparison_in s t p o h.1.0) h.0 outcome.Done (λ e. cc) h.1.2 h.2 in
-      (h.1.0, h.1.1, (at.value, at.ok, ⊎_elim (λ a. a.1) (λ a. absurd (let no : outcome.Findings ≡ outcome.Done = sym a.0 ∙ h.2 in cc)) (ends_as none compares at.value (at_files h.1.0 at.value at.ok) h.0 at.is)))
+      let at = tells (comparison_in s t p o h.1.0) h.0 outcome.Done (λ e. cc) h.1.2 h.2 in (
+        h.1.0,
+        h.1.1,
+        (
+          at.value,
+          at.ok,
+          ⊎_elim (λ a. a.1) (λ a. absurd (let no : outcome.Findings ≡ outcome.Done = sym a.0 ∙ h.2 in cc))
+              (ends_as none compares at.value (at_files h.1.0 at.value at.ok) h.0 at.is),
+        ),
+      )
 
-  pub findings_only : Ends (Compare s t p o) old new status.Findings → (files : Files) × Agrees old.files files × ((y : Comparable) × (comparison_in s t p o files ≡ Ok y) × (AreAlike y → ⊥))
+  pub findings_only : Ends (Compare s t p o) old new status.Findings → (files : Files) × Agrees old.files files
+      × ((y : Comparable) × (comparison_in s t p o files ≡ Ok y) × (AreAlike y → ⊥))
   findings_only ends =
       let h = has_reply (Compare s t p o) outcome.Findings old new ends in
-      let at = tells (comparison_in s t p o h.1.0) h.0 outcome.Findings (λ e. cc) h.1.2 h.2 in
-      (h.1.0, h.1.1, (at.value, at.ok, ⊎_elim (λ a. absurd (let no : outcome.Done ≡ outcome.Findings = sym a.0 ∙ h.2 in cc)) (λ a. a.1) (ends_as none compares at.value (at_files h.1.0 at.value at.ok) h.0 at.is)))
+      let at = tells (comparison_in s t p o h.1.0) h.0 outcome.Findings (λ e. cc) h.1.2 h.2 in (
+        h.1.0,
+        h.1.1,
+        (
+          at.value,
+          at.ok,
+          ⊎_elim (λ a. absurd (let no : outcome.Done ≡ outcome.Findings = sym a.0 ∙ h.2 in cc)) (λ a. a.1)
+              (ends_as none compares at.value (at_files h.1.0 at.value at.ok) h.0 at.is),
+        ),
+      )
 
   never : (out : Outcome) → (out ≡ outcome.Done → ⊥) → (out ≡ outcome.Findings → ⊥) → (out ≡ outcome.Input → ⊥) → Ends (Compare s t p o) old new (the_status out) → ⊥
   never out a b d ends =
@@ -161,7 +185,8 @@ module _ (none : FoundNone) (compares : Compares) (s t p o : List ℕ) (old new 
 
   -- ---- completeness
 
-  pub ends_well : (x : Status) (files : Files) (y : Comparable) → old.files ≡ Some files → comparison_in s t p o files ≡ Ok y → (Rose old.store_faults new.store_faults → ⊥) → (Rose old.sink_faults new.sink_faults → ⊥) → Ends (Compare s t p o) old new x → EndsWell x
+  pub ends_well : (x : Status) (files : Files) (y : Comparable) → old.files ≡ Some files → comparison_in s t p o files ≡ Ok y → (Rose old.store_faults new.store_faults → ⊥)
+      → (Rose old.sink_faults new.sink_faults → ⊥) → Ends (Compare s t p o) old new x → EndsWell x
   ends_well x files y known ok ns nk ends = at (completes (Compare s t p o) old new x ns nk ends)
     where
       at : EndsAs (Compare s t p o) old x → EndsWell x

@@ -40,14 +40,19 @@ module _ (c : Call) (Good : Value c → Type 0) (parts : (files : Files) (v : Va
   found_bad v o e (inl h) good = let no : outcome.Done ≡ outcome.Findings = sym h.1 ∙ e in cc
   found_bad v o e (inr h) good = h.0 good
 
-  pub done_there : (old new : Seen) (x : Status) (files : Files) (v : Value c) → old.files ≡ Some files → stated_in c files ≡ Ok v → Good v → Ends c old new x → (x ≡ status.Done) ⊎ Yields x
-  done_there old new x files v known ok good ends = decides c outcome.Done old new x files known (λ r is. good_done v r.outcome good (parts files v r ok (answer_at (stated_in c files) v r ok is))) ends
+  pub done_there : (old new : Seen) (x : Status) (files : Files) (v : Value c) → old.files ≡ Some files → stated_in c files ≡ Ok v → Good v → Ends c old new x
+      → (x ≡ status.Done) ⊎ Yields x
+  done_there old new x files v known ok good ends = decides c outcome.Done old new x files known
+      (λ r is. good_done v r.outcome good (parts files v r ok (answer_at (stated_in c files) v r ok is))) ends
 
-  pub findings_there : (old new : Seen) (x : Status) (files : Files) (v : Value c) → old.files ≡ Some files → stated_in c files ≡ Ok v → (Good v → ⊥) → Ends c old new x → (x ≡ status.Findings) ⊎ Yields x
-  findings_there old new x files v known ok bad ends = decides c outcome.Findings old new x files known (λ r is. bad_found v r.outcome bad (parts files v r ok (answer_at (stated_in c files) v r ok is))) ends
+  pub findings_there : (old new : Seen) (x : Status) (files : Files) (v : Value c) → old.files ≡ Some files → stated_in c files ≡ Ok v → (Good v → ⊥) → Ends c old new x
+      → (x ≡ status.Findings) ⊎ Yields x
+  findings_there old new x files v known ok bad ends = decides c outcome.Findings old new x files known
+      (λ r is. bad_found v r.outcome bad (parts files v r ok (answer_at (stated_in c files) v r ok is))) ends
 
   -- an outcome of accepted files is that of an answer on what they state
-  tells : (files : Files) (x : Result (Value c) (List ℕ)) (r : Reply) (o : Outcome) → stated_in c files ≡ x → (o ≡ outcome.Input → ⊥) → Decided x (IsAnswer c) r → r.outcome ≡ o → (v : Value c) × (x ≡ Ok v) × Parts (Good v) o
+  tells : (files : Files) (x : Result (Value c) (List ℕ)) (r : Reply) (o : Outcome) → stated_in c files ≡ x → (o ≡ outcome.Input → ⊥) → Decided x (IsAnswer c) r → r.outcome ≡ o
+      → (v : Value c) × (x ≡ Ok v) × Parts (Good v) o
   tells files (Err text) r o ok other is e = absurd (other (sym e ∙ ap (λ (r : Reply). r.outcome) is))
   tells files (Ok v) r o ok other is e = (v, refl, subst (Parts (Good v)) e (parts files v r ok is))
 
@@ -75,9 +80,11 @@ module _ (c : Call) (Good : Value c → Type 0) (parts : (files : Files) (v : Va
   pub no_unfinished : (old new : Seen) → Ends c old new status.Unfinished → ⊥
   no_unfinished old new ends = never outcome.Unfinished old new (λ e. cc) (λ e. cc) (λ e. cc) ends
 
-  pub ends_well : (old new : Seen) (x : Status) (files : Files) (v : Value c) → old.files ≡ Some files → stated_in c files ≡ Ok v → (Rose old.store_faults new.store_faults → ⊥) → (Rose old.sink_faults new.sink_faults → ⊥) → Ends c old new x → EndsWell x
+  pub ends_well : (old new : Seen) (x : Status) (files : Files) (v : Value c) → old.files ≡ Some files → stated_in c files ≡ Ok v → (Rose old.store_faults new.store_faults → ⊥)
+      → (Rose old.sink_faults new.sink_faults → ⊥) → Ends c old new x → EndsWell x
   ends_well old new x files v known ok ns nk ends = at (completes c old new x ns nk ends)
     where
       at : EndsAs c old x → EndsWell x
       at (inl m) = inr (inr m)
-      at (inr h) = ⊎_elim (λ p. inl (h.2 ∙ ap the_status p.1)) (λ p. inr (inl (h.2 ∙ ap the_status p.1))) (parts files v h.0 ok (answer_at (stated_in c files) v h.0 ok (reply_at c old.files files h.0 known h.1)))
+      at (inr h) = ⊎_elim (λ p. inl (h.2 ∙ ap the_status p.1)) (λ p. inr (inl (h.2 ∙ ap the_status p.1)))
+          (parts files v h.0 ok (answer_at (stated_in c files) v h.0 ok (reply_at c old.files files h.0 known h.1)))

@@ -21,5 +21,6 @@ pub ends_of : (words seen : List (List ℕ)) (d c : Call) (old new : Seen) (s : 
 ends_of words seen d c old new s same a e b = subst (λ x. Ends x old new s) (same_call d c a.1 b.1 (sym a.0 ∙ same ∙ b.0)) e
 
 -- and the one whose files were heard
-pub heard_by : (words seen : List (List ℕ)) (d c : Call) (h0 h1 : Option Entries) → seen ≡ words → Spells seen d → HearsFirst (inputs_of d) h0 h1 → Spells words c → HearsFirst (inputs_of c) h0 h1
+pub heard_by : (words seen : List (List ℕ)) (d c : Call) (h0 h1 : Option Entries) → seen ≡ words → Spells seen d → HearsFirst (inputs_of d) h0 h1 → Spells words c
+    → HearsFirst (inputs_of c) h0 h1
 heard_by words seen d c h0 h1 same a h b = subst (λ x. HearsFirst (inputs_of x) h0 h1) (same_call d c a.1 b.1 (sym a.0 ∙ same ∙ b.0)) h

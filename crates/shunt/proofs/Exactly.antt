@@ -101,7 +101,8 @@ reply_at c told files r known h =
     subst (λ f. IsReply c f r) (sym same) h.2
 
 -- what all defined replies have decides the status
-pub decides : (c : Call) (o : Outcome) (old new : Seen) (s : Status) (files : Files) → old.files ≡ Some files → ((r : Reply) → IsReply c files r → r.outcome ≡ o) → Ends c old new s → (s ≡ the_status o) ⊎ Yields s
+pub decides : (c : Call) (o : Outcome) (old new : Seen) (s : Status) (files : Files) → old.files ≡ Some files → ((r : Reply) → IsReply c files r → r.outcome ≡ o) → Ends c old new s
+    → (s ≡ the_status o) ⊎ Yields s
 decides c o old new s files told all (inl e) = inr (early c old new s e)
 decides c o old new s files told all (inr h) = at (its_own h.0 old new s h.2)
   where
@@ -128,7 +129,8 @@ has_reply c outcome.Unfinished old new (inr h) = (h.0, h.1, sym (same_outcome ou
 abbrev pub EndsAs : Call → Seen → Status → Type 0
 EndsAs c old s = (s ≡ status.Memory) ⊎ ((r : Reply) × IsReplyOver c old.files r × (s ≡ the_status r.outcome))
 
-pub completes : (c : Call) (old new : Seen) (s : Status) → (Rose old.store_faults new.store_faults → ⊥) → (Rose old.sink_faults new.sink_faults → ⊥) → Ends c old new s → EndsAs c old s
+pub completes : (c : Call) (old new : Seen) (s : Status) → (Rose old.store_faults new.store_faults → ⊥) → (Rose old.sink_faults new.sink_faults → ⊥) → Ends c old new s
+    → EndsAs c old s
 completes c old new status.Store ns nk (inl e) = absurd (ns e.0)
 completes c old new status.Store ns nk (inr h) = absurd (ns h.2.0)
 completes c old new status.Memory ns nk e = inl refl
@@ -231,7 +233,8 @@ no_input_followed (answers.Over number load) e = let h : outcome.Findings ≡ ou
 pub report_outcome : (x : Night × Plan) (r : Reply) → HasReport x r → r.outcome ≡ outcome.Done
 report_outcome x r d = ap (λ (r : Reply). r.outcome) d.reply
 
-no_input_searched : (pins : List Block) (units places : List Bool) (m : ℕ) (p k : List ℕ) (night : Night) (r : Reply) → IsSoughtOver pins units places m p k night r → r.outcome ≡ outcome.Input → ⊥
+no_input_searched : (pins : List Block) (units places : List Bool) (m : ℕ) (p k : List ℕ) (night : Night) (r : Reply) → IsSoughtOver pins units places m p k night r
+    → r.outcome ≡ outcome.Input → ⊥
 no_input_searched pins units places m p k night r (inl is) o = no_input_sought is.1.certificate.cost is.1.certificate.bound (sym (ap (λ (r : Reply). r.outcome) is.1.reply) ∙ o)
 no_input_searched pins units places m p k night r (inr is) o = let e : outcome.NoMatching ≡ outcome.Input = sym (short_outcome night r is) ∙ o in cc
 
@@ -256,7 +259,8 @@ no_input (MakePinned s t i m p k) x r (inl f) o = let e : outcome.Findings ≡ o
 no_input (MakePinned s t i m p k) x r (inr is) o = no_input_searched x.pins (units_taken x.instance x.pins) (positions_taken x.instance x.pins) m p k x.instance r is.1 o
 no_input (Improve s t i h m p k) x r (inl f) o = let e : outcome.Findings ≡ outcome.Input = sym (unusable_outcome x.0.instance x.0.pins r f) ∙ o in cc
 no_input (Improve s t i h m p k) x r (inr (usable, inl f)) o = let e : outcome.Findings ≡ outcome.Input = sym (unfit_outcome x.0.instance x.0.pins x.1 r f) ∙ o in cc
-no_input (Improve s t i h m p k) x r (inr (usable, inr is)) o = no_input_sought is.1.planned.certificate.cost is.1.planned.certificate.bound (sym (ap (λ (r : Reply). r.outcome) is.1.planned.reply) ∙ o)
+no_input (Improve s t i h m p k) x r (inr (usable, inr is)) o = no_input_sought is.1.planned.certificate.cost is.1.planned.certificate.bound
+    (sym (ap (λ (r : Reply). r.outcome) is.1.planned.reply) ∙ o)
 no_input (Follow s n) x r is o = no_input_followed (followed x.station x.orders) (sym (ap (λ (r : Reply). r.outcome) is) ∙ o)
 no_input (Delay s t p) x r (inl f) o = let e : outcome.Findings ≡ outcome.Input = sym (faulty_outcome x r f) ∙ o in cc
 no_input (Delay s t p) x r (inr d) o = let e : outcome.Done ≡ outcome.Input = sym (delays_outcome x r d) ∙ o in cc
@@ -284,14 +288,17 @@ in_both n m station timetable name text (inl e) = inl (ap (λ (w : List ℕ × L
 in_both n m station timetable name text (inr (inl e)) = inr (inl (ap (λ (w : List ℕ × List ℕ). w.0) e))
 in_both n m station timetable name text (inr (inr h)) = absurd h
 
-in_four : (s t p k station timetable plan certificate name text : List ℕ) → In {X = List ℕ × List ℕ} (name, text) ((s, station) ∷ (t, timetable) ∷ (p, plan) ∷ (k, certificate) ∷ []) → In name (s ∷ t ∷ p ∷ k ∷ [])
+in_four : (s t p k station timetable plan certificate name text : List ℕ) → In {X = List ℕ × List ℕ} (name, text)
+    ((s, station) ∷ (t, timetable) ∷ (p, plan) ∷ (k, certificate) ∷ []) → In name (s ∷ t ∷ p ∷ k ∷ [])
 in_four s t p k station timetable plan certificate name text (inl e) = inl (ap (λ (w : List ℕ × List ℕ). w.0) e)
 in_four s t p k station timetable plan certificate name text (inr (inl e)) = inr (inl (ap (λ (w : List ℕ × List ℕ). w.0) e))
 in_four s t p k station timetable plan certificate name text (inr (inr h)) = inr (inr (in_both p k plan certificate name text h))
 
 -- a search writes a plan and its certificate
-search_writes : (pins : List Block) (units places : List Bool) (m : ℕ) (p k : List ℕ) (night : Night) (r : Reply) (name text : List ℕ) → IsSoughtOver pins units places m p k night r → In (name, text) r.writes → In name (p ∷ k ∷ [])
-search_writes pins units places m p k night r name text (inl is) w = two_writes p k _ _ name text (subst (λ (q : Reply). In {X = List ℕ × List ℕ} (name, text) q.writes) is.1.reply w)
+search_writes : (pins : List Block) (units places : List Bool) (m : ℕ) (p k : List ℕ) (night : Night) (r : Reply) (name text : List ℕ)
+    → IsSoughtOver pins units places m p k night r → In (name, text) r.writes → In name (p ∷ k ∷ [])
+search_writes pins units places m p k night r name text (inl is) w = two_writes p k _ _ name text
+    (subst (λ (q : Reply). In {X = List ℕ × List ℕ} (name, text) q.writes) is.1.reply w)
 search_writes pins units places m p k night r name text (inr is) w = absurd (subst (λ (q : Reply). In (name, text) q.writes) is.reply.2 w)
 
 -- an answer writes no file but the command's own
@@ -312,11 +319,13 @@ own_writes (CheckPinned s t i p k) x r name text (inr (usable, inr v)) w = subst
 own_writes (Replay s t p e n) x r name text is w = one_write n _ name text (subst (λ (ws : List (List ℕ × List ℕ)). In {X = List ℕ × List ℕ} (name, text) ws) is.writes w)
 own_writes (MakePlan s t m p k) night r name text is w = search_writes [] [] [] m p k night r name text is w
 own_writes (MakePinned s t i m p k) x r name text (inl f) w = absurd (subst (λ (q : Reply). In (name, text) q.writes) f.reply w)
-own_writes (MakePinned s t i m p k) x r name text (inr is) w = search_writes x.pins (units_taken x.instance x.pins) (positions_taken x.instance x.pins) m p k x.instance r name text is.1 w
+own_writes (MakePinned s t i m p k) x r name text (inr is) w = search_writes x.pins (units_taken x.instance x.pins)
+    (positions_taken x.instance x.pins) m p k x.instance r name text is.1 w
 own_writes (Improve s t i h m p k) x r name text (inl f) w = absurd (subst (λ (q : Reply). In (name, text) q.writes) f.reply w)
 own_writes (Improve s t i h m p k) x r name text (inr (usable, inl (inl f))) w = absurd (subst (λ (q : Reply). In (name, text) q.writes) f.reply w)
 own_writes (Improve s t i h m p k) x r name text (inr (usable, inl (inr l))) w = absurd (subst (λ (q : Reply). In (name, text) q.writes) l.1.reply w)
-own_writes (Improve s t i h m p k) x r name text (inr (usable, inr is)) w = two_writes p k _ _ name text (subst (λ (q : Reply). In {X = List ℕ × List ℕ} (name, text) q.writes) is.1.planned.reply w)
+own_writes (Improve s t i h m p k) x r name text (inr (usable, inr is)) w = two_writes p k _ _ name text
+    (subst (λ (q : Reply). In {X = List ℕ × List ℕ} (name, text) q.writes) is.1.planned.reply w)
 own_writes (Follow s o) x r name text is w = subst (λ (q : Reply). In (name, text) q.writes) is w
 own_writes (Delay s t p) x r name text (inl f) w = subst (λ (q : Reply). In (name, text) q.writes) f.reply w
 own_writes (Delay s t p) x r name text (inr d) w = subst (λ (q : Reply). In (name, text) q.writes) d.reply w
@@ -335,7 +344,8 @@ refused_reply : {X : Type 0} (x : Result X (List ℕ)) (P : X → Reply → Type
 refused_reply (Ok y) P text r e is = absurd (let h : None ≡ Some text = e in cc)
 refused_reply (Err line) P text r e is = is ∙ ap refusal (let h : Some line ≡ Some text = e in cc)
 
-pub input_there : (c : Call) (old new : Seen) (s : Status) (files : Files) (text : List ℕ) → old.files ≡ Some files → refused c files ≡ Some text → Ends c old new s → ((s ≡ status.Input) × IsWhole (refusal text) old new) ⊎ Yields s
+pub input_there : (c : Call) (old new : Seen) (s : Status) (files : Files) (text : List ℕ) → old.files ≡ Some files → refused c files ≡ Some text → Ends c old new s
+    → ((s ≡ status.Input) × IsWhole (refusal text) old new) ⊎ Yields s
 input_there c old new s files text told e (inl h) = inr (early c old new s h)
 input_there c old new s files text told e (inr h) = at (its_own h.0 old new s h.2)
   where
@@ -354,7 +364,8 @@ unfolding Refused
 input_tells c (Err text) r is o = (text, refl, is)
 input_tells c (Ok v) r is o = absurd (no_input c v r is o)
 
-pub input_only : (c : Call) (old new : Seen) → Ends c old new status.Input → (files : Files) × Agrees old.files files × ((text : List ℕ) × (refused c files ≡ Some text) × IsWhole (refusal text) old new)
+pub input_only : (c : Call) (old new : Seen) → Ends c old new status.Input → (files : Files) × Agrees old.files files
+    × ((text : List ℕ) × (refused c files ≡ Some text) × IsWhole (refusal text) old new)
 unfolding Refused
 input_only c old new e =
     let h = has_reply c outcome.Input old new e in
@@ -384,7 +395,8 @@ module _ (c : Call) (old new : Seen) (r : Reply) (name : List ℕ) (is : IsReply
   after_whole h = both_map _ Kept old.files new.files h (λ a b e. ap (λ f. map.get f name) e ∙ written_same r.writes a name not_written)
 
   after_cut : CutInFiles r old new → BothTold old.files new.files Kept
-  after_cut h = both_map _ Kept old.files new.files h.some.files (λ a b e. ap (λ f. map.get f name) e ∙ written_same (take h.some.many r.writes) a name (λ text is. not_written text (in_some h.some.many r.writes (name, text) is)))
+  after_cut h = both_map _ Kept old.files new.files h.some.files (λ a b e. ap (λ f. map.get f name) e
+      ∙ written_same (take h.some.many r.writes) a name (λ text is. not_written text (in_some h.some.many r.writes (name, text) is)))
 
   after_delivery : (s : Status) → Delivers r old new s → BothTold old.files new.files Kept
   after_delivery status.Store h = after_cut h.1
@@ -409,7 +421,8 @@ after_early c old new status.NoMatching name h = absurd h
 after_early c old new status.Unfinished name h = absurd h
 after_early c old new status.Sink name h = absurd h
 
-pub others : (c : Call) (old new : Seen) (s : Status) (name : List ℕ) → (In name (outputs_of c) → ⊥) → Ends c old new s → BothTold old.files new.files (λ a b. map.get b name ≡ map.get a name)
+pub others : (c : Call) (old new : Seen) (s : Status) (name : List ℕ) → (In name (outputs_of c) → ⊥) → Ends c old new s
+    → BothTold old.files new.files (λ a b. map.get b name ≡ map.get a name)
 others c old new s name other (inl h) = after_early c old new s name h
 others c old new s name other (inr h) = after_delivery c old new h.0 name h.1 other s h.2
 
@@ -423,7 +436,8 @@ after_memory c old new (inr (r, is, inl h)) = inl h.output
 after_memory c old new (inr (r, is, inr h)) = inr (r, is, h)
 
 -- all of the files were written, so some of them were
-whole_some : (ws : Entries) (old new : Seen) → BothTold old.files new.files (λ a b. b ≡ written ws a) → BothTold old.stored new.stored (λ a b. b ≡ a ++ ws) → WritesSome ws (known_of old) (known_of new)
+whole_some : (ws : Entries) (old new : Seen) → BothTold old.files new.files (λ a b. b ≡ written ws a) → BothTold old.stored new.stored (λ a b. b ≡ a ++ ws)
+    → WritesSome ws (known_of old) (known_of new)
 whole_some ws old new files stored =
     let all : ws ≡ take (length ws) ws = sym (take_all (length ws) ws (omega arith)) in
     record {
@@ -436,7 +450,8 @@ whole_some ws old new files stored =
 abbrev Broken : Call → Seen → Seen → Type 0
 Broken c old new = Stays (known_of old) (known_of new) ⊎ ((r : Reply) × IsReplyOver c old.files r × WritesSome r.writes (known_of old) (known_of new))
 
-pub after_failure : (c : Call) (old new : Seen) (s : Status) → (s ≡ status.Store) ⊎ (s ≡ status.Memory) → Ends c old new s → Stays (known_of old) (known_of new) ⊎ ((r : Reply) × IsReplyOver c old.files r × WritesSome r.writes (known_of old) (known_of new))
+pub after_failure : (c : Call) (old new : Seen) (s : Status) → (s ≡ status.Store) ⊎ (s ≡ status.Memory) → Ends c old new s
+    → Stays (known_of old) (known_of new) ⊎ ((r : Reply) × IsReplyOver c old.files r × WritesSome r.writes (known_of old) (known_of new))
 after_failure c old new s (inl is) ends = at (subst (Ends c old new) is ends)
   where
     at : Ends c old new status.Store → Broken c old new

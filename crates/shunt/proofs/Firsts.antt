@@ -25,7 +25,8 @@ use Rattle.shunt.proofs.Commands.{IsAnswered}
 use Rattle.shunt.proofs.Ending.{at_start, rose_earlier}
 use Rattle.shunt.proofs.Writes.{written-append}
 
-module _ (first : List (List ℕ × List ℕ)) (r : Reply) (f ff : Option Files) (e ee : Option Entries) (k kk : ℕ) (o : Option (List ℕ)) (n : ℕ) (new : Seen) (wrote : BothTold f ff (λ a b. b ≡ written first a)) (noted : BothTold e ee (λ a b. b ≡ a ++ first)) where
+module _ (first : List (List ℕ × List ℕ)) (r : Reply) (f ff : Option Files) (e ee : Option Entries) (k kk : ℕ) (o : Option (List ℕ)) (n : ℕ) (new : Seen)
+    (wrote : BothTold f ff (λ a b. b ≡ written first a)) (noted : BothTold e ee (λ a b. b ≡ a ++ first)) where
   -- whole files, and then others
   all_written : (ws : List (List ℕ × List ℕ)) → BothTold ff new.files (λ a b. b ≡ written ws a) → BothTold f new.files (λ a b. b ≡ written (first ++ ws) a)
   all_written ws h = both_then _ _ _ f ff new.files wrote h (λ a b c x g. g ∙ ap (written ws) x ∙ sym (written-append first ws a))
@@ -68,12 +69,19 @@ module _ (first : List (List ℕ × List ℕ)) (r : Reply) (f ff : Option Files)
 abbrev Delivered : Call → Option Files → Seen → Seen → Status → Type 0
 Delivered c view old new s = (r : Reply) × IsReplyOver c view r × Delivers r old new s
 
-pub delivered : (c : Call) (view : Option Files) (rest : Reply) (old mid : Known) (k kk : ℕ) (o : Option (List ℕ)) (n : ℕ) (new : Seen) (s : Status) → k ≤ kk → HasFirst (IsReplyOver c view) old mid rest → Delivers rest (at_start mid.files mid.stored kk o n) new s → (r : Reply) × IsReplyOver c view r × Delivers r (at_start old.files old.stored k o n) new s
-delivered c view rest old mid k kk o n new s le h d = (with_first h.first rest, h.reply, delivers_after h.first rest old.files mid.files old.stored mid.stored k kk o n new h.files h.stored s le d)
+pub delivered : (c : Call) (view : Option Files) (rest : Reply) (old mid : Known) (k kk : ℕ) (o : Option (List ℕ)) (n : ℕ) (new : Seen) (s : Status) → k ≤ kk
+    → HasFirst (IsReplyOver c view) old mid rest → Delivers rest (at_start mid.files mid.stored kk o n) new s
+    → (r : Reply) × IsReplyOver c view r × Delivers r (at_start old.files old.stored k o n) new s
+delivered c view rest old mid k kk o n new s le h d = (
+  with_first h.first rest,
+  h.reply,
+  delivers_after h.first rest old.files mid.files old.stored mid.stored k kk o n new h.files h.stored s le d,
+)
 
 -- ---- what a step handed on
 
-pub led_input : (P : Reply → Type 0) (old new : Known) (h : Halt) (text : Vec ℕ Global) (r : Reply) → h ≡ halt.Input text → r ≡ refusal text.items → Leads P old new (Err h) → HasFirst P old new r
+pub led_input : (P : Reply → Type 0) (old new : Known) (h : Halt) (text : Vec ℕ Global) (r : Reply) → h ≡ halt.Input text → r ≡ refusal text.items → Leads P old new (Err h)
+    → HasFirst P old new r
 led_input P old new h text r e is leads = subst (HasFirst P old new) (sym is) (subst (λ (x : Halt). Leads P old new (Err x)) e leads)
 
 pub led_fault : (P : Reply → Type 0) (old new : Known) (h : Halt) → h ≡ halt.Fault → Leads P old new (Err h) → Stays old new
@@ -93,15 +101,18 @@ plain c view old new (Err halt.Fault) same h = same
 plain c view old new (Err halt.Memory) same h = same
 
 -- so does a step of `plan`, which writes its certificate
-pub planned_leads : (s t : List ℕ) (m : ℕ) (p k : List ℕ) (c : Call) (view : Option Files) (old new : Known) (r : Result Answer Halt) → c ≡ MakePlan s t m p k → Leads (IsPlannedOver view s t m p k) old new r → Leads (IsReplyOver c view) old new r
+pub planned_leads : (s t : List ℕ) (m : ℕ) (p k : List ℕ) (c : Call) (view : Option Files) (old new : Known) (r : Result Answer Halt) → c ≡ MakePlan s t m p k
+    → Leads (IsPlannedOver view s t m p k) old new r → Leads (IsReplyOver c view) old new r
 planned_leads s t m p k c view old new r is h = subst (λ (d : Call). Leads (IsReplyOver d view) old new r) (sym is) h
 
 -- and one of `pinned`
-pub pinned_leads : (s t i : List ℕ) (m : ℕ) (p k : List ℕ) (c : Call) (view : Option Files) (old new : Known) (r : Result Answer Halt) → c ≡ MakePinned s t i m p k → Leads (IsPinnedOver view s t i m p k) old new r → Leads (IsReplyOver c view) old new r
+pub pinned_leads : (s t i : List ℕ) (m : ℕ) (p k : List ℕ) (c : Call) (view : Option Files) (old new : Known) (r : Result Answer Halt) → c ≡ MakePinned s t i m p k
+    → Leads (IsPinnedOver view s t i m p k) old new r → Leads (IsReplyOver c view) old new r
 pinned_leads s t i m p k c view old new r is h = subst (λ (d : Call). Leads (IsReplyOver d view) old new r) (sym is) h
 
 -- and one of `improve`
-pub improved_leads : (s t i h : List ℕ) (m : ℕ) (p k : List ℕ) (c : Call) (view : Option Files) (old new : Known) (r : Result Answer Halt) → c ≡ Improve s t i h m p k → Leads (IsImprovedOver view s t i h m p k) old new r → Leads (IsReplyOver c view) old new r
+pub improved_leads : (s t i h : List ℕ) (m : ℕ) (p k : List ℕ) (c : Call) (view : Option Files) (old new : Known) (r : Result Answer Halt) → c ≡ Improve s t i h m p k
+    → Leads (IsImprovedOver view s t i h m p k) old new r → Leads (IsReplyOver c view) old new r
 improved_leads s t i h m p k c view old new r is leads = subst (λ (d : Call). Leads (IsReplyOver d view) old new r) (sym is) leads
 
 -- the names that a command hears

@@ -51,7 +51,8 @@ follow_parts v r is = subst (Parts (GoesThrough v)) (sym (ap (λ (q : Reply). q.
 
 -- what the laws of sheets say of the orders of plans
 pub record SheetLaws : Type 0 where
-  pub again : (night : Night) (blocks : List Block) → IsInstance night → IsFeasible night blocks → ReadsAsSheet night.station (orders_in night blocks) (text_of_rows (sheet_rows night.station (orders_in night blocks)))
+  pub again : (night : Night) (blocks : List Block) → IsInstance night → IsFeasible night blocks
+      → ReadsAsSheet night.station (orders_in night blocks) (text_of_rows (sheet_rows night.station (orders_in night blocks)))
   pub short : (night : Night) (blocks : List Block) → IsInstance night → AreInRange night blocks → length (text_of_rows (sheet_rows night.station (orders_in night blocks))) ≤ 40808
   pub followed : (night : Night) (blocks : List Block) → IsInstance night → IsFeasible night blocks → LeavesNone night.station (orders_in night blocks)
 
@@ -73,7 +74,8 @@ plans_station s t p y e =
 abbrev followable : Station → List Order → Followable
 followable station orders = record { station = station; orders = orders }
 
-states_following : (s o : List ℕ) (station : Station) (orders : List Order) → stated_station s ≡ Ok station → stated_sheet station o ≡ Ok orders → stated_following s o ≡ Ok (followable station orders)
+states_following : (s o : List ℕ) (station : Station) (orders : List Order) → stated_station s ≡ Ok station → stated_sheet station o ≡ Ok orders
+    → stated_following s o ≡ Ok (followable station orders)
 states_following s o station orders a b =
     ap (λ r. then_stated r (λ st. then_stated (stated_sheet st o) (λ os. Ok (followable st os)))) a
     ∙ ap (λ r. then_stated r (λ os. Ok (followable station os))) b
@@ -89,7 +91,8 @@ module _ (n text : List ℕ) (files : Files) where
 gone : (v : Followable) (r : Reply) → followed v.station v.orders ≡ answers.Through 0 → IsFollowed v r → r ≡ says outcome.Done (followed_of v.orders (answers.Through 0))
 gone v r e is = is ∙ ap (λ (f : Followed). says (followed_outcome f) (followed_of v.orders f)) e
 
-module _ (found : FoundNone) (laws : SheetLaws) (s t p n : List ℕ) (files after : Files) (usable : IsUsable (Sheet s t p n)) (y : Night × Plan) (r : Reply) (ok : plans_in s t p files ≡ Ok y) (own : HasSheet n y r) (clean : IsClean y) (left : after ≡ written r.writes files) where
+module _ (found : FoundNone) (laws : SheetLaws) (s t p n : List ℕ) (files after : Files) (usable : IsUsable (Sheet s t p n)) (y : Night × Plan) (r : Reply)
+    (ok : plans_in s t p files ≡ Ok y) (own : HasSheet n y r) (clean : IsClean y) (left : after ≡ written r.writes files) where
   abbrev orders : List Order
   orders = orders_in y.0 y.1.blocks
 
@@ -122,13 +125,16 @@ IsGone orders old new x = (x ≡ status.Done) × IsWhole (says outcome.Done (fol
 
 -- the orders are those of the plan
 abbrev pub PlanGone : List ℕ → List ℕ → List ℕ → Files → Seen → Seen → Status → Type 0
-PlanGone s t p files old new x = (x ≡ status.Done) × ((y : Night × Plan) × (plans_in s t p files ≡ Ok y) × IsWhole (says outcome.Done (followed_of (orders_in y.0 y.1.blocks) (answers.Through 0))) old new)
+PlanGone s t p files old new x = (x ≡ status.Done) × ((y : Night × Plan) × (plans_in s t p files ≡ Ok y)
+    × IsWhole (says outcome.Done (followed_of (orders_in y.0 y.1.blocks) (answers.Through 0))) old new)
 
-plan_gone : (s t p : List ℕ) (files : Files) (y : Night × Plan) (old new : Seen) (x : Status) → plans_in s t p files ≡ Ok y → IsGone (orders_in y.0 y.1.blocks) old new x ⊎ Yields x → PlanGone s t p files old new x ⊎ Yields x
+plan_gone : (s t p : List ℕ) (files : Files) (y : Night × Plan) (old new : Seen) (x : Status) → plans_in s t p files ≡ Ok y → IsGone (orders_in y.0 y.1.blocks) old new x ⊎ Yields x
+    → PlanGone s t p files old new x ⊎ Yields x
 plan_gone s t p files y old new x ok (inl g) = inl (g.0, (y, ok, g.1))
 plan_gone s t p files y old new x ok (inr late) = inr late
 
-followed_well : (s n : List ℕ) (after : Files) (v : Followable) (old new : Seen) (x : Status) → old.files ≡ Some after → following_in s n after ≡ Ok v → followed v.station v.orders ≡ answers.Through 0 → Ends (Follow s n) old new x → IsGone v.orders old new x ⊎ Yields x
+followed_well : (s n : List ℕ) (after : Files) (v : Followable) (old new : Seen) (x : Status) → old.files ≡ Some after → following_in s n after ≡ Ok v
+    → followed v.station v.orders ≡ answers.Through 0 → Ends (Follow s n) old new x → IsGone v.orders old new x ⊎ Yields x
 followed_well s n after v old new x known ok through (inl h) = inr (early (Follow s n) old new x h)
 followed_well s n after v old new x known ok through (inr h) = at (its_own h.0 old new x h.2)
   where
@@ -143,7 +149,8 @@ own_sheet : (n : List ℕ) (y : Night × Plan) (r : Reply) → r.outcome ≡ out
 own_sheet n y r e (inl f) = absurd (let no : outcome.Findings ≡ outcome.Done = sym (ap (λ (q : Reply). q.outcome) f.reply) ∙ e in cc)
 own_sheet n y r e (inr h) = h
 
-pub goes_through : (found : FoundNone) (laws : SheetLaws) (s t p n : List ℕ) (a b old new : Seen) (x : Status) (files after : Files) → IsUsable (Sheet s t p n) → a.files ≡ Some files → b.files ≡ Some after → old.files ≡ Some after
+pub goes_through : (found : FoundNone) (laws : SheetLaws) (s t p n : List ℕ) (a b old new : Seen) (x : Status) (files after : Files) → IsUsable (Sheet s t p n)
+    → a.files ≡ Some files → b.files ≡ Some after → old.files ≡ Some after
     → Ends (Sheet s t p n) a b status.Done → Ends (Follow s n) old new x → PlanGone s t p files old new x ⊎ Yields x
 goes_through found laws s t p n a b old new x files after usable before left known first second =
     let h = has_reply (Sheet s t p n) outcome.Done a b first in

@@ -82,13 +82,24 @@ module _ (laws : ImproveLaws) (x : Pinned × Plan) (is : IsFormed x) where
   ready usable fit = record { usable = usable; clean = clean fit.none; keeps = fit.keeps }
 
   unready : (r : Reply) → IsUnfit x.0.instance x.0.pins x.1 r → IsReady x → ⊥
-  unready r (inl f) ok = f.some (only_plan x.0.instance x.1 f.findings is.plan.blocks f.told.in_order f.told.exactly ∙ (laws.none x.0.instance x.1 is.night is.plan.blocks).1 ok.clean)
+  unready r (inl f) ok = f.some (only_plan x.0.instance x.1 f.findings is.plan.blocks f.told.in_order f.told.exactly
+      ∙ (laws.none x.0.instance x.1 is.night is.plan.blocks).1 ok.clean)
   unready r (inr (none, l)) ok = lost_kept x.1.blocks x.0.pins l.id l.first ok.keeps
 
 -- ---- the search
 
 abbrev pub improve_search : (s t i h : List ℕ) (m : ℕ) (p k : List ℕ) → searched.Search (Improve s t i h m p k)
-improve_search s t i h m p k = record { night = λ x. x.0.instance; pins = λ x. x.0.pins; units = λ x. units_taken x.0.instance x.0.pins; places = λ x. positions_taken x.0.instance x.0.pins; most = m; plan = p; certificate = k; ready = IsReady }
+improve_search s t i h m p k = record {
+  night = λ x. x.0.instance;
+  pins = λ x. x.0.pins;
+  units = λ x. units_taken x.0.instance x.0.pins;
+  places = λ x.
+      positions_taken x.0.instance x.0.pins;
+  most = m;
+  plan = p;
+  certificate = k;
+  ready = IsReady;
+}
 
 module _ (laws : ImproveLaws) (s t i h : List ℕ) (m : ℕ) (p k : List ℕ) where
   seeks : (files : Files) (x : Pinned × Plan) (r : Reply) → in_hand_in s t i h files ≡ Ok x → IsImproved m p k x r
@@ -97,7 +108,10 @@ module _ (laws : ImproveLaws) (s t i h : List ℕ) (m : ℕ) (p k : List ℕ) wh
       let is = formed s t i h files x ok in
       inl (λ ready. f.some ((laws.usable x.0.instance x.0.pins is.night is.pins).1 ready.usable), unusable_outcome x.0.instance x.0.pins r f)
   seeks files x r ok (inr (usable, inl unfit)) = inl (unready laws x (formed s t i h files x ok) r unfit, unfit_outcome x.0.instance x.0.pins x.1 r unfit)
-  seeks files x r ok (inr (usable, inr (fit, is))) = inr (ready laws x (formed s t i h files x ok) usable fit, inl (laws.matching x.0.instance x.0.pins x.1.blocks fit.feasible fit.keeps, is.planned))
+  seeks files x r ok (inr (usable, inr (fit, is))) = inr (
+    ready laws x (formed s t i h files x ok) usable fit,
+    inl (laws.matching x.0.instance x.0.pins x.1.blocks fit.feasible fit.keeps, is.planned),
+  )
 
   pub improve_answers : searched.Answers (Improve s t i h m p k) (improve_search s t i h m p k)
   improve_answers = record {
@@ -118,9 +132,11 @@ module _ (laws : ImproveLaws) (s t i h : List ℕ) (m : ℕ) (p k : List ℕ) wh
 
   pub improve_done : (old new : Seen) (x : Status) (files : Files) (v : Pinned × Plan) → old.files ≡ Some files → in_hand_in s t i h files ≡ Ok v
       → IsReady v → partial_plans v.0.instance v.0.pins < m → Ends (Improve s t i h m p k) old new x → (x ≡ status.Done) ⊎ Yields x
-  improve_done old new x files v known ok good fewer e = searched.done_there (Improve s t i h m p k) (improve_search s t i h m p k) improve_answers old new x files v known ok good (matched v good) fewer e
+  improve_done old new x files v known ok good fewer e = searched.done_there (Improve s t i h m p k) (improve_search s t i h m p k) improve_answers old new x files v known ok good
+      (matched v good) fewer e
 
-  pub improve_ends : (old new : Seen) (x : Status) (files : Files) (v : Pinned × Plan) → old.files ≡ Some files → in_hand_in s t i h files ≡ Ok v → (Rose old.store_faults new.store_faults → ⊥) → (Rose old.sink_faults new.sink_faults → ⊥) → Ends (Improve s t i h m p k) old new x
+  pub improve_ends : (old new : Seen) (x : Status) (files : Files) (v : Pinned × Plan) → old.files ≡ Some files → in_hand_in s t i h files ≡ Ok v
+      → (Rose old.store_faults new.store_faults → ⊥) → (Rose old.sink_faults new.sink_faults → ⊥) → Ends (Improve s t i h m p k) old new x
       → (x ≡ status.Findings) ⊎ ((x ≡ status.Done) ⊎ ((x ≡ status.Unfinished) ⊎ (x ≡ status.Memory)))
   improve_ends old new x files v known ok ns nk e = ⊎_elim inl
       (λ well. inr (⊎_elim inl (λ rest. inr (⊎_elim (λ is. absurd (never_no_matching old new (subst (Ends (Improve s t i h m p k) old new) is e))) (λ left. left) rest)) well))
@@ -141,7 +157,8 @@ module _ (laws : ImproveLaws) (s t i h : List ℕ) (m : ℕ) (p k : List ℕ) wh
     whole : IsWhole (planned o p k value.0.instance plan certificate) old new
 
   -- an outcome of accepted files is that of the answer on what they state
-  answered : (o : Outcome) (x : Result (Pinned × Plan) (List ℕ)) (r : Reply) → (o ≡ outcome.Input → ⊥) → r.outcome ≡ o → Decided x (IsImproved m p k) r → (v : Pinned × Plan) × (x ≡ Ok v) × IsImproved m p k v r
+  answered : (o : Outcome) (x : Result (Pinned × Plan) (List ℕ)) (r : Reply) → (o ≡ outcome.Input → ⊥) → r.outcome ≡ o → Decided x (IsImproved m p k) r
+      → (v : Pinned × Plan) × (x ≡ Ok v) × IsImproved m p k v r
   answered o (Err text) r other e is = absurd (other (sym e ∙ ap (λ (q : Reply). q.outcome) is))
   answered o (Ok v) r other e is = (v, refl, is)
 
@@ -169,7 +186,8 @@ module _ (laws : ImproveLaws) (s t i h : List ℕ) (m : ℕ) (p k : List ℕ) wh
 
   pub never_worse : (o : Outcome) (old new : Seen) → (o ≡ outcome.Input → ⊥) → (o ≡ outcome.Findings → ⊥) → Ends (Improve s t i h m p k) old new (the_status o)
       → (files : Files) × Agrees old.files files × ((x : Pinned × Plan) × (in_hand_in s t i h files ≡ Ok x)
-      × IsReady x × ((plan : Plan) × (c : Certificate) × AreStated x.0.instance x.0.pins plan c × (total_cost x.0.instance plan.blocks ≤ total_cost x.0.instance x.1.blocks) × IsWhole (planned o p k x.0.instance plan c) old new))
+      × IsReady x × ((plan : Plan) × (c : Certificate) × AreStated x.0.instance x.0.pins plan c × (total_cost x.0.instance plan.blocks ≤ total_cost x.0.instance x.1.blocks)
+      × IsWhole (planned o p k x.0.instance plan c) old new))
   never_worse o old new input other e =
       let had = has_reply (Improve s t i h m p k) o old new e in
       let at = answered o (in_hand_in s t i h had.1.0) had.0 input had.2 had.1.2 in

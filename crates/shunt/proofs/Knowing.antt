@@ -32,13 +32,17 @@ none_stored None n ws h e = absurd h
 none_stored (Some a) None ws h e = absurd h
 none_stored (Some a) (Some b) ws h e = append_cancel_left a ws [] (sym h ∙ (let same : b ≡ a = cc in same) ∙ sym (append-nil a))
 
-module _ (t u : Telling) (old new : Seen) (before after : Option Files) (told : old.files ≡ t.files) (still : new.files ≡ u.files) (noted : old.stored ≡ t.stored) (now : new.stored ≡ u.stored) where
-  wrote : (vs : Entries) → AreKnown t u before after → BothTold old.files new.files (λ a b. b ≡ written vs a) → BothTold old.stored new.stored (λ a b. b ≡ a ++ vs) → BothTold before after (λ a b. b ≡ written vs a)
+module _ (t u : Telling) (old new : Seen) (before after : Option Files) (told : old.files ≡ t.files) (still : new.files ≡ u.files) (noted : old.stored ≡ t.stored)
+    (now : new.stored ≡ u.stored) where
+  wrote : (vs : Entries) → AreKnown t u before after → BothTold old.files new.files (λ a b. b ≡ written vs a) → BothTold old.stored new.stored (λ a b. b ≡ a ++ vs)
+      → BothTold before after (λ a b. b ≡ written vs a)
   wrote vs (inl h) files stored =
       subst (λ o. BothTold o after (λ a b. b ≡ written vs a)) (sym (h.0 ∙ sym told)) (subst (λ o. BothTold old.files o (λ a b. b ≡ written vs a)) (sym (h.1 ∙ sym still)) files)
   wrote vs (inr h) files stored =
-      let same : h.stores ≡ vs = one_list t.stored u.stored h.stores vs h.stored (subst (λ o. BothTold o u.stored (λ a b. b ≡ a ++ vs)) noted (subst (λ o. BothTold old.stored o (λ a b. b ≡ a ++ vs)) now stored)) in
-      subst (λ o. BothTold o after (λ a b. b ≡ written vs a)) (sym h.known_before) (subst (λ o. BothTold (Some h.files) o (λ a b. b ≡ written vs a)) (sym h.known_after) (ap (λ (ws : Entries). written ws h.files) same))
+      let same : h.stores ≡ vs = one_list t.stored u.stored h.stores vs h.stored (subst (λ o. BothTold o u.stored (λ a b. b ≡ a ++ vs)) noted
+      (subst (λ o. BothTold old.stored o (λ a b. b ≡ a ++ vs)) now stored)) in
+      subst (λ o. BothTold o after (λ a b. b ≡ written vs a)) (sym h.known_before)
+      (subst (λ o. BothTold (Some h.files) o (λ a b. b ≡ written vs a)) (sym h.known_after) (ap (λ (ws : Entries). written ws h.files) same))
 
   stayed : AreKnown t u before after → new.files ≡ old.files → new.stored ≡ old.stored → after ≡ before
   stayed (inl h) files stored = h.1 ∙ sym still ∙ files ∙ told ∙ sym h.0
@@ -47,7 +51,11 @@ module _ (t u : Telling) (old new : Seen) (before after : Option Files) (told : 
       h.known_after ∙ ap (λ (ws : Entries). Some (written ws h.files)) same ∙ sym h.known_before
 
   in_files : (r : Reply) → AreKnown t u before after → CutInFiles r old new → CutInFiles r (with_files before old) (with_files after new)
-  in_files r known h = record { some = record { many = h.some.many; files = wrote (take h.some.many r.writes) known h.some.files h.some.stored; stored = h.some.stored }; output = h.output }
+  in_files r known h = record {
+    some = record { many = h.some.many; files = wrote (take h.some.many r.writes) known h.some.files h.some.stored; stored = h.some.stored };
+    output =
+        h.output;
+  }
 
   in_text : (r : Reply) → AreKnown t u before after → CutInText r old new → CutInText r (with_files before old) (with_files after new)
   in_text r known h = record { files = wrote r.writes known h.files h.stored; stored = h.stored; output = h.output }
@@ -79,5 +87,6 @@ module _ (t u : Telling) (old new : Seen) (before after : Option Files) (told : 
   known_early status.Sink known h = absurd h
 
   -- a reply over what is known that was delivered ends the run so over what is known
-  pub known_ends : (c : Call) (s : Status) → AreKnown t u before after → (r : Reply) × IsReplyOver c before r × Delivers r old new s → Ends c (with_files before old) (with_files after new) s
+  pub known_ends : (c : Call) (s : Status) → AreKnown t u before after → (r : Reply) × IsReplyOver c before r × Delivers r old new s
+      → Ends c (with_files before old) (with_files after new) s
   known_ends c s known d = inr (d.0, d.1, known_delivery d.0 s known d.2)

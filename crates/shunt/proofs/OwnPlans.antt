@@ -25,7 +25,8 @@ both_known R None (Some b) files known both agrees e = absurd both
 both_known R (Some a) None files known both agrees e = absurd both
 both_known R (Some a) (Some b) files known both agrees e = subst (λ x. R x known) agrees (subst (R a) (let same : b ≡ known = cc in same) both)
 
-module _ (judges : Judges) (laws : TextLaws) (s t : List ℕ) (m : ℕ) (p k : List ℕ) (usable : IsUsable (MakePlan s t m p k)) (old mid : Seen) (files : Files) (told : mid.files ≡ Some files) where
+module _ (judges : Judges) (laws : TextLaws) (s t : List ℕ) (m : ℕ) (p k : List ℕ) (usable : IsUsable (MakePlan s t m p k)) (old mid : Seen) (files : Files)
+    (told : mid.files ≡ Some files) where
   abbrev Found : Outcome → Type 0
   Found o = Finds (MakePlan s t m p k) (plan_search s t m p k) o old mid
 
@@ -39,6 +40,11 @@ module _ (judges : Judges) (laws : TextLaws) (s t : List ℕ) (m : ℕ) (p k : L
       let proved : IsProved (checkable f.value f.is.plan f.is.certificate) = f.is.meet.accepted in
       done_there judges s t p k before new x files (checkable f.value f.is.plan f.is.certificate) known (its_value o f) proved ends
 
-  pub accepted : (before new : Seen) (first x : Status) → Ends (MakePlan s t m p k) old mid first → (first ≡ status.Done) ⊎ (first ≡ status.Unfinished) → before.files ≡ Some files → Ends (Check s t p k) before new x → (x ≡ status.Done) ⊎ Yields x
-  accepted before new first x made (inl e) known ends = accepted_from outcome.Done before new x known (finds (MakePlan s t m p k) (plan_search s t m p k) (plan_answers s t m p k) outcome.Done old mid (λ e. cc) (λ e. cc) (λ e. cc) (subst (Ends (MakePlan s t m p k) old mid) e made)) ends
-  accepted before new first x made (inr e) known ends = accepted_from outcome.Unfinished before new x known (finds (MakePlan s t m p k) (plan_search s t m p k) (plan_answers s t m p k) outcome.Unfinished old mid (λ e. cc) (λ e. cc) (λ e. cc) (subst (Ends (MakePlan s t m p k) old mid) e made)) ends
+  pub accepted : (before new : Seen) (first x : Status) → Ends (MakePlan s t m p k) old mid first → (first ≡ status.Done) ⊎ (first ≡ status.Unfinished) → before.files ≡ Some files
+      → Ends (Check s t p k) before new x → (x ≡ status.Done) ⊎ Yields x
+  accepted before new first x made (inl e) known ends = accepted_from outcome.Done before new x known
+      (finds (MakePlan s t m p k) (plan_search s t m p k) (plan_answers s t m p k) outcome.Done old mid (λ e. cc) (λ e. cc) (λ e. cc)
+      (subst (Ends (MakePlan s t m p k) old mid) e made)) ends
+  accepted before new first x made (inr e) known ends = accepted_from outcome.Unfinished before new x known
+      (finds (MakePlan s t m p k) (plan_search s t m p k) (plan_answers s t m p k) outcome.Unfinished old mid (λ e. cc) (λ e. cc) (λ e. cc)
+      (subst (Ends (MakePlan s t m p k) old mid) e made)) ends

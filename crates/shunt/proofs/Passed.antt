@@ -58,12 +58,14 @@ passed x y r e is = subst (λ x. Decided x IsPassed r) e is
 told_outcome : (y : Passable) (r : Reply) → IsPassed y r → r.outcome ≡ meets_outcome (meets_in y.night y.zones y.plan)
 told_outcome y r a = ap (λ (r : Reply). r.outcome) a
 
-pub done_there : (s t p z : List ℕ) (old new : Seen) (x : Status) (files : Files) (y : Passable) → old.files ≡ Some files → passing_in s t p z files ≡ Ok y → NoneMeet y → Ends (Zones s t p z) old new x → (x ≡ status.Done) ⊎ Yields x
+pub done_there : (s t p z : List ℕ) (old new : Seen) (x : Status) (files : Files) (y : Passable) → old.files ≡ Some files → passing_in s t p z files ≡ Ok y → NoneMeet y
+    → Ends (Zones s t p z) old new x → (x ≡ status.Done) ⊎ Yields x
 done_there s t p z old new x files y known ok none ends =
     decides (Zones s t p z) outcome.Done old new x files known (λ r is.
     told_outcome y r (passed (passing_in s t p z files) y r ok is) ∙ ap meets_outcome ((none_where y).1 none)) ends
 
-pub findings_there : (s t p z : List ℕ) (old new : Seen) (x : Status) (files : Files) (y : Passable) → old.files ≡ Some files → passing_in s t p z files ≡ Ok y → (NoneMeet y → ⊥) → Ends (Zones s t p z) old new x → (x ≡ status.Findings) ⊎ Yields x
+pub findings_there : (s t p z : List ℕ) (old new : Seen) (x : Status) (files : Files) (y : Passable) → old.files ≡ Some files → passing_in s t p z files ≡ Ok y → (NoneMeet y → ⊥)
+    → Ends (Zones s t p z) old new x → (x ≡ status.Findings) ⊎ Yields x
 findings_there s t p z old new x files y known ok never ends =
     decides (Zones s t p z) outcome.Findings old new x files known (λ r is.
     told_outcome y r (passed (passing_in s t p z files) y r ok is) ∙ some_met (meets_in y.night y.zones y.plan) (λ nil. never ((none_where y).0 nil))) ends
@@ -78,14 +80,16 @@ tells : (x : Result Passable (List ℕ)) (r : Reply) (o : Outcome) → (o ≡ ou
 tells (Err text) r o other is e = absurd (other (sym e ∙ ap (λ (r : Reply). r.outcome) is))
 tells (Ok y) r o other is e = record { value = y; ok = refl; outcome = sym (told_outcome y r is) ∙ e }
 
-pub done_only : (s t p z : List ℕ) (old new : Seen) → Ends (Zones s t p z) old new status.Done → (files : Files) × Agrees old.files files × ((y : Passable) × (passing_in s t p z files ≡ Ok y) × NoneMeet y)
+pub done_only : (s t p z : List ℕ) (old new : Seen) → Ends (Zones s t p z) old new status.Done
+    → (files : Files) × Agrees old.files files × ((y : Passable) × (passing_in s t p z files ≡ Ok y) × NoneMeet y)
 done_only s t p z old new ends =
     let h = has_reply (Zones s t p z) outcome.Done old new ends in
     let files = h.1.0 in
     let at = tells (passing_in s t p z files) h.0 outcome.Done (λ e. cc) h.1.2 h.2 in
     (files, h.1.1, (at.value, at.ok, (none_where at.value).0 (none_met (meets_in at.value.night at.value.zones at.value.plan) at.outcome)))
 
-pub findings_only : (s t p z : List ℕ) (old new : Seen) → Ends (Zones s t p z) old new status.Findings → (files : Files) × Agrees old.files files × ((y : Passable) × (passing_in s t p z files ≡ Ok y) × (NoneMeet y → ⊥))
+pub findings_only : (s t p z : List ℕ) (old new : Seen) → Ends (Zones s t p z) old new status.Findings
+    → (files : Files) × Agrees old.files files × ((y : Passable) × (passing_in s t p z files ≡ Ok y) × (NoneMeet y → ⊥))
 findings_only s t p z old new ends =
     let h = has_reply (Zones s t p z) outcome.Findings old new ends in
     let files = h.1.0 in
@@ -96,7 +100,8 @@ neither : (ms : List Meet) (o : Outcome) → meets_outcome ms ≡ o → (o ≡ o
 neither [] o e = inl (sym e)
 neither (m ∷ ms) o e = inr (sym e)
 
-never : (s t p z : List ℕ) (o : Outcome) (old new : Seen) → (o ≡ outcome.Done → ⊥) → (o ≡ outcome.Findings → ⊥) → (o ≡ outcome.Input → ⊥) → Ends (Zones s t p z) old new (the_status o) → ⊥
+never : (s t p z : List ℕ) (o : Outcome) (old new : Seen) → (o ≡ outcome.Done → ⊥) → (o ≡ outcome.Findings → ⊥) → (o ≡ outcome.Input → ⊥)
+    → Ends (Zones s t p z) old new (the_status o) → ⊥
 never s t p z o old new a b d ends =
     let h = has_reply (Zones s t p z) o old new ends in
     let at = tells (passing_in s t p z h.1.0) h.0 o d h.1.2 h.2 in
@@ -114,7 +119,8 @@ well : (x : Status) (ms : List Meet) → x ≡ the_status (meets_outcome ms) →
 well x [] e = inl e
 well x (m ∷ ms) e = inr (inl e)
 
-pub ends_well : (s t p z : List ℕ) (old new : Seen) (x : Status) (files : Files) (y : Passable) → old.files ≡ Some files → passing_in s t p z files ≡ Ok y → (Rose old.store_faults new.store_faults → ⊥) → (Rose old.sink_faults new.sink_faults → ⊥) → Ends (Zones s t p z) old new x → EndsWell x
+pub ends_well : (s t p z : List ℕ) (old new : Seen) (x : Status) (files : Files) (y : Passable) → old.files ≡ Some files → passing_in s t p z files ≡ Ok y
+    → (Rose old.store_faults new.store_faults → ⊥) → (Rose old.sink_faults new.sink_faults → ⊥) → Ends (Zones s t p z) old new x → EndsWell x
 ends_well s t p z old new x files y known ok ns nk ends = at (completes (Zones s t p z) old new x ns nk ends)
   where
     at : EndsAs (Zones s t p z) old x → EndsWell x

@@ -73,7 +73,8 @@ pub lost_kept : (blocks pins : List Block) (id : ℕ) → IsFirstLost blocks pin
 lost_kept blocks pins id l keeps =
     l.lost (of_all (IsKept blocks) l.before l.pin l.after (subst (Keeps blocks) l.place keeps))
 
-by_verdict : (y : PinChecked) (v : Verdict) → AreUsable y.night y.pins → Accepts v ↔ IsAccepted y.night y.pins y.plan.blocks y.plan.cost y.certificate → Parts (IsPinProved y) (check_outcome v)
+by_verdict : (y : PinChecked) (v : Verdict) → AreUsable y.night y.pins → Accepts v ↔ IsAccepted y.night y.pins y.plan.blocks y.plan.cost y.certificate
+    → Parts (IsPinProved y) (check_outcome v)
 by_verdict y (verdict.Accepted bound) usable h = inl (record { usable = usable; accepted = h.0 tt }, refl)
 by_verdict y (verdict.Rejected row r) usable h = inr (λ proved. h.1 proved.accepted, refl)
 
@@ -115,7 +116,8 @@ bounds_kept judges bounds y r v is usable accepts =
     }
 
 pub done_bounds : (judges : Judges) (bounds : Bounds) (s t i p k : List ℕ) (old new : Seen) → Ends (CheckPinned s t i p k) old new status.Done
-    → (files : Files) × Agrees old.files files × ((y : PinChecked) × (pin_check_in s t i p k files ≡ Ok y) × BoundsKept y × IsWhole (says outcome.Done (verdict_of y.night y.certificate (verdict.Accepted y.certificate.bound))) old new)
+    → (files : Files) × Agrees old.files files × ((y : PinChecked) × (pin_check_in s t i p k files ≡ Ok y) × BoundsKept y
+    × IsWhole (says outcome.Done (verdict_of y.night y.certificate (verdict.Accepted y.certificate.bound))) old new)
 done_bounds judges bounds s t i p k old new ends =
     let h = has_reply (CheckPinned s t i p k) outcome.Done old new ends in
     let files = h.1.0 in

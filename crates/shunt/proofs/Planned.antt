@@ -25,7 +25,17 @@ use Rattle.shunt.proofs.Searched as searched
 
 module _ (s t : List ℕ) (m : ℕ) (p k : List ℕ) where
   abbrev pub plan_search : searched.Search (MakePlan s t m p k)
-  plan_search = record { night = λ night. night; pins = λ night. []; units = λ night. []; places = λ night. []; most = m; plan = p; certificate = k; ready = λ night. AreUsable night [] }
+  plan_search = record {
+    night = λ night. night;
+    pins = λ night. [];
+    units = λ night. [];
+    places = λ night. [];
+    most = m;
+    plan = p;
+    certificate = k;
+    ready = λ night.
+        AreUsable night [];
+  }
 
   pub plan_answers : searched.Answers (MakePlan s t m p k) plan_search
   plan_answers = record {
@@ -50,10 +60,21 @@ abbrev pub UsableLaw : Type 0
 UsableLaw = (night : Night) (pins : List Block) → IsInstance night → AreInRange night pins → (pin_findings night pins ≡ []) ↔ AreUsable night pins
 
 abbrev pub pinned_search : (s t i : List ℕ) (m : ℕ) (p k : List ℕ) → searched.Search (MakePinned s t i m p k)
-pinned_search s t i m p k = record { night = λ x. x.instance; pins = λ x. x.pins; units = λ x. units_taken x.instance x.pins; places = λ x. positions_taken x.instance x.pins; most = m; plan = p; certificate = k; ready = λ x. AreUsable x.instance x.pins }
+pinned_search s t i m p k = record {
+  night = λ x. x.instance;
+  pins = λ x. x.pins;
+  units = λ x. units_taken x.instance x.pins;
+  places = λ x.
+      positions_taken x.instance x.pins;
+  most = m;
+  plan = p;
+  certificate = k;
+  ready = λ x. AreUsable x.instance x.pins;
+}
 
 module _ (law : UsableLaw) (s t i : List ℕ) (m : ℕ) (p k : List ℕ) where
-  pinned_seeks : (files : Files) (x : Pinned) (r : Reply) → pinned_in s t i files ≡ Ok x → IsPinned m p k x r → searched.Seeks (MakePinned s t i m p k) (pinned_search s t i m p k) x r
+  pinned_seeks : (files : Files) (x : Pinned) (r : Reply) → pinned_in s t i files ≡ Ok x → IsPinned m p k x r
+      → searched.Seeks (MakePinned s t i m p k) (pinned_search s t i m p k) x r
   pinned_seeks files x r ok (inl f) =
       let formed = pins_stated (content files s) (content files t) (content files i) x ok in
       inl (λ usable. f.some ((law x.instance x.pins formed.0 formed.1).1 usable), unusable_outcome x.instance x.pins r f)

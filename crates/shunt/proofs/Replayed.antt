@@ -53,19 +53,22 @@ left_in_range s t p e y is = last_in_range y (turns_stated s t p e y is).1.block
 sound_where : (law : NoneFound) (s t p e : List ℕ) (y : Replayable) → stated_turns s t p e ≡ Ok y → (findings_in y.night (last_of y).blocks ≡ []) ↔ EndsFeasible y
 sound_where law s t p e y is = law y.night (last_of y).blocks (turns_stated s t p e y is).0 (left_in_range s t p e y is)
 
-told_is : (s t p e : List ℕ) (y : Replayable) (fs : List Finding) → stated_turns s t p e ≡ Ok y → AreFindings y.night (last_of y).blocks fs → fs ≡ findings_in y.night (last_of y).blocks
+told_is : (s t p e : List ℕ) (y : Replayable) (fs : List Finding) → stated_turns s t p e ≡ Ok y → AreFindings y.night (last_of y).blocks fs
+    → fs ≡ findings_in y.night (last_of y).blocks
 told_is s t p e y fs is told = only_one y.night (last_of y).blocks fs (left_in_range s t p e y is) told.in_order told.exactly
 
 -- ---- exactly when each comes
 
-pub done_there : (law : NoneFound) (s t p e n : List ℕ) (old new : Seen) (x : Status) (files : Files) (y : Replayable) → old.files ≡ Some files → turns_in s t p e files ≡ Ok y → EndsFeasible y → Ends (Replay s t p e n) old new x → (x ≡ status.Done) ⊎ Yields x
+pub done_there : (law : NoneFound) (s t p e n : List ℕ) (old new : Seen) (x : Status) (files : Files) (y : Replayable) → old.files ≡ Some files → turns_in s t p e files ≡ Ok y
+    → EndsFeasible y → Ends (Replay s t p e n) old new x → (x ≡ status.Done) ⊎ Yields x
 done_there law s t p e n old new x files y known ok feasible ends =
     let none = (sound_where law (content files s) (content files t) (content files p) (content files e) y ok).1 feasible in
     decides (Replay s t p e n) outcome.Done old new x files known (λ r is.
     let a = replayed n (turns_in s t p e files) y r ok is in
     a.outcome ∙ ap audit_outcome (told_is (content files s) (content files t) (content files p) (content files e) y a.findings ok a.told ∙ none)) ends
 
-pub findings_there : (law : NoneFound) (s t p e n : List ℕ) (old new : Seen) (x : Status) (files : Files) (y : Replayable) → old.files ≡ Some files → turns_in s t p e files ≡ Ok y → (EndsFeasible y → ⊥) → Ends (Replay s t p e n) old new x → (x ≡ status.Findings) ⊎ Yields x
+pub findings_there : (law : NoneFound) (s t p e n : List ℕ) (old new : Seen) (x : Status) (files : Files) (y : Replayable) → old.files ≡ Some files → turns_in s t p e files ≡ Ok y
+    → (EndsFeasible y → ⊥) → Ends (Replay s t p e n) old new x → (x ≡ status.Findings) ⊎ Yields x
 findings_there law s t p e n old new x files y known ok never ends =
     decides (Replay s t p e n) outcome.Findings old new x files known (λ r is.
     let a = replayed n (turns_in s t p e files) y r ok is in
@@ -84,23 +87,42 @@ tells : (n : List ℕ) (x : Result Replayable (List ℕ)) (r : Reply) (o : Outco
 tells n (Err text) r o other is e = absurd (other (sym e ∙ ap (λ (r : Reply). r.outcome) is))
 tells n (Ok y) r o other is e = record { value = y; ok = refl; findings = is.findings; told = is.told; outcome = sym is.outcome ∙ e }
 
-pub done_only : (law : NoneFound) (s t p e n : List ℕ) (old new : Seen) → Ends (Replay s t p e n) old new status.Done → (files : Files) × Agrees old.files files × ((y : Replayable) × (turns_in s t p e files ≡ Ok y) × EndsFeasible y)
+pub done_only : (law : NoneFound) (s t p e n : List ℕ) (old new : Seen) → Ends (Replay s t p e n) old new status.Done
+    → (files : Files) × Agrees old.files files × ((y : Replayable) × (turns_in s t p e files ≡ Ok y) × EndsFeasible y)
 done_only law s t p e n old new ends =
     let h = has_reply (Replay s t p e n) outcome.Done old new ends in
     let files = h.1.0 in
     let at = tells n (turns_in s t p e files) h.0 outcome.Done (λ e. cc) h.1.2 h.2 in
-    let same = told_is (content files s) (content files t) (content files p) (content files e) at.value at.findings at.ok at.told in
-    (files, h.1.1, (at.value, at.ok, (sound_where law (content files s) (content files t) (content files p) (content files e) at.value at.ok).0 (sym same ∙ none_found at.findings at.outcome)))
+    let same = told_is (content files s) (content files t) (content files p) (content files e) at.value at.findings at.ok at.told in (
+      files,
+      h.1.1,
+      (
+        at.value,
+        at.ok,
+        (sound_where law (content files s) (content files t) (content files p) (content files e) at.value at.ok).0
+            (sym same ∙ none_found at.findings at.outcome),
+      ),
+    )
 
-pub findings_only : (law : NoneFound) (s t p e n : List ℕ) (old new : Seen) → Ends (Replay s t p e n) old new status.Findings → (files : Files) × Agrees old.files files × ((y : Replayable) × (turns_in s t p e files ≡ Ok y) × (EndsFeasible y → ⊥))
+pub findings_only : (law : NoneFound) (s t p e n : List ℕ) (old new : Seen) → Ends (Replay s t p e n) old new status.Findings
+    → (files : Files) × Agrees old.files files × ((y : Replayable) × (turns_in s t p e files ≡ Ok y) × (EndsFeasible y → ⊥))
 findings_only law s t p e n old new ends =
     let h = has_reply (Replay s t p e n) outcome.Findings old new ends in
     let files = h.1.0 in
     let at = tells n (turns_in s t p e files) h.0 outcome.Findings (λ e. cc) h.1.2 h.2 in
-    let same = told_is (content files s) (content files t) (content files p) (content files e) at.value at.findings at.ok at.told in
-    (files, h.1.1, (at.value, at.ok, λ feasible. found_some at.findings at.outcome (same ∙ (sound_where law (content files s) (content files t) (content files p) (content files e) at.value at.ok).1 feasible)))
+    let same = told_is (content files s) (content files t) (content files p) (content files e) at.value at.findings at.ok at.told in (
+      files,
+      h.1.1,
+      (
+        at.value,
+        at.ok,
+        λ feasible. found_some at.findings at.outcome
+            (same ∙ (sound_where law (content files s) (content files t) (content files p) (content files e) at.value at.ok).1 feasible),
+      ),
+    )
 
-never : (s t p e n : List ℕ) (o : Outcome) (old new : Seen) → (o ≡ outcome.Done → ⊥) → (o ≡ outcome.Findings → ⊥) → (o ≡ outcome.Input → ⊥) → Ends (Replay s t p e n) old new (the_status o) → ⊥
+never : (s t p e n : List ℕ) (o : Outcome) (old new : Seen) → (o ≡ outcome.Done → ⊥) → (o ≡ outcome.Findings → ⊥) → (o ≡ outcome.Input → ⊥)
+    → Ends (Replay s t p e n) old new (the_status o) → ⊥
 never s t p e n o old new a b d ends =
     let h = has_reply (Replay s t p e n) o old new ends in
     let at = tells n (turns_in s t p e h.1.0) h.0 o d h.1.2 h.2 in
@@ -114,7 +136,8 @@ no_unfinished s t p e n old new ends = never s t p e n outcome.Unfinished old ne
 
 -- ---- completeness
 
-pub ends_well : (s t p e n : List ℕ) (old new : Seen) (x : Status) (files : Files) (y : Replayable) → old.files ≡ Some files → turns_in s t p e files ≡ Ok y → (Rose old.store_faults new.store_faults → ⊥) → (Rose old.sink_faults new.sink_faults → ⊥) → Ends (Replay s t p e n) old new x → EndsWell x
+pub ends_well : (s t p e n : List ℕ) (old new : Seen) (x : Status) (files : Files) (y : Replayable) → old.files ≡ Some files → turns_in s t p e files ≡ Ok y
+    → (Rose old.store_faults new.store_faults → ⊥) → (Rose old.sink_faults new.sink_faults → ⊥) → Ends (Replay s t p e n) old new x → EndsWell x
 ends_well s t p e n old new x files y known ok ns nk ends = at (completes (Replay s t p e n) old new x ns nk ends)
   where
     at : EndsAs (Replay s t p e n) old x → EndsWell x

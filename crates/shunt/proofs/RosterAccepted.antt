@@ -36,7 +36,8 @@ pub record RosterTexts : Type 0 where
 abbrev rosterable : Sharable → List Duty → Rosterable
 rosterable x duties = record { night = x.night; plan = x.plan; crew = x.crew; duties = duties }
 
-then_roster : (s t p c d : List ℕ) (x : Sharable) (duties : List Duty) → stated_sharing s t p c ≡ Ok x → stated_roster x.night x.plan d ≡ Ok duties → stated_rostering s t p c d ≡ Ok (rosterable x duties)
+then_roster : (s t p c d : List ℕ) (x : Sharable) (duties : List Duty) → stated_sharing s t p c ≡ Ok x → stated_roster x.night x.plan d ≡ Ok duties
+    → stated_rostering s t p c d ≡ Ok (rosterable x duties)
 unfolding stated_rostering
 then_roster s t p c d x duties a e =
     ap (λ r. then_stated r (λ (y : Sharable). then_stated (stated_roster y.night y.plan d) (λ ds. Ok (rosterable y ds)))) a
@@ -64,7 +65,8 @@ other_than [] d h = tt
 other_than (n ∷ ns) d h = (λ e. all_last (λ m. n ≢ m) ns d h.1 (sym e), other_than ns d h.2)
 
 -- the files then state a sharing
-module _ (texts : RosterTexts) (s t p c d : List ℕ) (files : Files) (usable : IsUsable (Drivers s t p c d)) (x : Sharable) (r : Reply) (ok : sharing_in s t p c files ≡ Ok x) (is : IsShared d x r) where
+module _ (texts : RosterTexts) (s t p c d : List ℕ) (files : Files) (usable : IsUsable (Drivers s t p c d)) (x : Sharable) (r : Reply) (ok : sharing_in s t p c files ≡ Ok x)
+    (is : IsShared d x r) where
   abbrev text : List ℕ
   text = text_of_rows (rows_of is.duties)
 
@@ -87,10 +89,12 @@ module _ (texts : RosterTexts) (s t p c d : List ℕ) (files : Files) (usable : 
   pub accepts : (after : Files) → after ≡ written r.writes files → rostering_in s t p c d after ≡ Ok (rosterable x is.duties)
   accepts after e = ap (rostering_in s t p c d) (e ∙ written_is) ∙ states
 
-pub accepted : (laws : DriverLaws) (texts : RosterTexts) (s t p c d : List ℕ) (a b old new : Seen) (x : Status) (files after : Files) → IsUsable (Drivers s t p c d) → a.files ≡ Some files → b.files ≡ Some after → old.files ≡ Some after
+pub accepted : (laws : DriverLaws) (texts : RosterTexts) (s t p c d : List ℕ) (a b old new : Seen) (x : Status) (files after : Files) → IsUsable (Drivers s t p c d)
+    → a.files ≡ Some files → b.files ≡ Some after → old.files ≡ Some after
     → Ends (Drivers s t p c d) a b status.Done → Ends (Roster s t p c d) old new x → (x ≡ status.Done) ⊎ Yields x
 accepted laws texts s t p c d a b old new x files after usable before then_told known first second =
     let h = has_reply (Drivers s t p c d) outcome.Done a b first in
     let at = tells d (sharing_in s t p c files) h.0 outcome.Done (λ e. cc) (reply_at (Drivers s t p c d) a.files files h.0 before h.1) h.2 in
     let whole : after ≡ written h.0.writes files = both_here a.files b.files files after (λ u v. v ≡ written h.0.writes u) before then_told h.3.files in
-    done_there laws s t p c d old new x after (rosterable at.value at.is.duties) known (accepts texts s t p c d files usable at.value h.0 at.ok at.is after whole) at.is.fewest.sharing second
+    done_there laws s t p c d old new x after (rosterable at.value at.is.duties) known
+    (accepts texts s t p c d files usable at.value h.0 at.ok at.is after whole) at.is.fewest.sharing second

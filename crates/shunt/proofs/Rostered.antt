@@ -37,7 +37,8 @@ use Rattle.shunt.proofs.Audits.{EndsWell}
 pub record DriverLaws : Type 0 where
   pub crew : (station : Station) (rows : List (List (List ℕ))) (c : Crew) → reading (crew_format station) rows ≡ Ok c → IsCrew station c
   pub roster : (moves : List Event) (rows : List (List (List ℕ))) (duties : List Duty) → reading (roster_format moves) rows ≡ Ok duties → IsRoster moves duties
-  pub words : (night : Night) (crew : Crew) (plan : Plan) (duties : List Duty) → IsCrew night.station crew → AreDuties (moves_of night plan.blocks) duties → InWords night crew plan duties
+  pub words : (night : Night) (crew : Crew) (plan : Plan) (duties : List Duty) → IsCrew night.station crew → AreDuties (moves_of night plan.blocks) duties
+      → InWords night crew plan duties
 
 pub crew_stated : (laws : DriverLaws) (s t p c : List ℕ) (y : Sharable) → stated_sharing s t p c ≡ Ok y → IsCrew y.night.station y.crew
 unfolding stated_sharing
@@ -45,7 +46,8 @@ crew_stated laws s t p c y is =
     let first = parted (stated_plans s t p) _ y is in
     let second = parted (stated_crew first.0.0 c) _ y first.2 in
     let made : record { night = first.0.0; plan = first.0.1; crew = second.0 } ≡ y = cc (second.2) in
-    subst (λ (z : Sharable). IsCrew z.night.station z.crew) made (laws.crew first.0.0.station (records_of c) second.0 (stated_value word.Crew (crew_format first.0.0.station) c second.0 second.1))
+    subst (λ (z : Sharable). IsCrew z.night.station z.crew) made (laws.crew first.0.0.station (records_of c) second.0
+    (stated_value word.Crew (crew_format first.0.0.station) c second.0 second.1))
 
 record AreFormed (y : Rosterable) : Type 0 where
   crew : IsCrew y.night.station y.crew
@@ -88,16 +90,20 @@ rostered x y r e is = subst (λ x. Decided x IsRostered r) e is
 told_outcome : (y : Rosterable) (r : Reply) → IsRostered y r → r.outcome ≡ roster_outcome (fault_in y.night y.crew y.plan y.duties)
 told_outcome y r a = ap (λ (r : Reply). r.outcome) a
 
-pub done_there : (laws : DriverLaws) (s t p c d : List ℕ) (old new : Seen) (x : Status) (files : Files) (y : Rosterable) → old.files ≡ Some files → rostering_in s t p c d files ≡ Ok y → SharesAll y → Ends (Roster s t p c d) old new x → (x ≡ status.Done) ⊎ Yields x
+pub done_there : (laws : DriverLaws) (s t p c d : List ℕ) (old new : Seen) (x : Status) (files : Files) (y : Rosterable) → old.files ≡ Some files
+    → rostering_in s t p c d files ≡ Ok y → SharesAll y → Ends (Roster s t p c d) old new x → (x ≡ status.Done) ⊎ Yields x
 done_there laws s t p c d old new x files y known ok all ends =
     decides (Roster s t p c d) outcome.Done old new x files known (λ r is.
-    told_outcome y r (rostered (rostering_in s t p c d files) y r ok is) ∙ ap roster_outcome ((none_where laws (content files s) (content files t) (content files p) (content files c) (content files d) y ok).1 all)) ends
+    told_outcome y r (rostered (rostering_in s t p c d files) y r ok is) ∙ ap roster_outcome
+    ((none_where laws (content files s) (content files t) (content files p) (content files c) (content files d) y ok).1 all)) ends
 
-pub findings_there : (laws : DriverLaws) (s t p c d : List ℕ) (old new : Seen) (x : Status) (files : Files) (y : Rosterable) → old.files ≡ Some files → rostering_in s t p c d files ≡ Ok y → (SharesAll y → ⊥) → Ends (Roster s t p c d) old new x → (x ≡ status.Findings) ⊎ Yields x
+pub findings_there : (laws : DriverLaws) (s t p c d : List ℕ) (old new : Seen) (x : Status) (files : Files) (y : Rosterable) → old.files ≡ Some files
+    → rostering_in s t p c d files ≡ Ok y → (SharesAll y → ⊥) → Ends (Roster s t p c d) old new x → (x ≡ status.Findings) ⊎ Yields x
 findings_there laws s t p c d old new x files y known ok never ends =
     decides (Roster s t p c d) outcome.Findings old new x files known (λ r is.
     told_outcome y r (rostered (rostering_in s t p c d files) y r ok is)
-    ∙ some_fault (fault_in y.night y.crew y.plan y.duties) (λ none. never ((none_where laws (content files s) (content files t) (content files p) (content files c) (content files d) y ok).0 none))) ends
+    ∙ some_fault (fault_in y.night y.crew y.plan y.duties) (λ none. never ((none_where laws (content files s) (content files t) (content files p) (content files c)
+    (content files d) y ok).0 none))) ends
 
 -- an outcome of accepted files is that of the fault of the duties that they state
 record Tells (x : Result Rosterable (List ℕ)) (o : Outcome) : Type 0 where
@@ -109,14 +115,24 @@ tells : (x : Result Rosterable (List ℕ)) (r : Reply) (o : Outcome) → (o ≡ 
 tells (Err text) r o other is e = absurd (other (sym e ∙ ap (λ (r : Reply). r.outcome) is))
 tells (Ok y) r o other is e = record { value = y; ok = refl; outcome = sym (told_outcome y r is) ∙ e }
 
-pub done_only : (laws : DriverLaws) (s t p c d : List ℕ) (old new : Seen) → Ends (Roster s t p c d) old new status.Done → (files : Files) × Agrees old.files files × ((y : Rosterable) × (rostering_in s t p c d files ≡ Ok y) × SharesAll y)
+pub done_only : (laws : DriverLaws) (s t p c d : List ℕ) (old new : Seen) → Ends (Roster s t p c d) old new status.Done
+    → (files : Files) × Agrees old.files files × ((y : Rosterable) × (rostering_in s t p c d files ≡ Ok y) × SharesAll y)
 done_only laws s t p c d old new ends =
     let h = has_reply (Roster s t p c d) outcome.Done old new ends in
     let files = h.1.0 in
-    let at = tells (rostering_in s t p c d files) h.0 outcome.Done (λ e. cc) h.1.2 h.2 in
-    (files, h.1.1, (at.value, at.ok, (none_where laws (content files s) (content files t) (content files p) (content files c) (content files d) at.value at.ok).0 (none_fault (fault_in at.value.night at.value.crew at.value.plan at.value.duties) at.outcome)))
+    let at = tells (rostering_in s t p c d files) h.0 outcome.Done (λ e. cc) h.1.2 h.2 in (
+      files,
+      h.1.1,
+      (
+        at.value,
+        at.ok,
+        (none_where laws (content files s) (content files t) (content files p) (content files c) (content files d) at.value at.ok).0
+            (none_fault (fault_in at.value.night at.value.crew at.value.plan at.value.duties) at.outcome),
+      ),
+    )
 
-pub findings_only : (laws : DriverLaws) (s t p c d : List ℕ) (old new : Seen) → Ends (Roster s t p c d) old new status.Findings → (files : Files) × Agrees old.files files × ((y : Rosterable) × (rostering_in s t p c d files ≡ Ok y) × (SharesAll y → ⊥))
+pub findings_only : (laws : DriverLaws) (s t p c d : List ℕ) (old new : Seen) → Ends (Roster s t p c d) old new status.Findings
+    → (files : Files) × Agrees old.files files × ((y : Rosterable) × (rostering_in s t p c d files ≡ Ok y) × (SharesAll y → ⊥))
 findings_only laws s t p c d old new ends =
     let h = has_reply (Roster s t p c d) outcome.Findings old new ends in
     let files = h.1.0 in
@@ -126,7 +142,8 @@ findings_only laws s t p c d old new ends =
       (
         at.value,
         at.ok,
-        λ all. fault_some (fault_in at.value.night at.value.crew at.value.plan at.value.duties) at.outcome ((none_where laws (content files s) (content files t) (content files p) (content files c) (content files d) at.value at.ok).1 all),
+        λ all. fault_some (fault_in at.value.night at.value.crew at.value.plan at.value.duties) at.outcome
+            ((none_where laws (content files s) (content files t) (content files p) (content files c) (content files d) at.value at.ok).1 all),
       ),
     )
 
@@ -134,7 +151,8 @@ neither : (f : Option RosterFault) (o : Outcome) → roster_outcome f ≡ o → 
 neither None o e = inl (sym e)
 neither (Some f) o e = inr (sym e)
 
-never : (s t p c d : List ℕ) (o : Outcome) (old new : Seen) → (o ≡ outcome.Done → ⊥) → (o ≡ outcome.Findings → ⊥) → (o ≡ outcome.Input → ⊥) → Ends (Roster s t p c d) old new (the_status o) → ⊥
+never : (s t p c d : List ℕ) (o : Outcome) (old new : Seen) → (o ≡ outcome.Done → ⊥) → (o ≡ outcome.Findings → ⊥) → (o ≡ outcome.Input → ⊥)
+    → Ends (Roster s t p c d) old new (the_status o) → ⊥
 never s t p c d o old new a b n ends =
     let h = has_reply (Roster s t p c d) o old new ends in
     let at = tells (rostering_in s t p c d h.1.0) h.0 o n h.1.2 h.2 in
@@ -152,7 +170,8 @@ well : (x : Status) (f : Option RosterFault) → x ≡ the_status (roster_outcom
 well x None e = inl e
 well x (Some f) e = inr (inl e)
 
-pub ends_well : (s t p c d : List ℕ) (old new : Seen) (x : Status) (files : Files) (y : Rosterable) → old.files ≡ Some files → rostering_in s t p c d files ≡ Ok y → (Rose old.store_faults new.store_faults → ⊥) → (Rose old.sink_faults new.sink_faults → ⊥) → Ends (Roster s t p c d) old new x → EndsWell x
+pub ends_well : (s t p c d : List ℕ) (old new : Seen) (x : Status) (files : Files) (y : Rosterable) → old.files ≡ Some files → rostering_in s t p c d files ≡ Ok y
+    → (Rose old.store_faults new.store_faults → ⊥) → (Rose old.sink_faults new.sink_faults → ⊥) → Ends (Roster s t p c d) old new x → EndsWell x
 ends_well s t p c d old new x files y known ok ns nk ends = at (completes (Roster s t p c d) old new x ns nk ends)
   where
     at : EndsAs (Roster s t p c d) old x → EndsWell x

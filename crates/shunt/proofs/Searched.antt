@@ -89,17 +89,21 @@ module _ (pins : List Block) (units places : List Bool) (m : ℕ) (p k : List �
 
 -- that a proved bound is a bound
 abbrev pub Bounds : Type 0
-Bounds = (night : Night) (pins own : List Block) (stated : ℕ) (c : Certificate) (plan : List Block) → IsInstance night → AreNodes night c.nodes → ShareNothing night pins → IsAccepted night pins own stated c → IsFeasible night plan → Keeps plan pins → c.bound ≤ total_cost night plan
+Bounds = (night : Night) (pins own : List Block) (stated : ℕ) (c : Certificate) (plan : List Block) → IsInstance night → AreNodes night c.nodes → ShareNothing night pins
+    → IsAccepted night pins own stated c → IsFeasible night plan → Keeps plan pins → c.bound ≤ total_cost night plan
 
 -- what the laws of certificates say
 pub record TreeLaws : Type 0 where
-  pub exactly : (version : Version) (night : Night) (start : List Block) (nodes : List Node) (L : ℤ) → AreNodes night nodes → 1 ≤ length nodes → ProvesIn version night start nodes L 0 ↔ AreRightIn version night start nodes L
+  pub exactly : (version : Version) (night : Night) (start : List Block) (nodes : List Node) (L : ℤ) → AreNodes night nodes → 1 ≤ length nodes
+      → ProvesIn version night start nodes L 0 ↔ AreRightIn version night start nodes L
   pub partial : (night : Night) (pins start : List Block) (nodes : List Node) (k : ℕ) → IsInstance night → AreNodes night nodes → AreUsable night pins → IsStart night pins start
       → ((i : ℕ) → 1 ≤ i → i < length nodes → IsPlaced night start nodes i) → k < length nodes → IsPartialPlan night pins (path_at night start nodes k)
-  pub one : (night : Night) (start : List Block) (nodes : List Node) (j k : ℕ) → IsInstance night → AreNodes night nodes → ((i : ℕ) → 1 ≤ i → i < length nodes → IsPlaced night start nodes i)
+  pub one : (night : Night) (start : List Block) (nodes : List Node) (j k : ℕ) → IsInstance night → AreNodes night nodes
+      → ((i : ℕ) → 1 ≤ i → i < length nodes → IsPlaced night start nodes i)
       → j < length nodes → k < length nodes → map without_id (path_at night start nodes j) ≡ map without_id (path_at night start nodes k) → j ≡ k
 
-module _ (bounds : Bounds) (pins : List Block) (m : ℕ) (p k : List ℕ) (night : Night) (r : Reply) (of_night : IsInstance night) (usable : AreUsable night pins) (is : IsPlanned pins m p k night r) where
+module _ (bounds : Bounds) (pins : List Block) (m : ℕ) (p k : List ℕ) (night : Night) (r : Reply) (of_night : IsInstance night) (usable : AreUsable night pins)
+    (is : IsPlanned pins m p k night r) where
   pub bounded : IsBounded night pins is.plan is.certificate.bound
   bounded = record {
     feasible = is.meet.accepted.feasible;
@@ -247,30 +251,44 @@ module _ (c : Call) (q : Search c) (answers : Answers c q) where
   usable_told v r other (inl is) = absurd (other is.1)
   usable_told v r other (inr is) = is
 
-  pub findings_there : (old new : Seen) (x : Status) (files : Files) (v : Value c) → old.files ≡ Some files → stated_in c files ≡ Ok v → (IsReady c q v → ⊥) → Ends c old new x → (x ≡ status.Findings) ⊎ Yields x
+  pub findings_there : (old new : Seen) (x : Status) (files : Files) (v : Value c) → old.files ≡ Some files → stated_in c files ≡ Ok v → (IsReady c q v → ⊥) → Ends c old new x
+      → (x ≡ status.Findings) ⊎ Yields x
   findings_there old new x files v known ok bad e = decides c outcome.Findings old new x files known (λ r is. unusable_outcome v r bad (answer_at files v r ok is)) e
 
-  pub findings_only : (old new : Seen) → Ends c old new status.Findings → (files : Files) × Agrees old.files files × ((v : Value c) × (stated_in c files ≡ Ok v) × (IsReady c q v → ⊥))
+  pub findings_only : (old new : Seen) → Ends c old new status.Findings → (files : Files) × Agrees old.files files
+      × ((v : Value c) × (stated_in c files ≡ Ok v) × (IsReady c q v → ⊥))
   findings_only old new e =
       let f = told outcome.Findings old new (λ e. cc) e in
       (f.files, f.agrees, (f.value, f.ok, unusable_told f.value f.reply f.outcome f.seeks))
 
   -- ---- no matching
 
-  pub no_matching_there : (old new : Seen) (x : Status) (files : Files) (v : Value c) → old.files ≡ Some files → stated_in c files ≡ Ok v → IsReady c q v → Unmatched c q v → Ends c old new x → (x ≡ status.NoMatching) ⊎ Yields x
+  pub no_matching_there : (old new : Seen) (x : Status) (files : Files) (v : Value c) → old.files ≡ Some files → stated_in c files ≡ Ok v → IsReady c q v → Unmatched c q v
+      → Ends c old new x → (x ≡ status.NoMatching) ⊎ Yields x
   no_matching_there old new x files v known ok good none e =
       decides c outcome.NoMatching old new x files known (λ r is.
       none_outcome (q.pins v) (q.units v) (q.places v) q.most q.plan q.certificate (q.night v) r none (its_search v r good (answer_at files v r ok is))) e
 
-  pub no_matching_only : (old new : Seen) → Ends c old new status.NoMatching → (files : Files) × Agrees old.files files × ((v : Value c) × (stated_in c files ≡ Ok v) × IsReady c q v × Unmatched c q v)
+  pub no_matching_only : (old new : Seen) → Ends c old new status.NoMatching → (files : Files) × Agrees old.files files
+      × ((v : Value c) × (stated_in c files ≡ Ok v) × IsReady c q v × Unmatched c q v)
   no_matching_only old new e =
       let f = told outcome.NoMatching old new (λ e. cc) e in
-      let is = usable_told f.value f.reply (λ g. (let h : outcome.NoMatching ≡ outcome.Findings = sym f.outcome ∙ g in cc)) f.seeks in
-      (f.files, f.agrees, (f.value, f.ok, is.0, none_told (q.pins f.value) (q.units f.value) (q.places f.value) q.most q.plan q.certificate (q.night f.value) f.reply f.outcome is.1))
+      let is = usable_told f.value f.reply (λ g. (let h : outcome.NoMatching ≡ outcome.Findings = sym f.outcome ∙ g in cc)) f.seeks in (
+        f.files,
+        f.agrees,
+        (
+          f.value,
+          f.ok,
+          is.0,
+          none_told (q.pins f.value) (q.units f.value) (q.places f.value) q.most q.plan q.certificate
+              (q.night f.value) f.reply f.outcome is.1,
+        ),
+      )
 
   -- ---- a plan and a certificate
 
-  pub finds : (o : Outcome) (old new : Seen) → (o ≡ outcome.Input → ⊥) → (o ≡ outcome.Findings → ⊥) → (o ≡ outcome.NoMatching → ⊥) → Ends c old new (the_status o) → Finds c q o old new
+  pub finds : (o : Outcome) (old new : Seen) → (o ≡ outcome.Input → ⊥) → (o ≡ outcome.Findings → ⊥) → (o ≡ outcome.NoMatching → ⊥) → Ends c old new (the_status o)
+      → Finds c q o old new
   finds o old new input found other e =
       let f = told o old new input e in
       let v = f.value in
@@ -291,15 +309,32 @@ module _ (c : Call) (q : Search c) (answers : Answers c q) where
       }
 
   pub done_cheapest : (bounds : Bounds) (old new : Seen) → Ends c old new status.Done
-      → (files : Files) × Agrees old.files files × ((v : Value c) × (stated_in c files ≡ Ok v) × ((plan : Plan) × (d : Certificate) × AreStated (q.night v) (q.pins v) plan d × IsCheapest (q.night v) (q.pins v) plan × (d.bound ≡ plan.cost) × IsWhole (planned outcome.Done q.plan q.certificate (q.night v) plan d) old new))
+      → (files : Files) × Agrees old.files files × ((v : Value c) × (stated_in c files ≡ Ok v)
+      × ((plan : Plan) × (d : Certificate) × AreStated (q.night v) (q.pins v) plan d × IsCheapest (q.night v) (q.pins v) plan × (d.bound ≡ plan.cost)
+      × IsWhole (planned outcome.Done q.plan q.certificate (q.night v) plan d) old new))
   done_cheapest bounds old new e =
       let f = finds outcome.Done old new (λ e. cc) (λ e. cc) (λ e. cc) e in
-      let best = cheapest bounds (q.pins f.value) q.most q.plan q.certificate (q.night f.value) f.reply f.formed f.usable f.is f.outcome in
-      (f.files, f.agrees, (f.value, f.ok, (f.is.plan, f.is.certificate, stated bounds (q.pins f.value) q.most q.plan q.certificate (q.night f.value) f.reply f.formed f.usable f.is, best.0, best.1, f.whole)))
+      let best = cheapest bounds (q.pins f.value) q.most q.plan q.certificate (q.night f.value) f.reply f.formed f.usable f.is f.outcome in (
+        f.files,
+        f.agrees,
+        (
+          f.value,
+          f.ok,
+          (
+            f.is.plan,
+            f.is.certificate,
+            stated bounds (q.pins f.value) q.most q.plan q.certificate (q.night f.value) f.reply f.formed f.usable f.is,
+            best.0,
+            best.1,
+            f.whole,
+          ),
+        ),
+      )
 
   pub unfinished_bounded : (bounds : Bounds) (laws : TreeLaws) (old new : Seen) → Ends c old new status.Unfinished
       → (files : Files) × Agrees old.files files × ((v : Value c) × (stated_in c files ≡ Ok v)
-      × ((plan : Plan) × (d : Certificate) × AreStated (q.night v) (q.pins v) plan d × IsBounded (q.night v) (q.pins v) plan d.bound × (d.bound < plan.cost) × AreDifferent (q.night v) (q.pins v) d.nodes q.most × IsWhole (planned outcome.Unfinished q.plan q.certificate (q.night v) plan d) old new))
+      × ((plan : Plan) × (d : Certificate) × AreStated (q.night v) (q.pins v) plan d × IsBounded (q.night v) (q.pins v) plan d.bound × (d.bound < plan.cost)
+      × AreDifferent (q.night v) (q.pins v) d.nodes q.most × IsWhole (planned outcome.Unfinished q.plan q.certificate (q.night v) plan d) old new))
   unfinished_bounded bounds laws old new e =
       let f = finds outcome.Unfinished old new (λ e. cc) (λ e. cc) (λ e. cc) e in
       let less = below bounds (q.pins f.value) q.most q.plan q.certificate (q.night f.value) f.reply f.formed f.usable f.is f.outcome in
@@ -324,7 +359,8 @@ module _ (c : Call) (q : Search c) (answers : Answers c q) where
 
   -- ---- completeness
 
-  pub done_there : (old new : Seen) (x : Status) (files : Files) (v : Value c) → old.files ≡ Some files → stated_in c files ≡ Ok v → IsReady c q v → Matched c q v → partial_plans (q.night v) (q.pins v) < q.most → Ends c old new x → (x ≡ status.Done) ⊎ Yields x
+  pub done_there : (old new : Seen) (x : Status) (files : Files) (v : Value c) → old.files ≡ Some files → stated_in c files ≡ Ok v → IsReady c q v → Matched c q v
+      → partial_plans (q.night v) (q.pins v) < q.most → Ends c old new x → (x ≡ status.Done) ⊎ Yields x
   done_there old new x files v known ok good matching fewer e =
       decides c outcome.Done old new x files known (λ r is.
       all_fit (q.pins v) (q.units v) (q.places v) q.most q.plan q.certificate (q.night v) r matching fewer (its_search v r good (answer_at files v r ok is))) e
@@ -339,7 +375,8 @@ module _ (c : Call) (q : Search c) (answers : Answers c q) where
   well v r x e (inl is) = inl (e ∙ ap the_status is.1)
   well v r x e (inr is) = inr (sought_well v r x e is.1)
 
-  pub ends_well : (old new : Seen) (x : Status) (files : Files) (v : Value c) → old.files ≡ Some files → stated_in c files ≡ Ok v → (Rose old.store_faults new.store_faults → ⊥) → (Rose old.sink_faults new.sink_faults → ⊥) → Ends c old new x → (x ≡ status.Findings) ⊎ EndsSearch x
+  pub ends_well : (old new : Seen) (x : Status) (files : Files) (v : Value c) → old.files ≡ Some files → stated_in c files ≡ Ok v → (Rose old.store_faults new.store_faults → ⊥)
+      → (Rose old.sink_faults new.sink_faults → ⊥) → Ends c old new x → (x ≡ status.Findings) ⊎ EndsSearch x
   ends_well old new x files v known ok ns nk e = at (completes c old new x ns nk e)
     where
       at : EndsAs c old x → (x ≡ status.Findings) ⊎ EndsSearch x

@@ -34,7 +34,8 @@ pub record Answers (c : Call) (s t p : List ℕ) (Own : Night × Plan → Reply 
 
 module _ (law : FoundNone) (s t p : List ℕ) (files : Files) (y : Night × Plan) (ok : plans_in s t p files ≡ Ok y) where
   never_clean : (r : Reply) → IsFaulty y r → IsClean y → ⊥
-  never_clean r f clean = f.some (told_is (content files s) (content files t) (content files p) y f.findings ok f.told ∙ (sound_where law (content files s) (content files t) (content files p) y ok).1 clean)
+  never_clean r f clean = f.some (told_is (content files s) (content files t) (content files p) y f.findings ok f.told
+      ∙ (sound_where law (content files s) (content files t) (content files p) y ok).1 clean)
 
   none_is : ArePlanFindings y.0 y.1 [] → IsClean y
   none_is none = (sound_where law (content files s) (content files t) (content files p) y ok).0 (sym (told_is (content files s) (content files t) (content files p) y [] ok none))
@@ -43,14 +44,16 @@ module _ (c : Call) (s t p : List ℕ) (Own : Night × Plan → Reply → Type 0
   on_plan : (files : Files) (y : Night × Plan) (r : Reply) → plans_in s t p files ≡ Ok y → IsReply c files r → Either Own y r
   on_plan files y r ok is = subst (λ x. Decided x (Either Own) r) ok (answers.either files r is)
 
-  pub done_there : (law : FoundNone) (old new : Seen) (x : Status) (files : Files) (y : Night × Plan) → old.files ≡ Some files → plans_in s t p files ≡ Ok y → IsClean y → Ends c old new x → (x ≡ status.Done) ⊎ Yields x
+  pub done_there : (law : FoundNone) (old new : Seen) (x : Status) (files : Files) (y : Night × Plan) → old.files ≡ Some files → plans_in s t p files ≡ Ok y → IsClean y
+      → Ends c old new x → (x ≡ status.Done) ⊎ Yields x
   done_there law old new x files y told ok clean e = decides c outcome.Done old new x files told (λ r is. at r (on_plan files y r ok is)) e
     where
       at : (r : Reply) → Either Own y r → r.outcome ≡ outcome.Done
       at r (inl f) = absurd (never_clean law s t p files y ok r f clean)
       at r (inr own) = answers.done y r own
 
-  pub findings_there : (law : FoundNone) (old new : Seen) (x : Status) (files : Files) (y : Night × Plan) → old.files ≡ Some files → plans_in s t p files ≡ Ok y → (IsClean y → ⊥) → Ends c old new x → (x ≡ status.Findings) ⊎ Yields x
+  pub findings_there : (law : FoundNone) (old new : Seen) (x : Status) (files : Files) (y : Night × Plan) → old.files ≡ Some files → plans_in s t p files ≡ Ok y → (IsClean y → ⊥)
+      → Ends c old new x → (x ≡ status.Findings) ⊎ Yields x
   findings_there law old new x files y told ok unclean e = decides c outcome.Findings old new x files told (λ r is. at r (on_plan files y r ok is)) e
     where
       at : (r : Reply) → Either Own y r → r.outcome ≡ outcome.Findings
@@ -58,7 +61,8 @@ module _ (c : Call) (s t p : List ℕ) (Own : Night × Plan → Reply → Type 0
       at r (inr own) = absurd (unclean (none_is law s t p files y ok (answers.none y r own)))
 
   -- a status that doesn't yield is that of an answer on what the files state
-  pub tells : (x : Result (Night × Plan) (List ℕ)) (r : Reply) (o : Outcome) → (o ≡ outcome.Input → ⊥) → Decided x (Either Own) r → r.outcome ≡ o → (y : Night × Plan) × (x ≡ Ok y) × Either Own y r
+  pub tells : (x : Result (Night × Plan) (List ℕ)) (r : Reply) (o : Outcome) → (o ≡ outcome.Input → ⊥) → Decided x (Either Own) r → r.outcome ≡ o
+      → (y : Night × Plan) × (x ≡ Ok y) × Either Own y r
   tells (Err text) r o other is e = absurd (other (sym e ∙ ap (λ (r : Reply). r.outcome) is))
   tells (Ok y) r o other is e = (y, refl, is)
 
@@ -66,7 +70,8 @@ module _ (c : Call) (s t p : List ℕ) (Own : Night × Plan → Reply → Type 0
   clean_of law files y r ok (inl f) e = absurd (let h : outcome.Findings ≡ outcome.Done = sym (faulty_outcome y r f) ∙ e in cc)
   clean_of law files y r ok (inr own) e = none_is law s t p files y ok (answers.none y r own)
 
-  pub done_only : (law : FoundNone) (old new : Seen) → Ends c old new status.Done → (files : Files) × Agrees old.files files × ((y : Night × Plan) × (plans_in s t p files ≡ Ok y) × IsClean y)
+  pub done_only : (law : FoundNone) (old new : Seen) → Ends c old new status.Done
+      → (files : Files) × Agrees old.files files × ((y : Night × Plan) × (plans_in s t p files ≡ Ok y) × IsClean y)
   done_only law old new e =
       let h = has_reply c outcome.Done old new e in
       let at = tells (plans_in s t p h.1.0) h.0 outcome.Done (λ e. cc) (answers.either h.1.0 h.0 h.1.2) h.2 in
@@ -76,7 +81,8 @@ module _ (c : Call) (s t p : List ℕ) (Own : Night × Plan → Reply → Type 0
   unclean_of law files y r ok (inl f) e clean = never_clean law s t p files y ok r f clean
   unclean_of law files y r ok (inr own) e clean = let h : outcome.Done ≡ outcome.Findings = sym (answers.done y r own) ∙ e in cc
 
-  pub findings_only : (law : FoundNone) (old new : Seen) → Ends c old new status.Findings → (files : Files) × Agrees old.files files × ((y : Night × Plan) × (plans_in s t p files ≡ Ok y) × (IsClean y → ⊥))
+  pub findings_only : (law : FoundNone) (old new : Seen) → Ends c old new status.Findings
+      → (files : Files) × Agrees old.files files × ((y : Night × Plan) × (plans_in s t p files ≡ Ok y) × (IsClean y → ⊥))
   findings_only law old new e =
       let h = has_reply c outcome.Findings old new e in
       let at = tells (plans_in s t p h.1.0) h.0 outcome.Findings (λ e. cc) (answers.either h.1.0 h.0 h.1.2) h.2 in
@@ -99,7 +105,8 @@ module _ (c : Call) (s t p : List ℕ) (Own : Night × Plan → Reply → Type 0
   pub no_unfinished : (old new : Seen) → Ends c old new status.Unfinished → ⊥
   no_unfinished old new e = never outcome.Unfinished old new (λ e. cc) (λ e. cc) (λ e. cc) e
 
-  pub ends_well : (old new : Seen) (x : Status) (files : Files) (y : Night × Plan) → old.files ≡ Some files → plans_in s t p files ≡ Ok y → (Rose old.store_faults new.store_faults → ⊥) → (Rose old.sink_faults new.sink_faults → ⊥) → Ends c old new x → EndsWell x
+  pub ends_well : (old new : Seen) (x : Status) (files : Files) (y : Night × Plan) → old.files ≡ Some files → plans_in s t p files ≡ Ok y
+      → (Rose old.store_faults new.store_faults → ⊥) → (Rose old.sink_faults new.sink_faults → ⊥) → Ends c old new x → EndsWell x
   ends_well old new x files y told ok ns nk e = at (completes c old new x ns nk e)
     where
       at : EndsAs c old x → EndsWell x

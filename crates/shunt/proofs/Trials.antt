@@ -56,7 +56,8 @@ module _ (n u m : ℕ) (s t p k : List ℕ) where
   pub no_unfinished : (old new : Seen) → Ends (Trial n u m s t p k) old new status.Unfinished → ⊥
   no_unfinished old new ends = never outcome.Unfinished old new (λ e. cc) ends
 
-  pub ends_well : (old new : Seen) (x : Status) → (Rose old.store_faults new.store_faults → ⊥) → (Rose old.sink_faults new.sink_faults → ⊥) → Ends (Trial n u m s t p k) old new x → (x ≡ status.Done) ⊎ (x ≡ status.Memory)
+  pub ends_well : (old new : Seen) (x : Status) → (Rose old.store_faults new.store_faults → ⊥) → (Rose old.sink_faults new.sink_faults → ⊥) → Ends (Trial n u m s t p k) old new x
+      → (x ≡ status.Done) ⊎ (x ≡ status.Memory)
   ends_well old new x ns nk ends = at (completes (Trial n u m s t p k) old new x ns nk ends)
     where
       at : EndsAs (Trial n u m s t p k) old x → (x ≡ status.Done) ⊎ (x ≡ status.Memory)
@@ -74,6 +75,13 @@ module _ (n u m : ℕ) (s t p k : List ℕ) where
       let found = planned (search_outcome is.certificate.cost is.certificate.bound) p k night is.plan is.certificate in (
         is.plan,
         is.certificate,
-        bounded bounds [] m p k night found formed (usable_none night) (record { plan = is.plan; certificate = is.certificate; in_range = is.in_range; statable = is.statable; meet = is.meet; reply = refl }),
+        bounded bounds [] m p k night found formed (usable_none night) (record {
+          plan = is.plan;
+          certificate = is.certificate;
+          in_range = is.in_range;
+          statable = is.statable;
+          meet = is.meet;
+          reply = refl;
+        }),
         subst (λ r. IsWhole r old new) is.reply h.3,
       )

@@ -24,14 +24,16 @@ after_both bench [] turn = refl
 after_both bench (b ∷ bs) turn = after_both (after_turn bench b) bs turn
 
 lines_split : (number : ℕ) (bench : Bench) (before : List Turn) (turn : Turn) (after : List Turn)
-    → lines_from number bench (before ++ turn ∷ after) ≡ lines_from number bench before ++ (line_of (number + length before) (after_turns bench before) turn ++ lines_from (number + length before + 1) (after_turn (after_turns bench before) turn) after)
+    → lines_from number bench (before ++ turn ∷ after) ≡ lines_from number bench before
+    ++ (line_of (number + length before) (after_turns bench before) turn ++ lines_from (number + length before + 1) (after_turn (after_turns bench before) turn) after)
 lines_split number bench [] turn after =
     let same : number + 0 ≡ number = omega arith in
     subst (λ (n : ℕ). lines_from number bench (turn ∷ after) ≡ line_of n bench turn ++ lines_from (n + 1) (after_turn bench turn) after) (sym same) refl
 lines_split number bench (b ∷ bs) turn after =
     let same : number + 1 + length bs ≡ number + length (b ∷ bs) = omega arith in
     let rest : ℕ → List ℕ = λ n. line_of n (after_turns (after_turn bench b) bs) turn ++ lines_from (n + 1) (after_turn (after_turns (after_turn bench b) bs) turn) after in
-    ap (λ (ls : List ℕ). line_of number bench b ++ ls) (lines_split (number + 1) (after_turn bench b) bs turn after ∙ ap (λ (n : ℕ). lines_from (number + 1) (after_turn bench b) bs ++ rest n) same)
+    ap (λ (ls : List ℕ). line_of number bench b ++ ls) (lines_split (number + 1) (after_turn bench b) bs turn after
+    ∙ ap (λ (n : ℕ). lines_from (number + 1) (after_turn bench b) bs ++ rest n) same)
     ∙ sym (append_assoc (line_of number bench b) (lines_from (number + 1) (after_turn bench b) bs) (rest (number + length (b ∷ bs))))
 
 module _ (laws : FindingLaws) (s t p e : List ℕ) (x : Replayable) (before : List Turn) (turn : Turn) (ok : stated_turns s t p e ≡ Ok x) where
@@ -53,11 +55,16 @@ module _ (laws : FindingLaws) (s t p e : List ℕ) (x : Replayable) (before : Li
   pub line_told : IsTurnLine (length before + 1) bench turn (line_of (length before + 1) bench turn)
   line_told = record {
     findings = findings_in bench.night (after_turn bench turn).present.blocks;
-    told = record { in_order = laws.in_order bench.night (after_turn bench turn).present.blocks in_range; exactly = laws.exactly bench.night (after_turn bench turn).present.blocks };
+    told = record {
+      in_order = laws.in_order bench.night (after_turn bench turn).present.blocks in_range;
+      exactly = laws.exactly bench.night
+          (after_turn bench turn).present.blocks;
+    };
     is = refl;
   }
 
-pub each_line : (laws : FindingLaws) (s t p e : List ℕ) (x : Replayable) (before : List Turn) (turn : Turn) (after : List Turn) → stated_turns s t p e ≡ Ok x → x.turns ≡ before ++ turn ∷ after
+pub each_line : (laws : FindingLaws) (s t p e : List ℕ) (x : Replayable) (before : List Turn) (turn : Turn) (after : List Turn) → stated_turns s t p e ≡ Ok x
+    → x.turns ≡ before ++ turn ∷ after
     → (line rest : List ℕ) × IsTurnLine (length before + 1) (after_turns (bench_of x) before) turn line × (replay_lines x ≡ lines_from 1 (bench_of x) before ++ (line ++ rest))
 each_line laws s t p e x before turn after ok is =
     let same : 1 + length before ≡ length before + 1 = omega arith in

@@ -28,12 +28,16 @@ insert_moves : (b : Block) (blocks : List Block) → IsPermutation (b ∷ blocks
 insert_moves b [] = IsPermutation-refl (b ∷ [])
 insert_moves b (c ∷ blocks) = elim (cases_Bool (nat_le b.id c.id)) [
   | inl is ↦ subst (IsPermutation (b ∷ c ∷ blocks)) (sym (cond-true (nat_le b.id c.id) (b ∷ c ∷ blocks) (c ∷ insert_by_id b blocks) is)) (IsPermutation-refl (b ∷ c ∷ blocks))
-  | inr apart ↦ subst (IsPermutation (b ∷ c ∷ blocks)) (sym (cond-false (nat_le b.id c.id) (b ∷ c ∷ blocks) (c ∷ insert_by_id b blocks) apart)) (IsPermutation-trans (b ∷ c ∷ blocks) (c ∷ b ∷ blocks) (c ∷ insert_by_id b blocks) (IsPermutation-sym (c ∷ b ∷ blocks) (b ∷ c ∷ blocks) (IsPermutation-middle (c ∷ []) b blocks)) (IsPermutation-cons c (b ∷ blocks) (insert_by_id b blocks) (insert_moves b blocks)))
+  | inr apart ↦ subst (IsPermutation (b ∷ c ∷ blocks)) (sym (cond-false (nat_le b.id c.id) (b ∷ c ∷ blocks) (c ∷ insert_by_id b blocks) apart))
+      (IsPermutation-trans (b ∷ c ∷ blocks) (c ∷ b ∷ blocks) (c ∷ insert_by_id b blocks)
+      (IsPermutation-sym (c ∷ b ∷ blocks) (b ∷ c ∷ blocks) (IsPermutation-middle (c ∷ []) b blocks))
+      (IsPermutation-cons c (b ∷ blocks) (insert_by_id b blocks) (insert_moves b blocks)))
 ]
 
 pub moves : (blocks : List Block) → IsPermutation blocks (by_id blocks)
 moves [] = IsPermutation-refl []
-moves (b ∷ blocks) = IsPermutation-trans (b ∷ blocks) (b ∷ by_id blocks) (insert_by_id b (by_id blocks)) (IsPermutation-cons b blocks (by_id blocks) (moves blocks)) (insert_moves b (by_id blocks))
+moves (b ∷ blocks) = IsPermutation-trans (b ∷ blocks) (b ∷ by_id blocks) (insert_by_id b (by_id blocks)) (IsPermutation-cons b blocks (by_id blocks) (moves blocks))
+    (insert_moves b (by_id blocks))
 
 pub there : (blocks : List Block) (b : Block) → In b (by_id blocks) ↔ In b blocks
 there blocks b = (of_permuted blocks (by_id blocks) b (moves blocks), in_permuted blocks (by_id blocks) b (moves blocks))
@@ -64,7 +68,9 @@ same_flip : (x y : ℕ) → (x == y) ≡ (y == x)
 same_flip x y = grind (arith, nat_tests)
 
 pub distinct_permuted : (blocks others : List Block) → IsPermutation blocks others → AreDistinct (map id_of blocks) → AreDistinct (map id_of others)
-distinct_permuted blocks others p h = AllPairs-from_IsDistinct Decides-eqb (map id_of others) (IsDistinct-IsPermutation (λ a b. a == b) same_flip (map id_of blocks) (map id_of others) (IsPermutation-map id_of blocks others p) (IsDistinct-from_AllPairs Decides-eqb (map id_of blocks) h))
+distinct_permuted blocks others p h = AllPairs-from_IsDistinct Decides-eqb (map id_of others)
+    (IsDistinct-IsPermutation (λ a b. a == b) same_flip (map id_of blocks) (map id_of others) (IsPermutation-map id_of blocks others p)
+    (IsDistinct-from_AllPairs Decides-eqb (map id_of blocks) h))
 
 pub range_permuted : (night : Night) (blocks others : List Block) → IsPermutation blocks others → AreInRange night blocks → AreInRange night others
 range_permuted night blocks others p h = record {
@@ -85,7 +91,8 @@ insert_ascends : (b : Block) (blocks : List Block) → AllByRecursion (λ c. b.i
 insert_ascends b [] new a = (tt, tt)
 insert_ascends b (c ∷ blocks) new a = elim (cases_Bool (nat_le b.id c.id)) [
   | inl is ↦ subst (Ascends id_of) (sym (cond-true (nat_le b.id c.id) (b ∷ c ∷ blocks) (c ∷ insert_by_id b blocks) is)) (front (leb-true b.id c.id is))
-  | inr above ↦ subst (Ascends id_of) (sym (cond-false (nat_le b.id c.id) (b ∷ c ∷ blocks) (c ∷ insert_by_id b blocks) above)) (behind (leb-false b.id c.id above) (insert_ascends b blocks new.1 a.1))
+  | inr above ↦ subst (Ascends id_of) (sym (cond-false (nat_le b.id c.id) (b ∷ c ∷ blocks) (c ∷ insert_by_id b blocks) above))
+      (behind (leb-false b.id c.id above) (insert_ascends b blocks new.1 a.1))
 ]
   where
     front : b.id ≤ c.id → Ascends id_of (b ∷ c ∷ blocks)
@@ -94,13 +101,15 @@ insert_ascends b (c ∷ blocks) new a = elim (cases_Bool (nat_le b.id c.id)) [
 
     behind : c.id < b.id → Ascends id_of (insert_by_id b blocks) → Ascends id_of (c ∷ insert_by_id b blocks)
     behind lt rest = (
-      all_from (λ d. c.id < d.id) (insert_by_id b blocks) (λ d i. ⊎_elim (λ e. omega (arith, ap id_of e)) (λ j. all_in (λ d. c.id < d.id) blocks d a.0 j) (of_permuted (b ∷ blocks) (insert_by_id b blocks) d (insert_moves b blocks) i)),
+      all_from (λ d. c.id < d.id) (insert_by_id b blocks) (λ d i. ⊎_elim (λ e. omega (arith, ap id_of e)) (λ j. all_in (λ d. c.id < d.id) blocks d a.0 j)
+          (of_permuted (b ∷ blocks) (insert_by_id b blocks) d (insert_moves b blocks) i)),
       rest,
     )
 
 pub ascends : (blocks : List Block) → Apart blocks → Ascends id_of (by_id blocks)
 ascends [] h = tt
-ascends (b ∷ blocks) h = insert_ascends b (by_id blocks) (all_from (λ c. b.id ≢ c.id) (by_id blocks) (λ c i. all_in (λ c. b.id ≢ c.id) blocks c h.0 ((there blocks c).0 i))) (ascends blocks h.1)
+ascends (b ∷ blocks) h = insert_ascends b (by_id blocks) (all_from (λ c. b.id ≢ c.id) (by_id blocks) (λ c i. all_in (λ c. b.id ≢ c.id) blocks c h.0 ((there blocks c).0 i)))
+    (ascends blocks h.1)
 
 -- a list whose ids never fall and are distinct
 sorted_ascends : (blocks : List Block) → Apart blocks → IsNonDecreasingBy id_of blocks → Ascends id_of blocks

@@ -66,10 +66,14 @@ module _ (night : Night) (blocks : List Block) where
 
   cover_from : (f : Finding) → In f (cover_findings night blocks) → Finds f
   cover_from f h =
-      ⊎_elim (λ i. let r = of_below_noted (unit_total night) (λ u. times_unit night blocks u == 0) UnitBare f i in subst Finds (sym r.3) (r.1, eqb-true (times_unit night blocks r.0) 0 r.2))
-      (λ h. ⊎_elim (λ i. let r = of_below_noted (unit_total night) (λ u. nat_le 2 (times_unit night blocks u)) UnitTwice f i in subst Finds (sym r.3) (r.1, leb-true 2 (times_unit night blocks r.0) r.2))
-      (λ h. ⊎_elim (λ i. let r = of_below_noted (position_total night) (λ v. times_position night blocks v == 0) PlaceBare f i in subst Finds (sym r.3) (r.1, eqb-true (times_position night blocks r.0) 0 r.2))
-      (λ i. let r = of_below_noted (position_total night) (λ v. nat_le 2 (times_position night blocks v)) PlaceTwice f i in subst Finds (sym r.3) (r.1, leb-true 2 (times_position night blocks r.0) r.2))
+      ⊎_elim (λ i. let r = of_below_noted (unit_total night) (λ u. times_unit night blocks u == 0) UnitBare f i in subst Finds (sym r.3)
+      (r.1, eqb-true (times_unit night blocks r.0) 0 r.2))
+      (λ h. ⊎_elim (λ i. let r = of_below_noted (unit_total night) (λ u. nat_le 2 (times_unit night blocks u)) UnitTwice f i in subst Finds (sym r.3)
+      (r.1, leb-true 2 (times_unit night blocks r.0) r.2))
+      (λ h. ⊎_elim (λ i. let r = of_below_noted (position_total night) (λ v. times_position night blocks v == 0) PlaceBare f i in subst Finds (sym r.3)
+      (r.1, eqb-true (times_position night blocks r.0) 0 r.2))
+      (λ i. let r = of_below_noted (position_total night) (λ v. nat_le 2 (times_position night blocks v)) PlaceTwice f i in subst Finds (sym r.3)
+      (r.1, leb-true 2 (times_position night blocks r.0) r.2))
       (in_cases (bare_places night blocks) (twice_places night blocks) f h))
       (in_cases (twice_units night blocks) (bare_places night blocks ++ twice_places night blocks) f h))
       (in_cases (bare_units night blocks) (twice_units night blocks ++ (bare_places night blocks ++ twice_places night blocks)) f h)
@@ -80,9 +84,12 @@ module _ (night : Night) (blocks : List Block) where
   block_from : (f : Finding) → In f (block_findings night sorted) → Finds f
   block_from f h =
       ⊎_elim (λ i. let r = of_flat_noted (type_fault night) (λ b. WrongType b.id) sorted f i in subst Finds (sym r.3) (of_block (λ b. IsTrue (type_fault night b)) r.0 r.1 r.2))
-      (λ h. ⊎_elim (λ i. let r = of_flat_noted (λ b. is_too_soon night (shape_of b)) (λ b. TooSoon b.id) sorted f i in subst Finds (sym r.3) (of_block (λ b. IsTrue (is_too_soon night (shape_of b))) r.0 r.1 r.2))
-      (λ h. ⊎_elim (λ i. let r = of_flat_noted (lacks_way_in night) (λ b. NoRouteIn b.id) sorted f i in subst Finds (sym r.3) (of_block (λ b. IsSome b.park × (way_in night b ≡ None)) r.0 r.1 (lacks_from r.0.park (way_in night r.0) r.2)))
-      (λ i. let r = of_flat_noted (lacks_way_out night) (λ b. NoRouteOut b.id) sorted f i in subst Finds (sym r.3) (of_block (λ b. IsSome b.park × (way_out night b ≡ None)) r.0 r.1 (lacks_from r.0.park (way_out night r.0) r.2)))
+      (λ h. ⊎_elim (λ i. let r = of_flat_noted (λ b. is_too_soon night (shape_of b)) (λ b. TooSoon b.id) sorted f i in subst Finds (sym r.3)
+      (of_block (λ b. IsTrue (is_too_soon night (shape_of b))) r.0 r.1 r.2))
+      (λ h. ⊎_elim (λ i. let r = of_flat_noted (lacks_way_in night) (λ b. NoRouteIn b.id) sorted f i in subst Finds (sym r.3)
+      (of_block (λ b. IsSome b.park × (way_in night b ≡ None)) r.0 r.1 (lacks_from r.0.park (way_in night r.0) r.2)))
+      (λ i. let r = of_flat_noted (lacks_way_out night) (λ b. NoRouteOut b.id) sorted f i in subst Finds (sym r.3)
+      (of_block (λ b. IsSome b.park × (way_out night b ≡ None)) r.0 r.1 (lacks_from r.0.park (way_out night r.0) r.2)))
       (in_cases (no_ways_in night sorted) (no_ways_out night sorted) f h))
       (in_cases (too_soons night sorted) (no_ways_in night sorted ++ no_ways_out night sorted) f h))
       (in_cases (wrong_types night sorted) (too_soons night sorted ++ (no_ways_in night sorted ++ no_ways_out night sorted)) f h)
@@ -102,7 +109,8 @@ module _ (night : Night) (blocks : List Block) where
   long_from : (f : Finding) → In f (too_longs lengths standing) → Finds f
   long_from f h =
       let r = of_flat_noted (λ s. nat_lt (slice_index lengths s.track.0) (load_after standing s)) (λ s. TooLong s.id (load_after standing s)) standing f h in
-      subst Finds (sym r.3) (of_stay (IsOver lengths (stays_of night blocks) (load_after standing r.0)) r.0 r.1 (record { is = same_load r.0; above = ltb-true (slice_index lengths r.0.track.0) (load_after standing r.0) r.2 }))
+      subst Finds (sym r.3) (of_stay (IsOver lengths (stays_of night blocks) (load_after standing r.0)) r.0 r.1
+      (record { is = same_load r.0; above = ltb-true (slice_index lengths r.0.track.0) (load_after standing r.0) r.2 }))
 
   pub listed_from : (f : Finding) → In f (findings_in night blocks) → IsFinding night blocks f
   unfolding findings_in
@@ -121,11 +129,13 @@ module _ (night : Night) (blocks : List Block) where
 
   blocked : (f : Finding) → In f (block_findings night sorted) → In f (findings_in night blocks)
   unfolding findings_in
-  blocked f i = in_right (cover_findings night blocks) (block_findings night sorted ++ clash_findings lengths standing) f (in_left (block_findings night sorted) (clash_findings lengths standing) f i)
+  blocked f i = in_right (cover_findings night blocks) (block_findings night sorted ++ clash_findings lengths standing) f
+      (in_left (block_findings night sorted) (clash_findings lengths standing) f i)
 
   clashed : (f : Finding) → In f (clash_findings lengths standing) → In f (findings_in night blocks)
   unfolding findings_in
-  clashed f i = in_right (cover_findings night blocks) (block_findings night sorted ++ clash_findings lengths standing) f (in_right (block_findings night sorted) (clash_findings lengths standing) f i)
+  clashed f i = in_right (cover_findings night blocks) (block_findings night sorted ++ clash_findings lengths standing) f
+      (in_right (block_findings night sorted) (clash_findings lengths standing) f i)
 
   crossed : (i j : ℕ) → IsFinding night blocks (Crossing i j) → In (Crossing i j) (crossings standing)
   crossed i j h =
@@ -143,29 +153,41 @@ module _ (night : Night) (blocks : List Block) where
       let same : load_after standing s ≡ load = same_load s ∙ sym h.holds.is in
       subst (λ (n : ℕ). In (TooLong n load) (too_longs lengths standing)) h.named
       (subst (λ (n : ℕ). In (TooLong s.id n) (too_longs lengths standing)) same
-      (to_flat_noted (λ s. nat_lt (slice_index lengths s.track.0) (load_after standing s)) (λ s. TooLong s.id (load_after standing s)) standing s ((stays_there night blocks s).1 h.there)
+      (to_flat_noted (λ s. nat_lt (slice_index lengths s.track.0) (load_after standing s)) (λ s. TooLong s.id (load_after standing s)) standing s
+      ((stays_there night blocks s).1 h.there)
       (lt-ltb (slice_index lengths s.track.0) (load_after standing s) (subst (λ (n : ℕ). slice_index lengths s.track.0 < n) (sym same) h.holds.above))))
 
   pub listed_to : (f : Finding) → IsFinding night blocks f → In f (findings_in night blocks)
-  listed_to (UnitBare u) h = covered (UnitBare u) (in_left (bare_units night blocks) (twice_units night blocks ++ (bare_places night blocks ++ twice_places night blocks)) (UnitBare u) (to_below_noted (unit_total night) (λ u. times_unit night blocks u == 0) UnitBare u h.0 (eq-eqb (times_unit night blocks u) 0 h.1)))
-  listed_to (UnitTwice u) h = covered (UnitTwice u) (in_right (bare_units night blocks) (twice_units night blocks ++ (bare_places night blocks ++ twice_places night blocks)) (UnitTwice u)
-      (in_left (twice_units night blocks) (bare_places night blocks ++ twice_places night blocks) (UnitTwice u) (to_below_noted (unit_total night) (λ u. nat_le 2 (times_unit night blocks u)) UnitTwice u h.0 (le-leb 2 (times_unit night blocks u) h.1))))
-  listed_to (PlaceBare v) h = covered (PlaceBare v) (in_right (bare_units night blocks) (twice_units night blocks ++ (bare_places night blocks ++ twice_places night blocks)) (PlaceBare v)
+  listed_to (UnitBare u) h = covered (UnitBare u) (in_left (bare_units night blocks) (twice_units night blocks ++ (bare_places night blocks ++ twice_places night blocks))
+      (UnitBare u) (to_below_noted (unit_total night) (λ u. times_unit night blocks u == 0) UnitBare u h.0 (eq-eqb (times_unit night blocks u) 0 h.1)))
+  listed_to (UnitTwice u) h = covered (UnitTwice u) (in_right (bare_units night blocks) (twice_units night blocks ++ (bare_places night blocks ++ twice_places night blocks))
+      (UnitTwice u)
+      (in_left (twice_units night blocks) (bare_places night blocks ++ twice_places night blocks) (UnitTwice u)
+      (to_below_noted (unit_total night) (λ u. nat_le 2 (times_unit night blocks u)) UnitTwice u h.0 (le-leb 2 (times_unit night blocks u) h.1))))
+  listed_to (PlaceBare v) h = covered (PlaceBare v) (in_right (bare_units night blocks) (twice_units night blocks ++ (bare_places night blocks ++ twice_places night blocks))
+      (PlaceBare v)
       (in_right (twice_units night blocks) (bare_places night blocks ++ twice_places night blocks) (PlaceBare v)
-      (in_left (bare_places night blocks) (twice_places night blocks) (PlaceBare v) (to_below_noted (position_total night) (λ v. times_position night blocks v == 0) PlaceBare v h.0 (eq-eqb (times_position night blocks v) 0 h.1)))))
-  listed_to (PlaceTwice v) h = covered (PlaceTwice v) (in_right (bare_units night blocks) (twice_units night blocks ++ (bare_places night blocks ++ twice_places night blocks)) (PlaceTwice v)
+      (in_left (bare_places night blocks) (twice_places night blocks) (PlaceBare v)
+      (to_below_noted (position_total night) (λ v. times_position night blocks v == 0) PlaceBare v h.0 (eq-eqb (times_position night blocks v) 0 h.1)))))
+  listed_to (PlaceTwice v) h = covered (PlaceTwice v) (in_right (bare_units night blocks) (twice_units night blocks ++ (bare_places night blocks ++ twice_places night blocks))
+      (PlaceTwice v)
       (in_right (twice_units night blocks) (bare_places night blocks ++ twice_places night blocks) (PlaceTwice v)
-      (in_right (bare_places night blocks) (twice_places night blocks) (PlaceTwice v) (to_below_noted (position_total night) (λ v. nat_le 2 (times_position night blocks v)) PlaceTwice v h.0 (le-leb 2 (times_position night blocks v) h.1)))))
-  listed_to (WrongType id) h = subst (λ (n : ℕ). In (WrongType n) (findings_in night blocks)) h.named (blocked (WrongType h.item.id) (in_left (wrong_types night sorted) (too_soons night sorted ++ (no_ways_in night sorted ++ no_ways_out night sorted)) (WrongType h.item.id)
+      (in_right (bare_places night blocks) (twice_places night blocks) (PlaceTwice v)
+      (to_below_noted (position_total night) (λ v. nat_le 2 (times_position night blocks v)) PlaceTwice v h.0 (le-leb 2 (times_position night blocks v) h.1)))))
+  listed_to (WrongType id) h = subst (λ (n : ℕ). In (WrongType n) (findings_in night blocks)) h.named
+      (blocked (WrongType h.item.id) (in_left (wrong_types night sorted) (too_soons night sorted ++ (no_ways_in night sorted ++ no_ways_out night sorted)) (WrongType h.item.id)
       (to_flat_noted (type_fault night) (λ b. WrongType b.id) sorted h.item ((there blocks h.item).1 h.there) h.holds)))
-  listed_to (TooSoon id) h = subst (λ (n : ℕ). In (TooSoon n) (findings_in night blocks)) h.named (blocked (TooSoon h.item.id) (in_right (wrong_types night sorted) (too_soons night sorted ++ (no_ways_in night sorted ++ no_ways_out night sorted)) (TooSoon h.item.id)
+  listed_to (TooSoon id) h = subst (λ (n : ℕ). In (TooSoon n) (findings_in night blocks)) h.named
+      (blocked (TooSoon h.item.id) (in_right (wrong_types night sorted) (too_soons night sorted ++ (no_ways_in night sorted ++ no_ways_out night sorted)) (TooSoon h.item.id)
       (in_left (too_soons night sorted) (no_ways_in night sorted ++ no_ways_out night sorted) (TooSoon h.item.id)
       (to_flat_noted (λ b. is_too_soon night (shape_of b)) (λ b. TooSoon b.id) sorted h.item ((there blocks h.item).1 h.there) h.holds))))
-  listed_to (NoRouteIn id) h = subst (λ (n : ℕ). In (NoRouteIn n) (findings_in night blocks)) h.named (blocked (NoRouteIn h.item.id) (in_right (wrong_types night sorted) (too_soons night sorted ++ (no_ways_in night sorted ++ no_ways_out night sorted)) (NoRouteIn h.item.id)
+  listed_to (NoRouteIn id) h = subst (λ (n : ℕ). In (NoRouteIn n) (findings_in night blocks)) h.named
+      (blocked (NoRouteIn h.item.id) (in_right (wrong_types night sorted) (too_soons night sorted ++ (no_ways_in night sorted ++ no_ways_out night sorted)) (NoRouteIn h.item.id)
       (in_right (too_soons night sorted) (no_ways_in night sorted ++ no_ways_out night sorted) (NoRouteIn h.item.id)
       (in_left (no_ways_in night sorted) (no_ways_out night sorted) (NoRouteIn h.item.id)
       (to_flat_noted (lacks_way_in night) (λ b. NoRouteIn b.id) sorted h.item ((there blocks h.item).1 h.there) (lacks_to h.item.park (way_in night h.item) h.holds))))))
-  listed_to (NoRouteOut id) h = subst (λ (n : ℕ). In (NoRouteOut n) (findings_in night blocks)) h.named (blocked (NoRouteOut h.item.id) (in_right (wrong_types night sorted) (too_soons night sorted ++ (no_ways_in night sorted ++ no_ways_out night sorted)) (NoRouteOut h.item.id)
+  listed_to (NoRouteOut id) h = subst (λ (n : ℕ). In (NoRouteOut n) (findings_in night blocks)) h.named
+      (blocked (NoRouteOut h.item.id) (in_right (wrong_types night sorted) (too_soons night sorted ++ (no_ways_in night sorted ++ no_ways_out night sorted)) (NoRouteOut h.item.id)
       (in_right (too_soons night sorted) (no_ways_in night sorted ++ no_ways_out night sorted) (NoRouteOut h.item.id)
       (in_right (no_ways_in night sorted) (no_ways_out night sorted) (NoRouteOut h.item.id)
       (to_flat_noted (lacks_way_out night) (λ b. NoRouteOut b.id) sorted h.item ((there blocks h.item).1 h.there) (lacks_to h.item.park (way_out night h.item) h.holds))))))
@@ -178,11 +200,15 @@ module _ (night : Night) (blocks : List Block) where
 of_kind : {X : Type 0} (k : ℕ) (note : X → Finding) (f : Finding) (x : X) → ((x : X) → kind_of (note x) ≡ k) → f ≡ note x → kind_of f ≡ k
 of_kind k note f x same e = ap kind_of e ∙ same x
 
-numbers : (k n : ℕ) (t : ℕ → Bool) (note : ℕ → Finding) → ((x : ℕ) → kind_of (note x) ≡ k) → ((i j : ℕ) → i < j → FindingBefore (note i) (note j)) → IsStretch k k (noted_below n (λ x. noted (t x) (note x)))
-numbers k n t note same rise = one_kind k (noted_below n (λ x. noted (t x) (note x))) (below_rises n t note rise) (λ f i. let r = of_below_noted n t note f i in of_kind k note f r.0 same r.3)
+numbers : (k n : ℕ) (t : ℕ → Bool) (note : ℕ → Finding) → ((x : ℕ) → kind_of (note x) ≡ k) → ((i j : ℕ) → i < j → FindingBefore (note i) (note j))
+    → IsStretch k k (noted_below n (λ x. noted (t x) (note x)))
+numbers k n t note same rise = one_kind k (noted_below n (λ x. noted (t x) (note x))) (below_rises n t note rise)
+    (λ f i. let r = of_below_noted n t note f i in of_kind k note f r.0 same r.3)
 
-items : {X : Type 0} (k : ℕ) (at : X → ℕ) (t : X → Bool) (note : X → Finding) (xs : List X) → Ascends at xs → ((x : X) → kind_of (note x) ≡ k) → ((x y : X) → at x < at y → FindingBefore (note x) (note y)) → IsStretch k k (flat_map (λ x. noted (t x) (note x)) xs)
-items k at t note xs a same rise = one_kind k (flat_map (λ x. noted (t x) (note x)) xs) (flat_noted_rises at t note xs a rise) (λ f i. let r = of_flat_noted t note xs f i in of_kind k note f r.0 same r.3)
+items : {X : Type 0} (k : ℕ) (at : X → ℕ) (t : X → Bool) (note : X → Finding) (xs : List X) → Ascends at xs → ((x : X) → kind_of (note x) ≡ k)
+    → ((x y : X) → at x < at y → FindingBefore (note x) (note y)) → IsStretch k k (flat_map (λ x. noted (t x) (note x)) xs)
+items k at t note xs a same rise = one_kind k (flat_map (λ x. noted (t x) (note x)) xs) (flat_noted_rises at t note xs a rise)
+    (λ f i. let r = of_flat_noted t note xs f i in of_kind k note f r.0 same r.3)
 
 cover_stretch : (night : Night) (blocks : List Block) → IsStretch 1 4 (cover_findings night blocks)
 cover_stretch night blocks =
@@ -218,13 +244,15 @@ crossings_stretch stays a = one_kind 9 (crossings stays)
 clash_stretch : (lengths : List ℕ) (stays : List Stay) → Ascends stay_number stays → IsStretch 9 10 (clash_findings lengths stays)
 clash_stretch lengths stays a =
     joined 9 9 10 10 (crossings stays) (too_longs lengths stays) (omega arith) (omega arith) (omega arith) (crossings_stretch stays a)
-    (items 10 stay_number (λ s. nat_lt (slice_index lengths s.track.0) (load_after stays s)) (λ s. TooLong s.id (load_after stays s)) stays a (λ s. refl) (λ s t lt. inr (refl, inl lt)))
+    (items 10 stay_number (λ s. nat_lt (slice_index lengths s.track.0) (load_after stays s)) (λ s. TooLong s.id (load_after stays s)) stays a (λ s. refl)
+    (λ s t lt. inr (refl, inl lt)))
 
 pub listed_stretch : (night : Night) (blocks : List Block) → AreInRange night blocks → IsStretch 1 10 (findings_in night blocks)
 unfolding findings_in
 listed_stretch night blocks h =
     let a = ascends blocks (apart blocks h.ids) in
-    joined 1 4 5 10 (cover_findings night blocks) (block_findings night (by_id blocks) ++ clash_findings (track_lengths night.station) (stays_of night (by_id blocks))) (omega arith) (omega arith) (omega arith)
+    joined 1 4 5 10 (cover_findings night blocks) (block_findings night (by_id blocks) ++ clash_findings (track_lengths night.station) (stays_of night (by_id blocks)))
+    (omega arith) (omega arith) (omega arith)
     (cover_stretch night blocks)
     (joined 5 8 9 10 (block_findings night (by_id blocks)) (clash_findings (track_lengths night.station) (stays_of night (by_id blocks))) (omega arith) (omega arith) (omega arith)
     (block_stretch night (by_id blocks) a)
@@ -241,17 +269,20 @@ exactly night blocks f = (λ i. listed_from night blocks f i, λ h. listed_to ni
 pub ordered : (night : Night) (blocks : List Block) → AreInRange night blocks → AreSorted (findings_in night blocks)
 ordered night blocks h = in_order (findings_in night blocks) (listed_rises night blocks h)
 
-pub only_one : (night : Night) (blocks : List Block) (fs : List Finding) → AreInRange night blocks → AreSorted fs → ((f : Finding) → In f fs ↔ IsFinding night blocks f) → fs ≡ findings_in night blocks
+pub only_one : (night : Night) (blocks : List Block) (fs : List Finding) → AreInRange night blocks → AreSorted fs → ((f : Finding) → In f fs ↔ IsFinding night blocks f)
+    → fs ≡ findings_in night blocks
 only_one night blocks fs h order same =
     unique fs (findings_in night blocks) (of_order fs order) (listed_rises night blocks h)
     (λ f. (λ i. listed_to night blocks f ((same f).0 i), λ i. (same f).1 (listed_from night blocks f i)))
 
 -- what the code puts together
-pub together : (night : Night) (blocks sorted : List Block) (stays : List Stay) (start x y z : List Finding) → sorted ≡ by_id blocks → stays ≡ stays_of night sorted → start ≡ [] → x ≡ start ++ cover_findings night blocks → y ≡ x ++ block_findings night sorted → z ≡ y ++ clash_findings (track_lengths night.station) stays → z ≡ findings_in night blocks
+pub together : (night : Night) (blocks sorted : List Block) (stays : List Stay) (start x y z : List Finding) → sorted ≡ by_id blocks → stays ≡ stays_of night sorted → start ≡ []
+    → x ≡ start ++ cover_findings night blocks → y ≡ x ++ block_findings night sorted → z ≡ y ++ clash_findings (track_lengths night.station) stays → z ≡ findings_in night blocks
 unfolding findings_in
 together night blocks ordered_blocks stays start x y z s t none ex ey ez =
     ez ∙ ap (λ (l : List Stay). y ++ clash_findings (track_lengths night.station) l) (t ∙ ap (stays_of night) s)
-    ∙ ap (λ (l : List Finding). l ++ clashes) (ey ∙ ap (λ (bs : List Block). x ++ block_findings night bs) s ∙ ap (λ (l : List Finding). l ++ block_findings night (by_id blocks)) (ex ∙ ap (λ (l : List Finding). l ++ cover_findings night blocks) none))
+    ∙ ap (λ (l : List Finding). l ++ clashes) (ey ∙ ap (λ (bs : List Block). x ++ block_findings night bs) s
+    ∙ ap (λ (l : List Finding). l ++ block_findings night (by_id blocks)) (ex ∙ ap (λ (l : List Finding). l ++ cover_findings night blocks) none))
     ∙ append_assoc (cover_findings night blocks) (block_findings night (by_id blocks)) clashes
   where
     clashes : List Finding
@@ -273,13 +304,32 @@ module _ (night : Night) (blocks others : List Block) (p : IsPermutation blocks 
   moved (UnitBare u) h = (h.0, times (λ b. has_unit night (shape_of b) u) ∙ h.1)
   moved (UnitTwice u) h = (h.0, let same : times_unit night others u ≡ times_unit night blocks u = times (λ b. has_unit night (shape_of b) u) in let twice = h.1 in omega arith)
   moved (PlaceBare v) h = (h.0, times (λ b. has_position night (shape_of b) v) ∙ h.1)
-  moved (PlaceTwice v) h = (h.0, let same : times_position night others v ≡ times_position night blocks v = times (λ b. has_position night (shape_of b) v) in let twice = h.1 in omega arith)
+  moved (PlaceTwice v) h = (
+    h.0,
+    let same : times_position night others v ≡ times_position night blocks v = times
+        (λ b. has_position night (shape_of b) v) in let twice = h.1 in omega arith,
+  )
   moved (WrongType id) h = block_moved (λ b. IsTrue (type_fault night b)) id h
   moved (TooSoon id) h = block_moved (λ b. IsTrue (is_too_soon night (shape_of b))) id h
   moved (NoRouteIn id) h = block_moved (λ b. IsSome b.park × (way_in night b ≡ None)) id h
   moved (NoRouteOut id) h = block_moved (λ b. IsSome b.park × (way_out night b ≡ None)) id h
-  moved (Crossing i j) h = record { item = h.item; there = stay_moved h.item h.there; named = h.named; holds = record { item = h.holds.item; there = stay_moved h.holds.item h.holds.there; named = h.holds.named; holds = h.holds.holds } }
-  moved (TooLong id load) h = record { item = h.item; there = stay_moved h.item h.there; named = h.named; holds = record { is = h.holds.is ∙ sym (load_permuted night blocks others h.item p); above = h.holds.above } }
+  moved (Crossing i j) h = record {
+    item = h.item;
+    there = stay_moved h.item h.there;
+    named = h.named;
+    holds = record
+        { item = h.holds.item; there = stay_moved h.holds.item h.holds.there; named = h.holds.named; holds = h.holds.holds };
+  }
+  moved (TooLong id load) h = record {
+    item = h.item;
+    there = stay_moved h.item h.there;
+    named = h.named;
+    holds = record {
+      is = h.holds.is
+          ∙ sym (load_permuted night blocks others h.item p);
+      above = h.holds.above;
+    };
+  }
   moved (StatedCost stated real) h = h
 
 pub any_order : (night : Night) (blocks others : List Block) → AreInRange night blocks → IsPermutation blocks others → findings_in night others ≡ findings_in night blocks

@@ -77,7 +77,8 @@ module _ (laws : BlockLaws) (night : Night) (blocks : List Block) (n : IsInstanc
   pub runs : ((f : Finding) → 5 ≤ kind_of f → IsFinding night blocks f → ⊥) → RunsThrough night blocks
   runs none = clear_through lengths standing (laws.stays night blocks n h) (laws.tracks night blocks h)
       (λ b c i j x. none (Crossing b.id c.id) (omega arith) (record { item = b; there = i; named = refl; holds = record { item = c; there = j; named = refl; holds = x } }))
-      (λ b i. at_most (load_after standing b) (slice_index lengths b.track.0) (λ above. none (TooLong b.id (load_after standing b)) (omega arith) (record { item = b; there = i; named = refl; holds = record { is = refl; above = above } })))
+      (λ b i. at_most (load_after standing b) (slice_index lengths b.track.0) (λ above. none (TooLong b.id (load_after standing b)) (omega arith)
+      (record { item = b; there = i; named = refl; holds = record { is = refl; above = above } })))
 
   sound_at : All (IsBlock night) blocks → (b : Block) → In b blocks → IsSound night b
   sound_at each b i = let r = place_of blocks b b i in (laws.sound night b).0 (subst (IsBlock night) r.2 (each r.0 b r.1))
@@ -91,9 +92,11 @@ module _ (laws : BlockLaws) (night : Night) (blocks : List Block) (n : IsInstanc
   sound_later each through (TooSoon id) le x = false≢true (sym (sound_at each x.item x.there).in_time ∙ x.holds)
   sound_later each through (NoRouteIn id) le x = in_there night x.item.arr x.item.park (sound_at each x.item x.there).way_in x.holds
   sound_later each through (NoRouteOut id) le x = out_there night x.item.dep x.item.park (sound_at each x.item x.there).way_out x.holds
-  sound_later each through (Crossing i j) le x = (through_clear lengths standing (laws.stays night blocks n h) (laws.tracks night blocks h) through).0 x.item x.holds.item x.there x.holds.there x.holds.holds
+  sound_later each through (Crossing i j) le x = (through_clear lengths standing (laws.stays night blocks n h) (laws.tracks night blocks h) through).0 x.item x.holds.item x.there
+      x.holds.there x.holds.holds
   sound_later each through (TooLong id load) le x =
-      let within : load_after standing x.item ≤ slice_index lengths x.item.track.0 = (through_clear lengths standing (laws.stays night blocks n h) (laws.tracks night blocks h) through).1 x.item x.there in
+      let within : load_after standing x.item ≤ slice_index lengths x.item.track.0 = (through_clear lengths standing (laws.stays night blocks n h)
+      (laws.tracks night blocks h) through).1 x.item x.there in
       let same = x.holds.is in
       let above = x.holds.above in
       absurd (omega arith)
@@ -127,7 +130,8 @@ pub no_member : (fs : List Finding) → ((f : Finding) → In f fs → ⊥) → 
 no_member [] h = refl
 no_member (f ∷ fs) h = absurd (h f (inl refl))
 
-pub none_where_feasible : (laws : BlockLaws) (night : Night) (blocks : List Block) → IsInstance night → AreInRange night blocks → (findings_in night blocks ≡ []) ↔ IsFeasible night blocks
+pub none_where_feasible : (laws : BlockLaws) (night : Night) (blocks : List Block) → IsInstance night → AreInRange night blocks
+    → (findings_in night blocks ≡ []) ↔ IsFeasible night blocks
 none_where_feasible laws night blocks n h = (
   λ e. feasible_from laws night blocks n h (λ f x. subst (λ (l : List Finding). In f l) e (listed_to night blocks f x)),
   λ p. no_member (findings_in night blocks) (λ f i. nothing laws night blocks n h p f (listed_from night blocks f i)),

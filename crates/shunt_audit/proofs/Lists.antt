@@ -19,7 +19,8 @@ to_noted false f e = absurd (cc)
 
 pub of_below : (n : ℕ) (note : ℕ → List Finding) (f : Finding) → In f (noted_below n note) → (k : ℕ) × (k < n) × In f (note k)
 of_below zero note f h = absurd h
-of_below (suc n) note f h = ⊎_elim (λ i. let r = of_below n note f i in (r.0, let lt = r.1 in omega arith, r.2)) (λ i. (n, omega arith, i)) (in_cases (noted_below n note) (note n) f h)
+of_below (suc n) note f h = ⊎_elim (λ i. let r = of_below n note f i in (r.0, let lt = r.1 in omega arith, r.2)) (λ i. (n, omega arith, i))
+    (in_cases (noted_below n note) (note n) f h)
 
 low_or_last : (k n : ℕ) → k < suc n → (k < n) ⊎ (k ≡ n)
 low_or_last k n lt = ⊎_elim (λ low. inl low) (λ ge. inr (omega arith)) (cases_lt k n)
@@ -32,7 +33,8 @@ to_below (suc n) note k f lt h = ⊎_elim
     (low_or_last k n lt)
 
 -- the same of what a test notes
-pub of_flat_noted : {X : Type 0} (t : X → Bool) (note : X → Finding) (xs : List X) (f : Finding) → In f (flat_map (λ x. noted (t x) (note x)) xs) → (x : X) × In x xs × (t x ≡ true) × (f ≡ note x)
+pub of_flat_noted : {X : Type 0} (t : X → Bool) (note : X → Finding) (xs : List X) (f : Finding) → In f (flat_map (λ x. noted (t x) (note x)) xs)
+    → (x : X) × In x xs × (t x ≡ true) × (f ≡ note x)
 of_flat_noted t note xs f h = let r = of_flat (λ x. noted (t x) (note x)) xs f h in let n = of_noted (t r.0) (note r.0) f r.2 in (r.0, r.1, n.0, n.1)
 
 pub to_flat_noted : {X : Type 0} (t : X → Bool) (note : X → Finding) (xs : List X) (x : X) → In x xs → t x ≡ true → In (note x) (flat_map (λ x. noted (t x) (note x)) xs)

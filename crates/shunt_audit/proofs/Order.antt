@@ -23,7 +23,10 @@ in_order (f ∷ fs) a = AllPairs-cons FindingBefore f fs (All-from_recursion (Fi
 
 pub of_order : (fs : List Finding) → AreSorted fs → Rising fs
 of_order [] h = tt
-of_order (f ∷ fs) h = (recursion_from_All (FindingBefore f) fs (λ k d lt. h 0 (suc k) d (omega arith) (omega arith)), of_order fs (λ i j d before within. h (suc i) (suc j) d (omega arith) (omega arith)))
+of_order (f ∷ fs) h = (
+  recursion_from_All (FindingBefore f) fs (λ k d lt. h 0 (suc k) d (omega arith) (omega arith)),
+  of_order fs (λ i j d before within. h (suc i) (suc j) d (omega arith) (omega arith)),
+)
 
 -- ---- one list
 
@@ -54,7 +57,8 @@ unique (f ∷ fs) (g ∷ gs) a b same =
     ap (λ (m : Finding). m ∷ fs) head ∙ ap (λ (l : List Finding). g ∷ l) (unique fs gs a.1 b.1 (λ m. (λ h. to m h, λ h. from m h)))
   where
     head : f ≡ g
-    head = ⊎_elim (λ e. e) (λ i. ⊎_elim (λ e. sym e) (λ j. absurd (never_both f g (all_in (FindingBefore f) fs g a.0 j) (all_in (FindingBefore g) gs f b.0 i))) ((same g).1 (inl refl))) ((same f).0 (inl refl))
+    head = ⊎_elim (λ e. e) (λ i. ⊎_elim (λ e. sym e) (λ j. absurd (never_both f g (all_in (FindingBefore f) fs g a.0 j) (all_in (FindingBefore g) gs f b.0 i)))
+        ((same g).1 (inl refl))) ((same f).0 (inl refl))
 
     to : (m : Finding) → In m fs → In m gs
     to m h = ⊎_elim (λ e. absurd (never_itself f m (head ∙ sym e) (all_in (FindingBefore f) fs m a.0 h))) (λ i. i) ((same m).0 (inr h))
@@ -99,12 +103,14 @@ below_rises (suc n) t note h = rising_append (noted_below n (λ k. noted (t k) (
     subst (λ (m : Finding). FindingBefore m g) (sym r.3) (subst (FindingBefore (note r.0)) (sym e) (h r.0 n r.1)))
 
 -- what is noted of items that ascend
-pub flat_rises : {X : Type 0} (at : X → ℕ) (note : X → List Finding) (xs : List X) → Ascends at xs → ((x : X) → Rising (note x)) → ((x y : X) (f g : Finding) → at x < at y → In f (note x) → In g (note y) → FindingBefore f g) → Rising (flat_map note xs)
+pub flat_rises : {X : Type 0} (at : X → ℕ) (note : X → List Finding) (xs : List X) → Ascends at xs → ((x : X) → Rising (note x))
+    → ((x y : X) (f g : Finding) → at x < at y → In f (note x) → In g (note y) → FindingBefore f g) → Rising (flat_map note xs)
 flat_rises at note [] a each h = tt
 flat_rises at note (x ∷ xs) a each h = subst Rising (sym (flat_map-cons note x xs)) (rising_append (note x) (flat_map note xs) (each x) (flat_rises at note xs a.1 each h)
     (λ f g i j. let r = of_flat note xs g j in h x r.0 f g (all_in (λ y. at x < at y) xs r.0 a.0 r.1) i r.2))
 
-pub flat_noted_rises : {X : Type 0} (at : X → ℕ) (t : X → Bool) (note : X → Finding) (xs : List X) → Ascends at xs → ((x y : X) → at x < at y → FindingBefore (note x) (note y)) → Rising (flat_map (λ x. noted (t x) (note x)) xs)
+pub flat_noted_rises : {X : Type 0} (at : X → ℕ) (t : X → Bool) (note : X → Finding) (xs : List X) → Ascends at xs → ((x y : X) → at x < at y → FindingBefore (note x) (note y))
+    → Rising (flat_map (λ x. noted (t x) (note x)) xs)
 flat_noted_rises at t note xs a h = flat_rises at (λ x. noted (t x) (note x)) xs a (λ x. noted_rises (t x) (note x))
     (λ x y f g lt i j. let e = (of_noted (t x) (note x) f i).1 in let d = (of_noted (t y) (note y) g j).1 in
     subst (λ (m : Finding). FindingBefore m g) (sym e) (subst (FindingBefore (note x)) (sym d) (h x y lt)))

@@ -46,13 +46,15 @@ module _ (laws : BlockLaws) (places : PlaceLaws) (night : Night) (pins : List Bl
   past_units : (u : ℕ) → unit_total night ≤ u → times_unit night pins u ≡ 0
   past_units u past = none_counted (λ b. has_unit night (shape_of b) u) pins (λ b i. false_from_ne_true (has_unit night (shape_of b) u) (λ t.
       let p = and_parts (nat_le (unit_from night (shape_of b)) u) (nat_lt u (unit_from night (shape_of b) + b.n)) t in
-      let lt = places.unit_in night (shape_of b) u (in_range night pins b h i).within.runs (record { from = leb-true (unit_from night (shape_of b)) u p.0; to = ltb-true u (unit_from night (shape_of b) + b.n) p.1 }) in
+      let lt = places.unit_in night (shape_of b) u (in_range night pins b h i).within.runs
+      (record { from = leb-true (unit_from night (shape_of b)) u p.0; to = ltb-true u (unit_from night (shape_of b) + b.n) p.1 }) in
       absurd (omega arith)))
 
   past_positions : (v : ℕ) → position_total night ≤ v → times_position night pins v ≡ 0
   past_positions v past = none_counted (λ b. has_position night (shape_of b) v) pins (λ b i. false_from_ne_true (has_position night (shape_of b) v) (λ t.
       let p = and_parts (nat_le (position_from night (shape_of b)) v) (nat_lt v (position_from night (shape_of b) + b.n)) t in
-      let lt = places.position_in night (shape_of b) v (in_range night pins b h i).within.runs (record { from = leb-true (position_from night (shape_of b)) v p.0; to = ltb-true v (position_from night (shape_of b) + b.n) p.1 }) in
+      let lt = places.position_in night (shape_of b) v (in_range night pins b h i).within.runs
+      (record { from = leb-true (position_from night (shape_of b)) v p.0; to = ltb-true v (position_from night (shape_of b) + b.n) p.1 }) in
       absurd (omega arith)))
 
   usable_from : ((f : Finding) → is_bare f ≡ false → IsFinding night pins f → ⊥) → AreUsable night pins
@@ -62,8 +64,10 @@ module _ (laws : BlockLaws) (places : PlaceLaws) (night : Night) (pins : List Bl
         in_range = h;
         each = λ k d lt. block_of laws night pins n h later (get_or pins k d) (in_place pins k d lt) (h.each k d lt);
         apart = record {
-          units = λ u. ⊎_elim (λ lt. not_twice (times_unit night pins u) (λ twice. none (UnitTwice u) refl (lt, twice))) (λ past. omega (arith, past_units u past)) (cases_lt u (unit_total night));
-          positions = λ v. ⊎_elim (λ lt. not_twice (times_position night pins v) (λ twice. none (PlaceTwice v) refl (lt, twice))) (λ past. omega (arith, past_positions v past)) (cases_lt v (position_total night));
+          units = λ u. ⊎_elim (λ lt. not_twice (times_unit night pins u) (λ twice. none (UnitTwice u) refl (lt, twice))) (λ past. omega (arith, past_units u past))
+              (cases_lt u (unit_total night));
+          positions = λ v. ⊎_elim (λ lt. not_twice (times_position night pins v) (λ twice. none (PlaceTwice v) refl (lt, twice))) (λ past. omega (arith, past_positions v past))
+              (cases_lt v (position_total night));
         };
         through = runs laws night pins n h later;
       }
@@ -81,8 +85,11 @@ module _ (laws : BlockLaws) (places : PlaceLaws) (night : Night) (pins : List Bl
   usable_none p (TooLong id load) e x = sound_later laws night pins n h p.each p.through (TooLong id load) (omega arith) x
   usable_none p (StatedCost stated real) e x = x
 
-pub none_where_usable : (laws : BlockLaws) (places : PlaceLaws) (night : Night) (pins : List Block) → IsInstance night → AreInRange night pins → (pin_findings night pins ≡ []) ↔ AreUsable night pins
+pub none_where_usable : (laws : BlockLaws) (places : PlaceLaws) (night : Night) (pins : List Block) → IsInstance night → AreInRange night pins
+    → (pin_findings night pins ≡ []) ↔ AreUsable night pins
 none_where_usable laws places night pins n h = (
-  λ e. usable_from laws places night pins n h (λ f bare x. subst (λ (l : List Finding). In f l) e (filter_to (λ g. not (is_bare g)) (findings_in night pins) f (listed_to night pins f x) (not_from_false (is_bare f) bare))),
-  λ p. no_member (pin_findings night pins) (λ f i. let r = filter_from (λ g. not (is_bare g)) (findings_in night pins) f i in usable_none laws places night pins n h p f (not-true (is_bare f) r.1) (listed_from night pins f r.0)),
+  λ e. usable_from laws places night pins n h (λ f bare x. subst (λ (l : List Finding). In f l) e
+      (filter_to (λ g. not (is_bare g)) (findings_in night pins) f (listed_to night pins f x) (not_from_false (is_bare f) bare))),
+  λ p. no_member (pin_findings night pins) (λ f i. let r = filter_from (λ g. not (is_bare g)) (findings_in night pins) f i in usable_none laws places night pins n h p f
+      (not-true (is_bare f) r.1) (listed_from night pins f r.0)),
 )

@@ -101,13 +101,15 @@ few_stays night blocks h = omega (arith, few_some (stay_of night) blocks, h.few)
 
 -- ---- the order of the blocks
 
-pub load_permuted : (night : Night) (blocks others : List Block) (s : Stay) → IsPermutation blocks others → load_after (stays_of night others) s ≡ load_after (stays_of night blocks) s
+pub load_permuted : (night : Night) (blocks others : List Block) (s : Stay) → IsPermutation blocks others
+    → load_after (stays_of night others) s ≡ load_after (stays_of night blocks) s
 load_permuted night blocks others s p =
     let g : Stay → ℕ = λ t. if stands_at s.track.0 s.enter t then t.length else 0 in
     sum_some g (stay_of night) others ∙ sum_by-IsPermutation (λ b. worth g (stay_of night b)) blocks others p ∙ sym (sum_some g (stay_of night) blocks)
 
 -- where the ids of the blocks ascend, so do those of the stays
-stays_ascend : (night : Night) (b : Block) (o : Option Stay) (stays : List Stay) → ((s : Stay) → o ≡ Some s → s.id ≡ b.id) → ((t : Stay) → In t stays → b.id < t.id) → Ascends stay_number stays → Ascends stay_number (cons_option o stays)
+stays_ascend : (night : Night) (b : Block) (o : Option Stay) (stays : List Stay) → ((s : Stay) → o ≡ Some s → s.id ≡ b.id) → ((t : Stay) → In t stays → b.id < t.id)
+    → Ascends stay_number stays → Ascends stay_number (cons_option o stays)
 stays_ascend night b None stays same above a = a
 stays_ascend night b (Some s) stays same above a = (all_from (λ t. s.id < t.id) stays (λ t i. omega (arith, above t i, same s refl)), a)
 

@@ -42,7 +42,8 @@ plan_to : (night : Night) (plan : Plan) (f : Finding) → IsPlanFinding night pl
 unfolding plan_findings
 plan_to night plan f (inl h) = in_left (findings_in night plan.blocks) (noted (misstated night plan) (stated night plan)) f ((exactly night plan.blocks f).1 h)
 plan_to night plan f (inr h) = in_right (findings_in night plan.blocks) (noted (misstated night plan) (stated night plan)) f
-    (subst (λ (g : Finding). In g (noted (misstated night plan) (stated night plan))) (sym h.is) (to_noted (misstated night plan) (stated night plan) (told_apart plan.cost (total_cost night plan.blocks) h.differs)))
+    (subst (λ (g : Finding). In g (noted (misstated night plan) (stated night plan))) (sym h.is)
+    (to_noted (misstated night plan) (stated night plan) (told_apart plan.cost (total_cost night plan.blocks) h.differs)))
 
 pub plan_exactly : (night : Night) (plan : Plan) (f : Finding) → In f (plan_findings night plan) ↔ IsPlanFinding night plan f
 plan_exactly night plan f = (λ i. plan_from night plan f i, λ h. plan_to night plan f h)
@@ -50,13 +51,16 @@ plan_exactly night plan f = (λ i. plan_from night plan f i, λ h. plan_to night
 plan_rises : (night : Night) (plan : Plan) → AreInRange night plan.blocks → Rising (plan_findings night plan)
 unfolding plan_findings
 plan_rises night plan h =
-    (joined 1 10 11 11 (findings_in night plan.blocks) (noted (misstated night plan) (stated night plan)) (omega arith) (omega arith) (omega arith) (listed_stretch night plan.blocks h)
-    (one_kind 11 (noted (misstated night plan) (stated night plan)) (noted_rises (misstated night plan) (stated night plan)) (λ f i. ap kind_of (of_noted (misstated night plan) (stated night plan) f i).1))).rises
+    (joined 1 10 11 11 (findings_in night plan.blocks) (noted (misstated night plan) (stated night plan)) (omega arith) (omega arith) (omega arith)
+    (listed_stretch night plan.blocks h)
+    (one_kind 11 (noted (misstated night plan) (stated night plan)) (noted_rises (misstated night plan) (stated night plan))
+    (λ f i. ap kind_of (of_noted (misstated night plan) (stated night plan) f i).1))).rises
 
 pub plan_ordered : (night : Night) (plan : Plan) → AreInRange night plan.blocks → AreSorted (plan_findings night plan)
 plan_ordered night plan h = in_order (plan_findings night plan) (plan_rises night plan h)
 
-pub only_plan : (night : Night) (plan : Plan) (fs : List Finding) → AreInRange night plan.blocks → AreSorted fs → ((f : Finding) → In f fs ↔ IsPlanFinding night plan f) → fs ≡ plan_findings night plan
+pub only_plan : (night : Night) (plan : Plan) (fs : List Finding) → AreInRange night plan.blocks → AreSorted fs → ((f : Finding) → In f fs ↔ IsPlanFinding night plan f)
+    → fs ≡ plan_findings night plan
 only_plan night plan fs h order same =
     unique fs (plan_findings night plan) (of_order fs order) (plan_rises night plan h)
     (λ f. (λ i. plan_to night plan f ((same f).0 i), λ i. (same f).1 (plan_from night plan f i)))
@@ -85,12 +89,17 @@ alike a b e = grind (arith, nat_tests)
 told_alike : (a b : ℕ) → a ≡ b → not (a == b) ≡ false
 told_alike a b e = ap not (eq-eqb a b e)
 
-pub plan_none : (laws : BlockLaws) (night : Night) (plan : Plan) → IsInstance night → AreInRange night plan.blocks → (plan_findings night plan ≡ []) ↔ IsFeasible night plan.blocks × (plan.cost ≡ total_cost night plan.blocks)
+pub plan_none : (laws : BlockLaws) (night : Night) (plan : Plan) → IsInstance night → AreInRange night plan.blocks
+    → (plan_findings night plan ≡ []) ↔ IsFeasible night plan.blocks × (plan.cost ≡ total_cost night plan.blocks)
 unfolding plan_findings
 plan_none laws night plan n h =
     let law = none_where_feasible laws night plan.blocks n h in
     let more = noted (misstated night plan) (stated night plan) in (
-      λ e. (law.0 (front_none (findings_in night plan.blocks) more e), alike plan.cost (total_cost night plan.blocks) (unnoted (misstated night plan) (stated night plan) (back_none (findings_in night plan.blocks) more e))),
+      λ e. (
+        law.0 (front_none (findings_in night plan.blocks) more e),
+        alike plan.cost (total_cost night plan.blocks)
+            (unnoted (misstated night plan) (stated night plan) (back_none (findings_in night plan.blocks) more e)),
+      ),
       λ p. ap (λ (l : List Finding). l ++ more) (law.1 p.0) ∙ not_noted (misstated night plan) (stated night plan) (told_alike plan.cost (total_cost night plan.blocks) p.1),
     )
 

@@ -25,7 +25,8 @@ pub record UpgradeLaws : Type 0 where
 said_so : (blocks : List Block) (id : ℕ) (P Q : Block → Type 0) → ((b : Block) → In b blocks → P b → Q b) → HasBlock blocks id P → HasBlock blocks id Q
 said_so blocks id P Q h x = record { item = x.item; there = x.there; named = x.named; holds = h x.item x.there x.holds }
 
-pub same_finding : (laws : UpgradeLaws) (night : Night) (blocks : List Block) (f : Finding) → IsPlain night → AreInRange night blocks → IsFirstFinding night blocks f ↔ IsFinding night blocks f
+pub same_finding : (laws : UpgradeLaws) (night : Night) (blocks : List Block) (f : Finding) → IsPlain night → AreInRange night blocks
+    → IsFirstFinding night blocks f ↔ IsFinding night blocks f
 same_finding laws night blocks (UnitBare u) plain h = (λ x. x, λ x. x)
 same_finding laws night blocks (UnitTwice u) plain h = (λ x. x, λ x. x)
 same_finding laws night blocks (PlaceBare v) plain h = (λ x. x, λ x. x)

@@ -68,7 +68,8 @@ pub value_again : (n : ℕ) → n < 10 ^ 18 → digits_value 10 (decimal n) ≡ 
 value_again n lt = digits_value-decimal own n (omega arith)
 
 -- a minus in front is none of a number that isn't below 0
-minus : (rest : List ℕ) (r : Option ℤ) → ((n : ℕ) → n + 1 < 10 ^ 18 → rest ≡ decimal (n + 1) → r ≡ Some (negsuc n)) → (z : ℤ) → IsSigned z → 45 ∷ rest ≡ signed_decimal z → r ≡ Some z
+minus : (rest : List ℕ) (r : Option ℤ) → ((n : ℕ) → n + 1 < 10 ^ 18 → rest ≡ decimal (n + 1) → r ≡ Some (negsuc n)) → (z : ℤ) → IsSigned z → 45 ∷ rest ≡ signed_decimal z
+    → r ≡ Some z
 minus rest r only (pos n) s e =
     let d = spelled n (omega (arith, ints, s.1)) in
     let digit = digit_in (decimal n) d 0 d.nonempty in
@@ -77,6 +78,7 @@ minus rest r only (negsuc n) s e =
     let tail : rest ≡ decimal (suc n) = cc in
     only n (omega (arith, ints, s.0)) (tail ∙ ap decimal (let f : suc n ≡ n + 1 = omega arith in f))
 
-pub minus_at : (bytes : List ℕ) (r : Option ℤ) → 0 < length bytes → get_or bytes 0 0 ≡ 45 → ((n : ℕ) → n + 1 < 10 ^ 18 → drop 1 bytes ≡ decimal (n + 1) → r ≡ Some (negsuc n)) → (z : ℤ) → IsSigned z → bytes ≡ signed_decimal z → r ≡ Some z
+pub minus_at : (bytes : List ℕ) (r : Option ℤ) → 0 < length bytes → get_or bytes 0 0 ≡ 45 → ((n : ℕ) → n + 1 < 10 ^ 18 → drop 1 bytes ≡ decimal (n + 1) → r ≡ Some (negsuc n))
+    → (z : ℤ) → IsSigned z → bytes ≡ signed_decimal z → r ≡ Some z
 minus_at [] r some first only z s e = absurd (omega arith)
 minus_at (b ∷ bytes) r some first only z s e = minus bytes r only z s (ap (λ (x : ℕ). x ∷ bytes) (sym first) ∙ e)

@@ -23,7 +23,8 @@ five : (a b c d e p q r s : ℕ) → a ≡ p → b ≡ q → c ≡ 58 → d ≡ 
 five a b c d e p q r s f g h i j = cc
 
 -- the fields of a minute from its digits
-digits : (h n x y u v : ℕ) → x < 10 → y < 10 → v < 10 → n < 60 → h ≡ 10 * x + y → n ≡ 10 * u + v → let m = 60 * h + n in (m / 60 / 10 ≡ x) × (m / 60 % 10 ≡ y) × (m % 60 / 10 ≡ u) × (m % 60 % 10 ≡ v)
+digits : (h n x y u v : ℕ) → x < 10 → y < 10 → v < 10 → n < 60 → h ≡ 10 * x + y → n ≡ 10 * u + v
+    → let m = 60 * h + n in (m / 60 / 10 ≡ x) × (m / 60 % 10 ≡ y) × (m % 60 / 10 ≡ u) × (m % 60 % 10 ≡ v)
 digits h n x y u v sx sy sv sn eh en =
     let hours : (60 * h + n) / 60 ≡ h = omega arith in
     let minutes : (60 * h + n) % 60 ≡ n = omega arith in
@@ -62,7 +63,8 @@ unfolding minute_of
 none_of bytes f = ap (λ (b : Bool). if b then Some (minute_value bytes) else None) f
 
 -- who answers exactly the spelled minutes answers what is read
-pub minute_is : (bytes : List ℕ) (r : Option ℕ) → IfSome r (λ m. (m < 2880) × (bytes ≡ minute_text m)) → ((m : ℕ) → m < 2880 → bytes ≡ minute_text m → r ≡ Some m) → r ≡ minute_of bytes
+pub minute_is : (bytes : List ℕ) (r : Option ℕ) → IfSome r (λ m. (m < 2880) × (bytes ≡ minute_text m)) → ((m : ℕ) → m < 2880 → bytes ≡ minute_text m → r ≡ Some m)
+    → r ≡ minute_of bytes
 minute_is bytes (Some m) some only = sym (ap minute_of some.1 ∙ read_again m some.0)
 minute_is bytes None some only =
     ⊎_elim (λ t. let s = spelled bytes t in let e : None ≡ Some (minute_value bytes) = only (minute_value bytes) s.0 s.1 in cc)

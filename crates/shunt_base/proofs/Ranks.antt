@@ -63,7 +63,8 @@ key_cmp_is k l p q =
     let i = nat_cmp k.id l.id in
     ap (λ o. ordering_then m (ordering_then o (ordering_then t (ordering_then r i)))) (flags k.enters l.enters)
     ∙ sym (regroup m e (ordering_then t (ordering_then r i)))
-    ∙ ap (λ o. ordering_then o (ordering_then t (ordering_then r i))) (then_rank 2 k.minute l.minute (cond k.enters 1 0) (cond l.enters 1 0) (flag_small k.enters) (flag_small l.enters))
+    ∙ ap (λ o. ordering_then o (ordering_then t (ordering_then r i))) (then_rank 2 k.minute l.minute (cond k.enters 1 0) (cond l.enters 1 0) (flag_small k.enters)
+    (flag_small l.enters))
     ∙ sym (regroup _ t (ordering_then r i))
     ∙ ap (λ o. ordering_then o (ordering_then r i)) (then_rank 256 _ _ k.train l.train p.train q.train)
     ∙ sym (regroup _ r i)

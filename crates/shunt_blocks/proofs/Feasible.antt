@@ -60,7 +60,11 @@ covers_apart night blocks within covers = record { units = units; positions = po
         (λ few. omega (arith, few))
         (λ some.
         let of = holder (λ b. has_position night (shape_of b) v) blocks some in
-        omega (arith, covers.positions v (position_in night (shape_of of.0) v (each_one (IsWithinTrains night) blocks of.0 within of.1).runs (has_position_from night of.0 v of.2))))
+        omega (
+          arith,
+          covers.positions v (position_in night (shape_of of.0) v (each_one (IsWithinTrains night) blocks of.0 within of.1).runs
+              (has_position_from night of.0 v of.2)),
+        ))
         (cases_lt (times_position night blocks v) 1)
 
 -- ---- they are few, and in range
@@ -93,7 +97,8 @@ placed_blocks night k (b ∷ blocks) from to all =
     (placed_blocks night (k + 1) blocks (omega arith) (omega (arith, to)) (All-tail (IsBlockButId night) b blocks all))
 
 -- with places as ids, what covers the night and runs through so is feasible
-pub placed_feasible : (night : Night) (blocks : List Block) → IsInstance night → All (IsBlockButId night) blocks → Covers night blocks → RunsThrough night (placed blocks) → IsFeasible night (placed blocks)
+pub placed_feasible : (night : Night) (blocks : List Block) → IsInstance night → All (IsBlockButId night) blocks → Covers night blocks → RunsThrough night (placed blocks)
+    → IsFeasible night (placed blocks)
 placed_feasible night blocks is each covers through =
     let within = all_within night blocks each in
     record {
@@ -107,15 +112,18 @@ placed_feasible night blocks is each covers through =
     }
 
 -- so is what covers the night and runs through with ids of its own
-pub renumbered : (night : Night) (blocks : List Block) → IsInstance night → CanStand night blocks → All (IsBlockButId night) blocks → Covers night blocks → RunsThrough night blocks → IsFeasible night (placed blocks)
+pub renumbered : (night : Night) (blocks : List Block) → IsInstance night → CanStand night blocks → All (IsBlockButId night) blocks → Covers night blocks → RunsThrough night blocks
+    → IsFeasible night (placed blocks)
 renumbered night blocks is stand each covers through =
     let within = all_within night blocks each in
     let apart = covers_apart night blocks within covers in
-    placed_feasible night blocks is each covers ((alike_runs night blocks (placed blocks) is stand (apart_stand night blocks is within apart) apart (placed_alike 1 blocks)).0 through)
+    placed_feasible night blocks is each covers ((alike_runs night blocks (placed blocks) is stand (apart_stand night blocks is within apart) apart (placed_alike 1 blocks)).0
+    through)
 
 pub feasible_placed : (night : Night) (blocks : List Block) → IsInstance night → IsFeasible night blocks → IsFeasible night (placed blocks)
 feasible_placed night blocks is h = renumbered night blocks is (ranges_stand night blocks (feasible_in_range night blocks is h)) (but_ids night blocks h.each) h.covers h.through
 
 pub placed_cost : (night : Night) (k : ℕ) (blocks : List Block) → total_cost night (placed_from k blocks) ≡ total_cost night blocks
 placed_cost night k [] = refl
-placed_cost night k (b ∷ blocks) = let rest = placed_cost night (k + 1) blocks in omega (arith, rest, sum_by-cons (block_cost night) b blocks, sum_by-cons (block_cost night) (record b { id = k }) (placed_from (k + 1) blocks))
+placed_cost night k (b ∷ blocks) = let rest = placed_cost night (k + 1) blocks in omega
+    (arith, rest, sum_by-cons (block_cost night) b blocks, sum_by-cons (block_cost night) (record b { id = k }) (placed_from (k + 1) blocks))

@@ -23,7 +23,8 @@ holder {X} test (y ∷ xs) some = at (test y) refl (λ more. holder test xs more
   where
     at : (t : Bool) → test y ≡ t → (1 ≤ count_by test xs → (x : X) × In x xs × (test x ≡ true)) → (x : X) × In x (y ∷ xs) × (test x ≡ true)
     at true e later = (y, inl refl, e)
-    at false e later = let none : cond (test y) 1 0 ≡ 0 = ap {B = ℕ} (λ s. cond s 1 0) e in let more = later (omega (arith, some, one_first test y xs, none)) in (more.0, inr more.1, more.2)
+    at false e later = let none : cond (test y) 1 0 ≡ 0 = ap {B = ℕ} (λ s. cond s 1 0) e in let more = later (omega (arith, some, one_first test y xs, none)) in
+        (more.0, inr more.1, more.2)
 
 pub one_holder : {X : Type 0} (test : X → Bool) (xs : List X) (x y : X) → count_by test xs ≤ 1 → In x xs → In y xs → test x ≡ true → test y ≡ true → x ≡ y
 one_holder test [] x y few i j e f = absurd i

@@ -104,8 +104,11 @@ to_side night s track side = way_to night.station (train_at night.depart s.dep.0
 of_sides : (night : Night) (s : Shape) (track : TrackId) (c : ℕ) → track.0 < length night.station.tracks → permits_units night s track ≡ true
     → IsSum (AtSide (from_side night s track)) (AtSide (to_side night s track)) c → OfOption night s c
 of_sides night s track c lt passes (x, y, (i, e), (o, f), is) =
-    let k : Park = record { track = track; side_in = i; side_out = o } in
-    (Some k, record { track = lt; permitted = passes; way_in = some_true _ x e; way_out = some_true _ y f }, omega (arith, is, unwrapped (from_side night s track i) x e, unwrapped (to_side night s track o) y f))
+    let k : Park = record { track = track; side_in = i; side_out = o } in (
+      Some k,
+      record { track = lt; permitted = passes; way_in = some_true _ x e; way_out = some_true _ y f },
+      omega (arith, is, unwrapped (from_side night s track i) x e, unwrapped (to_side night s track o) y f),
+    )
 
 weaker : (o : Option ℕ) (P Q : ℕ → Type 0) → IfSome o P → ((c : ℕ) → P c → Q c) → IfSome o Q
 weaker None P Q f h = tt
@@ -117,7 +120,8 @@ if_there false o P h = tt
 
 on_there : (night : Night) (s : Shape) (track : TrackId) → track.0 < length night.station.tracks → IfSome (least_on night s track) (OfOption night s)
 on_there night s track lt = if_there (permits_units night s track) _ (OfOption night s) (λ passes.
-    weaker _ _ (OfOption night s) (both_there (least_way_in night s.arr track) (least_way_out night s.dep track) (AtSide (from_side night s track)) (AtSide (to_side night s track)) (side_there (from_side night s track)) (side_there (to_side night s track)))
+    weaker _ _ (OfOption night s) (both_there (least_way_in night s.arr track) (least_way_out night s.dep track) (AtSide (from_side night s track)) (AtSide (to_side night s track))
+    (side_there (from_side night s track)) (side_there (to_side night s track)))
     (λ c sum. of_sides night s track c lt passes sum))
 
 if_least : (b : Bool) (o : Option ℕ) (x : ℕ) → b ≡ true → IsSomeAnd o (λ c. c ≤ x) → IsSomeAnd (if b then o else None) (λ c. c ≤ x)
@@ -134,7 +138,8 @@ on_least night s k h = if_least (permits_units night s k.track) _ (option_cost n
 
 below_there : (night : Night) (s : Shape) (n : ℕ) → n ≤ length night.station.tracks → OfOption night s (least_below night s n)
 below_there night s zero le = (None, tt, refl)
-below_there night s (suc n) le = improved_there (least_below night s n) (least_on night s (record { 0 = n })) (OfOption night s) (below_there night s n (omega arith)) (on_there night s (record { 0 = n }) (omega arith))
+below_there night s (suc n) le = improved_there (least_below night s n) (least_on night s (record { 0 = n })) (OfOption night s) (below_there night s n (omega arith))
+    (on_there night s (record { 0 = n }) (omega arith))
 
 below_unparked : (night : Night) (s : Shape) (n : ℕ) → least_below night s n ≤ night.station.unparked
 below_unparked night s zero = omega arith
@@ -153,7 +158,8 @@ none_less : (night : Night) (s : Shape) (o : Option Park) → IsOption night s o
 none_less night s None h = below_unparked night s (length night.station.tracks)
 none_less night s (Some k) h = below_parked night s (length night.station.tracks) k h h.track
 
-pub is_cheapest : (night : Night) (s : Shape) (cost first rest : ℕ) → first ≡ shape_cost night s → rest ≡ least_below night s (length night.station.tracks) → cost ≡ first + rest → IsCheapest night s cost
+pub is_cheapest : (night : Night) (s : Shape) (cost first rest : ℕ) → first ≡ shape_cost night s → rest ≡ least_below night s (length night.station.tracks) → cost ≡ first + rest
+    → IsCheapest night s cost
 is_cheapest night s cost first rest e f is =
     let there = below_there night s (length night.station.tracks) (omega arith) in
     record {

@@ -32,21 +32,30 @@ no_value (x ∷ xs) test value none = at (test x) refl (λ rest. no_value xs tes
   where
     at : (t : Bool) → test x ≡ t → (count_by test xs ≡ 0 → sum_by (λ y. cond (test y) (value y) 0) xs ≡ 0) → sum_by (λ y. cond (test y) (value y) 0) (x ∷ xs) ≡ 0
     at true e tail = let one : cond (test x) 1 0 ≡ 1 = ap {B = ℕ} (λ t. cond t 1 0) e in absurd (omega (arith, none, sum_by-cons (λ y. cond (test y) 1 0) x xs, one))
-    at false e tail = let nothing : cond (test x) (value x) 0 ≡ 0 = ap {B = ℕ} (λ t. cond t (value x) 0) e in omega (arith, sum_by-cons (λ y. cond (test y) (value y) 0) x xs, nothing, tail (omega (arith, none, sum_by-cons (λ y. cond (test y) 1 0) x xs)))
+    at false e tail = let nothing : cond (test x) (value x) 0 ≡ 0 = ap {B = ℕ} (λ t. cond t (value x) 0) e in omega
+        (arith, sum_by-cons (λ y. cond (test y) (value y) 0) x xs, nothing, tail (omega (arith, none, sum_by-cons (λ y. cond (test y) 1 0) x xs)))
 
-only_value : {X : Type 0} (xs : List X) (test : X → Bool) (value : X → ℕ) (x : X) → count_by test xs ≤ 1 → In x xs → test x ≡ true → sum_by (λ y. cond (test y) (value y) 0) xs ≡ value x
+only_value : {X : Type 0} (xs : List X) (test : X → Bool) (value : X → ℕ) (x : X) → count_by test xs ≤ 1 → In x xs → test x ≡ true
+    → sum_by (λ y. cond (test y) (value y) 0) xs ≡ value x
 only_value [] test value x few there passes = absurd there
 only_value (y ∷ xs) test value x few (inl same) passes =
     let first : test y ≡ true = ap test (sym same) ∙ passes in
     let one : cond (test y) 1 0 ≡ 1 = ap {B = ℕ} (λ t. cond t 1 0) first in
     let here : cond (test y) (value y) 0 ≡ value y = ap {B = ℕ} (λ t. cond t (value y) 0) first in
-    omega (arith, sum_by-cons (λ z. cond (test z) (value z) 0) y xs, here, no_value xs test value (omega (arith, few, one, sum_by-cons (λ z. cond (test z) 1 0) y xs)), ap value same)
+    omega (
+      arith,
+      sum_by-cons (λ z. cond (test z) (value z) 0) y xs,
+      here,
+      no_value xs test value (omega (arith, few, one, sum_by-cons (λ z. cond (test z) 1 0) y xs)),
+      ap value same,
+    )
 only_value (y ∷ xs) test value x few (inr later) passes = at (test y) refl
     (only_value xs test value x (omega (arith, few, sum_by-cons (λ z. cond (test z) 1 0) y xs)) later passes) (held test xs x later passes)
   where
     at : (t : Bool) → test y ≡ t → sum_by (λ z. cond (test z) (value z) 0) xs ≡ value x → 1 ≤ count_by test xs → sum_by (λ z. cond (test z) (value z) 0) (y ∷ xs) ≡ value x
     at true e tail some = let one : cond (test y) 1 0 ≡ 1 = ap {B = ℕ} (λ t. cond t 1 0) e in absurd (omega (arith, few, some, one, sum_by-cons (λ z. cond (test z) 1 0) y xs))
-    at false e tail some = let nothing : cond (test y) (value y) 0 ≡ 0 = ap {B = ℕ} (λ t. cond t (value y) 0) e in omega (arith, sum_by-cons (λ z. cond (test z) (value z) 0) y xs, nothing, tail)
+    at false e tail some = let nothing : cond (test y) (value y) 0 ≡ 0 = ap {B = ℕ} (λ t. cond t (value y) 0) e in omega
+        (arith, sum_by-cons (λ z. cond (test z) (value z) 0) y xs, nothing, tail)
 
 same_test : (a b c d : ℕ) → (a ≡ b → c ≡ d) → (c ≡ d → a ≡ b) → (a == b) ≡ (c == d)
 same_test a b c d to from = at (a == b) (c == d) refl refl
@@ -54,8 +63,10 @@ same_test a b c d to from = at (a == b) (c == d) refl refl
     at : (s t : Bool) → (a == b) ≡ s → (c == d) ≡ t → (a == b) ≡ (c == d)
     at true true e f = e ∙ sym f
     at false false e f = e ∙ sym f
-    at true false e f = let same : a ≡ b = grind (arith, nat_tests, e) in let other = to same in let is : (c == d) ≡ true = grind (arith, nat_tests, other) in absurd (true≢false (sym is ∙ f))
-    at false true e f = let same : c ≡ d = grind (arith, nat_tests, f) in let other = from same in let is : (a == b) ≡ true = grind (arith, nat_tests, other) in absurd (true≢false (sym is ∙ e))
+    at true false e f = let same : a ≡ b = grind (arith, nat_tests, e) in let other = to same in let is : (c == d)
+        ≡ true = grind (arith, nat_tests, other) in absurd (true≢false (sym is ∙ f))
+    at false true e f = let same : c ≡ d = grind (arith, nat_tests, f) in let other = from same in let is : (a == b)
+        ≡ true = grind (arith, nat_tests, other) in absurd (true≢false (sym is ∙ e))
 
 -- ---- the position of a unit
 
@@ -74,7 +85,8 @@ record IsHeldBy (night : Night) (blocks : List Block) (u : ℕ) (b : Block) : Ty
   has : HasUnit night (shape_of b) u
   place : place_of (partners night blocks) u ≡ partner_in night u b
 
-held_by : (night : Night) (blocks : List Block) (u : ℕ) (b : Block) → All (IsBlockButId night) blocks → Covers night blocks → In b blocks → has_unit night (shape_of b) u ≡ true → IsHeldBy night blocks u b
+held_by : (night : Night) (blocks : List Block) (u : ℕ) (b : Block) → All (IsBlockButId night) blocks → Covers night blocks → In b blocks → has_unit night (shape_of b) u ≡ true
+    → IsHeldBy night blocks u b
 held_by night blocks u b each covers there has =
     let fits = each_one (IsBlockButId night) blocks b each there in
     let lt = unit_in night (shape_of b) u fits.shape.within (has_from night b u has) in
@@ -100,7 +112,8 @@ position_to night b v has = grind (arith, nat_tests, has.from, has.to)
 unit_to : (night : Night) (b : Block) (u : ℕ) → HasUnit night (shape_of b) u → has_unit night (shape_of b) u ≡ true
 unit_to night b u has = grind (arith, nat_tests, has.from, has.to)
 
-pub matched : (night : Night) (blocks : List Block) → All (IsBlockButId night) blocks → Covers night blocks → IsMatching (unit_entries night) (position_entries night) (partners night blocks)
+pub matched : (night : Night) (blocks : List Block) → All (IsBlockButId night) blocks → Covers night blocks
+    → IsMatching (unit_entries night) (position_entries night) (partners night blocks)
 matched night blocks each covers = record {
   same_length = length-map-range_with_len (partner night blocks) 0 (unit_total night) ∙ sym units;
   given = λ u at.
@@ -124,14 +137,16 @@ matched night blocks each covers = record {
         let k = u - unit_from night s in
         let below = position_in night s (partner_in night u x.0) x.1.fits.shape.within (partner_there night u x.0 x.1.has) in
         let at : unit_from night s + k ≡ u = omega (arith, x.1.has.from) in
-        let pair : IsPair night u (partner_in night u x.0) = subst (λ (w : ℕ). IsPair night w (partner_in night u x.0)) at (x.1.fits.shape.pairs k (omega (arith, x.1.has.from, x.1.has.to))) in
+        let pair : IsPair night u (partner_in night u x.0) = subst (λ (w : ℕ). IsPair night w (partner_in night u x.0)) at
+        (x.1.fits.shape.pairs k (omega (arith, x.1.has.from, x.1.has.to))) in
         subst (λ v. IsMatchable (entry_at (unit_entries night) u) (entry_at (position_entries night) v)) (sym x.1.place)
         (subst (λ e. IsMatchable e (entry_at (position_entries night) (partner_in night u x.0))) (sym (unit_entry_is night u lt))
         (subst (λ e. IsMatchable (unit_entry night u) e) (sym (position_entry_is night (partner_in night u x.0) below)) pair))
 
     once : (v : ℕ) → v < position_total night → count_below (length (unit_entries night)) (λ u. is_in_rest [] u && (place_of (partners night blocks) u == v)) ≡ 1
     once v lt = ap (λ n. count_below n (λ u. is_in_rest [] u && (place_of (partners night blocks) u == v))) units
-        ∙ count_below-same (unit_total night) _ (λ u. true && (u == first)) (λ u below. ap (λ t. t && (place_of (partners night blocks) u == v)) (ap not (get_or_past [] u false (omega arith))) ∙ same_test _ _ _ _ (to u below) (back u))
+        ∙ count_below-same (unit_total night) _ (λ u. true && (u == first)) (λ u below. ap (λ t. t && (place_of (partners night blocks) u == v))
+        (ap not (get_or_past [] u false (omega arith))) ∙ same_test _ _ _ _ (to u below) (back u))
         ∙ one_counted (unit_total night) first (λ u. true) first_in
       where
         of : (b : Block) × In b blocks × (has_position night (shape_of b) v ≡ true)
@@ -165,7 +180,8 @@ matched night blocks each covers = record {
             let x = holding night blocks u each covers below in
             let b = x.0 in
             let there : partner_in night u b ≡ v = sym x.1.place ∙ e in
-            let b_has : has_position night (shape_of b) v ≡ true = subst (λ w. has_position night (shape_of b) w ≡ true) there (position_to night b (partner_in night u b) (partner_there night u b x.1.has)) in
+            let b_has : has_position night (shape_of b) v ≡ true = subst (λ w. has_position night (shape_of b) w ≡ true) there
+            (position_to night b (partner_in night u b) (partner_there night u b x.1.has)) in
             let same : b ≡ c = one_holder (λ y. has_position night (shape_of y) v) blocks b c (omega (arith, covers.positions v lt)) x.1.there of.1 b_has of.2 in
             let from : unit_from night (shape_of b) ≡ unit_from night (shape_of c) = ap (λ y. unit_from night (shape_of y)) same in
             let to_it : position_from night (shape_of b) ≡ position_from night (shape_of c) = ap (λ y. position_from night (shape_of y)) same in

@@ -84,9 +84,15 @@ bijection n m from to place f given once =
 pub single_cost : (night : Night) (u v : ℕ) → block_cost night (single night u v) ≡ unit_price night u + position_price night v
 single_cost night u v = omega arith
 
-singles_cost : (night : Night) (pins : List Block) (place : List ℕ) (n : ℕ) → total_cost night (singles_below night pins place n) ≡ sum_below n (λ u. cond (times_unit night pins u == 0) (unit_price night u + position_price night (place_of place u)) 0)
+singles_cost : (night : Night) (pins : List Block) (place : List ℕ) (n : ℕ) → total_cost night (singles_below night pins place n)
+    ≡ sum_below n (λ u. cond (times_unit night pins u == 0) (unit_price night u + position_price night (place_of place u)) 0)
 singles_cost night pins place zero = refl
-singles_cost night pins place (suc n) = omega (arith, sum_by-append (block_cost night) (singles_below night pins place n) (last (times_unit night pins n == 0)), singles_cost night pins place n, costs (times_unit night pins n == 0))
+singles_cost night pins place (suc n) = omega (
+  arith,
+  sum_by-append (block_cost night) (singles_below night pins place n) (last (times_unit night pins n == 0)),
+  singles_cost night pins place n,
+  costs (times_unit night pins n == 0),
+)
   where
     last : Bool → List Block
     last t = cond t (single night n (place_of place n) ∷ []) []
@@ -95,7 +101,8 @@ singles_cost night pins place (suc n) = omega (arith, sum_by-append (block_cost 
     costs true = omega (arith, single_cost night n (place_of place n))
     costs false = refl
 
-pub parted : (n : ℕ) (test : ℕ → Bool) (f g : ℕ → ℕ) → sum_below n (λ u. cond (test u) (f u + g u) 0) ≡ sum_below n (λ u. cond (test u) (f u) 0) + sum_below n (λ u. cond (test u) (g u) 0)
+pub parted : (n : ℕ) (test : ℕ → Bool) (f g : ℕ → ℕ) → sum_below n (λ u. cond (test u) (f u + g u) 0)
+    ≡ sum_below n (λ u. cond (test u) (f u) 0) + sum_below n (λ u. cond (test u) (g u) 0)
 parted n test f g = sum_below-same n _ _ (λ u lt. each (test u) (f u) (g u)) ∙ sum_below-add n (λ u. cond (test u) (f u) 0) (λ u. cond (test u) (g u) 0)
   where
     each : (t : Bool) (x y : ℕ) → cond t (x + y) 0 ≡ cond t x 0 + cond t y 0
@@ -104,20 +111,23 @@ parted n test f g = sum_below-same n _ _ (λ u lt. each (test u) (f u) (g u)) �
 
 -- the numbers that the masks leave are those that no pin has
 pub rest_units : (night : Night) (pins : List Block) (u : ℕ) → u < unit_total night → is_in_rest (units_taken night pins) u ≡ (times_unit night pins u == 0)
-rest_units night pins u lt = ap not (get_or-map-range_with_len (λ k. not (times_unit night pins k == 0)) 0 (unit_total night) u u false lt (omega arith)) ∙ twice (times_unit night pins u == 0)
+rest_units night pins u lt = ap not (get_or-map-range_with_len (λ k. not (times_unit night pins k == 0)) 0 (unit_total night) u u false lt (omega arith))
+    ∙ twice (times_unit night pins u == 0)
   where
     twice : (b : Bool) → not (not b) ≡ b
     twice true = refl
     twice false = refl
 
 pub rest_positions : (night : Night) (pins : List Block) (v : ℕ) → v < position_total night → is_in_rest (positions_taken night pins) v ≡ (times_position night pins v == 0)
-rest_positions night pins v lt = ap not (get_or-map-range_with_len (λ k. not (times_position night pins k == 0)) 0 (position_total night) v v false lt (omega arith)) ∙ twice (times_position night pins v == 0)
+rest_positions night pins v lt = ap not (get_or-map-range_with_len (λ k. not (times_position night pins k == 0)) 0 (position_total night) v v false lt (omega arith))
+    ∙ twice (times_position night pins v == 0)
   where
     twice : (b : Bool) → not (not b) ≡ b
     twice true = refl
     twice false = refl
 
-pub one_cost : (night : Night) (pins : List Block) (place : List ℕ) → IsMatchingOfRest (unit_entries night) (position_entries night) (units_taken night pins) (positions_taken night pins) place → total_cost night (pins ++ singles night pins place) ≡ opening_cost night pins
+pub one_cost : (night : Night) (pins : List Block) (place : List ℕ) → IsMatchingOfRest (unit_entries night) (position_entries night) (units_taken night pins)
+    (positions_taken night pins) place → total_cost night (pins ++ singles night pins place) ≡ opening_cost night pins
 one_cost night pins place m =
     omega (
       arith,

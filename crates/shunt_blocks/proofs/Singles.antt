@@ -36,7 +36,8 @@ none_pass (x ∷ xs) test c none = at (test x) refl (λ rest. none_pass xs test 
   where
     at : (t : Bool) → test x ≡ t → (count_by test xs ≡ 0 → sum_by (λ y. cond (test y) c 0) xs ≡ 0) → sum_by (λ y. cond (test y) c 0) (x ∷ xs) ≡ 0
     at true e tail = let one : cond (test x) 1 0 ≡ 1 = ap {B = ℕ} (λ t. cond t 1 0) e in absurd (omega (arith, none, sum_by-cons (λ y. cond (test y) 1 0) x xs, one))
-    at false e tail = let nothing : cond (test x) c 0 ≡ 0 = ap {B = ℕ} (λ t. cond t c 0) e in omega (arith, sum_by-cons (λ y. cond (test y) c 0) x xs, nothing, tail (omega (arith, none, sum_by-cons (λ y. cond (test y) 1 0) x xs)))
+    at false e tail = let nothing : cond (test x) c 0 ≡ 0 = ap {B = ℕ} (λ t. cond t c 0) e in omega
+        (arith, sum_by-cons (λ y. cond (test y) c 0) x xs, nothing, tail (omega (arith, none, sum_by-cons (λ y. cond (test y) 1 0) x xs)))
 
 one_passes : {X : Type 0} (xs : List X) (test : X → Bool) (c : ℕ) → count_by test xs ≡ 1 → sum_by (λ x. cond (test x) c 0) xs ≡ c
 one_passes [] test c one = absurd (omega (arith, one))
@@ -53,10 +54,12 @@ one_passes (x ∷ xs) test c one = at (test x) refl (λ rest. one_passes xs test
         omega (arith, sum_by-cons (λ y. cond (test y) c 0) x xs, value, tail (omega (arith, one, here, sum_by-cons (λ y. cond (test y) 1 0) x xs)))
 
 -- the values at the places of the elements, added up place by place
-gathered : {X : Type 0} (n : ℕ) (f : ℕ → ℕ) (xs : List X) (has : X → ℕ → Bool) (place : X → ℕ) → ((x : X) → In x xs → place x < n) → ((x : X) (i : ℕ) → In x xs → has x i ≡ (place x == i)) → sum_below n (λ i. sum_by (λ x. cond (has x i) (f i) 0) xs) ≡ sum_by (λ x. f (place x)) xs
+gathered : {X : Type 0} (n : ℕ) (f : ℕ → ℕ) (xs : List X) (has : X → ℕ → Bool) (place : X → ℕ) → ((x : X) → In x xs → place x < n)
+    → ((x : X) (i : ℕ) → In x xs → has x i ≡ (place x == i)) → sum_below n (λ i. sum_by (λ x. cond (has x i) (f i) 0) xs) ≡ sum_by (λ x. f (place x)) xs
 gathered n f [] has place low same = no_sum n
 gathered n f (x ∷ xs) has place low same =
-    let parts = sum_below-same n (λ i. sum_by (λ y. cond (has y i) (f i) 0) (x ∷ xs)) (λ i. cond (has x i) (f i) 0 + sum_by (λ y. cond (has y i) (f i) 0) xs) (λ i lt. sum_by-cons (λ y. cond (has y i) (f i) 0) x xs) in
+    let parts = sum_below-same n (λ i. sum_by (λ y. cond (has y i) (f i) 0) (x ∷ xs)) (λ i. cond (has x i) (f i) 0 + sum_by (λ y. cond (has y i) (f i) 0) xs)
+    (λ i lt. sum_by-cons (λ y. cond (has y i) (f i) 0) x xs) in
     let first = sum_below-same n (λ i. cond (has x i) (f i) 0) (λ i. cond (place x == i) (f i) 0) (λ i lt. ap (λ t. cond t (f i) 0) (same x i (inl refl))) in
     omega (
       arith,
@@ -76,22 +79,28 @@ one_unit night b u one = grind (arith, nat_tests, one)
 one_position : (night : Night) (b : Block) (v : ℕ) → b.n ≡ 1 → has_position night (shape_of b) v ≡ (position_from night (shape_of b) == v)
 one_position night b v one = grind (arith, nat_tests, one)
 
-prices : (night : Night) (b : Block) → IsWithinTrains night b → IsSingle b → block_cost night b ≡ unit_price night (begins_at night b) + position_price night (position_from night (shape_of b))
+prices : (night : Night) (b : Block) → IsWithinTrains night b → IsSingle b → block_cost night b
+    ≡ unit_price night (begins_at night b) + position_price night (position_from night (shape_of b))
 prices night b within single =
     let r = within.runs in
     let p : (unit_at night (begins_at night b)).place ≡ b.p = ap (λ (x : TrainUnit). x.place) (unit_there night b.arr.0 b.p r.arr r.p (omega (arith, r.units, r.n))) in
-    let q : (position_at night (position_from night (shape_of b))).place ≡ b.q = ap (λ (x : Position). x.place) (position_there night b.dep.0 b.q r.dep r.q (omega (arith, r.positions, r.n))) in
-    let split : cond ((unit_at night (begins_at night b)).place == 1) 0 night.station.split ≡ cond (b.p == 1) 0 night.station.split = ap {B = ℕ} (λ k. cond (k == 1) 0 night.station.split) p in
-    let couple : cond ((position_at night (position_from night (shape_of b))).place == 1) 0 night.station.couple ≡ cond (b.q == 1) 0 night.station.couple = ap {B = ℕ} (λ k. cond (k == 1) 0 night.station.couple) q in
+    let q : (position_at night (position_from night (shape_of b))).place ≡ b.q = ap (λ (x : Position). x.place)
+    (position_there night b.dep.0 b.q r.dep r.q (omega (arith, r.positions, r.n))) in
+    let split : cond ((unit_at night (begins_at night b)).place == 1) 0 night.station.split
+    ≡ cond (b.p == 1) 0 night.station.split = ap {B = ℕ} (λ k. cond (k == 1) 0 night.station.split) p in
+    let couple : cond ((position_at night (position_from night (shape_of b))).place == 1) 0 night.station.couple
+    ≡ cond (b.q == 1) 0 night.station.couple = ap {B = ℕ} (λ k. cond (k == 1) 0 night.station.couple) q in
     let option : option_cost night (shape_of b) b.park ≡ night.station.unparked = ap (option_cost night (shape_of b)) single.unparked in
     omega (arith, split, couple, option)
 
-pub any_singles : (night : Night) (pins others : List Block) → All (IsWithinTrains night) others → All IsSingle others → Covers night (pins ++ others) → total_cost night (pins ++ others) ≡ opening_cost night pins
+pub any_singles : (night : Night) (pins others : List Block) → All (IsWithinTrains night) others → All IsSingle others → Covers night (pins ++ others)
+    → total_cost night (pins ++ others) ≡ opening_cost night pins
 any_singles night pins others within single covers =
     omega (
       arith,
       sum_by-append (block_cost night) pins others,
-      one_sum others (block_cost night) (λ b. unit_price night (begins_at night b) + position_price night (position_from night (shape_of b))) (λ b there. prices night b (inside b there) (alone b there)),
+      one_sum others (block_cost night) (λ b. unit_price night (begins_at night b) + position_price night (position_from night (shape_of b)))
+          (λ b there. prices night b (inside b there) (alone b there)),
       two_sums others (λ b. unit_price night (begins_at night b)) (λ b. position_price night (position_from night (shape_of b))),
       units,
       positions,
@@ -112,13 +121,17 @@ any_singles night pins others within single covers =
         sym (gathered (unit_total night) (unit_price night) others (λ b u. has_unit night (shape_of b) u) (begins_at night)
         (λ b there. unit_in night (shape_of b) (begins_at night b) (inside b there).runs (record { from = omega arith; to = omega (arith, (inside b there).runs.n) }))
         (λ b u there. one_unit night b u (alone b there).one))
-        ∙ sum_below-same (unit_total night) _ _ (λ u lt. left (times_unit night pins u) (times_unit night others u) (unit_price night u) _ (sym (sum_by-append _ pins others) ∙ covers.units u lt)
+        ∙ sum_below-same (unit_total night) _ _ (λ u lt. left (times_unit night pins u) (times_unit night others u) (unit_price night u) _
+        (sym (sum_by-append _ pins others) ∙ covers.units u lt)
         (none_pass others (λ b. has_unit night (shape_of b) u) (unit_price night u)) (one_passes others (λ b. has_unit night (shape_of b) u) (unit_price night u)))
 
-    positions : sum_by (λ b. position_price night (position_from night (shape_of b))) others ≡ sum_below (position_total night) (λ v. cond (times_position night pins v == 0) (position_price night v) 0)
+    positions : sum_by (λ b. position_price night (position_from night (shape_of b))) others
+        ≡ sum_below (position_total night) (λ v. cond (times_position night pins v == 0) (position_price night v) 0)
     positions =
         sym (gathered (position_total night) (position_price night) others (λ b v. has_position night (shape_of b) v) (λ b. position_from night (shape_of b))
-        (λ b there. position_in night (shape_of b) (position_from night (shape_of b)) (inside b there).runs (record { from = omega arith; to = omega (arith, (inside b there).runs.n) }))
+        (λ b there. position_in night (shape_of b) (position_from night (shape_of b)) (inside b there).runs
+        (record { from = omega arith; to = omega (arith, (inside b there).runs.n) }))
         (λ b v there. one_position night b v (alone b there).one))
-        ∙ sum_below-same (position_total night) _ _ (λ v lt. left (times_position night pins v) (times_position night others v) (position_price night v) _ (sym (sum_by-append _ pins others) ∙ covers.positions v lt)
+        ∙ sum_below-same (position_total night) _ _ (λ v lt. left (times_position night pins v) (times_position night others v) (position_price night v) _
+        (sym (sum_by-append _ pins others) ∙ covers.positions v lt)
         (none_pass others (λ b. has_position night (shape_of b) v) (position_price night v)) (one_passes others (λ b. has_position night (shape_of b) v) (position_price night v)))

@@ -19,7 +19,8 @@ pub one_type : (night : Night) (s : Shape) → IsShape night s → have_one_type
 one_type night s h = all_pass s.n _ (λ k lt. eq-eqb _ _ (h.pairs k lt).kind)
 
 pub in_time : (night : Night) (s : Shape) → IsShape night s → is_too_soon night s ≡ false
-in_time night s h = not_from_true _ (all_pass s.n _ (λ k lt. le-leb (ready night (unit_from night s + k)) (leave_minute night s) (omega (arith, (h.pairs k lt).ready, leaves_is night s k h.within lt))))
+in_time night s h = not_from_true _ (all_pass s.n _ (λ k lt. le-leb (ready night (unit_from night s + k)) (leave_minute night s)
+    (omega (arith, (h.pairs k lt).ready, leaves_is night s k h.within lt))))
 
 pub shape_made : (night : Night) (s : Shape) → AreRunsWithin night s → have_one_type night s ≡ true → is_too_soon night s ≡ false → IsShape night s
 shape_made night s h types soon = record {
@@ -56,7 +57,8 @@ has_way_out : (night : Night) (s : Shape) (o : Option Park) → IsOption night s
 has_way_out night s None h = tt
 has_way_out night s (Some k) h = h.way_out
 
-option_made : (night : Night) (s : Shape) (o : Option Park) → IsOnTrack night.station o → is_forbidden night s o ≡ false → IfSome o (λ k. IsSome (park_way_in night s.arr k)) → IfSome o (λ k. IsSome (park_way_out night s.dep k)) → IsOption night s o
+option_made : (night : Night) (s : Shape) (o : Option Park) → IsOnTrack night.station o → is_forbidden night s o ≡ false → IfSome o (λ k. IsSome (park_way_in night s.arr k))
+    → IfSome o (λ k. IsSome (park_way_out night s.dep k)) → IsOption night s o
 option_made night s None t f i u = tt
 option_made night s (Some k) t f i u = record { track = t; permitted = not-false _ f; way_in = i; way_out = u }
 

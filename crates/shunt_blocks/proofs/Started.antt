@@ -29,11 +29,14 @@ use Rattle.shunt_blocks.proofs.Opening.{rest_units, rest_positions}
 -- ---- a matching of what the pins leave
 
 pub record IsRestMatched (night : Night) (pins : List Block) (place : List ℕ) : Type 0 where
-  given : (u : ℕ) → u < unit_total night → (times_unit night pins u == 0) ≡ true → (place_of place u < position_total night) × ((times_position night pins (place_of place u) == 0) ≡ true)
+  given : (u : ℕ) → u < unit_total night → (times_unit night pins u == 0) ≡ true → (place_of place u < position_total night)
+      × ((times_position night pins (place_of place u) == 0) ≡ true)
   pair : (u : ℕ) → u < unit_total night → (times_unit night pins u == 0) ≡ true → IsPair night u (place_of place u)
-  once : (v : ℕ) → v < position_total night → (times_position night pins v == 0) ≡ true → count_below (unit_total night) (λ u. (times_unit night pins u == 0) && (place_of place u == v)) ≡ 1
+  once : (v : ℕ) → v < position_total night → (times_position night pins v == 0) ≡ true
+      → count_below (unit_total night) (λ u. (times_unit night pins u == 0) && (place_of place u == v)) ≡ 1
 
-pub rest_matched : (night : Night) (pins : List Block) (place : List ℕ) → IsMatchingOfRest (unit_entries night) (position_entries night) (units_taken night pins) (positions_taken night pins) place → IsRestMatched night pins place
+pub rest_matched : (night : Night) (pins : List Block) (place : List ℕ) → IsMatchingOfRest (unit_entries night) (position_entries night) (units_taken night pins)
+    (positions_taken night pins) place → IsRestMatched night pins place
 rest_matched night pins place m = record { given = given; pair = pair; once = once }
   where
     units : length (unit_entries night) ≡ unit_total night
@@ -42,7 +45,8 @@ rest_matched night pins place m = record { given = given; pair = pair; once = on
     positions : length (position_entries night) ≡ position_total night
     positions = length-map (positions_of night.depart) _
 
-    given : (u : ℕ) → u < unit_total night → (times_unit night pins u == 0) ≡ true → (place_of place u < position_total night) × ((times_position night pins (place_of place u) == 0) ≡ true)
+    given : (u : ℕ) → u < unit_total night → (times_unit night pins u == 0) ≡ true
+        → (place_of place u < position_total night) × ((times_position night pins (place_of place u) == 0) ≡ true)
     given u lt free =
         let at = m.given u (record { there = omega (arith, lt, units); left = rest_units night pins u lt ∙ free }) in
         let within : place_of place u < position_total night = omega (arith, at.there, positions) in
@@ -54,7 +58,8 @@ rest_matched night pins place m = record { given = given; pair = pair; once = on
         subst (λ e. IsMatchable e (position_entry night (place_of place u))) (unit_entry_is night u lt)
         (subst (λ e. IsMatchable (entry_at (unit_entries night) u) e) (position_entry_is night (place_of place u) (given u lt free).0) serves)
 
-    once : (v : ℕ) → v < position_total night → (times_position night pins v == 0) ≡ true → count_below (unit_total night) (λ u. (times_unit night pins u == 0) && (place_of place u == v)) ≡ 1
+    once : (v : ℕ) → v < position_total night → (times_position night pins v == 0) ≡ true
+        → count_below (unit_total night) (λ u. (times_unit night pins u == 0) && (place_of place u == v)) ≡ 1
     once v lt free =
         count_below-same (unit_total night) _ _ (λ u in_night. ap (λ t. t && (place_of place u == v)) (sym (rest_units night pins u in_night)))
         ∙ ap (λ n. count_below n (λ u. is_in_rest (units_taken night pins) u && (place_of place u == v))) (sym units)
@@ -95,28 +100,47 @@ single_goes night u v w h lt = let at = single_to night u v h lt in grind (arith
 abbrev last : Night → List Block → List ℕ → ℕ → List Block
 last night pins place n = cond (times_unit night pins n == 0) (single night n (place_of place n) ∷ []) []
 
-pub singles_fit : (night : Night) (pins : List Block) (place : List ℕ) (n : ℕ) → IsOrderedNight night → IsRestMatched night pins place → n ≤ unit_total night → All (IsBlockButId night) (singles_below night pins place n)
+pub singles_fit : (night : Night) (pins : List Block) (place : List ℕ) (n : ℕ) → IsOrderedNight night → IsRestMatched night pins place → n ≤ unit_total night
+    → All (IsBlockButId night) (singles_below night pins place n)
 singles_fit night pins place zero h m le = All-nil (IsBlockButId night)
-singles_fit night pins place (suc n) h m le = All-append (IsBlockButId night) (singles_below night pins place n) (last night pins place n) (singles_fit night pins place n h m (omega (arith, le))) (at (times_unit night pins n == 0) refl)
+singles_fit night pins place (suc n) h m le = All-append (IsBlockButId night) (singles_below night pins place n) (last night pins place n)
+    (singles_fit night pins place n h m (omega (arith, le))) (at (times_unit night pins n == 0) refl)
   where
     at : (t : Bool) → (times_unit night pins n == 0) ≡ t → All (IsBlockButId night) (cond t (single night n (place_of place n) ∷ []) [])
-    at true e = All-cons (IsBlockButId night) (single night n (place_of place n)) [] (single_fits night n (place_of place n) h (omega (arith, le)) (m.given n (omega (arith, le)) e).0 (m.pair n (omega (arith, le)) e)) (All-nil (IsBlockButId night))
+    at true e = All-cons (IsBlockButId night) (single night n (place_of place n)) []
+        (single_fits night n (place_of place n) h (omega (arith, le)) (m.given n (omega (arith, le)) e).0 (m.pair n (omega (arith, le)) e)) (All-nil (IsBlockButId night))
     at false e = All-nil (IsBlockButId night)
 
-singles_units : (night : Night) (pins : List Block) (place : List ℕ) (n w : ℕ) → IsOrderedNight night → n ≤ unit_total night → times_unit night (singles_below night pins place n) w ≡ count_below n (λ k. (times_unit night pins k == 0) && (k == w))
+singles_units : (night : Night) (pins : List Block) (place : List ℕ) (n w : ℕ) → IsOrderedNight night → n ≤ unit_total night
+    → times_unit night (singles_below night pins place n) w ≡ count_below n (λ k. (times_unit night pins k == 0) && (k == w))
 singles_units night pins place zero w h le = refl
-singles_units night pins place (suc n) w h le = omega (arith, sum_by-append (λ b. cond (has_unit night (shape_of b) w) 1 0) (singles_below night pins place n) (last night pins place n), singles_units night pins place n w h (omega (arith, le)), at (times_unit night pins n == 0))
+singles_units night pins place (suc n) w h le = omega (
+  arith,
+  sum_by-append (λ b. cond (has_unit night (shape_of b) w) 1 0) (singles_below night pins place n)
+      (last night pins place n),
+  singles_units night pins place n w h (omega (arith, le)),
+  at (times_unit night pins n == 0),
+)
   where
     at : (t : Bool) → times_unit night (cond t (single night n (place_of place n) ∷ []) []) w ≡ cond (t && (n == w)) 1 0
-    at true = let one : cond (has_unit night (shape_of (single night n (place_of place n))) w) 1 0 ≡ cond (n == w) 1 0 = ap {B = ℕ} (λ t. cond t 1 0) (single_has night n (place_of place n) w h (omega (arith, le))) in omega (arith, one)
+    at true = let one : cond (has_unit night (shape_of (single night n (place_of place n))) w) 1 0
+        ≡ cond (n == w) 1 0 = ap {B = ℕ} (λ t. cond t 1 0) (single_has night n (place_of place n) w h (omega (arith, le))) in omega (arith, one)
     at false = refl
 
-singles_positions : (night : Night) (pins : List Block) (place : List ℕ) (n w : ℕ) → IsOrderedNight night → IsRestMatched night pins place → n ≤ unit_total night → times_position night (singles_below night pins place n) w ≡ count_below n (λ k. (times_unit night pins k == 0) && (place_of place k == w))
+singles_positions : (night : Night) (pins : List Block) (place : List ℕ) (n w : ℕ) → IsOrderedNight night → IsRestMatched night pins place → n ≤ unit_total night
+    → times_position night (singles_below night pins place n) w ≡ count_below n (λ k. (times_unit night pins k == 0) && (place_of place k == w))
 singles_positions night pins place zero w h m le = refl
-singles_positions night pins place (suc n) w h m le = omega (arith, sum_by-append (λ b. cond (has_position night (shape_of b) w) 1 0) (singles_below night pins place n) (last night pins place n), singles_positions night pins place n w h m (omega (arith, le)), at (times_unit night pins n == 0) refl)
+singles_positions night pins place (suc n) w h m le = omega (
+  arith,
+  sum_by-append (λ b. cond (has_position night (shape_of b) w) 1 0) (singles_below night pins place n)
+      (last night pins place n),
+  singles_positions night pins place n w h m (omega (arith, le)),
+  at (times_unit night pins n == 0) refl,
+)
   where
     at : (t : Bool) → (times_unit night pins n == 0) ≡ t → times_position night (cond t (single night n (place_of place n) ∷ []) []) w ≡ cond (t && (place_of place n == w)) 1 0
-    at true e = let one : cond (has_position night (shape_of (single night n (place_of place n))) w) 1 0 ≡ cond (place_of place n == w) 1 0 = ap {B = ℕ} (λ t. cond t 1 0) (single_goes night n (place_of place n) w h (m.given n (omega (arith, le)) e).0) in omega (arith, one)
+    at true e = let one : cond (has_position night (shape_of (single night n (place_of place n))) w) 1 0
+        ≡ cond (place_of place n == w) 1 0 = ap {B = ℕ} (λ t. cond t 1 0) (single_goes night n (place_of place n) w h (m.given n (omega (arith, le)) e).0) in omega (arith, one)
     at false e = refl
 
 -- ---- counts
@@ -153,7 +177,8 @@ unparked_stays night k (b ∷ blocks) none =
     ap (λ o. cons_option (stay_with night (record b { id = k }) o) (stays_of night (placed_from (k + 1) blocks))) (none b (inl refl))
     ∙ unparked_stays night (k + 1) blocks (λ c there. none c (inr there))
 
-same_stays : (night : Night) (k : ℕ) (pins others : List Block) → ((b : Block) → In b others → b.park ≡ None) → stays_of night (placed_from k (pins ++ others)) ≡ stays_of night (placed_from k pins)
+same_stays : (night : Night) (k : ℕ) (pins others : List Block) → ((b : Block) → In b others → b.park ≡ None)
+    → stays_of night (placed_from k (pins ++ others)) ≡ stays_of night (placed_from k pins)
 same_stays night k [] others none = unparked_stays night k others none
 same_stays night k (b ∷ pins) others none = ap (λ stays. cons_option (stay_with night (record b { id = k }) b.park) stays) (same_stays night (k + 1) pins others none)
 
@@ -169,7 +194,8 @@ singles_unparked night pins place (suc n) b there = ⊎_elim
     at true (inr never) = elim never [ ]
     at false never = absurd never
 
-pub covered : (night : Night) (pins : List Block) (place : List ℕ) → IsOrderedNight night → AreUsable night pins → IsRestMatched night pins place → Covers night (pins ++ singles night pins place)
+pub covered : (night : Night) (pins : List Block) (place : List ℕ) → IsOrderedNight night → AreUsable night pins → IsRestMatched night pins place
+    → Covers night (pins ++ singles night pins place)
 covered night pins place h usable m = record { units = units; positions = positions }
   where
     free_unit : ℕ → Bool
@@ -177,12 +203,14 @@ covered night pins place h usable m = record { units = units; positions = positi
 
     total : (times count : ℕ) → times ≤ 1 → count ≡ cond (times == 0) 1 0 → times + count ≡ 1
     total zero count few e = omega (arith, e)
-    total (suc times) count few e = let is : (suc times == 0) ≡ false = grind (arith, nat_tests) in let none : count ≡ 0 = e ∙ ap {B = ℕ} (λ t. cond t 1 0) is in omega (arith, few, none)
+    total (suc times) count few e = let is : (suc times == 0) ≡ false = grind (arith, nat_tests) in let none : count ≡ 0 = e
+        ∙ ap {B = ℕ} (λ t. cond t 1 0) is in omega (arith, few, none)
 
     units : (u : ℕ) → u < unit_total night → times_unit night (pins ++ singles night pins place) u ≡ 1
     units u lt =
         sum_by-append (λ b. cond (has_unit night (shape_of b) u) 1 0) pins (singles night pins place)
-        ∙ total (times_unit night pins u) _ (usable.apart.units u) (singles_units night pins place (unit_total night) u h (omega arith) ∙ one_counted (unit_total night) u (λ k. times_unit night pins k == 0) lt)
+        ∙ total (times_unit night pins u) _ (usable.apart.units u) (singles_units night pins place (unit_total night) u h (omega arith)
+        ∙ one_counted (unit_total night) u (λ k. times_unit night pins k == 0) lt)
 
     given_elsewhere : (v k : ℕ) → k < unit_total night → (times_position night pins v == 0) ≡ false → ((times_unit night pins k == 0) && (place_of place k == v)) ≡ false
     given_elsewhere v k lt pinned = at (times_unit night pins k == 0) refl
@@ -194,7 +222,8 @@ covered night pins place h usable m = record { units = units; positions = positi
     positions : (v : ℕ) → v < position_total night → times_position night (pins ++ singles night pins place) v ≡ 1
     positions v lt =
         sum_by-append (λ b. cond (has_position night (shape_of b) v) 1 0) pins (singles night pins place)
-        ∙ total (times_position night pins v) _ (usable.apart.positions v) (singles_positions night pins place (unit_total night) v h m (omega arith) ∙ at (times_position night pins v == 0) refl)
+        ∙ total (times_position night pins v) _ (usable.apart.positions v) (singles_positions night pins place (unit_total night) v h m (omega arith)
+        ∙ at (times_position night pins v == 0) refl)
       where
         at : (t : Bool) → (times_position night pins v == 0) ≡ t → count_below (unit_total night) (λ k. (times_unit night pins k == 0) && (place_of place k == v)) ≡ cond t 1 0
         at true e = m.once v lt e
@@ -209,7 +238,8 @@ opening_feasible night pins place is usable matching =
     placed_feasible night (pins ++ singles night pins place) is
     (All-append (IsBlockButId night) pins (singles night pins place) (but_ids night pins usable.each) (singles_fit night pins place (unit_total night) h m (omega arith)))
     (covered night pins place h usable m)
-    (subst (GoesThrough (track_lengths night.station)) (sym (same_stays night 1 pins (singles night pins place) (singles_unparked night pins place (unit_total night)))) ((placed_runs night pins is usable.in_range usable.apart).0 usable.through))
+    (subst (GoesThrough (track_lengths night.station)) (sym (same_stays night 1 pins (singles night pins place) (singles_unparked night pins place (unit_total night))))
+    ((placed_runs night pins is usable.in_range usable.apart).0 usable.through))
 
 pub opening_keeps : (pins others : List Block) → Keeps (placed (pins ++ others)) pins
 opening_keeps pins others k d lt =

@@ -44,7 +44,8 @@ stands_when false t s e = (refl, sym (some_same e))
     some_same : Some t ≡ Some s → t ≡ s
     some_same h = cc
 
-stay_with_is : (night : Night) (b : Block) (o : Option Park) (s : Stay) → stay_with night b o ≡ Some s → (k : Park) × (o ≡ Some k) × (is_too_soon night (shape_of b) ≡ false) × (s ≡ parked_stay night b k)
+stay_with_is : (night : Night) (b : Block) (o : Option Park) (s : Stay) → stay_with night b o ≡ Some s
+    → (k : Park) × (o ≡ Some k) × (is_too_soon night (shape_of b) ≡ false) × (s ≡ parked_stay night b k)
 stay_with_is night b None s e = absurd (none-some _ e)
 stay_with_is night b (Some k) s e = let parts = stands_when (is_too_soon night (shape_of b)) (parked_stay night b k) s e in (k, refl, parts.0, parts.1)
 
@@ -124,7 +125,8 @@ are_on_tracks night blocks h k d lt =
 
 -- ---- their keys differ before the ids
 
-pub one_position_more : (night : Night) (b : Block) (blocks : List Block) (v : ℕ) → times_position night (b ∷ blocks) v ≡ cond (has_position night (shape_of b) v) 1 0 + times_position night blocks v
+pub one_position_more : (night : Night) (b : Block) (blocks : List Block) (v : ℕ)
+    → times_position night (b ∷ blocks) v ≡ cond (has_position night (shape_of b) v) 1 0 + times_position night blocks v
 one_position_more night b blocks v = sum_by-cons (λ c. cond (has_position night (shape_of c) v) 1 0) b blocks
 
 pub has_place : (night : Night) (blocks : List Block) (b : Block) (u : ℕ) → In b blocks → has_unit night (shape_of b) u ≡ true → 1 ≤ times_unit night blocks u
@@ -152,7 +154,8 @@ other_unit night b c blocks apart b_some c_some there same =
     let one : cond (has_unit night (shape_of b) u) 1 0 ≡ 1 = ap {B = ℕ} (λ t. cond t 1 0) (begins_itself night b b_some) in
     omega (arith, apart.units u, one_more night b blocks u, one, has_place night blocks c u there has)
 
-other_position : (night : Night) (b c : Block) (blocks : List Block) → ShareNothing night (b ∷ blocks) → 1 ≤ b.n → 1 ≤ c.n → In c blocks → position_from night (shape_of b) ≢ position_from night (shape_of c)
+other_position : (night : Night) (b c : Block) (blocks : List Block) → ShareNothing night (b ∷ blocks) → 1 ≤ b.n → 1 ≤ c.n → In c blocks
+    → position_from night (shape_of b) ≢ position_from night (shape_of c)
 other_position night b c blocks apart b_some c_some there same =
     let v = position_from night (shape_of b) in
     let has : has_position night (shape_of c) v ≡ true = subst (λ w. has_position night (shape_of c) w ≡ true) (sym same) (has_itself night c c_some) in
@@ -168,7 +171,8 @@ position_same night b c dep q = ap (λ a. first_position night a + (b.q - 1)) de
 few_places : (night : Night) (b : Block) → IsOrderedNight night → IsWithinTrains night b → b.q ≤ 8
 few_places night b h w = omega (arith, (departure night b.dep.0 h w.runs.dep).few, w.runs.positions, w.runs.n)
 
-differ : (night : Night) (b c : Block) (blocks : List Block) (s t : Stay) → IsInstance night → ShareNothing night (b ∷ blocks) → IsWithinTrains night b → IsWithinTrains night c → In c blocks → stay_of night b ≡ Some s → stay_of night c ≡ Some t → DifferBeforeId s t
+differ : (night : Night) (b c : Block) (blocks : List Block) (s t : Stay) → IsInstance night → ShareNothing night (b ∷ blocks) → IsWithinTrains night b → IsWithinTrains night c
+    → In c blocks → stay_of night b ≡ Some s → stay_of night c ≡ Some t → DifferBeforeId s t
 unfolding IsInstance
 differ night b c blocks s t h apart b_in c_in there b_is c_is =
     let first = is_stay night b s b_is in
@@ -196,10 +200,12 @@ firsts_apart night (b ∷ blocks) within apart =
     AllPairs-cons (λ x y. x ≢ y) (begins_at night b) (map (begins_at night) blocks)
     (λ k d lt same.
     let below : k < length blocks = omega (arith, lt, length-map blocks (begins_at night)) in
-    other_unit night b (get_or blocks k b) blocks apart (within 0 b (omega arith)).runs.n (All-tail (IsWithinTrains night) b blocks within k b below).runs.n (in_place blocks k b below) (same ∙ get_or-map (begins_at night) blocks k b d below))
+    other_unit night b (get_or blocks k b) blocks apart (within 0 b (omega arith)).runs.n (All-tail (IsWithinTrains night) b blocks within k b below).runs.n
+    (in_place blocks k b below) (same ∙ get_or-map (begins_at night) blocks k b d below))
     (firsts_apart night blocks (All-tail (IsWithinTrains night) b blocks within) (rest_apart night b blocks apart))
 
-pub all_differ : (night : Night) (blocks : List Block) → IsInstance night → All (IsWithinTrains night) blocks → ShareNothing night blocks → AllDifferBeforeId (stays_of night blocks)
+pub all_differ : (night : Night) (blocks : List Block) → IsInstance night → All (IsWithinTrains night) blocks → ShareNothing night blocks
+    → AllDifferBeforeId (stays_of night blocks)
 all_differ night [] h within apart = tt
 all_differ night (b ∷ blocks) h within apart =
     let others = All-tail (IsWithinTrains night) b blocks within in
@@ -273,13 +279,26 @@ pub times_alike : (night : Night) (blocks others : List Block) (u : ℕ) → map
 times_alike night [] [] u e = refl
 times_alike night [] (c ∷ others) u e = absurd (omega (arith, ap length e))
 times_alike night (b ∷ blocks) [] u e = absurd (omega (arith, ap length e))
-times_alike night (b ∷ blocks) (c ∷ others) u e = omega (arith, one_more night b blocks u, one_more night c others u, ap {B = ℕ} (λ s. cond (has_unit night s u) 1 0) (same_shape b c (heads _ _ _ _ e)), times_alike night blocks others u (tails _ _ _ _ e))
+times_alike night (b ∷ blocks) (c ∷ others) u e = omega (
+  arith,
+  one_more night b blocks u,
+  one_more night c others u,
+  ap {B = ℕ} (λ s. cond (has_unit night s u) 1 0) (same_shape b c (heads _ _ _ _ e)),
+  times_alike night blocks others u (tails _ _ _ _ e),
+)
 
-pub positions_alike : (night : Night) (blocks others : List Block) (v : ℕ) → map without_id blocks ≡ map without_id others → times_position night blocks v ≡ times_position night others v
+pub positions_alike : (night : Night) (blocks others : List Block) (v : ℕ) → map without_id blocks ≡ map without_id others
+    → times_position night blocks v ≡ times_position night others v
 positions_alike night [] [] v e = refl
 positions_alike night [] (c ∷ others) v e = absurd (omega (arith, ap length e))
 positions_alike night (b ∷ blocks) [] v e = absurd (omega (arith, ap length e))
-positions_alike night (b ∷ blocks) (c ∷ others) v e = omega (arith, one_position_more night b blocks v, one_position_more night c others v, ap {B = ℕ} (λ s. cond (has_position night s v) 1 0) (same_shape b c (heads _ _ _ _ e)), positions_alike night blocks others v (tails _ _ _ _ e))
+positions_alike night (b ∷ blocks) (c ∷ others) v e = omega (
+  arith,
+  one_position_more night b blocks v,
+  one_position_more night c others v,
+  ap {B = ℕ} (λ s. cond (has_position night s v) 1 0) (same_shape b c (heads _ _ _ _ e)),
+  positions_alike night blocks others v (tails _ _ _ _ e),
+)
 
 pub alike_apart : (night : Night) (blocks others : List Block) → map without_id blocks ≡ map without_id others → ShareNothing night blocks → ShareNothing night others
 alike_apart night blocks others e apart = record {
@@ -287,7 +306,8 @@ alike_apart night blocks others e apart = record {
   positions = λ v. omega (arith, positions_alike night blocks others v e, apart.positions v);
 }
 
-pub alike_runs : (night : Night) (blocks others : List Block) → IsInstance night → CanStand night blocks → CanStand night others → ShareNothing night blocks → map without_id blocks ≡ map without_id others → RunsThrough night blocks ↔ RunsThrough night others
+pub alike_runs : (night : Night) (blocks others : List Block) → IsInstance night → CanStand night blocks → CanStand night others → ShareNothing night blocks
+    → map without_id blocks ≡ map without_id others → RunsThrough night blocks ↔ RunsThrough night others
 alike_runs night blocks others h stand others_stand apart same = (
   without_ids night blocks others h stand others_stand (alike_apart night blocks others same apart) (alike_in blocks others same),
   without_ids night others blocks h others_stand stand apart (alike_in others blocks (sym same)),
@@ -301,7 +321,8 @@ placed_alike k (b ∷ blocks) = ap (λ bs. without_id b ∷ bs) (placed_alike (k
 
 pub placed_within : (night : Night) (k : ℕ) (blocks : List Block) → All (IsWithinTrains night) blocks → All (IsWithinTrains night) (placed_from k blocks)
 placed_within night k [] h = All-nil (IsWithinTrains night)
-placed_within night k (b ∷ blocks) h = let w = h 0 b (omega arith) in All-cons (IsWithinTrains night) (record b { id = k }) (placed_from (k + 1) blocks) (record { runs = w.runs; track = w.track }) (placed_within night (k + 1) blocks (All-tail (IsWithinTrains night) b blocks h))
+placed_within night k (b ∷ blocks) h = let w = h 0 b (omega arith) in All-cons (IsWithinTrains night) (record b { id = k }) (placed_from (k + 1) blocks)
+    (record { runs = w.runs; track = w.track }) (placed_within night (k + 1) blocks (All-tail (IsWithinTrains night) b blocks h))
 
 pub placed_ids : (k : ℕ) (blocks : List Block) → map (λ b. b.id) (placed_from k blocks) ≡ range_with_len k (length blocks)
 placed_ids k [] = refl
@@ -309,10 +330,17 @@ placed_ids k (b ∷ blocks) = ap (λ ids. k ∷ ids) (placed_ids (k + 1) blocks)
 
 placed_small : (k : ℕ) (blocks : List Block) → k + length blocks ≤ 401 → All (λ b. b.id < 2 ^ 32) (placed_from k blocks)
 placed_small k [] le = All-nil (λ b. b.id < 2 ^ 32)
-placed_small k (b ∷ blocks) le = All-cons (λ b. b.id < 2 ^ 32) (record b { id = k }) (placed_from (k + 1) blocks) (omega (arith, le)) (placed_small (k + 1) blocks (omega (arith, le)))
+placed_small k (b ∷ blocks) le = All-cons (λ b. b.id < 2 ^ 32) (record b { id = k }) (placed_from (k + 1) blocks) (omega (arith, le))
+    (placed_small (k + 1) blocks (omega (arith, le)))
 
 pub rising : (k n : ℕ) → AreDistinct (range_with_len k n)
-rising k n i j d before lt same = omega (arith, before, same, get_or-range_with_len k n i d (omega (arith, before, lt, size)), get_or-range_with_len k n j d (omega (arith, lt, size)))
+rising k n i j d before lt same = omega (
+  arith,
+  before,
+  same,
+  get_or-range_with_len k n i d (omega (arith, before, lt, size)),
+  get_or-range_with_len k n j d (omega (arith, lt, size)),
+)
   where
     size : length (range_with_len k n) ≡ n
     size = length-range_with_len k n
@@ -324,7 +352,8 @@ placed_stand night blocks h = record {
   ids = subst AreDistinct (sym (placed_ids 1 blocks)) (rising 1 (length blocks));
 }
 
-pub placed_runs : (night : Night) (blocks : List Block) → IsInstance night → AreInRange night blocks → ShareNothing night blocks → RunsThrough night blocks ↔ RunsThrough night (placed blocks)
+pub placed_runs : (night : Night) (blocks : List Block) → IsInstance night → AreInRange night blocks → ShareNothing night blocks
+    → RunsThrough night blocks ↔ RunsThrough night (placed blocks)
 placed_runs night blocks is h apart = alike_runs night blocks (placed blocks) is (ranges_stand night blocks h) (placed_stand night blocks h) apart (placed_alike 1 blocks)
 
 -- blocks that share nothing can stand with their places as ids, whatever their own ids
@@ -350,7 +379,8 @@ of_placed k (x ∷ blocks) c there = ⊎_elim
     there
 
 -- with places as ids, a part of blocks that share nothing runs through where all do
-pub placed_part : (night : Night) (blocks others : List Block) → IsInstance night → All (IsWithinTrains night) blocks → ShareNothing night blocks → All (IsWithinTrains night) others → ShareNothing night others
+pub placed_part : (night : Night) (blocks others : List Block) → IsInstance night → All (IsWithinTrains night) blocks → ShareNothing night blocks
+    → All (IsWithinTrains night) others → ShareNothing night others
     → ((c : Block) → In c others → (b : Block) × In b blocks × (without_id b ≡ without_id c))
     → RunsThrough night (placed blocks) → RunsThrough night (placed others)
 placed_part night blocks others is each apart each_other other_apart part through =

@@ -45,30 +45,43 @@ no_type = record { name = []; length = 0; turn = 0 }
 turn_some : (s : Station) (kind : TypeId) → IsStation s → kind.0 < length s.types → 1 ≤ turn_of s kind
 turn_some s kind h lt = omega (arith, get_or-map (λ (t : UnitType). t.turn) s.types kind.0 no_type 0 lt, (h.types kind.0 no_type lt).turns)
 
-pub unit_is : (night : Night) (s : Shape) (k : ℕ) → AreRunsWithin night s → k < s.n → unit_at night (unit_from night s + k) ≡ make_unit s.arr.0 (s.p + k) (kind_at (train_at night.arrive s.arr.0) (s.p + k))
+pub unit_is : (night : Night) (s : Shape) (k : ℕ) → AreRunsWithin night s → k < s.n
+    → unit_at night (unit_from night s + k) ≡ make_unit s.arr.0 (s.p + k) (kind_at (train_at night.arrive s.arr.0) (s.p + k))
 unit_is night s k h lt =
     let at : first_unit night s.arr.0 + (s.p + k - 1) ≡ unit_from night s + k = omega (arith, h.p) in
-    subst (λ (u : ℕ). unit_at night u ≡ make_unit s.arr.0 (s.p + k) (kind_at (train_at night.arrive s.arr.0) (s.p + k))) at (unit_there night s.arr.0 (s.p + k) h.arr (omega (arith, h.p)) (omega (arith, h.units, lt)))
+    subst (λ (u : ℕ). unit_at night u ≡ make_unit s.arr.0 (s.p + k) (kind_at (train_at night.arrive s.arr.0) (s.p + k))) at
+    (unit_there night s.arr.0 (s.p + k) h.arr (omega (arith, h.p)) (omega (arith, h.units, lt)))
 
-pub position_is : (night : Night) (s : Shape) (k : ℕ) → AreRunsWithin night s → k < s.n → position_at night (position_from night s + k) ≡ make_position s.dep.0 (s.q + k) (kind_at (train_at night.depart s.dep.0) (s.q + k))
+pub position_is : (night : Night) (s : Shape) (k : ℕ) → AreRunsWithin night s → k < s.n
+    → position_at night (position_from night s + k) ≡ make_position s.dep.0 (s.q + k) (kind_at (train_at night.depart s.dep.0) (s.q + k))
 position_is night s k h lt =
     let at : first_position night s.dep.0 + (s.q + k - 1) ≡ position_from night s + k = omega (arith, h.q) in
-    subst (λ (v : ℕ). position_at night v ≡ make_position s.dep.0 (s.q + k) (kind_at (train_at night.depart s.dep.0) (s.q + k))) at (position_there night s.dep.0 (s.q + k) h.dep (omega (arith, h.q)) (omega (arith, h.positions, lt)))
+    subst (λ (v : ℕ). position_at night v ≡ make_position s.dep.0 (s.q + k) (kind_at (train_at night.depart s.dep.0) (s.q + k))) at
+    (position_there night s.dep.0 (s.q + k) h.dep (omega (arith, h.q)) (omega (arith, h.positions, lt)))
 
 pub leaves_is : (night : Night) (s : Shape) (k : ℕ) → AreRunsWithin night s → k < s.n → leaves night (position_from night s + k) ≡ leave_minute night s
 leaves_is night s k h lt = ap (λ (v : Position). minute_at night.depart v.train.0) (position_is night s k h lt) ∙ minute_is night.depart s.dep.0 h.dep
 
-pub ready_is : (night : Night) (s : Shape) (k : ℕ) → AreRunsWithin night s → k < s.n → ready night (unit_from night s + k) ≡ (train_at night.arrive s.arr.0).minute + turn_of night.station (kind_at (train_at night.arrive s.arr.0) (s.p + k))
-ready_is night s k h lt = ap (λ (u : TrainUnit). minute_at night.arrive u.train.0 + turn_of night.station u.kind) (unit_is night s k h lt) ∙ ap (λ (m : ℕ). m + turn_of night.station (kind_at (train_at night.arrive s.arr.0) (s.p + k))) (minute_is night.arrive s.arr.0 h.arr)
+pub ready_is : (night : Night) (s : Shape) (k : ℕ) → AreRunsWithin night s → k < s.n
+    → ready night (unit_from night s + k) ≡ (train_at night.arrive s.arr.0).minute + turn_of night.station (kind_at (train_at night.arrive s.arr.0) (s.p + k))
+ready_is night s k h lt = ap (λ (u : TrainUnit). minute_at night.arrive u.train.0 + turn_of night.station u.kind) (unit_is night s k h lt)
+    ∙ ap (λ (m : ℕ). m + turn_of night.station (kind_at (train_at night.arrive s.arr.0) (s.p + k))) (minute_is night.arrive s.arr.0 h.arr)
 
-kind_there : (night : Night) (s : Shape) (k : ℕ) → IsOrderedNight night → AreRunsWithin night s → k < s.n → (kind_at (train_at night.arrive s.arr.0) (s.p + k)).0 < length night.station.types
+kind_there : (night : Night) (s : Shape) (k : ℕ) → IsOrderedNight night → AreRunsWithin night s → k < s.n
+    → (kind_at (train_at night.arrive s.arr.0) (s.p + k)).0 < length night.station.types
 kind_there night s k h r lt = (arrival night s.arr.0 h r.arr).kinds (s.p + k - 1) _ (omega (arith, r.p, r.units, lt))
 
 pub ready_in_time : (night : Night) (s : Shape) (k : ℕ) → is_too_soon night s ≡ false → k < s.n → ready night (unit_from night s + k) ≤ leave_minute night s
 ready_in_time night s k soon lt = leb-true _ _ (each_passes s.n _ (not-false _ soon) k lt)
 
-enters_first : (night : Night) (s : Shape) → IsOrderedNight night → AreRunsWithin night s → is_too_soon night s ≡ false → (train_at night.arrive s.arr.0).minute < leave_minute night s
-enters_first night s h r soon = omega (arith, ready_in_time night s 0 soon (omega (arith, r.n)), ready_is night s 0 r (omega (arith, r.n)), turn_some night.station (kind_at (train_at night.arrive s.arr.0) (s.p + 0)) h.station (kind_there night s 0 h r (omega (arith, r.n))))
+enters_first : (night : Night) (s : Shape) → IsOrderedNight night → AreRunsWithin night s → is_too_soon night s ≡ false
+    → (train_at night.arrive s.arr.0).minute < leave_minute night s
+enters_first night s h r soon = omega (
+  arith,
+  ready_in_time night s 0 soon (omega (arith, r.n)),
+  ready_is night s 0 r (omega (arith, r.n)),
+  turn_some night.station (kind_at (train_at night.arrive s.arr.0) (s.p + 0)) h.station (kind_there night s 0 h r (omega (arith, r.n))),
+)
 
 -- ---- lengths
 
@@ -84,12 +97,14 @@ block_small night b h = sum_below-small b.n 5000 _ (λ k. length_small night.sta
 -- ---- stays
 
 before : (k l : EventKey) → k.minute < l.minute → IsBefore k l
-before k l lt = ap (λ (o : Ordering). ordering_then o (ordering_then (bool_cmp k.enters l.enters) (ordering_then (nat_cmp k.train l.train) (ordering_then (nat_cmp k.place l.place) (nat_cmp k.id l.id))))) (less k.minute l.minute lt)
+before k l lt = ap (λ (o : Ordering). ordering_then o (ordering_then (bool_cmp k.enters l.enters)
+    (ordering_then (nat_cmp k.train l.train) (ordering_then (nat_cmp k.place l.place) (nat_cmp k.id l.id))))) (less k.minute l.minute lt)
   where
     less : (a b : ℕ) → a < b → nat_cmp a b ≡ Less
     less a b lt = grind (arith, nat_tests)
 
-well_formed : (night : Night) (b : Block) (k : Park) → IsOrderedNight night → AreRunsWithin night (shape_of b) → b.id < 2 ^ 32 → k.track.0 < length night.station.tracks → is_too_soon night (shape_of b) ≡ false → IsWellFormed (parked_stay night b k)
+well_formed : (night : Night) (b : Block) (k : Park) → IsOrderedNight night → AreRunsWithin night (shape_of b) → b.id < 2 ^ 32 → k.track.0 < length night.station.tracks
+    → is_too_soon night (shape_of b) ≡ false → IsWellFormed (parked_stay night b k)
 well_formed night b k h r id track soon =
     let a = arrival night b.arr.0 h r.arr in
     let d = departure night b.dep.0 h r.dep in
@@ -109,7 +124,8 @@ if_formed : (soon : Bool) (s : Stay) → (soon ≡ false → IsWellFormed s) →
 if_formed true s h = tt
 if_formed false s h = h refl
 
-with_formed : (night : Night) (b : Block) (o : Option Park) → IsOrderedNight night → AreRunsWithin night (shape_of b) → b.id < 2 ^ 32 → IsOnTrack night.station o → IfSome (stay_with night b o) IsWellFormed
+with_formed : (night : Night) (b : Block) (o : Option Park) → IsOrderedNight night → AreRunsWithin night (shape_of b) → b.id < 2 ^ 32 → IsOnTrack night.station o
+    → IfSome (stay_with night b o) IsWellFormed
 with_formed night b None h r id track = tt
 with_formed night b (Some k) h r id track = if_formed (is_too_soon night (shape_of b)) (parked_stay night b k) (λ soon. well_formed night b k h r id track soon)
 
@@ -118,6 +134,7 @@ unfolding IsInstance
 stay_formed night b h w id = with_formed night b b.park h w.runs id w.track
 
 -- the same of the stay that a call gives
-pub given_formed : (night : Night) (b : Block) (o : Option Stay) → o ≡ stay_of night b → IsInstance night → IsWithinTrains night b → IfSome o (λ s. b.id < 2 ^ 32) → IfSome o IsWellFormed
+pub given_formed : (night : Night) (b : Block) (o : Option Stay) → o ≡ stay_of night b → IsInstance night → IsWithinTrains night b → IfSome o (λ s. b.id < 2 ^ 32)
+    → IfSome o IsWellFormed
 given_formed night b None e h w id = tt
 given_formed night b (Some s) e h w id = subst (λ (p : Option Stay). IfSome p IsWellFormed) (sym e) (stay_formed night b h w id)

@@ -37,10 +37,12 @@ use Rattle.shunt_blocks.proofs.Times.{unit_is, position_is, leaves_is, ready_is}
 runs_of : (night : Night) (b : Block) → HasShape night b → AreRunsWithin night (shape_of b)
 runs_of night b h = record { arr = h.arr; dep = h.dep; p = h.p; n = h.n; q = h.q; units = h.units; positions = h.positions }
 
-unit_type : (night : Night) (b : Block) (k : ℕ) → AreRunsWithin night (shape_of b) → k < b.n → (unit_at night (unit_from night (shape_of b) + k)).kind.0 ≡ (kind_at (train_at night.arrive b.arr.0) (b.p + k)).0
+unit_type : (night : Night) (b : Block) (k : ℕ) → AreRunsWithin night (shape_of b) → k < b.n
+    → (unit_at night (unit_from night (shape_of b) + k)).kind.0 ≡ (kind_at (train_at night.arrive b.arr.0) (b.p + k)).0
 unit_type night b k r lt = ap (λ (u : TrainUnit). u.kind.0) (unit_is night (shape_of b) k r lt)
 
-position_type : (night : Night) (b : Block) (k : ℕ) → AreRunsWithin night (shape_of b) → k < b.n → (position_at night (position_from night (shape_of b) + k)).kind.0 ≡ (kind_at (train_at night.depart b.dep.0) (b.q + k)).0
+position_type : (night : Night) (b : Block) (k : ℕ) → AreRunsWithin night (shape_of b) → k < b.n
+    → (position_at night (position_from night (shape_of b) + k)).kind.0 ≡ (kind_at (train_at night.depart b.dep.0) (b.q + k)).0
 position_type night b k r lt = ap (λ (v : Position). v.kind.0) (position_is night (shape_of b) k r lt)
 
 shape_to : (night : Night) (b : Block) → HasShape night b → IsShape night (shape_of b)
@@ -146,7 +148,13 @@ same_cost night b plain lt = omega (arith, same_option_cost night b b.park plain
 pub same_total : (night : Night) (blocks : List Block) → IsPlain night → All (IsWithinTrains night) blocks → first_total_cost night blocks ≡ total_cost night blocks
 same_total night [] plain within = refl
 same_total night (b ∷ blocks) plain within =
-    omega (arith, sum_by-cons (first_block_cost night) b blocks, sum_by-cons (block_cost night) b blocks, same_cost night b plain (within 0 b (omega arith)).runs.arr, same_total night blocks plain (All-tail (IsWithinTrains night) b blocks within))
+    omega (
+      arith,
+      sum_by-cons (first_block_cost night) b blocks,
+      sum_by-cons (block_cost night) b blocks,
+      same_cost night b plain (within 0 b (omega arith)).runs.arr,
+      same_total night blocks plain (All-tail (IsWithinTrains night) b blocks within),
+    )
 
 -- ---- feasible lists
 
@@ -162,7 +170,8 @@ fails_somewhere : (n : ℕ) (test : ℕ → Bool) → not (all_below n test) ≡
 fails_somewhere zero test e = absurd (true≢false (sym e))
 fails_somewhere (suc n) test e = at (test n) refl (λ rest. fails_somewhere n test rest) e
   where
-    at : (t : Bool) → test n ≡ t → (not (all_below n test) ≡ true → (k : ℕ) × (k < n) × (test k ≡ false)) → not (all_below n test && test n) ≡ true → (k : ℕ) × (k < suc n) × (test k ≡ false)
+    at : (t : Bool) → test n ≡ t → (not (all_below n test) ≡ true → (k : ℕ) × (k < n) × (test k ≡ false)) → not (all_below n test && test n) ≡ true
+        → (k : ℕ) × (k < suc n) × (test k ≡ false)
     at false e before fails = (n, omega arith, e)
     at true e before fails = let rest = before (front (all_below n test) (test n) e fails) in (rest.0, omega (arith, rest.1), rest.2)
       where
@@ -195,8 +204,10 @@ two_types night b plain r = (
     at : (t : Bool) → have_one_type night (shape_of b) ≡ t → HasTwoTypes night b → not (have_one_type night (shape_of b)) ≡ true
     at false e h = ap not e
     at true e h =
-        let test = each_passes b.n (λ k. (unit_at night (unit_from night (shape_of b) + k)).kind.0 == (position_at night (position_from night (shape_of b) + k)).kind.0) e h.at h.within in
-        let same : (unit_at night (unit_from night (shape_of b) + h.at)).kind.0 ≡ (position_at night (position_from night (shape_of b) + h.at)).kind.0 = grind (arith, nat_tests, test) in
+        let test = each_passes b.n (λ k. (unit_at night (unit_from night (shape_of b) + k)).kind.0 == (position_at night (position_from night (shape_of b) + k)).kind.0) e h.at
+        h.within in
+        let same : (unit_at night (unit_from night (shape_of b) + h.at)).kind.0 ≡ (position_at night (position_from night (shape_of b) + h.at)).kind.0 = grind
+        (arith, nat_tests, test) in
         absurd (h.differ (sym (unit_type night b h.at r h.within) ∙ same ∙ position_type night b h.at r h.within))
 
 one_park : (k l : Park) → Some k ≡ Some l → k ≡ l

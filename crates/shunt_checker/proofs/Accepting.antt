@@ -35,7 +35,8 @@ use Rattle.shunt_checker.proofs.Versioned.{IsSolid, BoundLaws, bound_there, step
 
 -- ---- plans
 
-not_stopped : (night : Night) (plan : Plan) (r : Result Through Stop) → run_of (track_lengths night.station) (stays_of night plan.blocks) ≡ r → IsPlanSound night plan → is_ok r ≡ true
+not_stopped : (night : Night) (plan : Plan) (r : Result Through Stop) → run_of (track_lengths night.station) (stays_of night plan.blocks) ≡ r → IsPlanSound night plan
+    → is_ok r ≡ true
 not_stopped night plan (Ok t) e sound = refl
 not_stopped night plan (Err (Blocked m)) e sound = absurd (sound (fault.Blocked m.key.id) (record { move = m; stops = e; named = refl }))
 not_stopped night plan (Err (Over m load)) e sound = absurd (sound (fault.Over m.key.id load) (record { move = m; stops = e; named = refl }))
@@ -74,7 +75,8 @@ module _ (version : Version) (night : Night) (path : List Block) (cases : List C
     holds : kind ≢ Whole → HoldIn version night path cases
     leaf : kind ≡ Leaf → ReachesIn version night path cases L
     whole : kind ≡ Whole → L ≤ℤ pos (total_cost night path)
-    branch : kind ≡ Branch → (d : PathChoice) → IsChoiceAt night path d → RunsThrough night (placed (longer_by path d)) → StepReachesIn version night path (longer_by path d) cases L ⊎ IsKnown d
+    branch : kind ≡ Branch → (d : PathChoice) → IsChoiceAt night path d → RunsThrough night (placed (longer_by path d))
+        → StepReachesIn version night path (longer_by path d) cases L ⊎ IsKnown d
 
   shows : (kind : NodeKind) → AllShown kind → ShowsIn version night path cases kind IsKnown L
   shows Whole h = record { covers = next_none _ h.fits; cost = h.whole refl }
@@ -100,7 +102,8 @@ module _ (night : Night) (start : List Block) (c : Certificate) (k : ℕ) (sound
   placed_there choice is = record {
     choice = choice;
     is = is;
-    there = choice_at night (path_at night start c.nodes (parent c.nodes k)) (choice_from night (path_at night start c.nodes (parent c.nodes k)) choice) (λ never. sound NotThere (reason.ChildNotThere choice) (choice, is, (λ t. never t.there), refl));
+    there = choice_at night (path_at night start c.nodes (parent c.nodes k)) (choice_from night (path_at night start c.nodes (parent c.nodes k)) choice)
+        (λ never. sound NotThere (reason.ChildNotThere choice) (choice, is, (λ t. never t.there), refl));
     through = flag _ _ (λ never. sound NotThere (reason.ChildNotThere choice) (choice, is, (λ t. never t.through), refl));
     once = λ j before below same. sound Twice (reason.ChildTwice choice) (choice, is, record { twin = j; before = before; below = below; same = same }, refl);
   }
@@ -128,10 +131,12 @@ module _ (night : Night) (start : List Block) (c : Certificate) (k : ℕ) (sound
           let b = step_there night laws c.version path d cases solid there through some in
           ⊎_elim
           (λ reaches. inl reaches)
-          (λ low. inr (listed night start c.nodes k d (λ unlisted. sound (Missing d) _ (is, choice, e, b.0, record { there = there; through = through; low = low; unlisted = unlisted }, refl))))
+          (λ low. inr (listed night start c.nodes k d (λ unlisted. sound (Missing d) _
+          (is, choice, e, b.0, record { there = there; through = through; low = low; unlisted = unlisted }, refl))))
           (step_reaches_or_low c.version night path (longer_by path d) cases c.bound b.0 b.1)
 
-      module _ (choices : (d : PathChoice) → IsChoiceAt night path d → d ≡ choice_from night path (record { n = d.shape.n; dep = d.shape.dep; q = d.shape.q; park = d.option })) (some : (node_at c.nodes k).kind ≢ Whole → 1 ≤ length cases) where
+      module _ (choices : (d : PathChoice) → IsChoiceAt night path d → d ≡ choice_from night path (record { n = d.shape.n; dep = d.shape.dep; q = d.shape.q; park = d.option }))
+          (some : (node_at c.nodes k).kind ≢ Whole → 1 ≤ length cases) where
         pub node_right : (1 ≤ k → (choice : Choice) × ((node_at c.nodes k).choice ≡ Some choice)) → IsRightIn c.version night start c.nodes k (pos c.bound)
         node_right has = record {
           placed = λ later. placed_there (has later).0 (has later).1;
@@ -148,11 +153,13 @@ module _ (night : Night) (start : List Block) (c : Certificate) (k : ℕ) (sound
     above = path_at night start c.nodes (parent c.nodes k)
 
     module _ (solid : c.version ≡ Stacks → IsSolid night above) (step : path ≡ longer_with night above (node_at c.nodes k).choice) where
-      pub node_lean : 1 ≤ k → (choice : Choice) → (node_at c.nodes k).choice ≡ Some choice → 1 ≤ length (duals_at c.nodes (parent c.nodes k)) → IsLeanIn c.version night start c.nodes k
+      pub node_lean : 1 ≤ k → (choice : Choice) → (node_at c.nodes k).choice ≡ Some choice → 1 ≤ length (duals_at c.nodes (parent c.nodes k))
+          → IsLeanIn c.version night start c.nodes k
       node_lean later choice is some =
           let at = placed_there choice is in
           let longer : path ≡ longer_by above (choice_from night above choice) = step ∙ ap (λ (o : Option Choice). longer_with night above o) is in
-          let there : IsChoiceAt night above (choice_from night above choice) = subst (λ (x : Choice). IsChoiceAt night above (choice_from night above x)) (one_choice _ at.choice choice at.is is) at.there in
+          let there : IsChoiceAt night above (choice_from night above choice) = subst (λ (x : Choice). IsChoiceAt night above (choice_from night above x))
+          (one_choice _ at.choice choice at.is is) at.there in
           let b = step_there night laws c.version above (choice_from night above choice) (duals_at c.nodes (parent c.nodes k)) solid there
           (subst (λ (bs : List Block). RunsThrough night (placed bs)) longer at.through) some in
           let bound : IsStepBoundIn c.version night above path (duals_at c.nodes (parent c.nodes k)) b.0 =

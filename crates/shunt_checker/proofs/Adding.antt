@@ -13,7 +13,12 @@ use Rattle.shunt_checker.proofs.Judging.{on_option}
 
 module _ (night : Night) (covered : Masks) (u : ℕ) (d : PathChoice) (h : IsChoice night covered u d) (id : ℕ) (b : Block) (is : b ≡ chosen id d) where
   pub in_range_as : 1 ≤ id → id ≤ 1000000 → IsInRange night b
-  in_range_as some few = subst (IsInRange night) (sym is) (record { from = some; to = few; within = record { runs = h.shape.shape.within; track = on_option night d.shape d.option h.option } })
+  in_range_as some few = subst (IsInRange night) (sym is) (record {
+    from = some;
+    to = few;
+    within = record
+        { runs = h.shape.shape.within; track = on_option night d.shape d.option h.option };
+  })
 
   pub next_as : next_of covered ≡ Some u → next_of covered ≡ Some (begins_at night b)
   next_as e = e ∙ ap (λ (n : ℕ). Some n) (sym (ap (λ (x : Block). begins_at night x) is ∙ h.shape.first))
@@ -40,8 +45,10 @@ module _ (night : Night) (t : Trail) (of : IsTrailOf night t) where
 
     pub choice_here : IsChoiceAt night t.blocks (choice_from night t.blocks choice) → IsChoice night t.covered u (choice_at (unit_at night u) choice)
     choice_here h =
-        let at : IsChoice night (masks_of night t.blocks) u (choice_from night t.blocks choice) = subst (λ (n : Option ℕ). IsSomeAnd n (λ w. IsChoice night (masks_of night t.blocks) w (choice_from night t.blocks choice))) (next_masks (Some u) next) h in
+        let at : IsChoice night (masks_of night t.blocks) u (choice_from night t.blocks choice) = subst
+        (λ (n : Option ℕ). IsSomeAnd n (λ w. IsChoice night (masks_of night t.blocks) w (choice_from night t.blocks choice))) (next_masks (Some u) next) h in
         subst (λ (m : Masks). IsChoice night m u (choice_at (unit_at night u) choice)) (sym of.covered) (subst (IsChoice night (masks_of night t.blocks) u) from_is at)
 
-    pub longer_is : (o : PathChoice) (new : List Block) → o ≡ choice_at (unit_at night u) choice → new ≡ longer_by t.blocks o → new ≡ longer_by t.blocks (choice_from night t.blocks choice)
+    pub longer_is : (o : PathChoice) (new : List Block) → o ≡ choice_at (unit_at night u) choice → new ≡ longer_by t.blocks o
+        → new ≡ longer_by t.blocks (choice_from night t.blocks choice)
     longer_is o new eo en = en ∙ ap (λ (d : PathChoice). longer_by t.blocks d) (eo ∙ sym from_is)

@@ -24,7 +24,8 @@ node_there night start c q f e h =
     let lt = first.there in
     omega (arith, lt)
 
-module _ (night : Night) (pins : List Block) (plan : Plan) (c : Certificate) (start : List Block) (begins : IsStart night pins start) (r : Option PlanFault) (found : Finds (IsPlanFault night plan) PlanFaultBefore r) where
+module _ (night : Night) (pins : List Block) (plan : Plan) (c : Certificate) (start : List Block) (begins : IsStart night pins start) (r : Option PlanFault)
+    (found : Finds (IsPlanFault night plan) PlanFaultBefore r) where
   pub of_plan : (f : PlanFault) → r ≡ Some f → IsVerdict night pins plan c (verdict.Rejected 0 (reason.PlanFinding f))
   of_plan f e =
       let first : Finds (IsPlanFault night plan) PlanFaultBefore (Some f) = subst (Finds (IsPlanFault night plan) PlanFaultBefore) e found in
@@ -58,9 +59,11 @@ module _ (night : Night) (pins : List Block) (plan : Plan) (c : Certificate) (st
           record { of_plan = plan_sound; of_nodes = all }
 
       module _ (e : q ≡ None) (w : Option Reason) (cost : ℕ) (is : cost ≡ total_cost night plan.blocks) where
-        pub of_end : (row : ℕ) (s : Reason) → w ≡ Some s → IfSome w (λ x. (c.cost ≢ cost) × (x ≡ reason.CostStated (pos c.cost) (pos cost))) → row ≡ row_of c.nodes (length c.nodes) → IsVerdict night pins plan c (verdict.Rejected row s)
+        pub of_end : (row : ℕ) (s : Reason) → w ≡ Some s → IfSome w (λ x. (c.cost ≢ cost) × (x ≡ reason.CostStated (pos c.cost) (pos cost))) → row ≡ row_of c.nodes (length c.nodes)
+            → IsVerdict night pins plan c (verdict.Rejected row s)
         of_end row s ew some at =
-            let here : (c.cost ≢ cost) × (s ≡ reason.CostStated (pos c.cost) (pos cost)) = subst (λ (o : Option Reason). IfSome o (λ x. (c.cost ≢ cost) × (x ≡ reason.CostStated (pos c.cost) (pos cost)))) ew some in
+            let here : (c.cost ≢ cost) × (s ≡ reason.CostStated (pos c.cost) (pos cost)) = subst
+            (λ (o : Option Reason). IfSome o (λ x. (c.cost ≢ cost) × (x ≡ reason.CostStated (pos c.cost) (pos cost)))) ew some in
             record {
               start = start;
               begins = begins;

@@ -30,7 +30,8 @@ use Rattle.shunt_checker.proofs.NodeOrder.{from_next, none_low, none_missing, mi
 use Rattle.shunt_checker.proofs.Judging.{whole_branch, leaf_branch}
 
 -- a choice that is missing and begins at a unit is a choice for it
-pub missed_choice : (night : Night) (covered : Masks) (H : PathChoice → Type 0) (u : ℕ) (r : Option PathChoice) (d : PathChoice) → r ≡ Some d → Finds (IsOneAt night covered H u) (EarlierChoice night) r → IsOneAt night covered H u d
+pub missed_choice : (night : Night) (covered : Masks) (H : PathChoice → Type 0) (u : ℕ) (r : Option PathChoice) (d : PathChoice) → r ≡ Some d
+    → Finds (IsOneAt night covered H u) (EarlierChoice night) r → IsOneAt night covered H u d
 missed_choice night covered H u r d e found =
     let first : Finds (IsOneAt night covered H u) (EarlierChoice night) (Some d) = subst (Finds (IsOneAt night covered H u) (EarlierChoice night)) e found in
     first.is
@@ -51,9 +52,11 @@ module _ (night : Night) (c : Certificate) (k : ℕ) (path : List Block) (cases 
 
   pub none_next : next_of covered ≡ None → Judges night c k path 6 8 None
   none_next e = λ start is from. from_next night start c k 7 (from_seven start from)
-      (none_missing night start c k (λ branch d bound h. subst (λ (n : Option ℕ). IsSomeAnd n (λ u. IsChoice night (masks_of night (path_at night start c.nodes k)) u d)) (next_at start is None e) h.there))
+      (none_missing night start c k (λ branch d bound h. subst (λ (n : Option ℕ). IsSomeAnd n (λ u. IsChoice night (masks_of night (path_at night start c.nodes k)) u d))
+      (next_at start is None e) h.there))
 
-  module _ (unit_law : (s : Shape) (k : ℕ) → AreRunsWithin night s → k < s.n → unit_at night (unit_from night s + k) ≡ make_unit s.arr.0 (s.p + k) (kind_at (train_at night.arrive s.arr.0) (s.p + k)))
+  module _ (unit_law : (s : Shape) (k : ℕ) → AreRunsWithin night s → k < s.n → unit_at night (unit_from night s + k)
+      ≡ make_unit s.arr.0 (s.p + k) (kind_at (train_at night.arrive s.arr.0) (s.p + k)))
       (laws : StepLaws night) (u : ℕ) (next : next_of covered ≡ Some u) where
     abbrev At : Masks → List Block → List Case → PathChoice → Type 0
     At m p cs d = IsOneAt night m (IsMissed c.version night p cs c.nodes k c.bound) u d
@@ -71,19 +74,25 @@ module _ (night : Night) (c : Certificate) (k : ℕ) (path : List Block) (cases 
     module _ (r : Option PathChoice) (found : Finds (IsOneAt night covered (IsMissed c.version night path cases c.nodes k c.bound) u) (EarlierChoice night) r) where
       pub none_missed : r ≡ None → Judges night c k path 6 8 None
       none_missed e =
-          let none : Finds (IsOneAt night covered (IsMissed c.version night path cases c.nodes k c.bound) u) (EarlierChoice night) None = subst (Finds (IsOneAt night covered (IsMissed c.version night path cases c.nodes k c.bound) u) (EarlierChoice night)) e found in
+          let none : Finds (IsOneAt night covered (IsMissed c.version night path cases c.nodes k c.bound) u) (EarlierChoice night) None = subst
+          (Finds (IsOneAt night covered (IsMissed c.version night path cases c.nodes k c.bound) u) (EarlierChoice night)) e found in
           λ start is from. from_next night start c k 7 (from_seven start from)
-          (none_missing night start c k (λ branch d bound h. none d (from_node start is d (missed c.version night start c.nodes k c.bound u unit_law laws (next_at start is (Some u) next) d bound h))))
+          (none_missing night start c k (λ branch d bound h. none d (from_node start is d
+          (missed c.version night start c.nodes k c.bound u unit_law laws (next_at start is (Some u) next) d bound h))))
 
-      pub first_missed : (d : PathChoice) (longer : List Block) (choice : Choice) (bound : ℤ) → r ≡ Some d → longer ≡ longer_by path d → choice ≡ said d → IsStepBoundIn c.version night path longer cases bound
+      pub first_missed : (d : PathChoice) (longer : List Block) (choice : Choice) (bound : ℤ) → r ≡ Some d → longer ≡ longer_by path d → choice ≡ said d
+          → IsStepBoundIn c.version night path longer cases bound
           → Judges night c k path 6 8 (Some (reason.ChildMissing choice bound))
       first_missed d longer choice bound e el es at =
-          let first : Finds (IsOneAt night covered (IsMissed c.version night path cases c.nodes k c.bound) u) (EarlierChoice night) (Some d) = subst (Finds (IsOneAt night covered (IsMissed c.version night path cases c.nodes k c.bound) u) (EarlierChoice night)) e found in
+          let first : Finds (IsOneAt night covered (IsMissed c.version night path cases c.nodes k c.bound) u) (EarlierChoice night) (Some d) = subst
+          (Finds (IsOneAt night covered (IsMissed c.version night path cases c.nodes k c.bound) u) (EarlierChoice night)) e found in
           λ start is from.
           let moved : IsStepBoundIn c.version night (path_at night start c.nodes k) (longer_by (path_at night start c.nodes k) d) (duals_at c.nodes k) bound =
           subst (λ (p : List Block). IsStepBoundIn c.version night p (longer_by p d) (duals_at c.nodes k) bound) is
-          (subst (λ (cs : List Case). IsStepBoundIn c.version night path (longer_by path d) cs bound) ed (subst (λ (p : List Block). IsStepBoundIn c.version night path p cases bound) el at)) in
-          let miss : IsMissing c.version night start c.nodes k c.bound d bound = missing c.version night start c.nodes k c.bound u unit_law laws (next_at start is (Some u) next) d bound (to_node start is d first.is) moved in
+          (subst (λ (cs : List Case). IsStepBoundIn c.version night path (longer_by path d) cs bound) ed
+          (subst (λ (p : List Block). IsStepBoundIn c.version night path p cases bound) el at)) in
+          let miss : IsMissing c.version night start c.nodes k c.bound d bound = missing c.version night start c.nodes k c.bound u unit_law laws
+          (next_at start is (Some u) next) d bound (to_node start is d first.is) moved in
           let own : d ≡ choice_from night (path_at night start c.nodes k) choice =
           choice_is night unit_law (path_at night start c.nodes k) d miss.there ∙ ap (λ (x : Choice). choice_from night (path_at night start c.nodes k) x) (sym es) in
           missing_first night start c k (from_seven start from) kind choice bound

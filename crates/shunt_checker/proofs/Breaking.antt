@@ -16,9 +16,11 @@ use Rattle.shunt_checker.proofs.Opened.{got}
 
 module _ (version : Version) (night : Night) (covered : Masks) (cases : List Case) (k : ℕ) (case : Case) (is : slice_get cases k ≡ Some case) (there : k < length cases) where
   pub its_light : (b : Break) → IsBreakIn version night covered cases k b → IsFreeLight version night covered case b.offer
-  its_light b h = subst (λ (c : Case). IsFreeLight version night covered c b.offer) (got cases k case is) (subst (λ (m : ℕ). IsFreeLight version night covered (case_at cases m) b.offer) h.of_case h.is.light)
+  its_light b h = subst (λ (c : Case). IsFreeLight version night covered c b.offer) (got cases k case is)
+      (subst (λ (m : ℕ). IsFreeLight version night covered (case_at cases m) b.offer) h.of_case h.is.light)
 
-  pub none_in : (r : Option PathChoice) → r ≡ None → Finds (IsFreeLight version night covered case) (EarlierChoice night) r → Finds (IsBreakIn version night covered cases k) (BreakBefore night) None
+  pub none_in : (r : Option PathChoice) → r ≡ None → Finds (IsFreeLight version night covered case) (EarlierChoice night) r
+      → Finds (IsBreakIn version night covered cases k) (BreakBefore night) None
   none_in r e f = λ b h.
       let none : Finds (IsFreeLight version night covered case) (EarlierChoice night) None = subst (Finds (IsFreeLight version night covered case) (EarlierChoice night)) e f in
       none b.offer (its_light b h)
@@ -26,7 +28,8 @@ module _ (version : Version) (night : Night) (covered : Masks) (cases : List Cas
   pub first_in : (r : Option PathChoice) (o : PathChoice) → r ≡ Some o → Finds (IsFreeLight version night covered case) (EarlierChoice night) r
       → Finds (IsBreakIn version night covered cases k) (BreakBefore night) (Some (record { case = k; offer = o }))
   first_in r o e f =
-      let first : Finds (IsFreeLight version night covered case) (EarlierChoice night) (Some o) = subst (Finds (IsFreeLight version night covered case) (EarlierChoice night)) e f in
+      let first : Finds (IsFreeLight version night covered case) (EarlierChoice night) (Some o) = subst
+      (Finds (IsFreeLight version night covered case) (EarlierChoice night)) e f in
       record {
         is = record { is = record { there = there; light = subst (λ (c : Case). IsFreeLight version night covered c o) (sym (got cases k case is)) first.is }; of_case = refl };
         first = λ b h before. ⊎_elim
@@ -35,6 +38,7 @@ module _ (version : Version) (night : Night) (covered : Masks) (cases : List Cas
             before;
       }
 
-  pub broken_in : (r : Option PathChoice) → Finds (IsFreeLight version night covered case) (EarlierChoice night) r → Finds (IsBreakIn version night covered cases k) (BreakBefore night) (numbered k r)
+  pub broken_in : (r : Option PathChoice) → Finds (IsFreeLight version night covered case) (EarlierChoice night) r
+      → Finds (IsBreakIn version night covered cases k) (BreakBefore night) (numbered k r)
   broken_in None f = none_in None refl f
   broken_in (Some o) f = first_in (Some o) o refl f

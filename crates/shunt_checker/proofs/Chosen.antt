@@ -17,7 +17,8 @@ use Rattle.shunt_proof.specs.defs.Nodes.{FitsDepth}
 use Rattle.shunt_proof.specs.defs.Trees.{choice_at, choice_from}
 use Rattle.shunt_checker.specs.defs.Children.{said}
 
-module _ (night : Night) (unit_law : (s : Shape) (k : ℕ) → AreRunsWithin night s → k < s.n → unit_at night (unit_from night s + k) ≡ make_unit s.arr.0 (s.p + k) (kind_at (train_at night.arrive s.arr.0) (s.p + k))) where
+module _ (night : Night) (unit_law : (s : Shape) (k : ℕ) → AreRunsWithin night s → k < s.n
+    → unit_at night (unit_from night s + k) ≡ make_unit s.arr.0 (s.p + k) (kind_at (train_at night.arrive s.arr.0) (s.p + k))) where
   first_is : (s : Shape) → AreRunsWithin night s → unit_at night (unit_from night s) ≡ make_unit s.arr.0 s.p (kind_at (train_at night.arrive s.arr.0) s.p)
   first_is s within =
       let from : unit_from night s + 0 ≡ unit_from night s = omega arith in
@@ -29,7 +30,8 @@ module _ (night : Night) (unit_law : (s : Shape) (k : ℕ) → AreRunsWithin nig
   of_unit : (covered : Masks) (u : ℕ) (d : PathChoice) → IsChoice night covered u d → d ≡ choice_at (unit_at night u) (said d)
   of_unit covered u d is =
       let s = d.shape in
-      let first : unit_at night u ≡ make_unit s.arr.0 s.p (kind_at (train_at night.arrive s.arr.0) s.p) = subst (λ (w : ℕ). unit_at night w ≡ make_unit s.arr.0 s.p (kind_at (train_at night.arrive s.arr.0) s.p)) is.shape.first (first_is s is.shape.shape.within) in
+      let first : unit_at night u ≡ make_unit s.arr.0 s.p (kind_at (train_at night.arrive s.arr.0) s.p) = subst
+      (λ (w : ℕ). unit_at night w ≡ make_unit s.arr.0 s.p (kind_at (train_at night.arrive s.arr.0) s.p)) is.shape.first (first_is s is.shape.shape.within) in
       sym (ap (λ (w : TrainUnit). choice_at w (said d)) first)
 
   of_next : (covered : Masks) (next : Option ℕ) (d : PathChoice) → IsSomeAnd next (λ u. IsChoice night covered u d) → d ≡ choice_at (unit_at night (unwrap_or next 0)) (said d)

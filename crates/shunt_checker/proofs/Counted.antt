@@ -71,14 +71,18 @@ pub sum_is : (night : Night) (path : List Block) (from : ℕ) (c : Case) (z w a 
     → p ≡ pos (paid_at_most night c.duals.prices) → s ≡ most_surcharge c.multiplier from c.to → z ≡ sum_at night path from c
 sum_is night path from c z w a b p s e ew ea eb ep es = e ∙ five w a b p s _ _ _ _ _ ew ea eb ep es
 
-pub units_long : (night : Night) (t : Trail) (covered : Masks) (cs : List Bool) → cs ≡ covered.units → covered ≡ t.covered → IsTrailOf night t → cs ≡ (masks_of night t.blocks).units
+pub units_long : (night : Night) (t : Trail) (covered : Masks) (cs : List Bool) → cs ≡ covered.units → covered ≡ t.covered → IsTrailOf night t
+    → cs ≡ (masks_of night t.blocks).units
 units_long night t covered cs e ec of = e ∙ ap (λ (m : Masks). m.units) (ec ∙ of.covered)
 
-pub places_long : (night : Night) (t : Trail) (covered : Masks) (cs : List Bool) → cs ≡ covered.places → covered ≡ t.covered → IsTrailOf night t → cs ≡ (masks_of night t.blocks).places
+pub places_long : (night : Night) (t : Trail) (covered : Masks) (cs : List Bool) → cs ≡ covered.places → covered ≡ t.covered → IsTrailOf night t
+    → cs ≡ (masks_of night t.blocks).places
 places_long night t covered cs e ec of = e ∙ ap (λ (m : Masks). m.places) (ec ∙ of.covered)
 
-pub as_many_units : (night : Night) (path : List Block) (cs : List Bool) (zs ys : List ℤ) → cs ≡ (masks_of night path).units → zs ≡ ys → length ys ≡ unit_total night → length cs ≡ length zs
+pub as_many_units : (night : Night) (path : List Block) (cs : List Bool) (zs ys : List ℤ) → cs ≡ (masks_of night path).units → zs ≡ ys → length ys ≡ unit_total night
+    → length cs ≡ length zs
 as_many_units night path cs zs ys e ez en = ap length e ∙ length_units night path ∙ sym en ∙ sym (ap length ez)
 
-pub as_many_places : (night : Night) (path : List Block) (cs : List Bool) (zs ys : List ℤ) → cs ≡ (masks_of night path).places → zs ≡ ys → length ys ≡ position_total night → length cs ≡ length zs
+pub as_many_places : (night : Night) (path : List Block) (cs : List Bool) (zs ys : List ℤ) → cs ≡ (masks_of night path).places → zs ≡ ys → length ys ≡ position_total night
+    → length cs ≡ length zs
 as_many_places night path cs zs ys e ez en = ap length e ∙ length_places night path ∙ sym en ∙ sym (ap length ez)

@@ -35,7 +35,8 @@ own_under None least cost e le = tt
 own_under (Some c) least cost e le = omega (arith, e, le)
 
 -- what is no more than the cost by either side is no more than that of any way to the track
-module _ (way : TrackId → Side → Option ℕ) (track : TrackId) (a b least : ℕ) (by_a : a ≡ unwrap_or (way track A) 1000000) (by_b : b ≡ unwrap_or (way track B) 1000000) (first : least ≤ a) (second : least ≤ b) where
+module _ (way : TrackId → Side → Option ℕ) (track : TrackId) (a b least : ℕ) (by_a : a ≡ unwrap_or (way track A) 1000000) (by_b : b ≡ unwrap_or (way track B) 1000000)
+    (first : least ≤ a) (second : least ≤ b) where
   by_side : (side : Side) → IsUnder (way track side) least
   by_side A = own_under (way track A) least a by_a first
   by_side B = own_under (way track B) least b by_b second
@@ -78,7 +79,8 @@ there None least some h = cc
 there (Some c) least some h = h
 
 -- where a shape can be parked, it costs no less than its ends with what no way costs less than
-pub parked_at_least : (night : Night) (s : Shape) (k : Park) (ins outs : ℕ) → IsParkable night s k → IsUnder (park_way_in night s.arr k) ins → IsUnder (park_way_out night s.dep k) outs
+pub parked_at_least : (night : Night) (s : Shape) (k : Park) (ins outs : ℕ) → IsParkable night s k → IsUnder (park_way_in night s.arr k) ins
+    → IsUnder (park_way_out night s.dep k) outs
     → shape_cost night s + (ins + outs) ≤ cost_with night s (Some k)
 parked_at_least night s k ins outs can under_in under_out =
     let a = there (park_way_in night s.arr k) ins can.way_in under_in in
@@ -86,7 +88,8 @@ parked_at_least night s k ins outs can under_in under_out =
     omega (arith, a, b)
 
 module _ (version : Version) (night : Night) (s : Shape) (sum : ℤ) (least : ℕ) (dear : sum ≤ℤ pos least) where
-  pub too_dear : (prices : List Price) → ((k : Park) → IsParkable night s k → least ≤ 1000 * cost_with night s (Some k)) → Finds (IsLightParked version night prices s sum) ParkBefore None
+  pub too_dear : (prices : List Price) → ((k : Park) → IsParkable night s k → least ≤ 1000 * cost_with night s (Some k))
+      → Finds (IsLightParked version night prices s sum) ParkBefore None
   too_dear prices from k h = let le = from k h.light.parkable in let lt = h.light.light in omega (arith, ints, le, lt, dear)
 
   pub too_dear_on : (part : ℕ) (track : TrackId) → ((k : Park) → k.track ≡ track → IsParkable night s k → least ≤ 1000 * cost_with night s (Some k) + part)

@@ -36,16 +36,21 @@ use Rattle.shunt_checker.proofs.Accepting.{feasible, states, placed_there, node_
 
 -- what follows below, of one night
 pub record Laws (night : Night) : Type 0 where
-  pub unit : (s : Shape) (k : ℕ) → AreRunsWithin night s → k < s.n → unit_at night (unit_from night s + k) ≡ make_unit s.arr.0 (s.p + k) (kind_at (train_at night.arrive s.arr.0) (s.p + k))
+  pub unit : (s : Shape) (k : ℕ) → AreRunsWithin night s → k < s.n → unit_at night (unit_from night s + k)
+      ≡ make_unit s.arr.0 (s.p + k) (kind_at (train_at night.arrive s.arr.0) (s.p + k))
   pub bounds : BoundLaws night
-  pub one_bound : (version : Version) (path : List Block) (cases : List Case) (bound other : ℤ) → IsBoundIn version night path cases bound → IsBoundIn version night path cases other → bound ≡ other
-  pub one_step : (version : Version) (path longer : List Block) (cases : List Case) (bound other : ℤ) → IsStepBoundIn version night path longer cases bound → IsStepBoundIn version night path longer cases other → bound ≡ other
-  pub path : (start : List Block) (nodes : List Node) (k : ℕ) → AreNodes night nodes → 1 ≤ k → k < length nodes → path_at night start nodes k ≡ longer_with night (path_at night start nodes (parent nodes k)) (node_at nodes k).choice
+  pub one_bound : (version : Version) (path : List Block) (cases : List Case) (bound other : ℤ) → IsBoundIn version night path cases bound
+      → IsBoundIn version night path cases other → bound ≡ other
+  pub one_step : (version : Version) (path longer : List Block) (cases : List Case) (bound other : ℤ) → IsStepBoundIn version night path longer cases bound
+      → IsStepBoundIn version night path longer cases other → bound ≡ other
+  pub path : (start : List Block) (nodes : List Node) (k : ℕ) → AreNodes night nodes → 1 ≤ k → k < length nodes
+      → path_at night start nodes k ≡ longer_with night (path_at night start nodes (parent nodes k)) (node_at nodes k).choice
   pub parent : (nodes : List Node) (k : ℕ) → AreNodes night nodes → 1 ≤ k → k < length nodes →
       (parent nodes k < k) × (depth_at nodes k ≡ depth_at nodes (parent nodes k) + 1) × ((node_at nodes (parent nodes k)).kind ≡ Branch)
   pub choice : (nodes : List Node) (k : ℕ) → AreNodes night nodes → 1 ≤ k → k < length nodes → (c : Choice) × ((node_at nodes k).choice ≡ Some c) × FitsChoice night c
   pub cases : (nodes : List Node) (k : ℕ) → AreNodes night nodes → k < length nodes → (node_at nodes k).kind ≢ Whole → AreCases night (duals_at nodes k)
-  pub exactly : (version : Version) (start : List Block) (nodes : List Node) (L : ℤ) → AreNodes night nodes → 1 ≤ length nodes → ProvesIn version night start nodes L 0 ↔ AreRightIn version night start nodes L
+  pub exactly : (version : Version) (start : List Block) (nodes : List Node) (L : ℤ) → AreNodes night nodes → 1 ≤ length nodes
+      → ProvesIn version night start nodes L 0 ↔ AreRightIn version night start nodes L
   pub one_start : (pins start other : List Block) → IsStart night pins start → IsStart night pins other → start ≡ other
   pub partial : (pins start : List Block) (nodes : List Node) (k : ℕ) → IsInstance night → AreNodes night nodes → AreUsable night pins → IsStart night pins start →
       ((i : ℕ) → 1 ≤ i → i < length nodes → IsPlaced night start nodes i) → k < length nodes → IsPartialPlan night pins (path_at night start nodes k)
@@ -54,7 +59,8 @@ pub record Laws (night : Night) : Type 0 where
 solid_plan : (night : Night) (pins path : List Block) → IsInstance night → IsPartialPlan night pins path → IsSolid night path
 solid_plan night pins path formed h = record { formed = formed; within = all_within night path h.each; apart = h.apart; through = h.through }
 
-module _ (night : Night) (laws : Laws night) (formed : IsInstance night) (pins start : List Block) (plan : Plan) (c : Certificate) (range : IsPlanInRange night plan) (keeps : Keeps plan.blocks pins)
+module _ (night : Night) (laws : Laws night) (formed : IsInstance night) (pins start : List Block) (plan : Plan) (c : Certificate) (range : IsPlanInRange night plan)
+    (keeps : Keeps plan.blocks pins)
     (cert : IsCertificate night c) (usable : c.version ≡ Stacks → AreUsable night pins) (begins : IsStart night pins start) where
   root_choice : (k : ℕ) → k < length c.nodes → k ≡ 0 → (node_at c.nodes k).choice ≡ None
   root_choice k lt e = no_choice night (depth_at c.nodes k) (node_at c.nodes k).choice (cert.nodes.each k _ lt).choice
@@ -114,11 +120,16 @@ unsound night start plan c row r (inl p) h = h.before.of_plan p.fault p.first.is
 unsound night start plan c row r (inr (inl n)) h = h.before.of_nodes n.node n.there n.first.fault r n.first.is
 unsound night start plan c row r (inr (inr e)) h = e.other h.cost
 
-module _ (night : Night) (laws : Laws night) (formed : IsInstance night) (pins : List Block) (plan : Plan) (c : Certificate) (range : IsPlanInRange night plan) (keeps : Keeps plan.blocks pins) (cert : IsCertificate night c)
+module _ (night : Night) (laws : Laws night) (formed : IsInstance night) (pins : List Block) (plan : Plan) (c : Certificate) (range : IsPlanInRange night plan)
+    (keeps : Keeps plan.blocks pins) (cert : IsCertificate night c)
     (usable : c.version ≡ Stacks → AreUsable night pins) where
   answered : (start : List Block) → IsStart night pins start → (v : Verdict) → Answers night start plan c v → Accepts v ↔ IsAccepted night pins plan.blocks plan.cost c
   answered start begins (verdict.Accepted bound) a = (λ _. accepted night laws formed pins start plan c range keeps cert usable begins a.1, λ _. tt)
-  answered start begins (verdict.Rejected row r) a = (λ never. absurd never, λ h. unsound night start plan c row r a (nothing_wrong night laws formed pins start plan c range keeps cert usable begins h))
+  answered start begins (verdict.Rejected row r) a = (
+    λ never. absurd never,
+    λ h. unsound night start plan c row r a
+        (nothing_wrong night laws formed pins start plan c range keeps cert usable begins h),
+  )
 
   pub accepts : (v : Verdict) → IsVerdict night pins plan c v → Accepts v ↔ IsAccepted night pins plan.blocks plan.cost c
   accepts v h = answered h.start h.begins v h.answers

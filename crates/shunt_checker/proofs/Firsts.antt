@@ -21,7 +21,8 @@ module _ {X : Type 0} (Holds : X → Type 0) (Before : X → X → Type 0) (plac
   }
 
 -- nothing at any place
-pub all_passed : {X : Type 0} (Holds : X → Type 0) (Before : X → X → Type 0) (place : X → ℕ) (n : ℕ) → ((x : X) → Holds x → place x < n) → HoldsNotBelow Holds place n → Finds Holds Before None
+pub all_passed : {X : Type 0} (Holds : X → Type 0) (Before : X → X → Type 0) (place : X → ℕ) (n : ℕ) → ((x : X) → Holds x → place x < n) → HoldsNotBelow Holds place n
+    → Finds Holds Before None
 all_passed Holds Before place n within below x h = below x h (within x h)
 
 -- nothing below 0
@@ -33,6 +34,7 @@ pub least_passed : {X : Type 0} (Holds : X → Type 0) (place : X → ℕ) (n : 
 least_passed Holds place n from x h lt = let le = from x h in omega (arith, lt, le)
 
 -- the same of what is said in other words
-pub same_finds : {X : Type 0} (Holds Other : X → Type 0) (Before : X → X → Type 0) → ((x : X) → Holds x → Other x) → ((x : X) → Other x → Holds x) → (r : Option X) → Finds Holds Before r → Finds Other Before r
+pub same_finds : {X : Type 0} (Holds Other : X → Type 0) (Before : X → X → Type 0) → ((x : X) → Holds x → Other x) → ((x : X) → Other x → Holds x) → (r : Option X)
+    → Finds Holds Before r → Finds Other Before r
 same_finds Holds Other Before to back None f = λ x h. f x (back x h)
 same_finds Holds Other Before to back (Some x) f = record { is = to x f.is; first = λ y h before. f.first y (back y h) before }

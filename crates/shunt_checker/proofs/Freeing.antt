@@ -23,7 +23,8 @@ module _ (night : Night) (covered : Masks) (s : Shape) where
     pair = h.shape.pairs k lt;
   }
 
-  pub free_from : AreRunsWithin night s → (n : ℕ) → s.n ≤ n → FreePairs night covered (unit_from night s) (position_from night s) n → IsFreeShape night covered (unit_from night s) s
+  pub free_from : AreRunsWithin night s → (n : ℕ) → s.n ≤ n → FreePairs night covered (unit_from night s) (position_from night s) n
+      → IsFreeShape night covered (unit_from night s) s
   free_from within n le pairs = record {
     shape = record { within = within; pairs = λ k lt. (pairs k (omega (arith, lt, le))).pair };
     first = refl;

@@ -15,7 +15,8 @@ use Rattle.shunt_choices.proofs.Trails.{pushed}
 use Rattle.shunt_prices.specs.defs.Cases.{IsFreeBlock}
 use Rattle.shunt_checker.specs.defs.Lows.{offer_of}
 
-module _ (numbered : PlaceLaws) (night : Night) (t : Trail) (s : Shape) (park : Option Park) (is : IsTrailOf night t) (free : IsFreeBlock night t.covered s park) (track : IsOnTrack night.station park) (few : length t.blocks ≤ 160) where
+module _ (numbered : PlaceLaws) (night : Night) (t : Trail) (s : Shape) (park : Option Park) (is : IsTrailOf night t) (free : IsFreeBlock night t.covered s park)
+    (track : IsOnTrack night.station park) (few : length t.blocks ≤ 160) where
   pub trail_with : IsTrailOf night (record t { blocks = longer_by t.blocks (offer_of s park); covered = masks_of night (longer_by t.blocks (offer_of s park)) })
   trail_with = pushed numbered night t (chosen (length t.blocks + 1) (offer_of s park)) is
       (record { from = omega arith; to = omega (arith, few); within = record { runs = free.shape.shape.within; track = track } })

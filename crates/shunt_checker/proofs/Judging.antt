@@ -63,8 +63,10 @@ module _ (night : Night) (cases : List Case) (found : Break) where
   abbrev told_of : ℕ → PathChoice → Reason
   told_of m d = reason.DualBroken (chosen 0 d) (weight_with night (case_at cases m) d.shape d.option) (duals_over night (case_at cases m).duals d.shape)
 
-  pub told_is : (m : ℕ) (d : PathChoice) (x : Case) (b : Block) (s : Shape) (w z : ℤ) → m ≡ found.case → d ≡ found.offer → case_at cases m ≡ x → b ≡ chosen 0 d → s ≡ d.shape → w ≡ weight night x b → z ≡ duals_over night x.duals s
-      → reason.DualBroken b w z ≡ reason.DualBroken (chosen 0 found.offer) (weight_with night (case_at cases found.case) found.offer.shape found.offer.option) (duals_over night (case_at cases found.case).duals found.offer.shape)
+  pub told_is : (m : ℕ) (d : PathChoice) (x : Case) (b : Block) (s : Shape) (w z : ℤ) → m ≡ found.case → d ≡ found.offer → case_at cases m ≡ x → b ≡ chosen 0 d → s ≡ d.shape
+      → w ≡ weight night x b → z ≡ duals_over night x.duals s
+      → reason.DualBroken b w z ≡ reason.DualBroken (chosen 0 found.offer) (weight_with night (case_at cases found.case) found.offer.shape found.offer.option)
+      (duals_over night (case_at cases found.case).duals found.offer.shape)
   told_is m d x b s w z em ed ex eb es ew ez =
       one_reason b (chosen 0 d) w (weight_with night (case_at cases m) d.shape d.option) z (duals_over night (case_at cases m).duals d.shape) eb
       (weight_at night x (case_at cases m) b d w ex eb ew)
@@ -82,26 +84,33 @@ module _ (night : Night) (c : Certificate) (k : ℕ) (path : List Block) where
 
   -- ---- the kind
 
-  module _ (b : Bool) (kind : NodeKind) (next : Option ℕ) (covered : Masks) (test : IsTrue b ↔ IsOtherKind kind next) (ek : kind ≡ (node_at c.nodes k).kind) (en : next ≡ next_of covered) (ec : covered ≡ masks_of night path) where
+  module _ (b : Bool) (kind : NodeKind) (next : Option ℕ) (covered : Masks) (test : IsTrue b ↔ IsOtherKind kind next) (ek : kind ≡ (node_at c.nodes k).kind)
+      (en : next ≡ next_of covered) (ec : covered ≡ masks_of night path) where
     next_at : (start : List Block) → path ≡ path_at night start c.nodes k → next ≡ next_of (masks_of night (path_at night start c.nodes k))
     next_at start is = en ∙ (ap (λ (m : Masks). next_of m) ec ∙ ap (λ (p : List Block). next_of (masks_of night p)) is)
 
     pub kind_wrong : b ≡ true → Judges night c k path 4 5 (Some reason.WrongKind)
     kind_wrong t = λ start is from. kind_first night start c k from
-        (subst (λ (w : NodeKind). IsOtherKind w (next_of (masks_of night (path_at night start c.nodes k)))) ek (subst (λ (o : Option ℕ). IsOtherKind kind o) (next_at start is) (test.0 t)))
+        (subst (λ (w : NodeKind). IsOtherKind w (next_of (masks_of night (path_at night start c.nodes k)))) ek
+        (subst (λ (o : Option ℕ). IsOtherKind kind o) (next_at start is) (test.0 t)))
 
     pub kind_right : b ≡ false → Judges night c k path 4 5 None
     kind_right f = λ start is from. from_next night start c k 4 from (none_kind night start c k (λ h. against b (IsOtherKind kind next) test f
-        (subst (λ (o : Option ℕ). IsOtherKind kind o) (sym (next_at start is)) (subst (λ (w : NodeKind). IsOtherKind w (next_of (masks_of night (path_at night start c.nodes k)))) (sym ek) h))))
+        (subst (λ (o : Option ℕ). IsOtherKind kind o) (sym (next_at start is)) (subst (λ (w : NodeKind). IsOtherKind w (next_of (masks_of night (path_at night start c.nodes k))))
+        (sym ek) h))))
 
   -- ---- the duals
 
   module _ (cases : List Case) (ed : cases ≡ duals_at c.nodes k) where
-    here : (start : List Block) → path ≡ path_at night start c.nodes k → (m : ℕ) (d : PathChoice) → IsBroken c.version night (path_at night start c.nodes k) (duals_at c.nodes k) m d → IsBroken c.version night path cases m d
-    here start is m d h = subst (λ (p : List Block). IsBroken c.version night p cases m d) (sym is) (subst (λ (cs : List Case). IsBroken c.version night (path_at night start c.nodes k) cs m d) (sym ed) h)
+    here : (start : List Block) → path ≡ path_at night start c.nodes k → (m : ℕ) (d : PathChoice)
+        → IsBroken c.version night (path_at night start c.nodes k) (duals_at c.nodes k) m d → IsBroken c.version night path cases m d
+    here start is m d h = subst (λ (p : List Block). IsBroken c.version night p cases m d) (sym is)
+        (subst (λ (cs : List Case). IsBroken c.version night (path_at night start c.nodes k) cs m d) (sym ed) h)
 
-    there : (start : List Block) → path ≡ path_at night start c.nodes k → (m : ℕ) (d : PathChoice) → IsBroken c.version night path cases m d → IsBroken c.version night (path_at night start c.nodes k) (duals_at c.nodes k) m d
-    there start is m d h = subst (λ (cs : List Case). IsBroken c.version night (path_at night start c.nodes k) cs m d) ed (subst (λ (p : List Block). IsBroken c.version night p cases m d) is h)
+    there : (start : List Block) → path ≡ path_at night start c.nodes k → (m : ℕ) (d : PathChoice) → IsBroken c.version night path cases m d
+        → IsBroken c.version night (path_at night start c.nodes k) (duals_at c.nodes k) m d
+    there start is m d h = subst (λ (cs : List Case). IsBroken c.version night (path_at night start c.nodes k) cs m d) ed
+        (subst (λ (p : List Block). IsBroken c.version night p cases m d) is h)
 
     module _ (covered : Masks) (ec : covered ≡ masks_of night path) (r : Option Break) (found : Finds (IsBreak c.version night covered cases) (BreakBefore night) r) where
       as_break : (m : ℕ) (d : PathChoice) → IsBroken c.version night path cases m d → IsBreak c.version night covered cases (record { case = m; offer = d })
@@ -111,7 +120,14 @@ module _ (night : Night) (c : Certificate) (k : ℕ) (path : List Block) where
       as_broken : (b : Break) → IsBreak c.version night covered cases b → IsBroken c.version night path cases b.case b.offer
       as_broken b h =
           let at : IsBreak c.version night (masks_of night path) cases b = subst (λ (w : Masks). IsBreak c.version night w cases b) ec h in
-          record { case = at.there; free = record { shape = at.light.shape; option = at.light.holds.option }; room = at.light.holds.room; asked = at.light.holds.asked; light = at.light.holds.light }
+          record {
+            case = at.there;
+            free = record { shape = at.light.shape; option = at.light.holds.option };
+            room = at.light.holds.room;
+            asked = at.light.holds.asked;
+            light =
+                at.light.holds.light;
+          }
 
       pub unbroken : r ≡ None → Judges night c k path 5 6 None
       unbroken e =
@@ -120,16 +136,21 @@ module _ (night : Night) (c : Certificate) (k : ℕ) (path : List Block) where
 
       pub is_break : (b : Break) → r ≡ Some b → IsBreak c.version night covered cases b
       is_break b e =
-          let first : Finds (IsBreak c.version night covered cases) (BreakBefore night) (Some b) = subst (Finds (IsBreak c.version night covered cases) (BreakBefore night)) e found in
+          let first : Finds (IsBreak c.version night covered cases) (BreakBefore night) (Some b) = subst
+          (Finds (IsBreak c.version night covered cases) (BreakBefore night)) e found in
           first.is
 
       pub broke : (node_at c.nodes k).kind ≢ Whole → (b : Break) (s : Reason) → r ≡ Some b
-          → s ≡ reason.DualBroken (chosen 0 b.offer) (weight_with night (case_at cases b.case) b.offer.shape b.offer.option) (duals_over night (case_at cases b.case).duals b.offer.shape)
+          → s ≡ reason.DualBroken (chosen 0 b.offer) (weight_with night (case_at cases b.case) b.offer.shape b.offer.option)
+          (duals_over night (case_at cases b.case).duals b.offer.shape)
           → Judges night c k path 5 6 (Some s)
       broke kind b s e es =
-          let first : Finds (IsBreak c.version night covered cases) (BreakBefore night) (Some b) = subst (Finds (IsBreak c.version night covered cases) (BreakBefore night)) e found in
-          let told_here : s ≡ reason.DualBroken (chosen 0 b.offer) (weight_with night (case_at (duals_at c.nodes k) b.case) b.offer.shape b.offer.option) (duals_over night (case_at (duals_at c.nodes k) b.case).duals b.offer.shape) =
-          es ∙ ap (λ (cs : List Case). reason.DualBroken (chosen 0 b.offer) (weight_with night (case_at cs b.case) b.offer.shape b.offer.option) (duals_over night (case_at cs b.case).duals b.offer.shape)) ed in
+          let first : Finds (IsBreak c.version night covered cases) (BreakBefore night) (Some b) = subst
+          (Finds (IsBreak c.version night covered cases) (BreakBefore night)) e found in
+          let told_here : s ≡ reason.DualBroken (chosen 0 b.offer) (weight_with night (case_at (duals_at c.nodes k) b.case) b.offer.shape b.offer.option)
+          (duals_over night (case_at (duals_at c.nodes k) b.case).duals b.offer.shape) =
+          es ∙ ap (λ (cs : List Case). reason.DualBroken (chosen 0 b.offer) (weight_with night (case_at cs b.case) b.offer.shape b.offer.option)
+          (duals_over night (case_at cs b.case).duals b.offer.shape)) ed in
           λ start is from. subst (IsFirstNodeFault night start c k) (sym told_here)
           (broken_first night start c k from kind b.case b.offer (there start is b.case b.offer (as_broken b first.is))
           (λ n d h before. first.first (record { case = n; offer = d }) (as_break n d (here start is n d h)) before))
@@ -137,17 +158,21 @@ module _ (night : Night) (c : Certificate) (k : ℕ) (path : List Block) where
     -- ---- a leaf
 
     module _ (bound : ℤ) (at : IsBoundIn c.version night path cases bound)
-        (one : (p : List Block) (cs : List Case) (x y : ℤ) → IsBoundIn c.version night p cs x → IsBoundIn c.version night p cs y → x ≡ y) (kind : (node_at c.nodes k).kind ≡ Leaf) where
+        (one : (p : List Block) (cs : List Case) (x y : ℤ) → IsBoundIn c.version night p cs x → IsBoundIn c.version night p cs y → x ≡ y)
+        (kind : (node_at c.nodes k).kind ≡ Leaf) where
       moved : (start : List Block) → path ≡ path_at night start c.nodes k → IsBoundIn c.version night (path_at night start c.nodes k) (duals_at c.nodes k) bound
-      moved start is = subst (λ (cs : List Case). IsBoundIn c.version night (path_at night start c.nodes k) cs bound) ed (subst (λ (p : List Block). IsBoundIn c.version night p cases bound) is at)
+      moved start is = subst (λ (cs : List Case). IsBoundIn c.version night (path_at night start c.nodes k) cs bound) ed
+          (subst (λ (p : List Block). IsBoundIn c.version night p cases bound) is at)
 
-      not_low : (start : List Block) → path ≡ path_at night start c.nodes k → pos c.bound ≤ℤ bound → (b : ℤ) → IsLow c.version night (path_at night start c.nodes k) (duals_at c.nodes k) c.bound b → ⊥
+      not_low : (start : List Block) → path ≡ path_at night start c.nodes k → pos c.bound ≤ℤ bound → (b : ℤ)
+          → IsLow c.version night (path_at night start c.nodes k) (duals_at c.nodes k) c.bound b → ⊥
       not_low start is high b h =
           let same : bound ≡ b = one (path_at night start c.nodes k) (duals_at c.nodes k) bound b (moved start is) h.is in
           let lt : b <ℤ pos c.bound = h.low in
           omega (arith, ints, high, same, lt)
 
-      pub leaf_judged : (r : Option Reason) → IfSome r (λ s. (bound <ℤ pos c.bound) × (s ≡ reason.LeafLow bound (pos c.bound))) → IfNone r (pos c.bound ≤ℤ bound) → Judges night c k path 6 8 r
+      pub leaf_judged : (r : Option Reason) → IfSome r (λ s. (bound <ℤ pos c.bound) × (s ≡ reason.LeafLow bound (pos c.bound))) → IfNone r (pos c.bound ≤ℤ bound)
+          → Judges night c k path 6 8 r
       leaf_judged None some none = λ start is from. from_next night start c k 7
           (from_next night start c k 6 from (none_low night start c k (λ e b h. not_low start is none b h) (λ e low. whole_leaf (node_at c.nodes k).kind e kind)))
           (none_missing night start c k (λ e d b h. leaf_branch (node_at c.nodes k).kind kind e))
@@ -163,10 +188,12 @@ module _ (night : Night) (c : Certificate) (k : ℕ) (path : List Block) where
     from_six : (start : List Block) → NodeFrom night start c k 5 → NodeFrom night start c k 6
     from_six start from = from_next night start c k 5 from (none_broken night start c k (λ other m d h. absurd (other kind)))
 
-    pub whole_judged : (r : Option Reason) → IfSome r (λ s. (cost < c.bound) × (s ≡ reason.WholeLow (pos cost) (pos c.bound))) → IfNone r (c.bound ≤ cost) → Judges night c k path 5 8 r
+    pub whole_judged : (r : Option Reason) → IfSome r (λ s. (cost < c.bound) × (s ≡ reason.WholeLow (pos cost) (pos c.bound))) → IfNone r (c.bound ≤ cost)
+        → Judges night c k path 5 8 r
     whole_judged None some none = λ start is from. from_next night start c k 7
         (from_next night start c k 6 (from_six start from) (none_low night start c k (λ e b h. whole_leaf (node_at c.nodes k).kind kind e)
         (λ e low. let at = cost_at start is in omega (arith, none, low, at))))
         (none_missing night start c k (λ e d b h. whole_branch (node_at c.nodes k).kind kind e))
-    whole_judged (Some s) some none = λ start is from. subst (IsFirstNodeFault night start c k) (sym (some.1 ∙ ap (λ (n : ℕ). reason.WholeLow (pos n) (pos c.bound)) (cost_at start is)))
+    whole_judged (Some s) some none = λ start is from. subst (IsFirstNodeFault night start c k)
+        (sym (some.1 ∙ ap (λ (n : ℕ). reason.WholeLow (pos n) (pos c.bound)) (cost_at start is)))
         (whole_first night start c k (from_six start from) kind (subst (λ (n : ℕ). n < c.bound) (cost_at start is) some.0))

@@ -31,8 +31,10 @@ side B B = inl refl
 park_from : (k l : Park) → k.track.0 ≡ l.track.0 → k.side_in ≡ l.side_in → k.side_out ≡ l.side_out → k ≡ l
 park_from k l et ei eo =
     let tracks : k.track ≡ l.track = ap (λ (w : ℕ). record { 0 = w }) et in
-    let a : k ≡ record { track = l.track; side_in = k.side_in; side_out = k.side_out } = ap (λ (t : TrackId). record { track = t; side_in = k.side_in; side_out = k.side_out }) tracks in
-    let b : record { track = l.track; side_in = k.side_in; side_out = k.side_out } ≡ record { track = l.track; side_in = l.side_in; side_out = k.side_out } = ap (λ (s : Side). record { track = l.track; side_in = s; side_out = k.side_out }) ei in
+    let a : k ≡ record { track = l.track; side_in = k.side_in; side_out = k.side_out } = ap
+    (λ (t : TrackId). record { track = t; side_in = k.side_in; side_out = k.side_out }) tracks in
+    let b : record { track = l.track; side_in = k.side_in; side_out = k.side_out }
+    ≡ record { track = l.track; side_in = l.side_in; side_out = k.side_out } = ap (λ (s : Side). record { track = l.track; side_in = s; side_out = k.side_out }) ei in
     let c : record { track = l.track; side_in = l.side_in; side_out = k.side_out } ≡ l = ap (λ (s : Side). record { track = l.track; side_in = l.side_in; side_out = s }) eo in
     a ∙ (b ∙ c)
 
@@ -66,14 +68,16 @@ run_shape a p n x q = record { arr = record { 0 = a }; p = p; n = n; dep = recor
 
 shape_from : (a b p r n m x y q s : ℕ) → a ≡ b → p ≡ r → n ≡ m → x ≡ y → q ≡ s → run_shape a p n x q ≡ run_shape b r m y s
 shape_from a b p r n m x y q s ea ep en ex eq =
-    ap (λ (w : ℕ). run_shape w p n x q) ea ∙ (ap (λ (w : ℕ). run_shape b w n x q) ep ∙ (ap (λ (w : ℕ). run_shape b r w x q) en ∙ (ap (λ (w : ℕ). run_shape b r m w q) ex ∙ ap (λ (w : ℕ). run_shape b r m y w) eq)))
+    ap (λ (w : ℕ). run_shape w p n x q) ea ∙ (ap (λ (w : ℕ). run_shape b w n x q) ep
+    ∙ (ap (λ (w : ℕ). run_shape b r w x q) en ∙ (ap (λ (w : ℕ). run_shape b r m w q) ex ∙ ap (λ (w : ℕ). run_shape b r m y w) eq)))
 
 abbrev choice_of : Shape → Option Park → PathChoice
 choice_of s o = record { shape = s; option = o }
 
 choice_from_alike : (c d : PathChoice) → AreAlike c d → c ≡ d
 choice_from_alike c d h =
-    ap (λ (s : Shape). choice_of s c.option) (shape_from c.shape.arr.0 d.shape.arr.0 c.shape.p d.shape.p c.shape.n d.shape.n c.shape.dep.0 d.shape.dep.0 c.shape.q d.shape.q h.arr h.p h.n h.dep h.q)
+    ap (λ (s : Shape). choice_of s c.option) (shape_from c.shape.arr.0 d.shape.arr.0 c.shape.p d.shape.p c.shape.n d.shape.n c.shape.dep.0 d.shape.dep.0 c.shape.q d.shape.q h.arr
+    h.p h.n h.dep h.q)
     ∙ ap (λ (o : Option Park). choice_of d.shape o) h.option
 
 pub choice : (c d : PathChoice) → Decided (c ≡ d)
@@ -99,7 +103,8 @@ choice c d = ⊎_elim
 
 stated : (night : Night) (path : List Block) (o : Option Choice) (c : PathChoice) → Decided (stated_choice night path o ≡ Some c)
 stated night path None c = inr (λ (e : None ≡ Some c). cc)
-stated night path (Some d) c = ⊎_elim (λ e. inl (ap (λ (w : PathChoice). Some w) e)) (λ n. inr (λ (e : Some (choice_from night path d) ≡ Some c). n cc)) (choice (choice_from night path d) c)
+stated night path (Some d) c = ⊎_elim (λ e. inl (ap (λ (w : PathChoice). Some w) e)) (λ n. inr (λ (e : Some (choice_from night path d) ≡ Some c). n cc))
+    (choice (choice_from night path d) c)
 
 -- ---- nodes
 

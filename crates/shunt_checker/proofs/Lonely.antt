@@ -47,12 +47,14 @@ choice_sum_is night path b cases k whole fall gained z w f eg ez = record { whol
 turned : (z whole weight over W O : ℤ) → weight ≡ W → over ≡ O → z ≡ whole +ℤ (weight -ℤ over) → z ≡ whole -ℤ (O -ℤ W)
 turned z whole weight over W O ew eo ez = omega (arith, ints, ew, eo, ez)
 
-pub lone_is : (night : Night) (path : List Block) (cases : List Case) (k : ℕ) (case : Case) (s : Shape) (park : Option Park) (whole w over z : ℤ) → case_at cases k ≡ case → IsStackSum night path cases k whole
+pub lone_is : (night : Night) (path : List Block) (cases : List Case) (k : ℕ) (case : Case) (s : Shape) (park : Option Park) (whole w over z : ℤ) → case_at cases k ≡ case
+    → IsStackSum night path cases k whole
     → w ≡ weight_with night case s park → over ≡ duals_over night (case_at cases k).duals s → z ≡ whole +ℤ (w -ℤ over) → IsLone night path cases k (offer_of s park) z
 lone_is night path cases k case s park whole w over z ec is ew eo ez = record {
   whole = whole;
   is_whole = is;
-  is = turned z whole w over (weight_with night (case_at cases k) s park) (duals_over night (case_at cases k).duals s) (subst (λ (x : Case). w ≡ weight_with night x s park) (sym ec) ew) eo ez;
+  is = turned z whole w over (weight_with night (case_at cases k) s park) (duals_over night (case_at cases k).duals s)
+      (subst (λ (x : Case). w ≡ weight_with night x s park) (sym ec) ew) eo ez;
 }
 
 -- ---- falls
@@ -80,7 +82,8 @@ module _ (night : Night) (path : List Block) (cases : List Case) (L : ℕ) (c : 
   ChoiceLaw = (k : ℕ) (x y : ℤ) → IsChoiceSum night path block cases k x → IsChoiceSum night path block cases k y → x ≡ y
 
   -- a low choice is near
-  near_in : FallLaw night path block → StackLaw → (k : ℕ) (lone : ℤ) → IsLone night path cases k c lone → IsLowIn Stacks night path cases L k c → (lone +ℤ pos 1000) ≤ℤ pos (1000 * L)
+  near_in : FallLaw night path block → StackLaw → (k : ℕ) (lone : ℤ) → IsLone night path cases k c lone → IsLowIn Stacks night path cases L k c
+      → (lone +ℤ pos 1000) ≤ℤ pos (1000 * L)
   near_in law one k lone l h =
       let same : l.whole ≡ h.is.whole = one k l.whole h.is.whole l.is_whole h.is.is_whole in
       let up = no_rise night path block (case_at cases k) law (stack_of c.option) h.is.fall h.is.is_fall in
@@ -89,8 +92,10 @@ module _ (night : Night) (path : List Block) (cases : List Case) (L : ℕ) (c : 
       let low = h.low in
       omega (arith, ints, same, up, e, el, low)
 
-  pub near : FallLaw night path block → StackLaw → (last : ℕ) (early late : ℤ) → length cases ≤ 2 → last + 1 ≡ length cases → IsLone night path cases 0 c early → IsLone night path cases last c late
-      → (a b : Bool) → IsTrue a ↔ ((late +ℤ pos 1000) ≤ℤ pos (1000 * L)) → a ≡ false → IsTrue b ↔ ((early +ℤ pos 1000) ≤ℤ pos (1000 * L)) → b ≡ false → IsLowBy Stacks night path cases L c → ⊥
+  pub near : FallLaw night path block → StackLaw → (last : ℕ) (early late : ℤ) → length cases ≤ 2 → last + 1 ≡ length cases → IsLone night path cases 0 c early
+      → IsLone night path cases last c late
+      → (a b : Bool) → IsTrue a ↔ ((late +ℤ pos 1000) ≤ℤ pos (1000 * L)) → a ≡ false → IsTrue b ↔ ((early +ℤ pos 1000) ≤ℤ pos (1000 * L)) → b ≡ false
+      → IsLowBy Stacks night path cases L c → ⊥
   near law one last early late few is el ll a b ta ea tb eb h = ⊎_elim
       (λ zero.
       let t : b ≡ true = tb.1 (near_in law one 0 early el (subst (λ (n : ℕ). IsLowIn Stacks night path cases L n c) zero h.is)) in
@@ -105,7 +110,8 @@ module _ (night : Night) (path : List Block) (cases : List Case) (L : ℕ) (c : 
       (cases_eq h.number 0)
 
   -- the sum of a choice, from what it is at least
-  pub low_at : ChoiceLaw → (k : ℕ) (lone fall z : ℤ) (b : Bool) → IsOpenAt cases (longer_by path c) k → IsLone night path cases k c lone → IsFall night path block (case_at cases k) (stack_of c.option) fall → z ≡ lone +ℤ fall
+  pub low_at : ChoiceLaw → (k : ℕ) (lone fall z : ℤ) (b : Bool) → IsOpenAt cases (longer_by path c) k → IsLone night path cases k c lone
+      → IsFall night path block (case_at cases k) (stack_of c.option) fall → z ≡ lone +ℤ fall
       → IsTrue b ↔ ((z +ℤ pos 1000) ≤ℤ pos (1000 * L)) → IsTrue b ↔ IsLowIn Stacks night path cases L k c
   low_at one k lone fall z b opens l f ez test =
       let el = l.is in
@@ -158,7 +164,8 @@ module _ (night : Night) (path : List Block) (cases : List Case) (nodes : List N
   pub stopped_run : (b : Bool) → IsTrue b ↔ RunsThrough night (placed (longer_by path c)) → b ≡ false → IsTrue false ↔ IsMissed Stacks night path cases nodes k L c
   stopped_run b test e = refuted (IsMissed Stacks night path cases nodes k L c) (λ h. against b (RunsThrough night (placed (longer_by path c))) test e h.through)
 
-  pub omitted_is : IsOption night c.shape c.option → (choice : Choice) → choice ≡ said c → (h : Bool) → IsTrue h ↔ HasChild nodes k choice → h ≡ false → RunsThrough night (placed (longer_by path c))
+  pub omitted_is : IsOption night c.shape c.option → (choice : Choice) → choice ≡ said c → (h : Bool) → IsTrue h ↔ HasChild nodes k choice → h ≡ false
+      → RunsThrough night (placed (longer_by path c))
       → (b : Bool) → IsTrue b ↔ IsLowBy Stacks night path cases L c → IsTrue b ↔ IsMissed Stacks night path cases nodes k L c
   omitted_is option choice is h child eh through b low = (
     λ t. record { option = option; low = low.0 t; unlisted = λ x. against h (HasChild nodes k choice) child eh (subst (HasChild nodes k) (sym is) x); through = through },

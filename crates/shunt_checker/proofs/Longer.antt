@@ -25,10 +25,12 @@ grown old new sum w over z W O step es ew eo ez = omega (arith, ints, step, es, 
 
 -- what the law on longer paths says of one path and case
 abbrev pub SumLaw : Night → List Block → ℕ → Case → Type 0
-SumLaw night path from case = (b : Block) → IsFreeBlock night (masks_of night path) (shape_of b) b.park → sum_at night (path ++ b ∷ []) from case ≡ sum_at night path from case +ℤ (weight night case b -ℤ duals_over night case.duals (shape_of b))
+SumLaw night path from case = (b : Block) → IsFreeBlock night (masks_of night path) (shape_of b) b.park
+    → sum_at night (path ++ b ∷ []) from case ≡ sum_at night path from case +ℤ (weight night case b -ℤ duals_over night case.duals (shape_of b))
 
 pub longer_is : (night : Night) (path : List Block) (covered : Masks) (from : ℕ) (case : Case) (s : Shape) (park : Option Park) (sum w over z : ℤ) → SumLaw night path from case
-    → covered ≡ masks_of night path → IsFreeBlock night covered s park → sum ≡ sum_at night path from case → w ≡ weight_with night case s park → over ≡ duals_over night case.duals s
+    → covered ≡ masks_of night path → IsFreeBlock night covered s park → sum ≡ sum_at night path from case → w ≡ weight_with night case s park
+    → over ≡ duals_over night case.duals s
     → z ≡ sum +ℤ (w -ℤ over) → z ≡ sum_at night (longer_by path (offer_of s park)) from case
 longer_is night path covered from case s park sum w over z law ec free es ew eo ez =
     grown (sum_at night path from case) (sum_at night (longer_by path (offer_of s park)) from case) sum w over z (weight_with night case s park) (duals_over night case.duals s)

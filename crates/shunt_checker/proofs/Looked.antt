@@ -32,7 +32,8 @@ module _ (version : Version) (night : Night) (path : List Block) (cases : List C
     pub listed : (b : Bool) → IsTrue b ↔ HasChild nodes k choice → b ≡ true → IsTrue false ↔ IsMissed version night path cases nodes k L c
     listed b test e = refuted (IsMissed version night path cases nodes k L c) (λ h. h.unlisted (subst (HasChild nodes k) is (test.0 e)))
 
-    pub missed_is : (o l h b : Bool) → IsTrue o ↔ IsOption night c.shape c.option → o ≡ true → IsTrue l ↔ IsLowBy version night path cases L c → l ≡ true → IsTrue h ↔ HasChild nodes k choice → h ≡ false
+    pub missed_is : (o l h b : Bool) → IsTrue o ↔ IsOption night c.shape c.option → o ≡ true → IsTrue l ↔ IsLowBy version night path cases L c → l ≡ true
+        → IsTrue h ↔ HasChild nodes k choice → h ≡ false
         → IsTrue b ↔ RunsThrough night (placed (longer_by path c)) → IsTrue b ↔ IsMissed version night path cases nodes k L c
     missed_is o l h b option eo low el child eh runs = (
       λ t. record {

@@ -30,7 +30,8 @@ lower a b L le lt = omega (arith, ints, le, lt)
 -- what the laws say of the bounds of choices
 pub record StepLaws (night : Night) : Type 0 where
   pub rounds : (sum : ℤ) → (b : ℤ) × IsBoundOf sum b
-  pub choice : (path : List Block) (b : Block) (cases : List Case) (bound : ℤ) → IsStepBoundIn Stacks night path (path ++ b ∷ []) cases bound ↔ IsChoiceBound night path b cases bound
+  pub choice : (path : List Block) (b : Block) (cases : List Case) (bound : ℤ) → IsStepBoundIn Stacks night path
+      (path ++ b ∷ []) cases bound ↔ IsChoiceBound night path b cases bound
   pub one_sum : (path : List Block) (b : Block) (cases : List Case) (k : ℕ) (x y : ℤ) → IsChoiceSum night path b cases k x → IsChoiceSum night path b cases k y → x ≡ y
 
 pub step_laws : (night : Night) → ((sum : ℤ) → (b : ℤ) × IsBoundOf sum b)
@@ -40,16 +41,27 @@ step_laws night rounds choice one_sum = record { rounds = rounds; choice = choic
 
 module _ (night : Night) (laws : StepLaws night) where
   -- a bound below L is that of an open case whose sum is so low
-  pub low_by : (version : Version) (path : List Block) (cases : List Case) (L : ℕ) (c : PathChoice) (bound : ℤ) → IsStepLow version night path (longer_by path c) cases L bound → IsLowBy version night path cases L c
+  pub low_by : (version : Version) (path : List Block) (cases : List Case) (L : ℕ) (c : PathChoice) (bound : ℤ) → IsStepLow version night path (longer_by path c) cases L bound
+      → IsLowBy version night path cases L c
   low_by Prices path cases L c bound h =
       let sum = case_sum night (longer_by path c) cases h.is.number in
       record { number = h.is.number; is = record { opens = h.is.opens; sum = sum; is = refl; low = low_sum sum bound L h.is.is.enough h.low } }
   low_by Stacks path cases L c bound h =
       let b : IsChoiceBound night path (chosen (length path + 1) c) cases bound = (laws.choice path (chosen (length path + 1) c) cases bound).0 h.is in
       let sum = slice_index_or b.sums b.least.number (pos 0) in
-      record { number = b.least.number; is = record { opens = b.least.opens; sum = sum; is = b.are b.least.number b.least.opens; low = low_sum sum bound L b.least.is.enough h.low } }
+      record {
+        number = b.least.number;
+        is = record {
+          opens = b.least.opens;
+          sum = sum;
+          is = b.are b.least.number b.least.opens;
+          low = low_sum sum bound L b.least.is.enough
+              h.low;
+        };
+      }
 
-  pub low_from : (version : Version) (path : List Block) (cases : List Case) (L : ℕ) (c : PathChoice) (bound : ℤ) → IsLowBy version night path cases L c → IsStepBoundIn version night path (longer_by path c) cases bound
+  pub low_from : (version : Version) (path : List Block) (cases : List Case) (L : ℕ) (c : PathChoice) (bound : ℤ) → IsLowBy version night path cases L c
+      → IsStepBoundIn version night path (longer_by path c) cases bound
       → IsStepLow version night path (longer_by path c) cases L bound
   low_from Prices path cases L c bound h is =
       let sum = case_sum night (longer_by path c) cases h.number in
@@ -75,7 +87,8 @@ module _ (night : Night) (path : List Block) (cases : List Case) (L : ℕ) (c : 
     shut b test e = (
       λ (t : false ≡ true). cc,
       λ h.
-          let opened : b ≡ true = test.1 (subst (λ (n : ℕ). (k + 1 ≡ length cases) ⊎ (n ≤ (case_at cases k).to)) (sym is) (either_test (k + 1) (length cases) (unparked_in (longer_by path c)) (case_at cases k).to h.opens.opens)) in
+          let opened : b ≡ true = test.1 (subst (λ (n : ℕ). (k + 1 ≡ length cases) ⊎ (n ≤ (case_at cases k).to)) (sym is)
+          (either_test (k + 1) (length cases) (unparked_in (longer_by path c)) (case_at cases k).to h.opens.opens)) in
           cc,
     )
 
@@ -100,7 +113,8 @@ module _ (night : Night) (path : List Block) (cases : List Case) (L : ℕ) (c : 
   pub by_first : (a : Bool) → IsTrue a ↔ IsLowIn Prices night path cases L 0 c → a ≡ true → IsTrue true ↔ IsLowBy Prices night path cases L c
   by_first a test t = (λ u. record { number = 0; is = test.0 t }, λ h. refl)
 
-  pub by_either : (a b : Bool) (last : ℕ) → length cases ≤ 2 → last + 1 ≡ length cases → IsTrue a ↔ IsLowIn Prices night path cases L 0 c → a ≡ false → IsTrue b ↔ IsLowIn Prices night path cases L last c
+  pub by_either : (a b : Bool) (last : ℕ) → length cases ≤ 2 → last + 1 ≡ length cases → IsTrue a ↔ IsLowIn Prices night path cases L 0 c → a ≡ false
+      → IsTrue b ↔ IsLowIn Prices night path cases L last c
       → IsTrue b ↔ IsLowBy Prices night path cases L c
   by_either a b last few is first e by_last = (
     λ t. record { number = last; is = by_last.0 t },

@@ -30,23 +30,31 @@ said_of night path (Some x) d e =
     ap (λ (c : PathChoice). Some (said c)) same
 
 module _ (version : Version) (night : Night) (start : List Block) (nodes : List Node) (k L u : ℕ)
-    (unit_law : (s : Shape) (k : ℕ) → AreRunsWithin night s → k < s.n → unit_at night (unit_from night s + k) ≡ make_unit s.arr.0 (s.p + k) (kind_at (train_at night.arrive s.arr.0) (s.p + k)))
+    (unit_law : (s : Shape) (k : ℕ) → AreRunsWithin night s → k < s.n → unit_at night (unit_from night s + k)
+    ≡ make_unit s.arr.0 (s.p + k) (kind_at (train_at night.arrive s.arr.0) (s.p + k)))
     (laws : StepLaws night) (next : next_of (masks_of night (path_at night start nodes k)) ≡ Some u) where
   abbrev pub IsMissedAt : PathChoice → Type 0
   IsMissedAt d = IsOneAt night (masks_of night (path_at night start nodes k)) (IsMissed version night (path_at night start nodes k) (duals_at nodes k) nodes k L) u d
 
-  pub missing : (d : PathChoice) (bound : ℤ) → IsMissedAt d → IsStepBoundIn version night (path_at night start nodes k) (longer_by (path_at night start nodes k) d) (duals_at nodes k) bound → IsMissing version night start nodes k L d bound
+  pub missing : (d : PathChoice) (bound : ℤ) → IsMissedAt d → IsStepBoundIn version night (path_at night start nodes k) (longer_by (path_at night start nodes k) d)
+      (duals_at nodes k) bound → IsMissing version night start nodes k L d bound
   missing d bound h is = record {
     there = subst (λ (n : Option ℕ). IsSomeAnd n (λ w. IsChoice night (masks_of night (path_at night start nodes k)) w d)) (sym next)
         (record { shape = subst (λ (w : ℕ). IsFreeShape night (masks_of night (path_at night start nodes k)) w d.shape) h.unit h.free.shape; option = h.free.holds.option });
     through = h.free.holds.through;
     low = low_from night laws version (path_at night start nodes k) (duals_at nodes k) L d bound h.free.holds.low is;
-    unlisted = λ l. h.free.holds.unlisted (record { child = l.child; below = l.below; same = said_of night (path_at night start nodes k) (node_at nodes l.child).choice d l.states });
+    unlisted = λ l. h.free.holds.unlisted (record {
+      child = l.child;
+      below = l.below;
+      same = said_of night (path_at night start nodes k)
+          (node_at nodes l.child).choice d l.states;
+    });
   }
 
   pub missed : (d : PathChoice) (bound : ℤ) → IsMissing version night start nodes k L d bound → IsMissedAt d
   missed d bound h =
-      let choice : IsChoice night (masks_of night (path_at night start nodes k)) u d = subst (λ (n : Option ℕ). IsSomeAnd n (λ w. IsChoice night (masks_of night (path_at night start nodes k)) w d)) next h.there in
+      let choice : IsChoice night (masks_of night (path_at night start nodes k)) u d = subst
+      (λ (n : Option ℕ). IsSomeAnd n (λ w. IsChoice night (masks_of night (path_at night start nodes k)) w d)) next h.there in
       let its = choice_is night unit_law (path_at night start nodes k) d h.there in
       record {
         free = record {

@@ -89,7 +89,8 @@ module _ (night : Night) (start : List Block) (c : Certificate) (k : ℕ) where
   }
 
   -- of a rank with no places the first is the only one
-  only : (f : NodeFault) (r : Reason) → NodeFrom night start c k (node_rank f) → IsNodeFault night start c k f r → node_rank f ≢ 5 → node_rank f ≢ 7 → IsFirstNodeFault night start c k r
+  only : (f : NodeFault) (r : Reason) → NodeFrom night start c k (node_rank f) → IsNodeFault night start c k f r → node_rank f ≢ 5 → node_rank f ≢ 7
+      → IsFirstNodeFault night start c k r
   only f r from is five seven = first_of f r from is (λ g s h same before. ⊎_elim five seven (placed_rank night g f before))
 
   -- ---- the choice
@@ -167,22 +168,29 @@ module _ (night : Night) (start : List Block) (c : Certificate) (k : ℕ) where
 
   -- ---- what is told
 
-  pub there_first : (choice : Choice) → (node_at c.nodes k).choice ≡ Some choice → (IsThere night start c.nodes k choice → ⊥) → IsFirstNodeFault night start c k (reason.ChildNotThere choice)
+  pub there_first : (choice : Choice) → (node_at c.nodes k).choice ≡ Some choice → (IsThere night start c.nodes k choice → ⊥)
+      → IsFirstNodeFault night start c k (reason.ChildNotThere choice)
   there_first choice is never = only NotThere (reason.ChildNotThere choice) from_start (choice, is, never, refl) (λ e. omega (arith, e)) (λ e. omega (arith, e))
 
-  pub twice_first : NodeFrom night start c k 2 → (choice : Choice) → (node_at c.nodes k).choice ≡ Some choice → HasTwin c.nodes k choice → IsFirstNodeFault night start c k (reason.ChildTwice choice)
+  pub twice_first : NodeFrom night start c k 2 → (choice : Choice) → (node_at c.nodes k).choice ≡ Some choice → HasTwin c.nodes k choice
+      → IsFirstNodeFault night start c k (reason.ChildTwice choice)
   twice_first from choice is twin = only Twice (reason.ChildTwice choice) from (choice, is, twin, refl) (λ e. omega (arith, e)) (λ e. omega (arith, e))
 
-  pub lean_first : NodeFrom night start c k 3 → (bound : ℤ) → IsNotLean c.version night start c.nodes k bound → IsFirstNodeFault night start c k (reason.ChildNotLean bound (pos (best_before night start c.nodes k)))
-  lean_first from bound is = only NotLean (reason.ChildNotLean bound (pos (best_before night start c.nodes k))) from (bound, is, refl) (λ e. omega (arith, e)) (λ e. omega (arith, e))
+  pub lean_first : NodeFrom night start c k 3 → (bound : ℤ) → IsNotLean c.version night start c.nodes k bound
+      → IsFirstNodeFault night start c k (reason.ChildNotLean bound (pos (best_before night start c.nodes k)))
+  lean_first from bound is = only NotLean (reason.ChildNotLean bound (pos (best_before night start c.nodes k))) from (bound, is, refl) (λ e. omega (arith, e))
+      (λ e. omega (arith, e))
 
-  pub kind_first : NodeFrom night start c k 4 → IsOtherKind (node_at c.nodes k).kind (next_of (masks_of night (path_at night start c.nodes k))) → IsFirstNodeFault night start c k reason.WrongKind
+  pub kind_first : NodeFrom night start c k 4 → IsOtherKind (node_at c.nodes k).kind (next_of (masks_of night (path_at night start c.nodes k)))
+      → IsFirstNodeFault night start c k reason.WrongKind
   kind_first from is = only OtherKind reason.WrongKind from (is, refl) (λ e. omega (arith, e)) (λ e. omega (arith, e))
 
   abbrev told_broken : ℕ → PathChoice → Reason
-  told_broken m d = reason.DualBroken (chosen 0 d) (weight_with night (case_at (duals_at c.nodes k) m) d.shape d.option) (duals_over night (case_at (duals_at c.nodes k) m).duals d.shape)
+  told_broken m d = reason.DualBroken (chosen 0 d) (weight_with night (case_at (duals_at c.nodes k) m) d.shape d.option)
+      (duals_over night (case_at (duals_at c.nodes k) m).duals d.shape)
 
-  pub broken_first : NodeFrom night start c k 5 → (node_at c.nodes k).kind ≢ Whole → (m : ℕ) (d : PathChoice) → IsBroken c.version night (path_at night start c.nodes k) (duals_at c.nodes k) m d
+  pub broken_first : NodeFrom night start c k 5 → (node_at c.nodes k).kind ≢ Whole → (m : ℕ) (d : PathChoice)
+      → IsBroken c.version night (path_at night start c.nodes k) (duals_at c.nodes k) m d
       → ((n : ℕ) (e : PathChoice) → IsBroken c.version night (path_at night start c.nodes k) (duals_at c.nodes k) n e → (n < m) ⊎ ((n ≡ m) × EarlierChoice night e d) → ⊥)
       → IsFirstNodeFault night start c k (told_broken m d)
   broken_first from kind m d is least = first_of (Broken m d) (told_broken m d) from (kind, is, refl) earlier
@@ -197,21 +205,25 @@ module _ (night : Night) (start : List Block) (c : Certificate) (k : ℕ) where
       earlier LowWhole s h same before = before
       earlier (Missing e) s h same before = before
 
-  pub leaf_first : NodeFrom night start c k 6 → (node_at c.nodes k).kind ≡ Leaf → (bound : ℤ) → IsLow c.version night (path_at night start c.nodes k) (duals_at c.nodes k) c.bound bound
+  pub leaf_first : NodeFrom night start c k 6 → (node_at c.nodes k).kind ≡ Leaf → (bound : ℤ)
+      → IsLow c.version night (path_at night start c.nodes k) (duals_at c.nodes k) c.bound bound
       → IsFirstNodeFault night start c k (reason.LeafLow bound (pos c.bound))
   leaf_first from kind bound is = only LowLeaf (reason.LeafLow bound (pos c.bound)) from (kind, bound, is, refl) (λ e. omega (arith, e)) (λ e. omega (arith, e))
 
   pub whole_first : NodeFrom night start c k 6 → (node_at c.nodes k).kind ≡ Whole → total_cost night (path_at night start c.nodes k) < c.bound
       → IsFirstNodeFault night start c k (reason.WholeLow (pos (total_cost night (path_at night start c.nodes k))) (pos c.bound))
-  whole_first from kind low = only LowWhole (reason.WholeLow (pos (total_cost night (path_at night start c.nodes k))) (pos c.bound)) from (kind, low, refl) (λ e. omega (arith, e)) (λ e. omega (arith, e))
+  whole_first from kind low = only LowWhole (reason.WholeLow (pos (total_cost night (path_at night start c.nodes k))) (pos c.bound)) from (kind, low, refl) (λ e. omega (arith, e))
+      (λ e. omega (arith, e))
 
   pub missing_first : NodeFrom night start c k 7 → (node_at c.nodes k).kind ≡ Branch → (choice : Choice) (bound : ℤ)
       → IsMissing c.version night start c.nodes k c.bound (choice_from night (path_at night start c.nodes k) choice) bound
       → ((e : PathChoice) (b : ℤ) → IsMissing c.version night start c.nodes k c.bound e b → EarlierChoice night e (choice_from night (path_at night start c.nodes k) choice) → ⊥)
       → IsFirstNodeFault night start c k (reason.ChildMissing choice bound)
-  missing_first from kind choice bound is least = first_of (Missing (choice_from night (path_at night start c.nodes k) choice)) (reason.ChildMissing choice bound) from (kind, choice, refl, bound, is, refl) earlier
+  missing_first from kind choice bound is least = first_of (Missing (choice_from night (path_at night start c.nodes k) choice)) (reason.ChildMissing choice bound) from
+      (kind, choice, refl, bound, is, refl) earlier
     where
-      earlier : (g : NodeFault) (s : Reason) → IsNodeFault night start c k g s → node_rank g ≡ 7 → EarlierPlace night g (Missing (choice_from night (path_at night start c.nodes k) choice)) → ⊥
+      earlier : (g : NodeFault) (s : Reason) → IsNodeFault night start c k g s → node_rank g ≡ 7
+          → EarlierPlace night g (Missing (choice_from night (path_at night start c.nodes k) choice)) → ⊥
       earlier NotThere s h same before = before
       earlier Twice s h same before = before
       earlier NotLean s h same before = before

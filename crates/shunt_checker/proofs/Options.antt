@@ -48,8 +48,10 @@ numbers_rise (Some k) (Some l) (inr (same, inr (sides, (a, b)))) =
 park_is : (k l : Park) → k.track.0 ≡ l.track.0 → k.side_in ≡ l.side_in → k.side_out ≡ l.side_out → k ≡ l
 park_is k l et ei eo =
     let tracks : k.track ≡ l.track = ap (λ (w : ℕ). record { 0 = w }) et in
-    let a : k ≡ record { track = l.track; side_in = k.side_in; side_out = k.side_out } = ap (λ (t : TrackId). record { track = t; side_in = k.side_in; side_out = k.side_out }) tracks in
-    let b : record { track = l.track; side_in = k.side_in; side_out = k.side_out } ≡ record { track = l.track; side_in = l.side_in; side_out = k.side_out } = ap (λ (s : Side). record { track = l.track; side_in = s; side_out = k.side_out }) ei in
+    let a : k ≡ record { track = l.track; side_in = k.side_in; side_out = k.side_out } = ap
+    (λ (t : TrackId). record { track = t; side_in = k.side_in; side_out = k.side_out }) tracks in
+    let b : record { track = l.track; side_in = k.side_in; side_out = k.side_out }
+    ≡ record { track = l.track; side_in = l.side_in; side_out = k.side_out } = ap (λ (s : Side). record { track = l.track; side_in = s; side_out = k.side_out }) ei in
     let c : record { track = l.track; side_in = l.side_in; side_out = k.side_out } ≡ l = ap (λ (s : Side). record { track = l.track; side_in = l.side_in; side_out = s }) eo in
     a ∙ (b ∙ c)
 
@@ -62,7 +64,8 @@ one_option (Some k) (Some l) e =
     let ko = small k.side_out in
     let li = small l.side_in in
     let lo = small l.side_out in
-    ap (λ (w : Park). Some w) (park_is k l (omega (arith, e, ki, ko, li, lo)) (side_is k.side_in l.side_in (omega (arith, e, ki, ko, li, lo))) (side_is k.side_out l.side_out (omega (arith, e, ki, ko, li, lo))))
+    ap (λ (w : Park). Some w) (park_is k l (omega (arith, e, ki, ko, li, lo)) (side_is k.side_in l.side_in (omega (arith, e, ki, ko, li, lo)))
+    (side_is k.side_out l.side_out (omega (arith, e, ki, ko, li, lo))))
 
 pub number_within : (night : Night) (s : Shape) (o : Option Park) → IsOption night s o → option_number o < 4 * length night.station.tracks + 1
 number_within night s None h = omega arith

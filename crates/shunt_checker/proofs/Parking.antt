@@ -135,7 +135,8 @@ module _ (version : Version) (night : Night) (case : Case) (s : Shape) (sum : �
   }
 
   -- a light option that isn't unparked is one that is parked
-  parked_one : sum ≤ℤ (pos (1000 * cost_with night s None) +ℤ case.multiplier) → (o : Option Park) → IsLight version night case (offer o) → (k : Park) × (o ≡ Some k) × IsLightParked version night case.duals.prices s sum k
+  parked_one : sum ≤ℤ (pos (1000 * cost_with night s None) +ℤ case.multiplier) → (o : Option Park) → IsLight version night case (offer o)
+      → (k : Park) × (o ≡ Some k) × IsLightParked version night case.duals.prices s sum k
   parked_one le None h = absurd (let w = unparked_weight in let lt = h.light in omega (arith, ints, w, is, le, lt))
   parked_one le (Some k) h = (
     k,
@@ -148,12 +149,22 @@ module _ (version : Version) (night : Night) (case : Case) (s : Shape) (sum : �
   )
 
   light_parked : (k : Park) → IsLightParked version night case.duals.prices s sum k → IsLightShape version night case s (offer (Some k))
-  light_parked k h = record { same = refl; holds = record { option = h.light.parkable; room = h.room; asked = h.light.asked; light = let lt = h.light.light in omega (arith, ints, is, lt) } }
+  light_parked k h = record {
+    same = refl;
+    holds = record {
+      option = h.light.parkable;
+      room = h.room;
+      asked = h.light.asked;
+      light = let lt = h.light.light in omega
+          (arith, ints, is, lt);
+    };
+  }
 
   of_shape : (c : PathChoice) → IsLightShape version night case s c → IsLight version night case (offer c.option)
   of_shape c h = subst (λ (w : Shape). IsLight version night case (record { shape = w; option = c.option })) h.same h.holds
 
-  pub none_light : sum ≤ℤ (pos (1000 * cost_with night s None) +ℤ case.multiplier) → Finds (IsLightParked version night case.duals.prices s sum) ParkBefore None → Finds (IsLightShape version night case s) (EarlierChoice night) None
+  pub none_light : sum ≤ℤ (pos (1000 * cost_with night s None) +ℤ case.multiplier) → Finds (IsLightParked version night case.duals.prices s sum) ParkBefore None
+      → Finds (IsLightShape version night case s) (EarlierChoice night) None
   none_light le none c h = let p = parked_one le c.option (of_shape c h) in none p.0 p.2
 
   pub parked_first : sum ≤ℤ (pos (1000 * cost_with night s None) +ℤ case.multiplier) → (k : Park) → Finds (IsLightParked version night case.duals.prices s sum) ParkBefore (Some k)

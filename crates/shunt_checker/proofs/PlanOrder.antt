@@ -19,7 +19,8 @@ pub moved : (Holds : List Block → ℕ → Type 0) (bs blocks : List Block) (r 
 moved Holds bs blocks r x e f h = subst (λ (cs : List Block). Finds (Holds cs) Less x) e (subst (Finds (Holds bs) Less) f h)
 
 module _ (night : Night) (plan : Plan) where
-  first_of : (f : PlanFault) → From night plan (plan_rank f) → IsPlanFault night plan f → ((g : PlanFault) → IsPlanFault night plan g → plan_rank g ≡ plan_rank f → plan_number g < plan_number f → ⊥)
+  first_of : (f : PlanFault) → From night plan (plan_rank f) → IsPlanFault night plan f
+      → ((g : PlanFault) → IsPlanFault night plan g → plan_rank g ≡ plan_rank f → plan_number g < plan_number f → ⊥)
       → Finds (IsPlanFault night plan) PlanFaultBefore (Some f)
   first_of f from is least = record {
     is = is;
@@ -100,7 +101,8 @@ module _ (night : Night) (plan : Plan) where
   none_less : (f : PlanFault) → plan_number f ≡ 0 → (g : PlanFault) → IsPlanFault night plan g → plan_rank g ≡ plan_rank f → plan_number g < plan_number f → ⊥
   none_less f zero g h e less = omega (arith, zero, less)
 
-  run_told : (r : Result Through Stop) → run_of (track_lengths night.station) (stays_of night plan.blocks) ≡ r → From night plan 4 → (f : PlanFault) → stop_fault (answer r) ≡ Some f → Finds (IsPlanFault night plan) PlanFaultBefore (Some f)
+  run_told : (r : Result Through Stop) → run_of (track_lengths night.station) (stays_of night plan.blocks) ≡ r → From night plan 4 → (f : PlanFault)
+      → stop_fault (answer r) ≡ Some f → Finds (IsPlanFault night plan) PlanFaultBefore (Some f)
   run_told (Ok t) e from f told = let no : None ≡ Some f = told in absurd cc
   run_told (Err (Blocked m)) e from f told =
       subst (λ (g : PlanFault). Finds (IsPlanFault night plan) PlanFaultBefore (Some g)) (let s : Some (fault.Blocked m.key.id) ≡ Some f = told in cc)
@@ -109,7 +111,8 @@ module _ (night : Night) (plan : Plan) where
       subst (λ (g : PlanFault). Finds (IsPlanFault night plan) PlanFaultBefore (Some g)) (let s : Some (fault.Over m.key.id load) ≡ Some f = told in cc)
       (first_of (fault.Over m.key.id load) from (record { move = m; stops = e; named = refl }) (none_less (fault.Over m.key.id load) refl))
 
-  pub run_first : From night plan 4 → (f : PlanFault) → stop_fault (answer (run_of (track_lengths night.station) (stays_of night plan.blocks))) ≡ Some f → Finds (IsPlanFault night plan) PlanFaultBefore (Some f)
+  pub run_first : From night plan 4 → (f : PlanFault) → stop_fault (answer (run_of (track_lengths night.station) (stays_of night plan.blocks))) ≡ Some f
+      → Finds (IsPlanFault night plan) PlanFaultBefore (Some f)
   run_first from f told = run_told (run_of (track_lengths night.station) (stays_of night plan.blocks)) refl from f told
 
   not_stopped : (r : Result Through Stop) → run_of (track_lengths night.station) (stays_of night plan.blocks) ≡ r → stop_fault (answer r) ≡ None → (stop : Stop) → r ≡ Err stop → ⊥
@@ -125,8 +128,10 @@ module _ (night : Night) (plan : Plan) where
   from_cost from none (fault.Over id load) h = absurd (not_stopped (run_of (track_lengths night.station) (stays_of night plan.blocks)) refl none (Over h.move load) h.stops)
   from_cost from none (fault.Cost stated real) h = omega arith
 
-  pub cost_first : From night plan 5 → plan.cost ≢ total_cost night plan.blocks → Finds (IsPlanFault night plan) PlanFaultBefore (Some (fault.Cost plan.cost (total_cost night plan.blocks)))
-  cost_first from other = first_of (fault.Cost plan.cost (total_cost night plan.blocks)) from (refl, refl, other) (none_less (fault.Cost plan.cost (total_cost night plan.blocks)) refl)
+  pub cost_first : From night plan 5 → plan.cost ≢ total_cost night plan.blocks → Finds (IsPlanFault night plan) PlanFaultBefore
+      (Some (fault.Cost plan.cost (total_cost night plan.blocks)))
+  cost_first from other = first_of (fault.Cost plan.cost (total_cost night plan.blocks)) from (refl, refl, other)
+      (none_less (fault.Cost plan.cost (total_cost night plan.blocks)) refl)
 
   pub nothing_found : From night plan 5 → plan.cost ≡ total_cost night plan.blocks → Finds (IsPlanFault night plan) PlanFaultBefore None
   nothing_found from same (fault.BadBlock id) h = let le = from (fault.BadBlock id) h in omega (arith, le)

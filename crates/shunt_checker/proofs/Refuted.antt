@@ -78,13 +78,18 @@ module _ (version : Version) (night : Night) (path : List Block) (cases : List C
   shown_kind Leaf s other = not_both _ s.unfinished other
   shown_kind Branch s other = not_both _ s.unfinished other
 
-module _ (night : Night) (one_bound : (version : Version) (path : List Block) (cases : List Case) (b o : ℤ) → IsBoundIn version night path cases b → IsBoundIn version night path cases o → b ≡ o)
-    (one_step : (version : Version) (path longer : List Block) (cases : List Case) (b o : ℤ) → IsStepBoundIn version night path longer cases b → IsStepBoundIn version night path longer cases o → b ≡ o) where
-  too_low : (version : Version) (path : List Block) (cases : List Case) (L : ℕ) (bound : ℤ) → IsLow version night path cases L bound → ReachesIn version night path cases (pos L) → ⊥
+module _ (night : Night) (one_bound : (version : Version) (path : List Block) (cases : List Case) (b o : ℤ) → IsBoundIn version night path cases b
+    → IsBoundIn version night path cases o → b ≡ o)
+    (one_step : (version : Version) (path longer : List Block) (cases : List Case) (b o : ℤ) → IsStepBoundIn version night path longer cases b
+    → IsStepBoundIn version night path longer cases o → b ≡ o) where
+  too_low : (version : Version) (path : List Block) (cases : List Case) (L : ℕ) (bound : ℤ) → IsLow version night path cases L bound
+      → ReachesIn version night path cases (pos L) → ⊥
   too_low version path cases L bound low r = let e = one_bound version path cases bound r.0 low.is r.1 in let lt = low.low in let le = r.2 in omega (arith, ints, e, lt, le)
 
-  step_too_low : (version : Version) (path longer : List Block) (cases : List Case) (L : ℕ) (bound : ℤ) → IsStepLow version night path longer cases L bound → StepReachesIn version night path longer cases (pos L) → ⊥
-  step_too_low version path longer cases L bound low r = let e = one_step version path longer cases bound r.0 low.is r.1 in let lt = low.low in let le = r.2 in omega (arith, ints, e, lt, le)
+  step_too_low : (version : Version) (path longer : List Block) (cases : List Case) (L : ℕ) (bound : ℤ) → IsStepLow version night path longer cases L bound
+      → StepReachesIn version night path longer cases (pos L) → ⊥
+  step_too_low version path longer cases L bound low r = let e = one_step version path longer cases bound r.0 low.is r.1 in let lt = low.low in let le = r.2 in omega
+      (arith, ints, e, lt, le)
 
   module _ (start : List Block) (c : Certificate) (k : ℕ) (root : k ≡ 0 → (node_at c.nodes k).choice ≡ None)
       (right : IsRightIn c.version night start c.nodes k (pos c.bound)) (lean : 1 ≤ k → IsLeanIn c.version night start c.nodes k) where
@@ -98,7 +103,8 @@ module _ (night : Night) (one_bound : (version : Version) (path : List Block) (c
     there choice is =
         let p = right.placed (not_root choice is) in
         record {
-          there = subst (λ (w : Choice). IsChoiceAt night (path_at night start c.nodes (parent c.nodes k)) (choice_from night (path_at night start c.nodes (parent c.nodes k)) w)) (one_choice _ p.choice choice p.is is) p.there;
+          there = subst (λ (w : Choice). IsChoiceAt night (path_at night start c.nodes (parent c.nodes k)) (choice_from night (path_at night start c.nodes (parent c.nodes k)) w))
+              (one_choice _ p.choice choice p.is is) p.there;
           through = p.through;
         }
 
@@ -117,7 +123,8 @@ module _ (night : Night) (one_bound : (version : Version) (path : List Block) (c
     node_sound OtherKind r f = shown_kind c.version night _ _ _ _ (node_at c.nodes k).kind right.shows f.0
     node_sound (Broken m d) r f =
         held_at night (path_at night start c.nodes k) (duals_at c.nodes k) c.version
-        (shown_to_hold c.version night (path_at night start c.nodes k) (duals_at c.nodes k) (IsListed night start c.nodes k) (pos c.bound) (node_at c.nodes k).kind f.0 right.shows) m d f.1
+        (shown_to_hold c.version night (path_at night start c.nodes k) (duals_at c.nodes k) (IsListed night start c.nodes k) (pos c.bound)
+        (node_at c.nodes k).kind f.0 right.shows) m d f.1
     node_sound LowLeaf r f = too_low c.version _ _ c.bound f.1 f.2 (shown_by_leaf c.version night _ _ _ _ (node_at c.nodes k).kind f.0 right.shows)
     node_sound LowWhole r f =
         let le = shown_by_whole c.version night _ (duals_at c.nodes k) (IsListed night start c.nodes k) _ (node_at c.nodes k).kind f.0 right.shows in

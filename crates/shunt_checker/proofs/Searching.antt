@@ -53,17 +53,22 @@ narrowed night c d same (inr (_, inl later)) = inl later
 narrowed night c d same (inr (_, inr (e, _))) = inr e
 
 pub units_rise : (night : Night) (c d : PathChoice) → unit_of night c ≡ unit_of night d → EarlierChoice night c d → units_of c ≤ units_of d
-units_rise night c d same before = ⊎_elim (λ later. later_units c.shape d.shape later) (λ e. let n : c.shape.n ≡ d.shape.n = ap (λ (w : Shape). w.n) e in omega (arith, n)) (narrowed night c d same before)
+units_rise night c d same before = ⊎_elim (λ later. later_units c.shape d.shape later) (λ e. let n : c.shape.n ≡ d.shape.n = ap (λ (w : Shape). w.n) e in omega (arith, n))
+    (narrowed night c d same before)
 
 pub trains_rise : (night : Night) (c d : PathChoice) → unit_of night c ≡ unit_of night d → units_of c ≡ units_of d → EarlierChoice night c d → train_of c ≤ train_of d
-trains_rise night c d same n before = ⊎_elim (λ later. later_train c.shape d.shape n later) (λ e. let t : c.shape.dep.0 ≡ d.shape.dep.0 = ap (λ (w : Shape). w.dep.0) e in omega (arith, t)) (narrowed night c d same before)
+trains_rise night c d same n before = ⊎_elim (λ later. later_train c.shape d.shape n later)
+    (λ e. let t : c.shape.dep.0 ≡ d.shape.dep.0 = ap (λ (w : Shape). w.dep.0) e in omega (arith, t)) (narrowed night c d same before)
 
-pub places_rise : (night : Night) (c d : PathChoice) → unit_of night c ≡ unit_of night d → units_of c ≡ units_of d → train_of c ≡ train_of d → EarlierChoice night c d → place_from c ≤ place_from d
-places_rise night c d same n t before = ⊎_elim (λ later. later_place c.shape d.shape n t later) (λ e. let q : c.shape.q ≡ d.shape.q = ap (λ (w : Shape). w.q) e in omega (arith, q)) (narrowed night c d same before)
+pub places_rise : (night : Night) (c d : PathChoice) → unit_of night c ≡ unit_of night d → units_of c ≡ units_of d → train_of c ≡ train_of d → EarlierChoice night c d
+    → place_from c ≤ place_from d
+places_rise night c d same n t before = ⊎_elim (λ later. later_place c.shape d.shape n t later) (λ e. let q : c.shape.q ≡ d.shape.q = ap (λ (w : Shape). w.q) e in omega (arith, q))
+    (narrowed night c d same before)
 
 -- ---- one shape
 
-module _ (night : Night) (unit_law : (s : Shape) (k : ℕ) → AreRunsWithin night s → k < s.n → unit_at night (unit_from night s + k) ≡ make_unit s.arr.0 (s.p + k) (kind_at (train_at night.arrive s.arr.0) (s.p + k))) where
+module _ (night : Night) (unit_law : (s : Shape) (k : ℕ) → AreRunsWithin night s → k < s.n
+    → unit_at night (unit_from night s + k) ≡ make_unit s.arr.0 (s.p + k) (kind_at (train_at night.arrive s.arr.0) (s.p + k))) where
   unit_is : (s : Shape) (u : ℕ) → AreRunsWithin night s → unit_from night s ≡ u → unit_at night u ≡ make_unit s.arr.0 s.p (kind_at (train_at night.arrive s.arr.0) s.p)
   unit_is s u within e =
       let from : unit_from night s + 0 ≡ u = omega (arith, e) in
@@ -78,9 +83,11 @@ module _ (night : Night) (unit_law : (s : Shape) (k : ℕ) → AreRunsWithin nig
   pub shape_is : (s : Shape) (u n dep q : ℕ) → AreRunsWithin night s → unit_from night s ≡ u → s.n ≡ n → s.dep.0 ≡ dep → s.q ≡ q → s ≡ shape_from night u n dep q
   shape_is s u n dep q within eu en ed eq =
       let first : s ≡ shape_of_unit (unit_at night u) s.n s.dep.0 s.q = sym (ap (λ (x : TrainUnit). shape_of_unit x s.n s.dep.0 s.q) (unit_is s u within eu)) in
-      first ∙ (ap (λ (w : ℕ). shape_of_unit (unit_at night u) w s.dep.0 s.q) en ∙ (ap (λ (w : ℕ). shape_of_unit (unit_at night u) n w s.q) ed ∙ ap (λ (w : ℕ). shape_of_unit (unit_at night u) n dep w) eq))
+      first ∙ (ap (λ (w : ℕ). shape_of_unit (unit_at night u) w s.dep.0 s.q) en ∙
+      (ap (λ (w : ℕ). shape_of_unit (unit_at night u) n w s.q) ed ∙ ap (λ (w : ℕ). shape_of_unit (unit_at night u) n dep w) eq))
 
-  pub units_fit : (s : Shape) (u : ℕ) → AreRunsWithin night s → unit_from night s ≡ u → (unit_at night u).place + s.n ≤ length (train_at night.arrive (unit_at night u).train.0).units + 1
+  pub units_fit : (s : Shape) (u : ℕ) → AreRunsWithin night s → unit_from night s ≡ u
+      → (unit_at night u).place + s.n ≤ length (train_at night.arrive (unit_at night u).train.0).units + 1
   units_fit s u within e =
       let is = unit_is s u within e in
       let place : (unit_at night u).place ≡ s.p = ap (λ (x : TrainUnit). x.place) is in
@@ -124,7 +131,8 @@ module _ (night : Night) (unit_law : (s : Shape) (k : ℕ) → AreRunsWithin nig
 
 -- ---- covered units
 
-pub none_covered : (night : Night) (covered : Masks) (Holds : PathChoice → Type 0) (u : ℕ) → slice_index_or covered.units u true ≡ true → Finds (IsOneAt night covered Holds u) (EarlierChoice night) None
+pub none_covered : (night : Night) (covered : Masks) (Holds : PathChoice → Type 0) (u : ℕ) → slice_index_or covered.units u true ≡ true
+    → Finds (IsOneAt night covered Holds u) (EarlierChoice night) None
 none_covered night covered Holds u e c h =
     let free = h.free.shape in
     let first = h.unit in

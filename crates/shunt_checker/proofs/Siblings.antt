@@ -21,7 +21,8 @@ pub record ChildLaws (nodes : List Node) : Type 0 where
 
 -- they are those of the law on children
 pub child_laws : (night : Night) (nodes : List Node) → AreNodes night nodes
-    → ((night : Night) (nodes : List Node) (k j : ℕ) → AreNodes night nodes → k < j → j < length nodes → depth_at nodes j ≡ depth_at nodes k + 1 → ((i : ℕ) → k < i → i < j → depth_at nodes k < depth_at nodes i) → IsChildOf nodes k j)
+    → ((night : Night) (nodes : List Node) (k j : ℕ) → AreNodes night nodes → k < j → j < length nodes → depth_at nodes j ≡ depth_at nodes k + 1
+    → ((i : ℕ) → k < i → i < j → depth_at nodes k < depth_at nodes i) → IsChildOf nodes k j)
     → ((night : Night) (nodes : List Node) (k j : ℕ) → AreNodes night nodes → IsChildOf nodes k j → k < j)
     → ((night : Night) (nodes : List Node) (k j i : ℕ) → AreNodes night nodes → IsChildOf nodes k j → k < i → i < j → depth_at nodes k < depth_at nodes i)
     → ChildLaws nodes
@@ -61,11 +62,13 @@ module _ (nodes : List Node) (laws : ChildLaws nodes) (k : ℕ) (choice : Choice
 
   -- ---- a look ahead
 
-  pub child_found : (n : ℕ) → k < n → n < length nodes → AreDeeper nodes k n → depth_at nodes n ≡ depth_at nodes k + 1 → (node_at nodes n).choice ≡ Some choice → HasChild nodes k choice
+  pub child_found : (n : ℕ) → k < n → n < length nodes → AreDeeper nodes k n → depth_at nodes n ≡ depth_at nodes k + 1 → (node_at nodes n).choice ≡ Some choice
+      → HasChild nodes k choice
   child_found n after lt deeper depth same = record { child = n; below = laws.are k n after lt depth deeper; same = same }
 
   -- a node that doesn't state it at the children's depth is no child that states it
-  pub not_stated : (n deep : ℕ) (b : Bool) → deep ≡ depth_at nodes k + 1 → IsTrue b ↔ StatesAt nodes deep choice n → b ≡ false → IsChildOf nodes k n → (node_at nodes n).choice ≢ Some choice
+  pub not_stated : (n deep : ℕ) (b : Bool) → deep ≡ depth_at nodes k + 1 → IsTrue b ↔ StatesAt nodes deep choice n → b ≡ false → IsChildOf nodes k n
+      → (node_at nodes n).choice ≢ Some choice
   not_stated n deep b e is never child same = let t : b ≡ true = is.1 (record { depth = child.depth ∙ sym e; same = same }) in cc
 
   -- behind a node that is no deeper there is no child
@@ -89,7 +92,8 @@ module _ (nodes : List Node) (laws : ChildLaws nodes) (p k : ℕ) (child : IsChi
   behind : (j : ℕ) → p ≤ j → depth_at nodes j ≡ depth_at nodes k → p < j
   behind j le depth = ⊎_elim
       (λ less. less)
-      (λ past. let e : j ≡ p = omega (arith, le, past) in let deep = child.depth in let same : depth_at nodes j ≡ depth_at nodes p = ap (depth_at nodes) e in absurd (omega (arith, deep, same, depth)))
+      (λ past. let e : j ≡ p = omega (arith, le, past) in let deep = child.depth in let same : depth_at nodes j
+      ≡ depth_at nodes p = ap (depth_at nodes) e in absurd (omega (arith, deep, same, depth)))
       (cases_lt p j)
 
   pub twin_found : (j : ℕ) → p ≤ j → j < k → depth_at nodes j ≡ depth_at nodes k → (node_at nodes j).choice ≡ Some choice → HasTwin nodes k choice

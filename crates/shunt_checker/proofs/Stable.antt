@@ -60,7 +60,12 @@ option night s None h = tt
 option night s (Some k) h = parkable night s k h
 
 pub block : (night : Night) (b : Block) → IsInRange night b → Stable (IsBlock night b)
-block night b range h = record { in_range = range; shape = shape night (shape_of b) (λ n. h (λ x. n x.shape)); option = option night (shape_of b) b.park (λ n. h (λ x. n x.option)) }
+block night b range h = record {
+  in_range = range;
+  shape = shape night (shape_of b) (λ n. h (λ x. n x.shape));
+  option = option night (shape_of b) b.park
+      (λ n. h (λ x. n x.option));
+}
 
 free_shape : (night : Night) (covered : Masks) (u : ℕ) (s : Shape) → Stable (IsFreeShape night covered u s)
 free_shape night covered u s h = record {

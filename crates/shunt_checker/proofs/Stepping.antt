@@ -52,7 +52,8 @@ block_of night covered id (Some u) d is = record { shape = is.shape.shape; optio
 pub longer_each : (night : Night) (path : List Block) (d : PathChoice) → IsChoiceAt night path d → All (IsBlockButId night) path → All (IsBlockButId night) (longer_by path d)
 longer_each night path d there each =
     All-append (IsBlockButId night) path (chosen (length path + 1) d ∷ []) each
-    (All-cons (IsBlockButId night) (chosen (length path + 1) d) [] (block_of night (masks_of night path) (length path + 1) (next_of (masks_of night path)) d there) (All-nil (IsBlockButId night)))
+    (All-cons (IsBlockButId night) (chosen (length path + 1) d) [] (block_of night (masks_of night path) (length path + 1) (next_of (masks_of night path)) d there)
+    (All-nil (IsBlockButId night)))
 
 -- ---- the last block
 
@@ -94,7 +95,8 @@ of_last P whole front b e all = all_in P whole b (recursion_from_All P whole all
 of_front : (P : Block → Type 0) (whole front : List Block) (b : Block) → whole ≡ front ++ b ∷ [] → All P whole → All P front
 of_front P whole front b e all = subst (All P) (ap (take (length front)) e ∙ take-append_seam front (b ∷ [])) (All-take P (length front) whole all)
 
-next_for : (night : Night) (path : List Block) (next : Option ℕ) (d : PathChoice) → IsSomeAnd next (λ u. IsChoice night (masks_of night path) u d) → next ≡ Some (unit_from night d.shape)
+next_for : (night : Night) (path : List Block) (next : Option ℕ) (d : PathChoice) → IsSomeAnd next (λ u. IsChoice night (masks_of night path) u d)
+    → next ≡ Some (unit_from night d.shape)
 next_for night path None d never = absurd never
 next_for night path (Some u) d is = ap (λ (n : ℕ). Some n) (sym is.shape.first)
 
@@ -106,7 +108,8 @@ PartLaw night = (blocks others : List Block) → All (IsWithinTrains night) bloc
 pub within_all : (night : Night) (blocks : List Block) → All (IsInRange night) blocks → All (IsWithinTrains night) blocks
 within_all night blocks all k d lt = (all k d lt).within
 
-module _ (night : Night) (old new : Trail) (b : Block) (e : old.blocks ≡ new.blocks ++ b ∷ []) (of_old : IsTrailOf night old) (of_new : IsTrailOf night new) (more : (front : List Block) × IsOneMore night front old.blocks) where
+module _ (night : Night) (old new : Trail) (b : Block) (e : old.blocks ≡ new.blocks ++ b ∷ []) (of_old : IsTrailOf night old) (of_new : IsTrailOf night new)
+    (more : (front : List Block) × IsOneMore night front old.blocks) where
   front_is : more.0 ≡ new.blocks
   front_is = same_front more.0 new.blocks (chosen (length more.0 + 1) more.1.choice) b (sym more.1.is ∙ e)
 
@@ -131,12 +134,14 @@ module _ (night : Night) (old new : Trail) (b : Block) (e : old.blocks ≡ new.b
   pub last_next : next_of new.covered ≡ Some (begins_at night b)
   last_next = subst (λ (m : Masks). next_of m ≡ Some (begins_at night b)) (sym of_new.covered)
       (subst (λ (f : List Block). next_of (masks_of night f) ≡ Some (begins_at night b)) front_is
-      (subst (λ (x : Block). next_of (masks_of night more.0) ≡ Some (begins_at night x)) block_is (next_for night more.0 (next_of (masks_of night more.0)) more.1.choice more.1.there)))
+      (subst (λ (x : Block). next_of (masks_of night more.0) ≡ Some (begins_at night x)) block_is
+      (next_for night more.0 (next_of (masks_of night more.0)) more.1.choice more.1.there)))
 
   pub whole_runs : RunsThrough night (placed (new.blocks ++ b ∷ []))
   whole_runs = subst (λ (bs : List Block). RunsThrough night (placed bs)) e more.1.through
 
-  pub bound_of_last : (cases : List Case) (bound : ℤ) → IsChoiceBound night new.blocks b cases bound → (front : List Block) (x : Block) → old.blocks ≡ front ++ x ∷ [] → IsStepBoundIn Stacks night front old.blocks cases bound
+  pub bound_of_last : (cases : List Case) (bound : ℤ) → IsChoiceBound night new.blocks b cases bound → (front : List Block) (x : Block) → old.blocks ≡ front ++ x ∷ []
+      → IsStepBoundIn Stacks night front old.blocks cases bound
   bound_of_last cases bound is front x at =
       subst (λ (f : List Block). IsStepBoundIn Stacks night f old.blocks cases bound) (same_front new.blocks front b x (sym e ∙ at)) (b, e, is)
 

@@ -56,7 +56,8 @@ module _ (cases : List Case) (path : List Block) (Is : ℕ → ℤ → Type 0) w
       least (suc (suc k)) other opened h = absurd (let there = opened.there in omega (arith, there, e))
   alone (suc (suc n)) z bound few e shut is b = absurd (omega (arith, few, e))
 
-  module _ (first second one other least : ℤ) (few : length cases ≤ 2) (opens : OpensFirst cases path) (is_first : Is 0 first) (is_second : Is 1 second) (bound_first : IsBoundOf first one) (bound_second : IsBoundOf second other)
+  module _ (first second one other least : ℤ) (few : length cases ≤ 2) (opens : OpensFirst cases path) (is_first : Is 0 first) (is_second : Is 1 second)
+      (bound_first : IsBoundOf first one) (bound_second : IsBoundOf second other)
       (under_first : least ≤ℤ one) (under_second : least ≤ℤ other) where
     abbrev pair : List ℤ
     pair = first ∷ second ∷ []
@@ -85,19 +86,33 @@ module _ (cases : List Case) (path : List Block) (Is : ℕ → ℤ → Type 0) w
         least = pair_least;
       };
     }
-    both (inr e) = record { sums = pair; are = pair_are; least = record { number = 1; opens = opens_last 1 (omega (arith, two)); is = subst (IsBoundOf second) (sym e) bound_second; least = pair_least } }
+    both (inr e) = record {
+      sums = pair;
+      are = pair_are;
+      least = record {
+        number = 1;
+        opens = opens_last 1 (omega (arith, two));
+        is = subst (IsBoundOf second)
+            (sym e) bound_second;
+        least = pair_least;
+      };
+    }
 
-pub as_stack_bound : (night : Night) (path : List Block) (cases : List Case) (bound : ℤ) → IsLeast cases path (IsStackSum night path cases) bound → IsStackBound night path cases bound
+pub as_stack_bound : (night : Night) (path : List Block) (cases : List Case) (bound : ℤ) → IsLeast cases path (IsStackSum night path cases) bound
+    → IsStackBound night path cases bound
 as_stack_bound night path cases bound h = record { sums = h.sums; are = h.are; least = h.least }
 
-pub as_choice_bound : (night : Night) (path : List Block) (b : Block) (cases : List Case) (bound : ℤ) → IsLeast cases (path ++ b ∷ []) (IsChoiceSum night path b cases) bound → IsChoiceBound night path b cases bound
+pub as_choice_bound : (night : Night) (path : List Block) (b : Block) (cases : List Case) (bound : ℤ) → IsLeast cases (path ++ b ∷ []) (IsChoiceSum night path b cases) bound
+    → IsChoiceBound night path b cases bound
 as_choice_bound night path b cases bound h = record { sums = h.sums; are = h.are; least = h.least }
 
 -- by so many unparked blocks
-pub opens_by : (cases : List Case) (path : List Block) (unparked : ℕ) (b : Bool) → unparked ≡ unparked_in path → IsTrue b ↔ ((2 ≤ length cases) × (unparked ≤ (case_at cases 0).to)) → b ≡ true → OpensFirst cases path
+pub opens_by : (cases : List Case) (path : List Block) (unparked : ℕ) (b : Bool) → unparked ≡ unparked_in path → IsTrue b ↔ ((2 ≤ length cases) × (unparked ≤ (case_at cases 0).to))
+    → b ≡ true → OpensFirst cases path
 opens_by cases path unparked b e test t = let h = test.0 t in (h.0, subst (λ (n : ℕ). n ≤ (case_at cases 0).to) e h.1)
 
-pub shut_by : (cases : List Case) (path : List Block) (unparked : ℕ) (b : Bool) → unparked ≡ unparked_in path → IsTrue b ↔ ((2 ≤ length cases) × (unparked ≤ (case_at cases 0).to)) → b ≡ false → OpensFirst cases path → ⊥
+pub shut_by : (cases : List Case) (path : List Block) (unparked : ℕ) (b : Bool) → unparked ≡ unparked_in path → IsTrue b ↔ ((2 ≤ length cases) × (unparked ≤ (case_at cases 0).to))
+    → b ≡ false → OpensFirst cases path → ⊥
 shut_by cases path unparked b e test f h = against b ((2 ≤ length cases) × (unparked ≤ (case_at cases 0).to)) test f (h.0, subst (λ (n : ℕ). n ≤ (case_at cases 0).to) (sym e) h.1)
 
 -- how many blocks of a path with one more are unparked

@@ -104,7 +104,8 @@ module _ (night : Night) (plan : Plan) where
   one_plan (fault.Cost stated real) (fault.Place v2) h k rank number = absurd (omega (arith, rank))
   one_plan (fault.Cost stated real) (fault.Blocked id2) h k rank number = absurd (omega (arith, rank))
   one_plan (fault.Cost stated real) (fault.Over id2 load2) h k rank number = absurd (omega (arith, rank))
-  one_plan (fault.Cost stated real) (fault.Cost stated2 real2) h k rank number = ap (λ (n : ℕ). fault.Cost n real) (h.0 ∙ sym k.0) ∙ ap (λ (n : ℕ). fault.Cost stated2 n) (h.1 ∙ sym k.1)
+  one_plan (fault.Cost stated real) (fault.Cost stated2 real2) h k rank number = ap (λ (n : ℕ). fault.Cost n real) (h.0 ∙ sym k.0)
+      ∙ ap (λ (n : ℕ). fault.Cost stated2 n) (h.1 ∙ sym k.1)
 
   pub one_plan_fault : (f g : PlanFault) → IsFirstPlanFault night plan f → IsFirstPlanFault night plan g → f ≡ g
   one_plan_fault f g h k =
@@ -127,7 +128,8 @@ park_level k l never back =
     let first = side_level k.side_in l.side_in (λ before. never (inr (track, inl before))) (λ before. back (inr (sym track, inl before))) in
     let second = side_level k.side_out l.side_out (λ before. never (inr (track, inr (first, before)))) (λ before. back (inr (sym track, inr (sym first, before)))) in
     ap (λ (t : TrackId). record { track = t; side_in = k.side_in; side_out = k.side_out }) track
-    ∙ (ap (λ (a : Side). record { track = l.track; side_in = a; side_out = k.side_out }) first ∙ ap (λ (a : Side). record { track = l.track; side_in = l.side_in; side_out = a }) second)
+    ∙ (ap (λ (a : Side). record { track = l.track; side_in = a; side_out = k.side_out }) first
+    ∙ ap (λ (a : Side). record { track = l.track; side_in = l.side_in; side_out = a }) second)
 
 option_level : (o p : Option Park) → (OptionBefore o p → ⊥) → (OptionBefore p o → ⊥) → o ≡ p
 option_level None None never back = refl
@@ -135,7 +137,8 @@ option_level None (Some l) never back = absurd (never tt)
 option_level (Some k) None never back = absurd (back tt)
 option_level (Some k) (Some l) never back = ap (λ (x : Park). Some x) (park_level k l never back)
 
-module _ (night : Night) (unit_law : (s : Shape) (k : ℕ) → AreRunsWithin night s → k < s.n → unit_at night (unit_from night s + k) ≡ make_unit s.arr.0 (s.p + k) (kind_at (train_at night.arrive s.arr.0) (s.p + k))) where
+module _ (night : Night) (unit_law : (s : Shape) (k : ℕ) → AreRunsWithin night s → k < s.n
+    → unit_at night (unit_from night s + k) ≡ make_unit s.arr.0 (s.p + k) (kind_at (train_at night.arrive s.arr.0) (s.p + k))) where
   -- two shapes of the night, neither of which comes before the other, are one
   pub choice_level : (d e : PathChoice) → AreRunsWithin night d.shape → AreRunsWithin night e.shape → (EarlierChoice night d e → ⊥) → (EarlierChoice night e d → ⊥) → d ≡ e
   choice_level d e wd we never back =
@@ -172,15 +175,18 @@ module _ (night : Night) (laws : Laws night) (start : List Block) (c : Certifica
       → (EarlierPlace night (Broken m d) (Broken n e) → ⊥) → (EarlierPlace night (Broken n e) (Broken m d) → ⊥) → r ≡ s
   one_broken m n d e r s f g never back =
       let case = level m n (λ less. never (inl less)) (λ less. back (inl less)) in
-      let choice = choice_level night laws.unit d e f.1.free.shape.shape.within g.1.free.shape.shape.within (λ before. never (inr (case, before))) (λ before. back (inr (sym case, before))) in
+      let choice = choice_level night laws.unit d e f.1.free.shape.shape.within g.1.free.shape.shape.within (λ before. never (inr (case, before)))
+      (λ before. back (inr (sym case, before))) in
       f.2 ∙ (ap (λ (x : ℕ). told x d) case ∙ (ap (λ (x : PathChoice). told n x) choice ∙ sym g.2))
 
   one_missing : (d e : PathChoice) (r s : Reason) → IsNodeFault night start c k (Missing d) r → IsNodeFault night start c k (Missing e) s
       → (EarlierPlace night (Missing d) (Missing e) → ⊥) → (EarlierPlace night (Missing e) (Missing d) → ⊥) → r ≡ s
   one_missing d e r s f g never back =
-      let choice = choice_level night laws.unit d e (there_within night path (next_of (masks_of night path)) d f.4.there) (there_within night path (next_of (masks_of night path)) e g.4.there) never back in
+      let choice = choice_level night laws.unit d e (there_within night path (next_of (masks_of night path)) d f.4.there)
+      (there_within night path (next_of (masks_of night path)) e g.4.there) never back in
       let stated : f.1 ≡ g.1 = ap (λ (x : PathChoice). said x) (sym f.2 ∙ (choice ∙ g.2)) in
-      let bound : f.3 ≡ g.3 = laws.one_step c.version path (longer_by path e) cases f.3 g.3 (subst (λ (x : PathChoice). IsStepBoundIn c.version night path (longer_by path x) cases f.3) choice f.4.low.is) g.4.low.is in
+      let bound : f.3 ≡ g.3 = laws.one_step c.version path (longer_by path e) cases f.3 g.3
+      (subst (λ (x : PathChoice). IsStepBoundIn c.version night path (longer_by path x) cases f.3) choice f.4.low.is) g.4.low.is in
       f.5 ∙ (ap (λ (x : Choice). reason.ChildMissing x f.3) stated ∙ (ap (λ (x : ℤ). reason.ChildMissing g.1 x) bound ∙ sym g.5))
 
   one_told : (f g : NodeFault) (r s : Reason) → IsNodeFault night start c k f r → IsNodeFault night start c k g s → node_rank f ≡ node_rank g
@@ -203,7 +209,8 @@ module _ (night : Night) (laws : Laws night) (start : List Block) (c : Certifica
   one_told Twice (Missing d2) r s f g rank never back = absurd (omega (arith, rank))
   one_told NotLean NotThere r s f g rank never back = absurd (omega (arith, rank))
   one_told NotLean Twice r s f g rank never back = absurd (omega (arith, rank))
-  one_told NotLean NotLean r s f g rank never back = f.2 ∙ (ap (λ (x : ℤ). reason.ChildNotLean x (pos (best_before night start c.nodes k))) (laws.one_step c.version _ _ _ f.0 g.0 f.1.is g.1.is) ∙ sym g.2)
+  one_told NotLean NotLean r s f g rank never back = f.2 ∙ (ap (λ (x : ℤ). reason.ChildNotLean x (pos (best_before night start c.nodes k)))
+      (laws.one_step c.version _ _ _ f.0 g.0 f.1.is g.1.is) ∙ sym g.2)
   one_told NotLean OtherKind r s f g rank never back = absurd (omega (arith, rank))
   one_told NotLean (Broken m2 d2) r s f g rank never back = absurd (omega (arith, rank))
   one_told NotLean LowLeaf r s f g rank never back = absurd (omega (arith, rank))
@@ -289,7 +296,8 @@ module _ (night : Night) (laws : Laws night) (start : List Block) (plan : Plan) 
       let one = one_reason row other r s a h in
       ap (λ (n : ℕ). verdict.Rejected n r) one.rows ∙ ap (λ (x : Reason). verdict.Rejected other x) one.reasons
 
-pub one_verdict : (night : Night) (laws : Laws night) (pins : List Block) (plan : Plan) (c : Certificate) (v w : Verdict) → IsVerdict night pins plan c v → IsVerdict night pins plan c w → v ≡ w
+pub one_verdict : (night : Night) (laws : Laws night) (pins : List Block) (plan : Plan) (c : Certificate) (v w : Verdict) → IsVerdict night pins plan c v
+    → IsVerdict night pins plan c w → v ≡ w
 one_verdict night laws pins plan c v w h k =
     let e : k.start ≡ h.start = laws.one_start pins k.start h.start k.begins h.begins in
     one_answer night laws h.start plan c v w h.answers (subst (λ (s : List Block). Answers night s plan c w) e k.answers)

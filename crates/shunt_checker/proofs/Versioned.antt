@@ -29,7 +29,8 @@ pub record IsSolid (night : Night) (path : List Block) : Type 0 where
   pub through : RunsThrough night (placed path)
 
 -- the block of a choice at a path is free there
-free_for : (night : Night) (path : List Block) (next : Option ℕ) (d : PathChoice) → IsSomeAnd next (λ u. IsChoice night (masks_of night path) u d) → IsFreeBlock night (masks_of night path) d.shape d.option
+free_for : (night : Night) (path : List Block) (next : Option ℕ) (d : PathChoice) → IsSomeAnd next (λ u. IsChoice night (masks_of night path) u d)
+    → IsFreeBlock night (masks_of night path) d.shape d.option
 free_for night path None d never = absurd never
 free_for night path (Some u) d is = record { shape = subst (λ (w : ℕ). IsFreeShape night (masks_of night path) w d.shape) (sym is.shape.first) is.shape; option = is.option }
 
@@ -47,7 +48,8 @@ pub record BoundLaws (night : Night) : Type 0 where
       (bound : ℤ) × IsStepBoundIn version night path (path ++ b ∷ []) cases bound
 
 module _ (night : Night) (laws : BoundLaws night) where
-  pub bound_there : (version : Version) (path : List Block) (cases : List Case) → (version ≡ Stacks → IsSolid night path) → 1 ≤ length cases → (bound : ℤ) × IsBoundIn version night path cases bound
+  pub bound_there : (version : Version) (path : List Block) (cases : List Case) → (version ≡ Stacks → IsSolid night path) → 1 ≤ length cases
+      → (bound : ℤ) × IsBoundIn version night path cases bound
   bound_there Prices path cases solid n = laws.of_cases path cases n
   bound_there Stacks path cases solid n = let s = solid refl in laws.some Stacks path cases s.formed s.within s.apart s.through n
 
@@ -96,13 +98,15 @@ module _ (night : Night) (path : List Block) (cases : List Case) where
   each_holds Stacks hold = hold
 
 -- what holds in a case doesn't break in it
-pub held_by : (version : Version) (night : Night) (covered : Masks) (c : Case) (d : PathChoice) → HoldsBy version night covered c → IsFreeBlock night covered d.shape d.option → HasRoom night d.shape d.option → IsAsked version d.option
+pub held_by : (version : Version) (night : Night) (covered : Masks) (c : Case) (d : PathChoice) → HoldsBy version night covered c → IsFreeBlock night covered d.shape d.option
+    → HasRoom night d.shape d.option → IsAsked version d.option
     → duals_over night c.duals d.shape ≤ℤ weight_with night c d.shape d.option
 held_by Prices night covered c d hold free room asked = hold.holds d.shape d.option free room
 held_by Stacks night covered c d hold free room asked = hold.holds d.shape d.option free asked room
 
 -- cases that hold at a path hold at a longer one
-pub hold_longer : (version : Version) (night : Night) (path : List Block) (b : Block) (cases : List Case) → (HoldIn Prices night path cases → HoldIn Prices night (path ++ b ∷ []) cases)
+pub hold_longer : (version : Version) (night : Night) (path : List Block) (b : Block) (cases : List Case)
+    → (HoldIn Prices night path cases → HoldIn Prices night (path ++ b ∷ []) cases)
     → (HoldIn Stacks night path cases → HoldIn Stacks night (path ++ b ∷ []) cases) → HoldIn version night path cases → HoldIn version night (path ++ b ∷ []) cases
 hold_longer Prices night path b cases prices stacks hold = prices hold
 hold_longer Stacks night path b cases prices stacks hold = stacks hold

@@ -31,14 +31,16 @@ use Rattle.shunt_checker.proofs.NodeOrder.{from_start, from_next, none_there, no
 
 -- ---- whose duals hold
 
-pub own_is : (night : Night) (depth : ℕ) (kind : NodeKind) (ds : NodeDuals) (above at : List Case) → at ≡ cases_or ds above → (ds ≡ Same → ⊥) → FitDuals night depth kind ds → kind ≢ Whole → ds ≡ New at
+pub own_is : (night : Night) (depth : ℕ) (kind : NodeKind) (ds : NodeDuals) (above at : List Case) → at ≡ cases_or ds above → (ds ≡ Same → ⊥) → FitDuals night depth kind ds
+    → kind ≢ Whole → ds ≡ New at
 own_is night depth kind Same above at e other fits whole = absurd (other refl)
 own_is night depth kind (New cases) above at e other fits whole = ap (λ (cs : List Case). New cs) (sym e)
 own_is night depth kind Bare above at e other fits whole = absurd (whole fits)
 
 -- the cases of a node are its own or those of some node above
 pub duals_from : (nodes : List Node) (k : ℕ) → (1 ≤ k → duals_at nodes k ≡ cases_or (node_at nodes k).duals (duals_at nodes (parent nodes k)))
-    → (1 ≤ length nodes → duals_at nodes 0 ≡ cases_or (node_at nodes 0).duals []) → k < length nodes → (above : List Case) × (duals_at nodes k ≡ cases_or (node_at nodes k).duals above)
+    → (1 ≤ length nodes → duals_at nodes 0 ≡ cases_or (node_at nodes 0).duals []) → k < length nodes
+    → (above : List Case) × (duals_at nodes k ≡ cases_or (node_at nodes k).duals above)
 duals_from nodes zero below root lt = ([], root (omega (arith, lt)))
 duals_from nodes (suc k) below root lt = (duals_at nodes (parent nodes (suc k)), below (omega arith))
 
@@ -70,16 +72,20 @@ handed_down nodes k above owner e h = record { there = h.there; own = h.own ∙ 
 abbrev no_frame : Frame
 no_frame = record { node = 0; owner = 0 }
 
-pub frames_more : (nodes : List Node) (k : ℕ) (frames : List Frame) (f : Frame) → AreFrames nodes k frames → IsFrame nodes k f → depth_at nodes k < length frames → AreFrames nodes (suc k) (set frames (depth_at nodes k) f)
+pub frames_more : (nodes : List Node) (k : ℕ) (frames : List Frame) (f : Frame) → AreFrames nodes k frames → IsFrame nodes k f → depth_at nodes k < length frames
+    → AreFrames nodes (suc k) (set frames (depth_at nodes k) f)
 frames_more nodes k frames f are is lt = λ d few. ⊎_elim
     (λ here.
     let last : nearest nodes d (suc k) ≡ k = nearest_here nodes d k here in
-    let at : slice_index_or (set frames (depth_at nodes k) f) d no_frame ≡ f = subst (λ (i : ℕ). slice_index_or (set frames (depth_at nodes k) f) i no_frame ≡ f) here (get_or-set_same frames (depth_at nodes k) f no_frame lt) in
+    let at : slice_index_or (set frames (depth_at nodes k) f) d no_frame ≡ f = subst (λ (i : ℕ). slice_index_or (set frames (depth_at nodes k) f) i no_frame ≡ f) here
+    (get_or-set_same frames (depth_at nodes k) f no_frame lt) in
     subst (λ (j : ℕ). IsFrame nodes j (slice_index_or (set frames (depth_at nodes k) f) d no_frame)) (sym last) (subst (λ (g : Frame). IsFrame nodes k g) (sym at) is))
     (λ other.
     let before : nearest nodes d (suc k) ≡ nearest nodes d k = nearest_before nodes d k other in
-    let at : slice_index_or (set frames (depth_at nodes k) f) d no_frame ≡ slice_index_or frames d no_frame = get_or-set_other frames (depth_at nodes k) d f no_frame (λ e. other (sym e)) in
-    subst (λ (j : ℕ). IsFrame nodes j (slice_index_or (set frames (depth_at nodes k) f) d no_frame)) (sym before) (subst (λ (g : Frame). IsFrame nodes (nearest nodes d k) g) (sym at) (are d few)))
+    let at : slice_index_or (set frames (depth_at nodes k) f) d no_frame ≡ slice_index_or frames d no_frame = get_or-set_other frames (depth_at nodes k) d f no_frame
+    (λ e. other (sym e)) in
+    subst (λ (j : ℕ). IsFrame nodes j (slice_index_or (set frames (depth_at nodes k) f) d no_frame)) (sym before)
+    (subst (λ (g : Frame). IsFrame nodes (nearest nodes d k) g) (sym at) (are d few)))
     (cases_eq (depth_at nodes k) d)
 
 -- ---- from rank to rank
@@ -95,7 +101,8 @@ module _ (night : Night) (start : List Block) (c : Certificate) (k : ℕ) where
       (none_lean night start c k (λ bound h. let some = h.some in omega (arith, some, first)))
 
   -- what is found of a node at its path
-  pub settled : (old new : Trail) (r : Option Reason) → IsAtNode night start c k old → NodeFrom night start c k 4 → Judges night c k old.blocks 4 8 r → IfNone r (new ≡ old) → Settles night start c k new r
+  pub settled : (old new : Trail) (r : Option Reason) → IsAtNode night start c k old → NodeFrom night start c k 4 → Judges night c k old.blocks 4 8 r → IfNone r (new ≡ old)
+      → Settles night start c k new r
   settled old new None at from judged kept = (sound night start c k (judged start at.path from), subst (λ (t : Trail). IsAtNode night start c k t) (sym kept) at)
   settled old new (Some s) at from judged kept = judged start at.path from
 
@@ -112,7 +119,8 @@ sound_more night start c k before here = λ j lt. ⊎_elim
 module _ (night : Night) (start : List Block) (c : Certificate) (k before : ℕ) (suc_is : k ≡ suc before)
     (front : (d : ℕ) → d ≤ depth_at c.nodes before → path_at night start c.nodes (nearest c.nodes d (suc before)) ≡ take (length start + d) (path_at night start c.nodes before))
     (size : length (path_at night start c.nodes before) ≡ length start + depth_at c.nodes before)
-    (deep : 1 ≤ depth_at c.nodes k) (follows : depth_at c.nodes k ≤ depth_at c.nodes before + 1) (t : Trail) (path : t.blocks ≡ path_before night start c.nodes k) (pins : t.pins ≡ length start) where
+    (deep : 1 ≤ depth_at c.nodes k) (follows : depth_at c.nodes k ≤ depth_at c.nodes before + 1) (t : Trail) (path : t.blocks ≡ path_before night start c.nodes k)
+    (pins : t.pins ≡ length start) where
   path_was : t.blocks ≡ path_at night start c.nodes before
   path_was = path ∙ ap (λ (n : ℕ). path_before night start c.nodes n) suc_is
 
@@ -138,12 +146,14 @@ came_down night start c zero nodes some lt front size deep t path pins = absurd 
 came_down night start c (suc b) nodes some lt front size deep t path pins =
     let less : b < length c.nodes = omega (arith, lt) in
     let next : b + 1 ≡ suc b = omega arith in
-    let follows : StandsAfter (Some (node_at c.nodes b)) (node_at c.nodes (suc b)) = subst (λ (n : ℕ). StandsAfter (Some (node_at c.nodes b)) (node_at c.nodes n)) next (nodes.follow b (omega (arith, lt))) in (
+    let follows : StandsAfter (Some (node_at c.nodes b)) (node_at c.nodes (suc b)) = subst (λ (n : ℕ). StandsAfter (Some (node_at c.nodes b)) (node_at c.nodes n)) next
+    (nodes.follow b (omega (arith, lt))) in (
       long_enough night start c (suc b) b refl (λ d le. front b d less le) (size b less) deep follows.most t path pins,
       front_is night start c (suc b) b refl (λ d le. front b d less le) (size b less) deep follows.most t path pins,
     )
 
-module _ (night : Night) (start : List Block) (c : Certificate) (k : ℕ) (front : List Block) (fe : front ≡ path_at night start c.nodes (parent c.nodes k)) (best : ℕ) (be : best ≡ best_before night start c.nodes k)
+module _ (night : Night) (start : List Block) (c : Certificate) (k : ℕ) (front : List Block) (fe : front ≡ path_at night start c.nodes (parent c.nodes k)) (best : ℕ)
+    (be : best ≡ best_before night start c.nodes k)
     (r : Option Reason) (found : JudgesChild night c k front best r) where
   pub child_told : (s : Reason) → r ≡ Some s → IsFirstNodeFault night start c k s
   child_told s e =
@@ -155,7 +165,8 @@ module _ (night : Night) (start : List Block) (c : Certificate) (k : ℕ) (front
       let here : JudgesChild night c k front best None = subst (JudgesChild night c k front best) e found in
       here start fe be
 
-  pub child_at : r ≡ None → (new : Trail) → IsTrailOf night new → new.pins ≡ length start → IfNone r (Leads night c k front new.blocks) → IfNone r (RunsThrough night (placed new.blocks)) → IfNone r (All (IsBlockButId night) new.blocks)
+  pub child_at : r ≡ None → (new : Trail) → IsTrailOf night new → new.pins ≡ length start → IfNone r (Leads night c k front new.blocks)
+      → IfNone r (RunsThrough night (placed new.blocks)) → IfNone r (All (IsBlockButId night) new.blocks)
       → IsAtNode night start c k new
   child_at e new of pins leads through each =
       let lead : Leads night c k front new.blocks = subst (λ (o : Option Reason). IfNone o (Leads night c k front new.blocks)) e leads in
@@ -185,15 +196,18 @@ pub later : (k : ℕ) → (k ≡ 0 → ⊥) → 1 ≤ k
 later zero never = absurd (never refl)
 later (suc k) never = omega arith
 
-pub root_at : (night : Night) (start : List Block) (nodes : List Node) (k : ℕ) (blocks : List Block) → k ≡ 0 → blocks ≡ path_before night start nodes k → path_at night start nodes 0 ≡ start → blocks ≡ path_at night start nodes k
+pub root_at : (night : Night) (start : List Block) (nodes : List Node) (k : ℕ) (blocks : List Block) → k ≡ 0 → blocks ≡ path_before night start nodes k
+    → path_at night start nodes 0 ≡ start → blocks ≡ path_at night start nodes k
 root_at night start nodes zero blocks e path root = path ∙ sym root
 root_at night start nodes (suc k) blocks e path root = absurd (omega (arith, e))
 
-pub root_bare : (night : Night) (nodes : List Node) (k : ℕ) → k ≡ 0 → (0 < length nodes → depth_at nodes 0 ≡ 0) → k < length nodes → FitsNode night (node_at nodes k) → (node_at nodes k).choice ≡ None
+pub root_bare : (night : Night) (nodes : List Node) (k : ℕ) → k ≡ 0 → (0 < length nodes → depth_at nodes 0 ≡ 0) → k < length nodes → FitsNode night (node_at nodes k)
+    → (node_at nodes k).choice ≡ None
 root_bare night nodes zero e flat lt fits = no_choice night (node_at nodes 0).depth (node_at nodes 0).choice fits.choice (flat lt)
 root_bare night nodes (suc k) e flat lt fits = absurd (omega (arith, e))
 
-pub first_frames : (night : Night) (nodes : List Node) → AreNodes night nodes → 0 < length nodes → (1 ≤ length nodes → duals_at nodes 0 ≡ cases_or (node_at nodes 0).duals []) → AreFrames nodes 0 (replicate 161 no_frame)
+pub first_frames : (night : Night) (nodes : List Node) → AreNodes night nodes → 0 < length nodes → (1 ≤ length nodes → duals_at nodes 0 ≡ cases_or (node_at nodes 0).duals [])
+    → AreFrames nodes 0 (replicate 161 no_frame)
 first_frames night nodes are some root = λ d few.
     let fits : FitsNode night (node_at nodes 0) = are.each 0 _ some in
     let flat : depth_at nodes 0 ≡ 0 = are.root some in
@@ -201,12 +215,15 @@ first_frames night nodes are some root = λ d few.
     let own : Owns nodes 0 0 = λ other. record {
       there = some;
       own = own_is night (node_at nodes 0).depth (node_at nodes 0).kind (node_at nodes 0).duals [] (duals_at nodes 0) (root some)
-          (λ same. (let deep = same_deep night (node_at nodes 0).depth (node_at nodes 0).kind (node_at nodes 0).duals same fits.duals in omega (arith, deep, flat))) fits.duals other;
+          (λ same. (let deep = same_deep night (node_at nodes 0).depth (node_at nodes 0).kind (node_at nodes 0).duals same fits.duals in omega (arith, deep, flat)))
+          fits.duals other;
     } in
     subst (λ (f : Frame). IsFrame nodes 0 f) (sym at) (record { node = refl; owner = own })
 
-pub walked : (night : Night) (start : List Block) (c : Certificate) (k : ℕ) (old new : Trail) (frames : List Frame) (best after owner : ℕ) → IsWalk night start c k old frames best → IsAtNode night start c k new
-    → Owns c.nodes k owner → depth_at c.nodes k < length frames → after ≡ best_with (node_at c.nodes k).kind (total_cost night new.blocks) best → after ≤ best → IsNodeSound night start c k
+pub walked : (night : Night) (start : List Block) (c : Certificate) (k : ℕ) (old new : Trail) (frames : List Frame) (best after owner : ℕ) → IsWalk night start c k old frames best
+    → IsAtNode night start c k new
+    → Owns c.nodes k owner → depth_at c.nodes k < length frames → after ≡ best_with (node_at c.nodes k).kind (total_cost night new.blocks) best → after ≤ best
+    → IsNodeSound night start c k
     → IsWalk night start c (k + 1) new (set frames (depth_at c.nodes k) (record { node = k; owner = owner })) after
 walked night start c k old new frames best after owner walk at owns lt exact small sound =
     let next : suc k ≡ k + 1 = omega arith in
@@ -243,12 +260,14 @@ pub both_ok : {T E : Type 0} (x : Result T E) (P Q R : T → Type 0) → ((r : T
 both_ok (Ok r) P Q R f p q = f r p q
 both_ok (Err e) P Q R f p q = tt
 
-pub fault_settled : (night : Night) (start : List Block) (c : Certificate) (k : ℕ) (t : Trail) (r : Option Reason) (s : Reason) → r ≡ Some s → Settles night start c k t r → IsFirstNodeFault night start c k s
+pub fault_settled : (night : Night) (start : List Block) (c : Certificate) (k : ℕ) (t : Trail) (r : Option Reason) (s : Reason) → r ≡ Some s → Settles night start c k t r
+    → IsFirstNodeFault night start c k s
 fault_settled night start c k t r s e h =
     let here : Settles night start c k t (Some s) = subst (Settles night start c k t) e h in
     here
 
-pub none_settled : (night : Night) (start : List Block) (c : Certificate) (k : ℕ) (t : Trail) (r : Option Reason) → r ≡ None → Settles night start c k t r → IsNodeSound night start c k × IsAtNode night start c k t
+pub none_settled : (night : Night) (start : List Block) (c : Certificate) (k : ℕ) (t : Trail) (r : Option Reason) → r ≡ None → Settles night start c k t r
+    → IsNodeSound night start c k × IsAtNode night start c k t
 none_settled night start c k t r e h =
     let here : Settles night start c k t None = subst (Settles night start c k t) e h in
     here

@@ -33,7 +33,8 @@ record IsThere (night : Night) (plan path : List Block) (u : ℕ) (b : Block) : 
   begins : begins_at night b ≡ u
   free : IsFreeBlock night path b
 
-found : (laws : BlockLaws) (night : Night) (plan path : List Block) (u : ℕ) → IsFeasible night plan → Keeps plan path → IsNext night path u → (b : Block) × IsThere night plan path u b
+found : (laws : BlockLaws) (night : Night) (plan path : List Block) (u : ℕ) → IsFeasible night plan → Keeps plan path → IsNext night path u
+    → (b : Block) × IsThere night plan path u b
 found laws night plan path u h keeps next = (b, record { there = of.1; has = of.2; fits = fits; begins = begins; free = free })
   where
     of : (x : Block) × In x plan × (has_unit night (shape_of x) u ≡ true)
@@ -91,7 +92,8 @@ pub record IsHeldChoice (night : Night) (plan path : List Block) (c : Choice) : 
   pub keeps : Keeps plan (longer_by path c)
   pub through : RunsThrough night (placed (longer_by path c))
 
-pub held_choice : (laws : BlockLaws) (night : Night) (plan path : List Block) (u : ℕ) → IsInstance night → IsFeasible night plan → ShareNothing night path → Keeps plan path → next_of (masks_of night path) ≡ Some u
+pub held_choice : (laws : BlockLaws) (night : Night) (plan path : List Block) (u : ℕ) → IsInstance night → IsFeasible night plan → ShareNothing night path → Keeps plan path
+    → next_of (masks_of night path) ≡ Some u
     → (c : Choice) × IsHeldChoice night plan path c
 held_choice laws night plan path u is h apart keeps e =
     let next = next_is night path u e in

@@ -41,7 +41,8 @@ pair_from night u v t =
     record { kind = eqb-true _ _ two.0; ready = leb-true (ready night u) (leaves night v) two.1 }
 
 pair_to : (night : Night) (u v : ℕ) → IsPair night u v → is_pair night u v ≡ true
-pair_to night u v h = and_from ((unit_at night u).kind.0 == (position_at night v).kind.0) (nat_le (ready night u) (leaves night v)) (eq-eqb _ _ h.kind) (le-leb (ready night u) (leaves night v) h.ready)
+pair_to night u v h = and_from ((unit_at night u).kind.0 == (position_at night v).kind.0) (nat_le (ready night u) (leaves night v)) (eq-eqb _ _ h.kind)
+    (le-leb (ready night u) (leaves night v) h.ready)
 
 record IsFreePair (night : Night) (covered : Masks) (u v : ℕ) : Type 0 where
   unit : slice_index_or covered.units u true ≡ false
@@ -70,23 +71,27 @@ begins night u n v h lt = let x = unit_at_is night u h lt in omega (arith, x.num
 goes_to : (night : Night) (u n v : ℕ) → IsOrderedNight night → v < position_total night → position_from night (shape_at night u n v) ≡ v
 goes_to night u n v h lt = let x = position_at_is night v h lt in omega (arith, x.number, x.placed)
 
-within : (night : Night) (u n v : ℕ) → IsOrderedNight night → u < unit_total night → v < position_total night → 1 ≤ n → has_units night u n ≡ true → has_positions night v n ≡ true → AreRunsWithin night (shape_at night u n v)
+within : (night : Night) (u n v : ℕ) → IsOrderedNight night → u < unit_total night → v < position_total night → 1 ≤ n → has_units night u n ≡ true → has_positions night v n ≡ true
+    → AreRunsWithin night (shape_at night u n v)
 within night u n v h lu lv some units positions =
     let x = unit_at_is night u h lu in
     let y = position_at_is night v h lv in
     record { arr = x.train; dep = y.train; p = x.placed; n = some; q = y.placed; units = leb-true _ _ units; positions = leb-true _ _ positions }
 
-run_free : (night : Night) (covered : Masks) (u n v : ℕ) → IsOrderedNight night → u < unit_total night → v < position_total night → 1 ≤ n → is_free_run night covered u n v ≡ true → IsFreeShape night covered u (shape_at night u n v)
+run_free : (night : Night) (covered : Masks) (u n v : ℕ) → IsOrderedNight night → u < unit_total night → v < position_total night → 1 ≤ n → is_free_run night covered u n v ≡ true
+    → IsFreeShape night covered u (shape_at night u n v)
 unfolding is_free_run
 run_free night covered u n v h lu lv some t =
     let three = three_true (has_units night u n) (has_positions night v n) _ t in
     let from = begins night u n v h lu in
     let to = goes_to night u n v h lv in
-    let free : (k : ℕ) → k < n → IsFreePair night covered (u + k) (v + k) = λ k lt. free_from night covered (u + k) (v + k) (each_passes n (λ k. is_free_pair night covered (u + k) (v + k)) three.2 k lt) in
+    let free : (k : ℕ) → k < n → IsFreePair night covered (u + k) (v + k) = λ k lt. free_from night covered (u + k) (v + k)
+    (each_passes n (λ k. is_free_pair night covered (u + k) (v + k)) three.2 k lt) in
     record {
       shape = record {
         within = within night u n v h lu lv some three.0 three.1;
-        pairs = λ k lt. subst (λ (a : ℕ). IsPair night (a + k) (position_from night (shape_at night u n v) + k)) (sym from) (subst (λ (b : ℕ). IsPair night (u + k) (b + k)) (sym to) (free k lt).pair);
+        pairs = λ k lt. subst (λ (a : ℕ). IsPair night (a + k) (position_from night (shape_at night u n v) + k)) (sym from)
+            (subst (λ (b : ℕ). IsPair night (u + k) (b + k)) (sym to) (free k lt).pair);
       };
       first = from;
       units = λ k has.
@@ -107,7 +112,8 @@ rebuilt s x z y w e f = cc
 
 is_shape_at : (night : Night) (s : Shape) → AreRunsWithin night s → s ≡ shape_at night (unit_from night s) s.n (position_from night s)
 is_shape_at night s h =
-    sym (rebuilt s (unit_at night (unit_from night s)) (make_unit s.arr.0 s.p (kind_at (train_at night.arrive s.arr.0) s.p)) (position_at night (position_from night s)) (make_position s.dep.0 s.q (kind_at (train_at night.depart s.dep.0) s.q))
+    sym (rebuilt s (unit_at night (unit_from night s)) (make_unit s.arr.0 s.p (kind_at (train_at night.arrive s.arr.0) s.p)) (position_at night (position_from night s))
+    (make_position s.dep.0 s.q (kind_at (train_at night.depart s.dep.0) s.q))
     (unit_there night s.arr.0 s.p h.arr h.p (omega (arith, h.units, h.n)))
     (position_there night s.dep.0 s.q h.dep h.q (omega (arith, h.positions, h.n))))
 
@@ -142,8 +148,10 @@ in_shapes places night covered u s h f =
     let low : v < position_total night = places.position_in night s v w (record { from = omega arith; to = omega (arith, w.n) }) in
     let here : In s (shapes_of_length night covered (unit_from night s) s.n) =
     subst (λ (t : Shape). In t (shapes_of_length night covered (unit_from night s) s.n)) (sym (is_shape_at night s w))
-    (in_map (shape_at night (unit_from night s) s.n) _ v (filter_to (is_free_run night covered (unit_from night s) s.n) (range_with_len 0 (position_total night)) v (in_range 0 (position_total night) v (omega arith) (omega arith)) (free_run night covered u s f))) in
-    in_flat (shapes_of_length night covered u) (range_with_len 1 8) s.n s (in_range 1 8 s.n w.n (omega (arith, at_most_eight night s h w))) (subst (λ (a : ℕ). In s (shapes_of_length night covered a s.n)) f.first here)
+    (in_map (shape_at night (unit_from night s) s.n) _ v (filter_to (is_free_run night covered (unit_from night s) s.n) (range_with_len 0 (position_total night)) v
+    (in_range 0 (position_total night) v (omega arith) (omega arith)) (free_run night covered u s f))) in
+    in_flat (shapes_of_length night covered u) (range_with_len 1 8) s.n s (in_range 1 8 s.n w.n (omega (arith, at_most_eight night s h w)))
+    (subst (λ (a : ℕ). In s (shapes_of_length night covered a s.n)) f.first here)
 
 of_shapes : (night : Night) (covered : Masks) (u : ℕ) (s : Shape) → IsOrderedNight night → u < unit_total night → In s (shapes_of night covered u) → IsFreeShape night covered u s
 unfolding shapes_of
@@ -154,13 +162,16 @@ of_shapes night covered u s h lu i =
     let low = range_in 0 (position_total night) cell.0 passed.0 in
     subst (IsFreeShape night covered u) (sym cell.2) (run_free night covered u row.0 cell.0 h lu (omega (arith, low.1)) (range_in 1 8 row.0 row.1).0 passed.1)
 
-pub shapes_are : (places : PlaceLaws) (night : Night) (covered : Masks) (u : ℕ) (s : Shape) → IsInstance night → u < unit_total night → In s (shapes_of night covered u) ↔ IsFreeShape night covered u s
+pub shapes_are : (places : PlaceLaws) (night : Night) (covered : Masks) (u : ℕ) (s : Shape) → IsInstance night → u < unit_total night
+    → In s (shapes_of night covered u) ↔ IsFreeShape night covered u s
 unfolding IsInstance
 shapes_are places night covered u s h lu = (of_shapes night covered u s h lu, in_shapes places night covered u s h)
 
 -- ---- in their order
 
-positions_rise : (night : Night) (v w : ℕ) → IsOrderedNight night → v < w → w < position_total night → ((position_at night v).train.0 < (position_at night w).train.0) ⊎ (((position_at night v).train.0 ≡ (position_at night w).train.0) × ((position_at night v).place < (position_at night w).place))
+positions_rise : (night : Night) (v w : ℕ) → IsOrderedNight night → v < w → w < position_total night
+    → ((position_at night v).train.0 < (position_at night w).train.0) ⊎ (((position_at night v).train.0 ≡ (position_at night w).train.0)
+    × ((position_at night v).place < (position_at night w).place))
 positions_rise night v w h lt low =
     let x = position_at_is night v h (omega arith) in
     let y = position_at_is night w h low in
@@ -177,7 +188,11 @@ shapes_rise night u n v w h lt low = inr (refl, inr (refl, inr (refl, positions_
 row_follows : (night : Night) (covered : Masks) (u n : ℕ) → IsOrderedNight night → Follows ShapeBefore (shapes_of_length night covered u n)
 row_follows night covered u n h =
     follows_map (λ v w. v < w) ShapeBefore (shape_at night u n) _
-    (λ v w i j lt. shapes_rise night u n v w h lt (omega (arith, (range_in 0 (position_total night) w (filter_from (is_free_run night covered u n) (range_with_len 0 (position_total night)) w j).0).1)))
+    (λ v w i j lt. shapes_rise night u n v w h lt (omega (
+      arith,
+      (range_in 0 (position_total night) w
+          (filter_from (is_free_run night covered u n) (range_with_len 0 (position_total night)) w j).0).1,
+    )))
     (follows_filter (λ v w. v < w) (is_free_run night covered u n) (range_with_len 0 (position_total night)) (follows_range 0 (position_total night)))
 
 has_length : (night : Night) (covered : Masks) (u n : ℕ) (s : Shape) → In s (shapes_of_length night covered u n) → s.n ≡ n
@@ -194,4 +209,7 @@ unfolding shapes_of
 shapes_follow night covered u h =
     follows_flat (λ n m. n < m) ShapeBefore (shapes_of_length night covered u) (range_with_len 1 8) (follows_range 1 8)
     (λ n i. row_follows night covered u n h)
-    (λ n m i j lt a b k l. inr (begin_alike night covered u n a k ∙ sym (begin_alike night covered u m b l), inr (begin_at night covered u n a k ∙ sym (begin_at night covered u m b l), inl (omega (arith, has_length night covered u n a k, has_length night covered u m b l)))))
+    (λ n m i j lt a b k l. inr (
+      begin_alike night covered u n a k ∙ sym (begin_alike night covered u m b l),
+      inr (begin_at night covered u n a k ∙ sym (begin_at night covered u m b l), inl (omega (arith, has_length night covered u n a k, has_length night covered u m b l))),
+    ))

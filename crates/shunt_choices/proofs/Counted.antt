@@ -36,7 +36,8 @@ pub record CanGrow (night : Night) (blocks : List Block) : Type 0 where
   pub within : All (IsWithinTrains night) blocks
   pub apart : ShareNothing night blocks
 
-pub longer_grows : (laws : BlockLaws) (night : Night) (blocks : List Block) (c : Choice) → IsInstance night → CanGrow night blocks → In c (choices_at night blocks) → CanGrow night (longer_by blocks c)
+pub longer_grows : (laws : BlockLaws) (night : Night) (blocks : List Block) (c : Choice) → IsInstance night → CanGrow night blocks → In c (choices_at night blocks)
+    → CanGrow night (longer_by blocks c)
 longer_grows laws night blocks c is h there =
     let at = next_unit night blocks c ((choices_at_are laws.places night blocks c is).0 there) in
     let id = length blocks + 1 in
@@ -58,7 +59,8 @@ full laws night blocks h all = none_where night (masks_of night blocks) (next_of
 
 -- ---- one more block at most changes nothing where there is room for all
 
-steady : (laws : BlockLaws) (more : ℕ) (night : Night) (blocks : List Block) → IsInstance night → CanGrow night blocks → unit_total night ≤ length blocks + more → plans_from (suc more) night blocks ≡ plans_from more night blocks
+steady : (laws : BlockLaws) (more : ℕ) (night : Night) (blocks : List Block) → IsInstance night → CanGrow night blocks → unit_total night ≤ length blocks + more
+    → plans_from (suc more) night blocks ≡ plans_from more night blocks
 unfolding plans_from
 steady laws zero night blocks is h room = ap (λ cs. 1 + sum_by (λ c. if runs_placed night (longer_by blocks c) then 1 else 0) cs) (full laws night blocks h (omega (arith, room)))
 steady laws (suc more) night blocks is h room =
@@ -66,13 +68,15 @@ steady laws (suc more) night blocks is h room =
     where_true (runs_placed night (longer_by blocks c)) (runs_placed night (longer_by blocks c)) _ _ refl
     (steady laws more night (longer_by blocks c) is (longer_grows laws night blocks c is h there) (omega (arith, room, length-append blocks (chosen (length blocks + 1) c ∷ []))))))
 
-more_plans : (night : Night) (blocks : List Block) (more : ℕ) → plans_from (suc more) night blocks ≡ 1 + sum_by (λ c. if runs_placed night (longer_by blocks c) then plans_from more night (longer_by blocks c) else 0) (choices_at night blocks)
+more_plans : (night : Night) (blocks : List Block) (more : ℕ) → plans_from (suc more) night blocks
+    ≡ 1 + sum_by (λ c. if runs_placed night (longer_by blocks c) then plans_from more night (longer_by blocks c) else 0) (choices_at night blocks)
 unfolding plans_from
 more_plans night blocks more = refl
 
 pub counted : (laws : BlockLaws) (night : Night) (blocks : List Block) → IsInstance night → All (IsWithinTrains night) blocks → ShareNothing night blocks
     → partial_plans night blocks ≡ 1 + sum_by (λ c. if runs_placed night (longer_by blocks c) then partial_plans night (longer_by blocks c) else 0) (choices_at night blocks)
-counted laws night blocks is within apart = sym (steady laws (unit_total night) night blocks is (record { within = within; apart = apart }) (omega arith)) ∙ more_plans night blocks (unit_total night)
+counted laws night blocks is within apart = sym (steady laws (unit_total night) night blocks is (record { within = within; apart = apart }) (omega arith))
+    ∙ more_plans night blocks (unit_total night)
 
 -- ---- the order of the blocks
 
@@ -82,9 +86,12 @@ same_values f g (x ∷ xs) h = let one = h x in let rest = same_values f g xs h 
 
 same_masks : (night : Night) (blocks others : List Block) → IsPermutation blocks others → masks_of night blocks ≡ masks_of night others
 same_masks night blocks others same =
-    let units : units_taken night blocks ≡ units_taken night others = same_values (λ u. not (times_unit night blocks u == 0)) (λ u. not (times_unit night others u == 0)) (range_with_len 0 (unit_total night)) (λ u. ap (λ n. not (n == 0)) (sym (sum_by-IsPermutation _ blocks others same))) in
-    let positions : positions_taken night blocks ≡ positions_taken night others = same_values (λ v. not (times_position night blocks v == 0)) (λ v. not (times_position night others v == 0)) (range_with_len 0 (position_total night)) (λ v. ap (λ n. not (n == 0)) (sym (sum_by-IsPermutation _ blocks others same))) in
-    ap (λ (us : List Bool). record { units = us; places = positions_taken night blocks }) units ∙ ap (λ (vs : List Bool). record { units = units_taken night others; places = vs }) positions
+    let units : units_taken night blocks ≡ units_taken night others = same_values (λ u. not (times_unit night blocks u == 0)) (λ u. not (times_unit night others u == 0))
+    (range_with_len 0 (unit_total night)) (λ u. ap (λ n. not (n == 0)) (sym (sum_by-IsPermutation _ blocks others same))) in
+    let positions : positions_taken night blocks ≡ positions_taken night others = same_values (λ v. not (times_position night blocks v == 0))
+    (λ v. not (times_position night others v == 0)) (range_with_len 0 (position_total night)) (λ v. ap (λ n. not (n == 0)) (sym (sum_by-IsPermutation _ blocks others same))) in
+    ap (λ (us : List Bool). record { units = us; places = positions_taken night blocks }) units
+    ∙ ap (λ (vs : List Bool). record { units = units_taken night others; places = vs }) positions
 
 same_choices : (night : Night) (blocks others : List Block) → IsPermutation blocks others → choices_at night blocks ≡ choices_at night others
 same_choices night blocks others same = ap (λ m. choices_where night m (next_of m)) (same_masks night blocks others same)
@@ -94,20 +101,26 @@ both_or_neither true s f g = sym (f refl)
 both_or_neither false true f g = g refl
 both_or_neither false false f g = refl
 
-permuted_runs : (laws : BlockLaws) (night : Night) (blocks others : List Block) → IsInstance night → CanGrow night blocks → IsPermutation blocks others → RunsThrough night (placed blocks) → RunsThrough night (placed others)
+permuted_runs : (laws : BlockLaws) (night : Night) (blocks others : List Block) → IsInstance night → CanGrow night blocks → IsPermutation blocks others
+    → RunsThrough night (placed blocks) → RunsThrough night (placed others)
 permuted_runs laws night blocks others is h same through =
     laws.part night blocks others is h.within h.apart (All-permutation (IsWithinTrains night) blocks others same h.within) (share_nothing night blocks others same h.apart)
     (λ c there. (c, of_permuted blocks others c same there, refl)) through
 
 permuted_grow : (night : Night) (blocks others : List Block) → CanGrow night blocks → IsPermutation blocks others → CanGrow night others
-permuted_grow night blocks others h same = record { within = All-permutation (IsWithinTrains night) blocks others same h.within; apart = share_nothing night blocks others same h.apart }
+permuted_grow night blocks others h same = record {
+  within = All-permutation (IsWithinTrains night) blocks others same h.within;
+  apart = share_nothing night blocks others same
+      h.apart;
+}
 
 longer_permuted : (blocks others : List Block) (c : Choice) → IsPermutation blocks others → IsPermutation (longer_by blocks c) (longer_by others c)
 longer_permuted blocks others c same =
     subst (λ n. IsPermutation (longer_by blocks c) (others ++ chosen (n + 1) c ∷ [])) (sym (length_permutation blocks others same))
     (IsPermutation-append_left (chosen (length blocks + 1) c ∷ []) blocks others same)
 
-one_count : (laws : BlockLaws) (more : ℕ) (night : Night) (blocks others : List Block) → IsInstance night → CanGrow night blocks → IsPermutation blocks others → plans_from more night blocks ≡ plans_from more night others
+one_count : (laws : BlockLaws) (more : ℕ) (night : Night) (blocks others : List Block) → IsInstance night → CanGrow night blocks → IsPermutation blocks others
+    → plans_from more night blocks ≡ plans_from more night others
 unfolding plans_from
 one_count laws zero night blocks others is h same = refl
 one_count laws (suc more) night blocks others is h same =
@@ -118,9 +131,11 @@ one_count laws (suc more) night blocks others is h same =
     where_true (runs_placed night (longer_by blocks c)) (runs_placed night (longer_by others c)) _ _
     (both_or_neither _ _
     (permuted_runs laws night (longer_by blocks c) (longer_by others c) is grows longer)
-    (permuted_runs laws night (longer_by others c) (longer_by blocks c) is (permuted_grow night (longer_by blocks c) (longer_by others c) grows longer) (IsPermutation-sym _ _ longer)))
+    (permuted_runs laws night (longer_by others c) (longer_by blocks c) is (permuted_grow night (longer_by blocks c) (longer_by others c) grows longer)
+    (IsPermutation-sym _ _ longer)))
     (one_count laws more night (longer_by blocks c) (longer_by others c) is grows longer))
     ∙ ap (λ cs. sum_by (λ c. if runs_placed night (longer_by others c) then plans_from more night (longer_by others c) else 0) cs) (same_choices night blocks others same))
 
-pub any_order : (laws : BlockLaws) (night : Night) (blocks others : List Block) → IsInstance night → All (IsWithinTrains night) blocks → ShareNothing night blocks → IsPermutation blocks others → partial_plans night blocks ≡ partial_plans night others
+pub any_order : (laws : BlockLaws) (night : Night) (blocks others : List Block) → IsInstance night → All (IsWithinTrains night) blocks → ShareNothing night blocks
+    → IsPermutation blocks others → partial_plans night blocks ≡ partial_plans night others
 any_order laws night blocks others is within apart same = one_count laws (unit_total night) night blocks others is (record { within = within; apart = apart }) same

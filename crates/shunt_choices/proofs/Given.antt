@@ -19,7 +19,8 @@ pub record PlaceLaws : Type 0 where
 
 -- blocks that share nothing are fewer than the units where one is in none of them
 abbrev pub FewerLaw : Type 0
-FewerLaw = (night : Night) (blocks : List Block) (u : ℕ) → All (IsWithinTrains night) blocks → ShareNothing night blocks → u < unit_total night → times_unit night blocks u ≡ 0 → length blocks < unit_total night
+FewerLaw = (night : Night) (blocks : List Block) (u : ℕ) → All (IsWithinTrains night) blocks → ShareNothing night blocks → u < unit_total night → times_unit night blocks u ≡ 0
+    → length blocks < unit_total night
 
 -- and their first units differ
 abbrev pub FirstsLaw : Type 0
@@ -28,9 +29,11 @@ FirstsLaw = (night : Night) (blocks : List Block) → All (IsWithinTrains night)
 pub record BlockLaws : Type 0 where
   pub places : PlaceLaws
   pub fewer : FewerLaw
-  pub part : (night : Night) (blocks others : List Block) → IsInstance night → All (IsWithinTrains night) blocks → ShareNothing night blocks → All (IsWithinTrains night) others → ShareNothing night others
+  pub part : (night : Night) (blocks others : List Block) → IsInstance night → All (IsWithinTrains night) blocks → ShareNothing night blocks → All (IsWithinTrains night) others
+      → ShareNothing night others
       → ((c : Block) → In c others → (b : Block) × In b blocks × (without_id b ≡ without_id c)) → RunsThrough night (placed blocks) → RunsThrough night (placed others)
-  pub renumbered : (night : Night) (blocks : List Block) → IsInstance night → AreInRange night blocks → ShareNothing night blocks → RunsThrough night blocks ↔ RunsThrough night (placed blocks)
+  pub renumbered : (night : Night) (blocks : List Block) → IsInstance night → AreInRange night blocks → ShareNothing night blocks
+      → RunsThrough night blocks ↔ RunsThrough night (placed blocks)
   pub feasible_apart : (night : Night) (blocks : List Block) → IsFeasible night blocks → ShareNothing night blocks
   pub feasible_placed : (night : Night) (blocks : List Block) → IsInstance night → IsFeasible night blocks → IsFeasible night (placed blocks)
 

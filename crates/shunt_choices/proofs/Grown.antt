@@ -84,14 +84,17 @@ pub record IsFreeBlock (night : Night) (blocks : List Block) (b : Block) : Type 
 pub grown_apart : (night : Night) (blocks : List Block) (b : Block) → ShareNothing night blocks → IsFreeBlock night blocks b → ShareNothing night (blocks ++ b ∷ [])
 grown_apart night blocks b apart free = record {
   units = λ u. few_more (times_unit night blocks u) _ (has_unit night (shape_of b) u) (unit_more night blocks b u) (apart.units u) (λ e. free.units u (has_from night b u e));
-  positions = λ v. few_more (times_position night blocks v) _ (has_position night (shape_of b) v) (position_more night blocks b v) (apart.positions v) (λ e. free.positions v (has_position_from night b v e));
+  positions = λ v. few_more (times_position night blocks v) _ (has_position night (shape_of b) v) (position_more night blocks b v) (apart.positions v)
+      (λ e. free.positions v (has_position_from night b v e));
 }
 
 -- the block of a choice is such a block
-pub choice_free : (places : PlaceLaws) (night : Night) (blocks : List Block) (u id : ℕ) (c : Choice) → IsChoice night (masks_of night blocks) u c → IsFreeBlock night blocks (chosen id c)
+pub choice_free : (places : PlaceLaws) (night : Night) (blocks : List Block) (u id : ℕ) (c : Choice) → IsChoice night (masks_of night blocks) u c
+    → IsFreeBlock night blocks (chosen id c)
 choice_free places night blocks u id c h = record {
   units = λ w has. not_taken (times_unit night blocks) (unit_total night) w true (places.unit_in night c.shape w h.shape.shape.within has) (h.shape.units w has);
-  positions = λ v has. not_taken (times_position night blocks) (position_total night) v true (places.position_in night c.shape v h.shape.shape.within has) (h.shape.positions v has);
+  positions = λ v has. not_taken (times_position night blocks) (position_total night) v true (places.position_in night c.shape v h.shape.shape.within has)
+      (h.shape.positions v has);
 }
 
 pub choice_fits : (night : Night) (blocks : List Block) (u id : ℕ) (c : Choice) → IsChoice night (masks_of night blocks) u c → IsBlockButId night (chosen id c)
@@ -101,13 +104,15 @@ choice_fits night blocks u id c h = record { shape = h.shape.shape; option = h.o
 abbrev pub choice_of : Block → Choice
 choice_of b = record { shape = shape_of b; option = b.park }
 
-pub free_choice : (places : PlaceLaws) (night : Night) (blocks : List Block) (b : Block) → IsBlockButId night b → IsFreeBlock night blocks b → IsChoice night (masks_of night blocks) (begins_at night b) (choice_of b)
+pub free_choice : (places : PlaceLaws) (night : Night) (blocks : List Block) (b : Block) → IsBlockButId night b → IsFreeBlock night blocks b
+    → IsChoice night (masks_of night blocks) (begins_at night b) (choice_of b)
 free_choice places night blocks b fits free = record {
   shape = record {
     shape = fits.shape;
     first = refl;
     units = λ w has. left_free (times_unit night blocks) (unit_total night) w true (places.unit_in night (shape_of b) w fits.shape.within has) (free.units w has);
-    positions = λ v has. left_free (times_position night blocks) (position_total night) v true (places.position_in night (shape_of b) v fits.shape.within has) (free.positions v has);
+    positions = λ v has. left_free (times_position night blocks) (position_total night) v true (places.position_in night (shape_of b) v fits.shape.within has)
+        (free.positions v has);
   };
   option = fits.option;
 }

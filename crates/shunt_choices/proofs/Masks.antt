@@ -25,7 +25,8 @@ filled_at xs from zero v d i le above below = absurd (omega (arith, above, below
 filled_at xs from (suc n) v d i le above below = ⊎_elim
     (λ less. get_or-set_other (filled xs from n v) (from + n) i v d (λ e. absurd (omega (arith, less, e))) ∙ filled_at xs from n v d i (omega (arith, le)) above less)
     (λ ge. let e : from + n ≡ i = omega (arith, ge, below) in
-    subst (λ (j : ℕ). get_or (set (filled xs from n v) (from + n) v) j d ≡ v) e (get_or-set_same (filled xs from n v) (from + n) v d (omega (arith, le, length_filled xs from n v))))
+    subst (λ (j : ℕ). get_or (set (filled xs from n v) (from + n) v) j d ≡ v) e (get_or-set_same (filled xs from n v) (from + n) v d
+    (omega (arith, le, length_filled xs from n v))))
     (cases_lt i (from + n))
 
 filled_before : {X : Type 0} (xs : List X) (from n : ℕ) (v d : X) (i : ℕ) → i < from → get_or (filled xs from n v) i d ≡ get_or xs i d
@@ -34,7 +35,8 @@ filled_before xs from (suc n) v d i lt = get_or-set_other (filled xs from n v) (
 
 filled_after : {X : Type 0} (xs : List X) (from n : ℕ) (v d : X) (i : ℕ) → from + n ≤ i → get_or (filled xs from n v) i d ≡ get_or xs i d
 filled_after xs from zero v d i ge = refl
-filled_after xs from (suc n) v d i ge = get_or-set_other (filled xs from n v) (from + n) i v d (λ e. absurd (omega (arith, ge, e))) ∙ filled_after xs from n v d i (omega (arith, ge))
+filled_after xs from (suc n) v d i ge = get_or-set_other (filled xs from n v) (from + n) i v d (λ e. absurd (omega (arith, ge, e)))
+    ∙ filled_after xs from n v d i (omega (arith, ge))
 
 -- whether i is one of the n numbers from one on
 abbrev pub is_within : ℕ → ℕ → ℕ → Bool
@@ -59,7 +61,8 @@ read_filled xs from n v d i le = ⊎_elim
     past le = grind (arith, nat_tests)
 
 -- a list of f's values with a run filled is that of g's values, where g has the value there and is f elsewhere
-pub filled_values : (f g : ℕ → Bool) (total from n : ℕ) (v : Bool) → from + n ≤ total → ((i : ℕ) → cond (is_within from n i) v (f i) ≡ g i) → filled (map f (range_with_len 0 total)) from n v ≡ map g (range_with_len 0 total)
+pub filled_values : (f g : ℕ → Bool) (total from n : ℕ) (v : Bool) → from + n ≤ total → ((i : ℕ) → cond (is_within from n i) v (f i) ≡ g i)
+    → filled (map f (range_with_len 0 total)) from n v ≡ map g (range_with_len 0 total)
 filled_values f g total from n v le same =
     let size = length-map-range_with_len f 0 total in
     ext_get_or false _ _ (length_filled (map f (range_with_len 0 total)) from n v ∙ size ∙ sym (length-map-range_with_len g 0 total))
@@ -71,10 +74,12 @@ filled_values f g total from n v le same =
 
 -- ---- counts of one block more
 
-pub unit_more : (night : Night) (blocks : List Block) (b : Block) (u : ℕ) → times_unit night (blocks ++ b ∷ []) u ≡ times_unit night blocks u + cond (has_unit night (shape_of b) u) 1 0
+pub unit_more : (night : Night) (blocks : List Block) (b : Block) (u : ℕ) → times_unit night (blocks ++ b ∷ []) u
+    ≡ times_unit night blocks u + cond (has_unit night (shape_of b) u) 1 0
 unit_more night blocks b u = omega (arith, sum_by-append (λ c. cond (has_unit night (shape_of c) u) 1 0) blocks (b ∷ []))
 
-pub position_more : (night : Night) (blocks : List Block) (b : Block) (v : ℕ) → times_position night (blocks ++ b ∷ []) v ≡ times_position night blocks v + cond (has_position night (shape_of b) v) 1 0
+pub position_more : (night : Night) (blocks : List Block) (b : Block) (v : ℕ) → times_position night (blocks ++ b ∷ []) v
+    ≡ times_position night blocks v + cond (has_position night (shape_of b) v) 1 0
 position_more night blocks b v = omega (arith, sum_by-append (λ c. cond (has_position night (shape_of c) v) 1 0) blocks (b ∷ []))
 
 -- ---- masks of one block more, and of one less
@@ -87,21 +92,30 @@ given_back : (has : Bool) (times now : ℕ) → now ≡ times + cond has 1 0 →
 given_back true times now e few = grind (arith, nat_tests)
 given_back false times now e few = grind (arith, nat_tests)
 
-pub units_pushed : (night : Night) (blocks : List Block) (b : Block) → unit_from night (shape_of b) + b.n ≤ unit_total night → filled (masks_of night blocks).units (unit_from night (shape_of b)) b.n true ≡ (masks_of night (blocks ++ b ∷ [])).units
-units_pushed night blocks b le = filled_values (λ u. not (times_unit night blocks u == 0)) (λ u. not (times_unit night (blocks ++ b ∷ []) u == 0)) (unit_total night) (unit_from night (shape_of b)) b.n true le
+pub units_pushed : (night : Night) (blocks : List Block) (b : Block) → unit_from night (shape_of b) + b.n ≤ unit_total night
+    → filled (masks_of night blocks).units (unit_from night (shape_of b)) b.n true ≡ (masks_of night (blocks ++ b ∷ [])).units
+units_pushed night blocks b le = filled_values (λ u. not (times_unit night blocks u == 0)) (λ u. not (times_unit night (blocks ++ b ∷ []) u == 0)) (unit_total night)
+    (unit_from night (shape_of b)) b.n true le
     (λ u. taken (has_unit night (shape_of b) u) (times_unit night blocks u) (times_unit night (blocks ++ b ∷ []) u) (unit_more night blocks b u))
 
-pub positions_pushed : (night : Night) (blocks : List Block) (b : Block) → position_from night (shape_of b) + b.n ≤ position_total night → filled (masks_of night blocks).places (position_from night (shape_of b)) b.n true ≡ (masks_of night (blocks ++ b ∷ [])).places
-positions_pushed night blocks b le = filled_values (λ v. not (times_position night blocks v == 0)) (λ v. not (times_position night (blocks ++ b ∷ []) v == 0)) (position_total night) (position_from night (shape_of b)) b.n true le
+pub positions_pushed : (night : Night) (blocks : List Block) (b : Block) → position_from night (shape_of b) + b.n ≤ position_total night
+    → filled (masks_of night blocks).places (position_from night (shape_of b)) b.n true ≡ (masks_of night (blocks ++ b ∷ [])).places
+positions_pushed night blocks b le = filled_values (λ v. not (times_position night blocks v == 0)) (λ v. not (times_position night (blocks ++ b ∷ []) v == 0))
+    (position_total night) (position_from night (shape_of b)) b.n true le
     (λ v. taken (has_position night (shape_of b) v) (times_position night blocks v) (times_position night (blocks ++ b ∷ []) v) (position_more night blocks b v))
 
-pub units_popped : (night : Night) (blocks : List Block) (b : Block) → ShareNothing night (blocks ++ b ∷ []) → unit_from night (shape_of b) + b.n ≤ unit_total night → filled (masks_of night (blocks ++ b ∷ [])).units (unit_from night (shape_of b)) b.n false ≡ (masks_of night blocks).units
-units_popped night blocks b apart le = filled_values (λ u. not (times_unit night (blocks ++ b ∷ []) u == 0)) (λ u. not (times_unit night blocks u == 0)) (unit_total night) (unit_from night (shape_of b)) b.n false le
+pub units_popped : (night : Night) (blocks : List Block) (b : Block) → ShareNothing night (blocks ++ b ∷ []) → unit_from night (shape_of b) + b.n ≤ unit_total night
+    → filled (masks_of night (blocks ++ b ∷ [])).units (unit_from night (shape_of b)) b.n false ≡ (masks_of night blocks).units
+units_popped night blocks b apart le = filled_values (λ u. not (times_unit night (blocks ++ b ∷ []) u == 0)) (λ u. not (times_unit night blocks u == 0)) (unit_total night)
+    (unit_from night (shape_of b)) b.n false le
     (λ u. given_back (has_unit night (shape_of b) u) (times_unit night blocks u) (times_unit night (blocks ++ b ∷ []) u) (unit_more night blocks b u) (apart.units u))
 
-pub positions_popped : (night : Night) (blocks : List Block) (b : Block) → ShareNothing night (blocks ++ b ∷ []) → position_from night (shape_of b) + b.n ≤ position_total night → filled (masks_of night (blocks ++ b ∷ [])).places (position_from night (shape_of b)) b.n false ≡ (masks_of night blocks).places
-positions_popped night blocks b apart le = filled_values (λ v. not (times_position night (blocks ++ b ∷ []) v == 0)) (λ v. not (times_position night blocks v == 0)) (position_total night) (position_from night (shape_of b)) b.n false le
-    (λ v. given_back (has_position night (shape_of b) v) (times_position night blocks v) (times_position night (blocks ++ b ∷ []) v) (position_more night blocks b v) (apart.positions v))
+pub positions_popped : (night : Night) (blocks : List Block) (b : Block) → ShareNothing night (blocks ++ b ∷ []) → position_from night (shape_of b) + b.n ≤ position_total night
+    → filled (masks_of night (blocks ++ b ∷ [])).places (position_from night (shape_of b)) b.n false ≡ (masks_of night blocks).places
+positions_popped night blocks b apart le = filled_values (λ v. not (times_position night (blocks ++ b ∷ []) v == 0)) (λ v. not (times_position night blocks v == 0))
+    (position_total night) (position_from night (shape_of b)) b.n false le
+    (λ v. given_back (has_position night (shape_of b) v) (times_position night blocks v) (times_position night (blocks ++ b ∷ []) v) (position_more night blocks b v)
+    (apart.positions v))
 
 pub nothing_covered : (night : Night) → masks_of night [] ≡ record { units = replicate (unit_total night) false; places = replicate (position_total night) false }
 nothing_covered night = cc (values (unit_total night), values (position_total night))

@@ -140,18 +140,21 @@ with_option s o = record { shape = s; option = o }
 choice_shape : (night : Night) (s : Shape) (c : Choice) → In c (choices_with night s) → c.shape ≡ s
 choice_shape night s c i = ap (λ (c : Choice). c.shape) (of_map (with_option s) (options_of night s) c i).2
 
-of_choices : (places : PlaceLaws) (night : Night) (covered : Masks) (u : ℕ) (c : Choice) → IsInstance night → u < unit_total night → In c (choices_of night covered u) → IsChoice night covered u c
+of_choices : (places : PlaceLaws) (night : Night) (covered : Masks) (u : ℕ) (c : Choice) → IsInstance night → u < unit_total night → In c (choices_of night covered u)
+    → IsChoice night covered u c
 of_choices places night covered u c h lu i =
     let row = of_flat (choices_with night) (shapes_of night covered u) c i in
     let cell = of_map (with_option row.0) (options_of night row.0) c row.2 in
     subst (IsChoice night covered u) (sym cell.2) (record { shape = (shapes_are places night covered u row.0 h lu).0 row.1; option = of_options night row.0 cell.0 cell.1 })
 
-in_choices : (places : PlaceLaws) (night : Night) (covered : Masks) (u : ℕ) (c : Choice) → IsInstance night → u < unit_total night → IsChoice night covered u c → In c (choices_of night covered u)
+in_choices : (places : PlaceLaws) (night : Night) (covered : Masks) (u : ℕ) (c : Choice) → IsInstance night → u < unit_total night → IsChoice night covered u c
+    → In c (choices_of night covered u)
 in_choices places night covered u c h lu f =
     in_flat (choices_with night) (shapes_of night covered u) c.shape c ((shapes_are places night covered u c.shape h lu).1 f.shape)
     (in_map (with_option c.shape) (options_of night c.shape) c.option (in_options night c.shape c.option f.option))
 
-pub choices_are : (places : PlaceLaws) (night : Night) (covered : Masks) (u : ℕ) (c : Choice) → IsInstance night → u < unit_total night → In c (choices_of night covered u) ↔ IsChoice night covered u c
+pub choices_are : (places : PlaceLaws) (night : Night) (covered : Masks) (u : ℕ) (c : Choice) → IsInstance night → u < unit_total night
+    → In c (choices_of night covered u) ↔ IsChoice night covered u c
 choices_are places night covered u c h lu = (of_choices places night covered u c h lu, in_choices places night covered u c h lu)
 
 shapes_in_order : (night : Night) (covered : Masks) (u : ℕ) → IsInstance night → Follows ShapeBefore (shapes_of night covered u)

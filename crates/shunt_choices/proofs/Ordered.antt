@@ -21,7 +21,8 @@ follows_append R [] ys f g between = g
 follows_append R (x ∷ xs) ys f g between =
     (λ y i. ⊎_elim (λ l. f.0 y l) (λ r. between x y (inl refl) r) (in_cases xs ys y i), follows_append R xs ys f.1 g (λ a b i j. between a b (inr i) j))
 
-pub follows_map : {X Y : Type 0} (S : X → X → Type 0) (R : Y → Y → Type 0) (f : X → Y) (xs : List X) → ((x y : X) → In x xs → In y xs → S x y → R (f x) (f y)) → Follows S xs → Follows R (map f xs)
+pub follows_map : {X Y : Type 0} (S : X → X → Type 0) (R : Y → Y → Type 0) (f : X → Y) (xs : List X) → ((x y : X) → In x xs → In y xs → S x y → R (f x) (f y)) → Follows S xs
+    → Follows R (map f xs)
 follows_map S R f [] keeps s = tt
 follows_map S R f (x ∷ xs) keeps s =
     (λ y i. let m = of_map f xs y i in subst (R (f x)) (sym m.2) (keeps x m.0 (inl refl) (inr m.1) (s.0 m.0 m.1)), follows_map S R f xs (λ a b i j. keeps a b (inr i) (inr j)) s.1)
@@ -36,7 +37,8 @@ follows_filter R p (x ∷ xs) f =
 
 -- ---- a list for each element
 
-pub follows_flat : {X Y : Type 0} (S : X → X → Type 0) (R : Y → Y → Type 0) (f : X → List Y) (xs : List X) → Follows S xs → ((x : X) → In x xs → Follows R (f x)) → ((x y : X) → In x xs → In y xs → S x y → (a b : Y) → In a (f x) → In b (f y) → R a b) → Follows R (flat_map f xs)
+pub follows_flat : {X Y : Type 0} (S : X → X → Type 0) (R : Y → Y → Type 0) (f : X → List Y) (xs : List X) → Follows S xs → ((x : X) → In x xs → Follows R (f x))
+    → ((x y : X) → In x xs → In y xs → S x y → (a b : Y) → In a (f x) → In b (f y) → R a b) → Follows R (flat_map f xs)
 follows_flat S R f [] s each between = tt
 follows_flat S R f (x ∷ xs) s each between =
     follows_append R (f x) (flat_map f xs) (each x (inl refl))

@@ -28,7 +28,8 @@ use Rattle.shunt_choices.proofs.Grown.{IsNext, next_is, next_at, IsFreeBlock, gr
 
 -- ---- the pins alone
 
-pub pins_alone : (laws : BlockLaws) (night : Night) (pins start : List Block) → IsInstance night → AreUsable night pins → IsPermutation pins start → AreInOrder night start → IsPartialPlan night pins start
+pub pins_alone : (laws : BlockLaws) (night : Night) (pins start : List Block) → IsInstance night → AreUsable night pins → IsPermutation pins start → AreInOrder night start
+    → IsPartialPlan night pins start
 pins_alone laws night pins start is usable same rise =
     let each = All-permutation (IsBlockButId night) pins start same (but_ids night pins usable.each) in
     let apart = share_nothing night pins start same usable.apart in
@@ -95,14 +96,16 @@ has_to night b w from to = grind (arith, nat_tests)
 in_blocks : (night : Night) (pins blocks : List Block) → (h : IsPartialPlan night pins blocks) → (c : Block) → In c h.found → In c blocks
 in_blocks night pins blocks h c there = subst (In c) (sym h.is) (in_right h.start h.found c there)
 
-two_parts : (night : Night) (pins blocks : List Block) → (h : IsPartialPlan night pins blocks) → (w : ℕ) → times_unit night blocks w ≡ times_unit night pins w + times_unit night h.found w
+two_parts : (night : Night) (pins blocks : List Block) → (h : IsPartialPlan night pins blocks) → (w : ℕ)
+    → times_unit night blocks w ≡ times_unit night pins w + times_unit night h.found w
 two_parts night pins blocks h w =
     let parts : times_unit night blocks w ≡ times_unit night h.start w + times_unit night h.found w = ap (λ bs. times_unit night bs w) h.is ∙ sum_by-append _ h.start h.found in
     let same : times_unit night h.start w ≡ times_unit night pins w = sum_by-IsPermutation _ pins h.start h.pinned in
     omega (arith, parts, same)
 
 -- their units come before the number to which the partial plan goes
-found_below : (laws : BlockLaws) (night : Night) (pins blocks : List Block) → (h : IsPartialPlan night pins blocks) → (c : Block) (w : ℕ) → In c h.found → has_unit night (shape_of c) w ≡ true → w < h.below
+found_below : (laws : BlockLaws) (night : Night) (pins blocks : List Block) → (h : IsPartialPlan night pins blocks) → (c : Block) (w : ℕ) → In c h.found
+    → has_unit night (shape_of c) w ≡ true → w < h.below
 found_below laws night pins blocks h c w there has =
     let inside = in_blocks night pins blocks h c there in
     let fits = each_one (IsBlockButId night) blocks c h.each inside in
@@ -120,7 +123,8 @@ lower laws night pins blocks h u next = ⊎_elim
     (λ ge. ge)
     (cases_lt u h.below)
 
-pub grown : (laws : BlockLaws) (night : Night) (pins blocks : List Block) (b : Block) → IsPartialPlan night pins blocks → IsNext night blocks (begins_at night b) → IsBlockButId night b → IsFreeBlock night blocks b → RunsThrough night (placed (blocks ++ b ∷ [])) → IsPartialPlan night pins (blocks ++ b ∷ [])
+pub grown : (laws : BlockLaws) (night : Night) (pins blocks : List Block) (b : Block) → IsPartialPlan night pins blocks → IsNext night blocks (begins_at night b)
+    → IsBlockButId night b → IsFreeBlock night blocks b → RunsThrough night (placed (blocks ++ b ∷ [])) → IsPartialPlan night pins (blocks ++ b ∷ [])
 grown laws night pins blocks b h next fits free through = record {
   start = h.start;
   found = h.found ++ b ∷ [];
@@ -138,7 +142,11 @@ grown laws night pins blocks b h next fits free through = record {
     earlier : (c : Block) → In c h.found → begins_at night c < begins_at night b
     earlier c there =
         let fits_too = each_one (IsBlockButId night) blocks c h.each (in_blocks night pins blocks h c there) in
-        omega (arith, found_below laws night pins blocks h c (begins_at night c) there (begins_itself night c fits_too.shape.within.n), lower laws night pins blocks h (begins_at night b) next)
+        omega (
+          arith,
+          found_below laws night pins blocks h c (begins_at night c) there (begins_itself night c fits_too.shape.within.n),
+          lower laws night pins blocks h (begins_at night b) next,
+        )
 
     forth : (w : ℕ) → w < unit_total night → 1 ≤ times_unit night (blocks ++ b ∷ []) w → (1 ≤ times_unit night pins w) ⊎ (w < begins_at night b + b.n)
     forth w lt some = at (has_unit night (shape_of b) w) refl
@@ -167,7 +175,8 @@ same_but_ids blocks b = map-append without_id blocks (b ∷ []) ∙ sym (map-app
 last_free : (night : Night) (blocks : List Block) (b : Block) → ShareNothing night (blocks ++ b ∷ []) → IsFreeBlock night blocks b
 last_free night blocks b apart = record {
   units = λ w has. omega (arith, apart.units w, with_it night blocks b w (has_to night b w has.from has.to));
-  positions = λ v has. let on : has_position night (shape_of b) v ≡ true = grind (arith, nat_tests, has.from, has.to) in let one : cond (has_position night (shape_of b) v) 1 0 ≡ 1 = ap {B = ℕ} (λ t. cond t 1 0) on in omega (arith, apart.positions v, position_more night blocks b v, one);
+  positions = λ v has. let on : has_position night (shape_of b) v ≡ true = grind (arith, nat_tests, has.from, has.to) in let one : cond (has_position night (shape_of b) v) 1 0
+      ≡ 1 = ap {B = ℕ} (λ t. cond t 1 0) on in omega (arith, apart.positions v, position_more night blocks b v, one);
 }
 
 -- a partial plan that ends with a found block
@@ -180,7 +189,8 @@ pub record EndsWith (night : Night) (pins blocks : List Block) : Type 0 where
   pub fits : IsBlockButId night last
   pub free : IsFreeBlock night front last
 
-shorter : (laws : BlockLaws) (night : Night) (pins start found : List Block) (b : Block) (below : ℕ) → IsInstance night → IsPermutation pins start → AreInOrder night start → AreInOrder night (found ++ b ∷ [])
+shorter : (laws : BlockLaws) (night : Night) (pins start found : List Block) (b : Block) (below : ℕ) → IsInstance night → IsPermutation pins start → AreInOrder night start
+    → AreInOrder night (found ++ b ∷ [])
     → All (IsBlockButId night) ((start ++ found) ++ b ∷ [])
     → ((u : ℕ) → u < unit_total night → (1 ≤ times_unit night ((start ++ found) ++ b ∷ []) u) ↔ ((1 ≤ times_unit night pins u) ⊎ (u < below)))
     → ShareNothing night ((start ++ found) ++ b ∷ []) → RunsThrough night (placed ((start ++ found) ++ b ∷ []))
@@ -200,7 +210,8 @@ shorter laws night pins start found b below is pinned pins_rise rise each exactl
     each = each_front;
     exactly = λ w lt. (forth w lt, back w lt);
     apart = front_alone;
-    through = laws.part night all front is (all_within night all each) apart (all_within night front each_front) front_alone (λ c there. (c, in_left front (b ∷ []) c there, refl)) through;
+    through = laws.part night all front is (all_within night all each) apart (all_within night front each_front) front_alone
+        (λ c there. (c, in_left front (b ∷ []) c there, refl)) through;
   };
   next = record { there = inside; free = bare; before = before };
   fits = fits;
@@ -241,7 +252,8 @@ shorter laws night pins start found b below is pinned pins_rise rise each exactl
     front_rise i j d earlier lt =
         let size = length-append found (b ∷ []) in
         subst (λ c. begins_at night (get_or found i d) < begins_at night c) (get_or_append_left found (b ∷ []) d j lt)
-        (subst (λ c. begins_at night c < begins_at night (get_or (found ++ b ∷ []) j d)) (get_or_append_left found (b ∷ []) d i (omega (arith, earlier, lt))) (rise i j d earlier (omega (arith, lt, size))))
+        (subst (λ c. begins_at night c < begins_at night (get_or (found ++ b ∷ []) j d)) (get_or_append_left found (b ∷ []) d i (omega (arith, earlier, lt)))
+        (rise i j d earlier (omega (arith, lt, size))))
 
     starts : (w : ℕ) → times_unit night front w ≡ times_unit night pins w + times_unit night found w
     starts w =
@@ -250,10 +262,15 @@ shorter laws night pins start found b below is pinned pins_rise rise each exactl
         omega (arith, parts, same)
 
     reaches : u < below
-    reaches = ⊎_elim (λ h. absurd (omega (arith, h, bare, starts u))) (λ h. h) ((exactly u inside).0 (omega (arith, with_it night front b u (has_to night b u itself.from itself.to))))
+    reaches = ⊎_elim (λ h. absurd (omega (arith, h, bare, starts u))) (λ h. h) ((exactly u inside).0
+        (omega (arith, with_it night front b u (has_to night b u itself.from itself.to))))
 
     before : (w : ℕ) → w < u → 1 ≤ times_unit night front w
-    before w less = omega (arith, (exactly w (omega (arith, less, inside))).1 (inr (omega (arith, less, reaches))), without_it night front b w (has_none night b w (λ has. omega (arith, has.from, less))))
+    before w less = omega (
+      arith,
+      (exactly w (omega (arith, less, inside))).1 (inr (omega (arith, less, reaches))),
+      without_it night front b w (has_none night b w (λ has. omega (arith, has.from, less))),
+    )
 
     earlier : (c : Block) → In c found → begins_at night c < u
     earlier c there = rises_to (λ c d. begins_at night c < begins_at night d) found b c rise there
@@ -261,7 +278,13 @@ shorter laws night pins start found b below is pinned pins_rise rise each exactl
     -- a found block that went past the last one's first unit would have it
     found_before : (c : Block) (w : ℕ) → In c found → has_unit night (shape_of c) w ≡ true → w < u
     found_before c w there has = ⊎_elim (λ less. less)
-        (λ ge. absurd (omega (arith, bare, starts u, held (λ x. has_unit night (shape_of x) u) found c there (has_to night c u (omega (arith, earlier c there)) (omega (arith, ge, (has_from night c w has).to))))))
+        (λ ge. absurd (omega (
+          arith,
+          bare,
+          starts u,
+          held (λ x. has_unit night (shape_of x) u) found c there
+              (has_to night c u (omega (arith, earlier c there)) (omega (arith, ge, (has_from night c w has).to))),
+        )))
         (cases_lt w u)
 
     forth : (w : ℕ) → w < unit_total night → 1 ≤ times_unit night front w → (1 ≤ times_unit night pins w) ⊎ (w < u)
@@ -274,7 +297,8 @@ shorter laws night pins start found b below is pinned pins_rise rise each exactl
     back w lt (inl pinned_too) = omega (arith, starts w, pinned_too)
     back w lt (inr less) = before w less
 
-last_found : (laws : BlockLaws) (night : Night) (pins blocks : List Block) → IsInstance night → (h : IsPartialPlan night pins blocks) → (found : List Block) (b : Block) → h.found ≡ found ++ b ∷ [] → EndsWith night pins blocks
+last_found : (laws : BlockLaws) (night : Night) (pins blocks : List Block) → IsInstance night → (h : IsPartialPlan night pins blocks) → (found : List Block) (b : Block)
+    → h.found ≡ found ++ b ∷ [] → EndsWith night pins blocks
 last_found laws night pins blocks is h found b e =
     let same : blocks ≡ (h.start ++ found) ++ b ∷ [] = h.is ∙ ap (λ xs. h.start ++ xs) e ∙ sym (append_assoc h.start found (b ∷ [])) in
     subst (EndsWith night pins) (sym same)
@@ -286,18 +310,22 @@ last_found laws night pins blocks is h found b e =
 
 -- ---- in the words of choices
 
-pub choice_there : (night : Night) (blocks : List Block) (c : Choice) (u : ℕ) → next_of (masks_of night blocks) ≡ Some u → IsChoice night (masks_of night blocks) u c → IsChoiceAt night blocks c
+pub choice_there : (night : Night) (blocks : List Block) (c : Choice) (u : ℕ) → next_of (masks_of night blocks) ≡ Some u → IsChoice night (masks_of night blocks) u c
+    → IsChoiceAt night blocks c
 choice_there night blocks c u e h = subst (λ o. IsSomeAnd o (λ u. IsChoice night (masks_of night blocks) u c)) (sym e) h
 
 -- the next unit of a choice
-pub next_unit : (night : Night) (blocks : List Block) (c : Choice) → IsChoiceAt night blocks c → (u : ℕ) × (next_of (masks_of night blocks) ≡ Some u) × IsChoice night (masks_of night blocks) u c
+pub next_unit : (night : Night) (blocks : List Block) (c : Choice) → IsChoiceAt night blocks c
+    → (u : ℕ) × (next_of (masks_of night blocks) ≡ Some u) × IsChoice night (masks_of night blocks) u c
 next_unit night blocks c h = at (next_of (masks_of night blocks)) refl h
   where
-    at : (o : Option ℕ) → next_of (masks_of night blocks) ≡ o → IsSomeAnd o (λ u. IsChoice night (masks_of night blocks) u c) → (u : ℕ) × (next_of (masks_of night blocks) ≡ Some u) × IsChoice night (masks_of night blocks) u c
+    at : (o : Option ℕ) → next_of (masks_of night blocks) ≡ o → IsSomeAnd o (λ u. IsChoice night (masks_of night blocks) u c)
+        → (u : ℕ) × (next_of (masks_of night blocks) ≡ Some u) × IsChoice night (masks_of night blocks) u c
     at None e k = absurd k
     at (Some u) e k = (u, e, k)
 
-pub grows : (laws : BlockLaws) (night : Night) (pins blocks : List Block) (c : Choice) → IsPartialPlan night pins blocks → IsChoiceAt night blocks c → IsPartialPlan night pins (longer_by blocks c) ↔ RunsThrough night (placed (longer_by blocks c))
+pub grows : (laws : BlockLaws) (night : Night) (pins blocks : List Block) (c : Choice) → IsPartialPlan night pins blocks → IsChoiceAt night blocks c
+    → IsPartialPlan night pins (longer_by blocks c) ↔ RunsThrough night (placed (longer_by blocks c))
 grows laws night pins blocks c h choice =
     let at = next_unit night blocks c choice in
     let id = length blocks + 1 in (
@@ -307,7 +335,8 @@ grows laws night pins blocks c h choice =
     )
 
 pub comes : (laws : BlockLaws) (night : Night) (pins blocks : List Block) → IsInstance night → IsPartialPlan night pins blocks
-    → IsPermutation pins blocks ⊎ ((front : List Block) × (c : Choice) × IsPartialPlan night pins front × IsChoiceAt night front c × (map without_id blocks ≡ map without_id (longer_by front c)))
+    → IsPermutation pins blocks ⊎ ((front : List Block) × (c : Choice) × IsPartialPlan night pins front × IsChoiceAt night front c
+    × (map without_id blocks ≡ map without_id (longer_by front c)))
 comes laws night pins blocks is h = ⊎_elim
     (λ none. inl (subst (IsPermutation pins) (sym (append-nil h.start) ∙ ap (λ xs. h.start ++ xs) (sym none) ∙ sym h.is) h.pinned))
     (λ some.
@@ -316,7 +345,8 @@ comes laws night pins blocks is h = ⊎_elim
       x.front,
       choice_of x.last,
       x.plan,
-      choice_there night x.front (choice_of x.last) (begins_at night x.last) (next_at night x.front (begins_at night x.last) x.next) (free_choice laws.places night x.front x.last x.fits x.free),
+      choice_there night x.front (choice_of x.last) (begins_at night x.last) (next_at night x.front (begins_at night x.last) x.next)
+          (free_choice laws.places night x.front x.last x.fits x.free),
       ap (map without_id) x.is ∙ same_but_ids x.front x.last,
     ))
     (ends h.found)
@@ -324,10 +354,12 @@ comes laws night pins blocks is h = ⊎_elim
 same_choice : (c d : Choice) (i j : ℕ) → without_id (chosen i c) ≡ without_id (chosen j d) → c ≡ d
 same_choice c d i j e = ap choice_of e
 
-pub once : (front other : List Block) (c d : Choice) → map without_id (longer_by front c) ≡ map without_id (longer_by other d) → (map without_id front ≡ map without_id other) × (c ≡ d)
+pub once : (front other : List Block) (c d : Choice) → map without_id (longer_by front c) ≡ map without_id (longer_by other d)
+    → (map without_id front ≡ map without_id other) × (c ≡ d)
 once front other c d e =
     let one = chosen (length front + 1) c in
     let two = chosen (length other + 1) d in
-    let same : map without_id front ++ without_id one ∷ [] ≡ map without_id other ++ without_id two ∷ [] = sym (map-append without_id front (one ∷ [])) ∙ e ∙ map-append without_id other (two ∷ []) in
+    let same : map without_id front ++ without_id one ∷ [] ≡ map without_id other ++ without_id two ∷ [] = sym (map-append without_id front (one ∷ [])) ∙ e
+    ∙ map-append without_id other (two ∷ []) in
     let parts = same_from_push (map without_id front) (map without_id other) (without_id one) (without_id two) same in
     (parts.0, same_choice c d (length front + 1) (length other + 1) parts.1)

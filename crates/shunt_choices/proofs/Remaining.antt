@@ -15,22 +15,26 @@ use Rattle.shunt_blocks.specs.defs.Blocks.{is_option}
 
 -- ---- shapes
 
-row_gives : (night : Night) (u : ℕ) (reach : List ℕ) (n v many : ℕ) → nat_le n (get_or reach v 0) ≡ true → row_left night u reach n v (suc many) ≡ shape_at night u n v ∷ row_left night u reach n (v + 1) many
+row_gives : (night : Night) (u : ℕ) (reach : List ℕ) (n v many : ℕ) → nat_le n (get_or reach v 0) ≡ true
+    → row_left night u reach n v (suc many) ≡ shape_at night u n v ∷ row_left night u reach n (v + 1) many
 row_gives night u reach n v many t = ap (map (shape_at night u n)) (filter_yes (λ w. nat_le n (get_or reach w 0)) v (range_with_len (v + 1) many) t)
 
-row_skips : (night : Night) (u : ℕ) (reach : List ℕ) (n v many : ℕ) → nat_le n (get_or reach v 0) ≡ false → row_left night u reach n v (suc many) ≡ row_left night u reach n (v + 1) many
+row_skips : (night : Night) (u : ℕ) (reach : List ℕ) (n v many : ℕ) → nat_le n (get_or reach v 0) ≡ false
+    → row_left night u reach n v (suc many) ≡ row_left night u reach n (v + 1) many
 row_skips night u reach n v many t = ap (map (shape_at night u n)) (filter_no (λ w. nat_le n (get_or reach w 0)) v (range_with_len (v + 1) many) t)
 
 one_more : (v total : ℕ) → v < total → total - v ≡ suc (total - (v + 1))
 one_more v total lt = omega arith
 
-pub gives : (night : Night) (u : ℕ) (reach : List ℕ) (most n v : ℕ) → v < position_total night → nat_le n (get_or reach v 0) ≡ true → shapes_left night u reach most n v ≡ shape_at night u n v ∷ shapes_left night u reach most n (v + 1)
+pub gives : (night : Night) (u : ℕ) (reach : List ℕ) (most n v : ℕ) → v < position_total night → nat_le n (get_or reach v 0) ≡ true
+    → shapes_left night u reach most n v ≡ shape_at night u n v ∷ shapes_left night u reach most n (v + 1)
 unfolding shapes_left
 gives night u reach most n v lt t =
     ap (λ (k : ℕ). row_left night u reach n v k ++ rows_left night u reach (n + 1) (most - n)) (one_more v (position_total night) lt)
     ∙ ap (λ (r : List Shape). r ++ rows_left night u reach (n + 1) (most - n)) (row_gives night u reach n v (position_total night - (v + 1)) t)
 
-pub skips : (night : Night) (u : ℕ) (reach : List ℕ) (most n v : ℕ) → v < position_total night → nat_le n (get_or reach v 0) ≡ false → shapes_left night u reach most n v ≡ shapes_left night u reach most n (v + 1)
+pub skips : (night : Night) (u : ℕ) (reach : List ℕ) (most n v : ℕ) → v < position_total night → nat_le n (get_or reach v 0) ≡ false
+    → shapes_left night u reach most n v ≡ shapes_left night u reach most n (v + 1)
 unfolding shapes_left
 skips night u reach most n v lt t =
     ap (λ (k : ℕ). row_left night u reach n v k ++ rows_left night u reach (n + 1) (most - n)) (one_more v (position_total night) lt)
@@ -42,7 +46,8 @@ whole total = omega arith
 none_left : (v total : ℕ) → total ≤ v → total - v ≡ 0
 none_left v total le = omega arith
 
-pub turns : (night : Night) (u : ℕ) (reach : List ℕ) (most n v : ℕ) → position_total night ≤ v → n < most → shapes_left night u reach most n v ≡ shapes_left night u reach most (n + 1) 0
+pub turns : (night : Night) (u : ℕ) (reach : List ℕ) (most n v : ℕ) → position_total night ≤ v → n < most
+    → shapes_left night u reach most n v ≡ shapes_left night u reach most (n + 1) 0
 unfolding shapes_left
 turns night u reach most n v le lt =
     ap (λ (k : ℕ). row_left night u reach n v k ++ rows_left night u reach (n + 1) (most - n)) (none_left v (position_total night) le)
@@ -77,7 +82,8 @@ park_at t (suc n) (suc (suc zero)) d lt = same_park t (t + 2 / 4) B B A A (omega
 park_at t (suc n) (suc (suc (suc zero))) d lt = same_park t (t + 3 / 4) B B B B (omega arith) refl refl
 park_at t (suc n) (suc (suc (suc (suc i)))) d lt =
     park_at (t + 1) n i d (omega arith)
-    ∙ same_park (t + 1 + i / 4) (t + suc (suc (suc (suc i))) / 4) (side_numbered (i / 2 % 2)) (side_numbered (suc (suc (suc (suc i))) / 2 % 2)) (side_numbered (i % 2)) (side_numbered (suc (suc (suc (suc i))) % 2)) (omega arith) (ap side_numbered (omega arith)) (ap side_numbered (omega arith))
+    ∙ same_park (t + 1 + i / 4) (t + suc (suc (suc (suc i))) / 4) (side_numbered (i / 2 % 2)) (side_numbered (suc (suc (suc (suc i))) / 2 % 2)) (side_numbered (i % 2))
+    (side_numbered (suc (suc (suc (suc i))) % 2)) (omega arith) (ap side_numbered (omega arith)) (ap side_numbered (omega arith))
 
 parks_many : (t n : ℕ) → length (flat_map parks_on (range_with_len t n)) ≡ 4 * n
 parks_many t zero = refl
@@ -95,25 +101,32 @@ at_number n zero lt = refl
 at_number n (suc pair) lt =
     get_or-map some (parks_below n) pair (parked 0 A A) None (omega (arith, parks_many 0 n))
     ∙ some_alike _ (park_of 0 pair) (park_at 0 n pair (parked 0 A A) (omega arith))
-    ∙ some_alike (park_of 0 pair) (parked (pair / 4) (side_numbered (pair / 2 % 2)) (side_numbered (pair % 2))) (same_park (0 + pair / 4) (pair / 4) (side_numbered (pair / 2 % 2)) (side_numbered (pair / 2 % 2)) (side_numbered (pair % 2)) (side_numbered (pair % 2)) (omega arith) refl refl)
+    ∙ some_alike (park_of 0 pair) (parked (pair / 4) (side_numbered (pair / 2 % 2)) (side_numbered (pair % 2)))
+    (same_park (0 + pair / 4) (pair / 4) (side_numbered (pair / 2 % 2)) (side_numbered (pair / 2 % 2)) (side_numbered (pair % 2)) (side_numbered (pair % 2))
+    (omega arith) refl refl)
 
 pub on_track : (n at : ℕ) → at < 4 * n + 1 → IfSome (candidate at) (λ k. k.track.0 < n)
 unfolding candidate
 on_track n zero lt = tt
 on_track n (suc pair) lt = let low : pair / 4 < n = omega arith in low
 
-one_on : (night : Night) (at : ℕ) → at < 4 * length night.station.tracks + 1 → drop at (candidates (length night.station.tracks)) ≡ candidate at ∷ drop (at + 1) (candidates (length night.station.tracks))
+one_on : (night : Night) (at : ℕ) → at < 4 * length night.station.tracks + 1 → drop at (candidates (length night.station.tracks))
+    ≡ candidate at ∷ drop (at + 1) (candidates (length night.station.tracks))
 one_on night at lt =
     let n = length night.station.tracks in
     drop_more (candidates n) at None (omega (arith, many n)) ∙ ap (λ (o : Option Park). o ∷ drop (at + 1) (candidates n)) (at_number n at lt)
 
-pub option_given : (night : Night) (s : Shape) (at : ℕ) → at < 4 * length night.station.tracks + 1 → is_option night s (candidate at) ≡ true → options_left night s at ≡ candidate at ∷ options_left night s (at + 1)
+pub option_given : (night : Night) (s : Shape) (at : ℕ) → at < 4 * length night.station.tracks + 1 → is_option night s (candidate at) ≡ true
+    → options_left night s at ≡ candidate at ∷ options_left night s (at + 1)
 unfolding options_left
-option_given night s at lt t = ap (filter (is_option night s)) (one_on night at lt) ∙ filter_yes (is_option night s) (candidate at) (drop (at + 1) (candidates (length night.station.tracks))) t
+option_given night s at lt t = ap (filter (is_option night s)) (one_on night at lt)
+    ∙ filter_yes (is_option night s) (candidate at) (drop (at + 1) (candidates (length night.station.tracks))) t
 
-pub option_skipped : (night : Night) (s : Shape) (at : ℕ) → at < 4 * length night.station.tracks + 1 → is_option night s (candidate at) ≡ false → options_left night s at ≡ options_left night s (at + 1)
+pub option_skipped : (night : Night) (s : Shape) (at : ℕ) → at < 4 * length night.station.tracks + 1 → is_option night s (candidate at) ≡ false
+    → options_left night s at ≡ options_left night s (at + 1)
 unfolding options_left
-option_skipped night s at lt t = ap (filter (is_option night s)) (one_on night at lt) ∙ filter_no (is_option night s) (candidate at) (drop (at + 1) (candidates (length night.station.tracks))) t
+option_skipped night s at lt t = ap (filter (is_option night s)) (one_on night at lt)
+    ∙ filter_no (is_option night s) (candidate at) (drop (at + 1) (candidates (length night.station.tracks))) t
 
 pub options_end : (night : Night) (s : Shape) (at : ℕ) → 4 * length night.station.tracks + 1 ≤ at → options_left night s at ≡ []
 unfolding options_left

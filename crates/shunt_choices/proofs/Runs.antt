@@ -35,7 +35,8 @@ not_two true true c e = absurd (true≢false e)
 not_two true false c e = refl
 not_two false b c e = refl
 
-inside : (night : Night) (covered : Masks) (u v n room k : ℕ) → nat_le n room ≡ (has_units night u n && has_positions night v n) → k ≤ room → all_below k (λ k. is_free_pair night covered (u + k) (v + k)) ≡ true → n ≤ k → is_free_run night covered u n v ≡ true
+inside : (night : Night) (covered : Masks) (u v n room k : ℕ) → nat_le n room ≡ (has_units night u n && has_positions night v n) → k ≤ room
+    → all_below k (λ k. is_free_pair night covered (u + k) (v + k)) ≡ true → n ≤ k → is_free_run night covered u n v ≡ true
 unfolding is_free_run
 inside night covered u v n room k fits within all le =
     all_three (has_units night u n) (has_positions night v n) _ (sym fits ∙ le-leb n room (omega arith))
@@ -50,7 +51,9 @@ unfolding is_free_run
 outside night covered u v n room fits lt = not_two (has_units night u n) (has_positions night v n) _ (sym fits ∙ lt-leb n room lt)
 
 -- the first pair that isn't free ends it
-pub stops : (night : Night) (covered : Masks) (u v room k : ℕ) → ((n : ℕ) → nat_le n room ≡ (has_units night u n && has_positions night v n)) → k < room → all_below k (λ k. is_free_pair night covered (u + k) (v + k)) ≡ true → is_free_pair night covered (u + k) (v + k) ≡ false → (n : ℕ) → nat_le n k ≡ is_free_run night covered u n v
+pub stops : (night : Night) (covered : Masks) (u v room k : ℕ) → ((n : ℕ) → nat_le n room ≡ (has_units night u n && has_positions night v n)) → k < room
+    → all_below k (λ k. is_free_pair night covered (u + k) (v + k)) ≡ true → is_free_pair night covered (u + k) (v + k) ≡ false → (n : ℕ)
+    → nat_le n k ≡ is_free_run night covered u n v
 stops night covered u v room k fits lt all no' n =
     ⊎_elim
     (λ more. lt-leb n k more ∙ sym (blocked night covered u v n k no' more))
@@ -58,7 +61,8 @@ stops night covered u v room k fits lt all no' n =
     (cases_lt k n)
 
 -- or the end of a train
-pub goes_on : (night : Night) (covered : Masks) (u v room : ℕ) → ((n : ℕ) → nat_le n room ≡ (has_units night u n && has_positions night v n)) → all_below room (λ k. is_free_pair night covered (u + k) (v + k)) ≡ true → (n : ℕ) → nat_le n room ≡ is_free_run night covered u n v
+pub goes_on : (night : Night) (covered : Masks) (u v room : ℕ) → ((n : ℕ) → nat_le n room ≡ (has_units night u n && has_positions night v n))
+    → all_below room (λ k. is_free_pair night covered (u + k) (v + k)) ≡ true → (n : ℕ) → nat_le n room ≡ is_free_run night covered u n v
 goes_on night covered u v room fits all n =
     ⊎_elim
     (λ more. lt-leb n room more ∙ sym (outside night covered u v n room (fits n) more))
@@ -70,15 +74,18 @@ pub starts_blocked : (night : Night) (covered : Masks) (u v : ℕ) → is_free_p
 starts_blocked night covered u v no' n some =
     let here : u ≡ u + 0 = omega arith in
     let there : v ≡ v + 0 = omega arith in
-    lt-leb n 0 some ∙ sym (blocked night covered u v n 0 (subst (λ (a : ℕ). is_free_pair night covered a (v + 0) ≡ false) here (subst (λ (b : ℕ). is_free_pair night covered u b ≡ false) there no')) some)
+    lt-leb n 0 some ∙ sym (blocked night covered u v n 0 (subst (λ (a : ℕ). is_free_pair night covered a (v + 0) ≡ false) here
+    (subst (λ (b : ℕ). is_free_pair night covered u b ≡ false) there no')) some)
 
 -- ---- the table of these lengths
 
-pub table_more : (tells : ℕ → ℕ → Bool) (reach : List ℕ) (i x : ℕ) → i < length reach → ((n v : ℕ) → 1 ≤ n → v < i → nat_le n (get_or reach v 0) ≡ tells n v) → ((n : ℕ) → 1 ≤ n → nat_le n x ≡ tells n i) → (n v : ℕ) → 1 ≤ n → v < i + 1 → nat_le n (get_or (slice_set reach i x) v 0) ≡ tells n v
+pub table_more : (tells : ℕ → ℕ → Bool) (reach : List ℕ) (i x : ℕ) → i < length reach → ((n v : ℕ) → 1 ≤ n → v < i → nat_le n (get_or reach v 0) ≡ tells n v)
+    → ((n : ℕ) → 1 ≤ n → nat_le n x ≡ tells n i) → (n v : ℕ) → 1 ≤ n → v < i + 1 → nat_le n (get_or (slice_set reach i x) v 0) ≡ tells n v
 table_more tells reach i x within before here n v some lt =
     ⊎_elim
     (λ less. ap (nat_le n) (get_or-set_other reach i v x 0 (λ e. absurd (omega arith))) ∙ before n v some less)
-    (λ le. let e : i ≡ v = omega arith in subst (λ (w : ℕ). nat_le n (get_or (slice_set reach i x) w 0) ≡ tells n w) e (ap (nat_le n) (get_or-set_same reach i x 0 within) ∙ here n some))
+    (λ le. let e : i ≡ v = omega arith in subst (λ (w : ℕ). nat_le n (get_or (slice_set reach i x) w 0) ≡ tells n w) e
+    (ap (nat_le n) (get_or-set_same reach i x 0 within) ∙ here n some))
     (cases_lt v i)
 
 pub table_small : (most : ℕ) (reach : List ℕ) (i x : ℕ) → i < length reach → ((v : ℕ) → get_or reach v 0 ≤ most) → x ≤ most → (v : ℕ) → get_or (slice_set reach i x) v 0 ≤ most
@@ -97,7 +104,8 @@ zero_at (suc n) zero = refl
 zero_at (suc n) (suc v) = zero_at n v
 
 -- the greatest number of a table
-pub bound_more : (numbers : List ℕ) (i most greater : ℕ) → most ≤ greater → get_or numbers i 0 ≤ greater → ((k : ℕ) → k < i → get_or numbers k 0 ≤ most) → (k : ℕ) → k < i + 1 → get_or numbers k 0 ≤ greater
+pub bound_more : (numbers : List ℕ) (i most greater : ℕ) → most ≤ greater → get_or numbers i 0 ≤ greater → ((k : ℕ) → k < i → get_or numbers k 0 ≤ most) → (k : ℕ) → k < i + 1
+    → get_or numbers k 0 ≤ greater
 bound_more numbers i most greater le here before k lt =
     ⊎_elim
     (λ less. omega (arith, before k less))
@@ -110,8 +118,10 @@ filter_alike : (p q : ℕ → Bool) (a n : ℕ) → ((v : ℕ) → v < a + n →
 filter_alike p q a zero alike = refl
 filter_alike p q a (suc n) alike =
     ⊎_elim
-    (λ t. filter_yes p a (range_with_len (a + 1) n) t ∙ ap (λ (xs : List ℕ). a ∷ xs) (filter_alike p q (a + 1) n (λ v lt. alike v (omega arith))) ∙ sym (filter_yes q a (range_with_len (a + 1) n) (sym (alike a (omega arith)) ∙ t)))
-    (λ t. filter_no p a (range_with_len (a + 1) n) t ∙ filter_alike p q (a + 1) n (λ v lt. alike v (omega arith)) ∙ sym (filter_no q a (range_with_len (a + 1) n) (sym (alike a (omega arith)) ∙ t)))
+    (λ t. filter_yes p a (range_with_len (a + 1) n) t ∙ ap (λ (xs : List ℕ). a ∷ xs) (filter_alike p q (a + 1) n (λ v lt. alike v (omega arith)))
+    ∙ sym (filter_yes q a (range_with_len (a + 1) n) (sym (alike a (omega arith)) ∙ t)))
+    (λ t. filter_no p a (range_with_len (a + 1) n) t ∙ filter_alike p q (a + 1) n (λ v lt. alike v (omega arith))
+    ∙ sym (filter_no q a (range_with_len (a + 1) n) (sym (alike a (omega arith)) ∙ t)))
     (cases_Bool (p a))
 
 filter_none : (p : ℕ → Bool) (xs : List ℕ) → ((v : ℕ) → p v ≡ false) → filter p xs ≡ []
@@ -121,17 +131,21 @@ filter_none p (x ∷ xs) never = filter_no p x xs (never x) ∙ filter_none p xs
 abbrev Tells : Night → Masks → ℕ → List ℕ → Type 0
 Tells night covered u reach = (n v : ℕ) → 1 ≤ n → v < position_total night → nat_le n (get_or reach v 0) ≡ is_free_run night covered u n v
 
-row_is : (night : Night) (covered : Masks) (u : ℕ) (reach : List ℕ) (n : ℕ) → 1 ≤ n → Tells night covered u reach → row_left night u reach n 0 (position_total night) ≡ shapes_of_length night covered u n
-row_is night covered u reach n some tells = ap (map (shape_at night u n)) (filter_alike (λ w. nat_le n (get_or reach w 0)) (is_free_run night covered u n) 0 (position_total night) (λ v lt. tells n v some (omega arith)))
+row_is : (night : Night) (covered : Masks) (u : ℕ) (reach : List ℕ) (n : ℕ) → 1 ≤ n → Tells night covered u reach
+    → row_left night u reach n 0 (position_total night) ≡ shapes_of_length night covered u n
+row_is night covered u reach n some tells = ap (map (shape_at night u n)) (filter_alike (λ w. nat_le n (get_or reach w 0)) (is_free_run night covered u n) 0 (position_total night)
+    (λ v lt. tells n v some (omega arith)))
 
-rows_are : (night : Night) (covered : Masks) (u : ℕ) (reach : List ℕ) (n many : ℕ) → 1 ≤ n → Tells night covered u reach → rows_left night u reach n many ≡ flat_map (shapes_of_length night covered u) (range_with_len n many)
+rows_are : (night : Night) (covered : Masks) (u : ℕ) (reach : List ℕ) (n many : ℕ) → 1 ≤ n → Tells night covered u reach
+    → rows_left night u reach n many ≡ flat_map (shapes_of_length night covered u) (range_with_len n many)
 rows_are night covered u reach n zero some tells = refl
 rows_are night covered u reach n (suc many) some tells =
     ap (λ (xs : List Shape). xs ++ rows_left night u reach (n + 1) many) (row_is night covered u reach n some tells)
     ∙ ap (λ (xs : List Shape). shapes_of_length night covered u n ++ xs) (rows_are night covered u reach (n + 1) many (omega arith) tells)
 
 row_past : (night : Night) (u : ℕ) (reach : List ℕ) (most n : ℕ) → ((v : ℕ) → get_or reach v 0 ≤ most) → most < n → row_left night u reach n 0 (position_total night) ≡ []
-row_past night u reach most n small past = ap (map (shape_at night u n)) (filter_none (λ w. nat_le n (get_or reach w 0)) (range_with_len 0 (position_total night)) (λ v. lt-leb n (get_or reach v 0) (omega (arith, small v))))
+row_past night u reach most n small past = ap (map (shape_at night u n)) (filter_none (λ w. nat_le n (get_or reach w 0)) (range_with_len 0 (position_total night))
+    (λ v. lt-leb n (get_or reach v 0) (omega (arith, small v))))
 
 rows_past : (night : Night) (u : ℕ) (reach : List ℕ) (most n many : ℕ) → ((v : ℕ) → get_or reach v 0 ≤ most) → most < n → rows_left night u reach n many ≡ []
 rows_past night u reach most n zero small past = refl
@@ -139,12 +153,15 @@ rows_past night u reach most n (suc many) small past =
     ap (λ (xs : List Shape). xs ++ rows_left night u reach (n + 1) many) (row_past night u reach most n small past)
     ∙ rows_past night u reach most (n + 1) many small (omega arith)
 
-rows_short : (night : Night) (u : ℕ) (reach : List ℕ) (most n many few : ℕ) → ((v : ℕ) → get_or reach v 0 ≤ most) → few ≤ many → most < n + few → rows_left night u reach n many ≡ rows_left night u reach n few
+rows_short : (night : Night) (u : ℕ) (reach : List ℕ) (most n many few : ℕ) → ((v : ℕ) → get_or reach v 0 ≤ most) → few ≤ many → most < n + few
+    → rows_left night u reach n many ≡ rows_left night u reach n few
 rows_short night u reach most n many zero small le past = rows_past night u reach most n many small (omega arith)
 rows_short night u reach most n zero (suc few) small le past = absurd (omega arith)
-rows_short night u reach most n (suc many) (suc few) small le past = ap (λ (xs : List Shape). row_left night u reach n 0 (position_total night) ++ xs) (rows_short night u reach most (n + 1) many few small (omega arith) (omega arith))
+rows_short night u reach most n (suc many) (suc few) small le past = ap (λ (xs : List Shape). row_left night u reach n 0 (position_total night) ++ xs)
+    (rows_short night u reach most (n + 1) many few small (omega arith) (omega arith))
 
-pub all_left : (night : Night) (covered : Masks) (u : ℕ) (reach : List ℕ) (most : ℕ) → Tells night covered u reach → ((v : ℕ) → get_or reach v 0 ≤ most) → most ≤ 8 → shapes_left night u reach most 1 0 ≡ shapes_of night covered u
+pub all_left : (night : Night) (covered : Masks) (u : ℕ) (reach : List ℕ) (most : ℕ) → Tells night covered u reach → ((v : ℕ) → get_or reach v 0 ≤ most) → most ≤ 8
+    → shapes_left night u reach most 1 0 ≡ shapes_of night covered u
 unfolding shapes_left shapes_of
 all_left night covered u reach most tells small few =
     let whole : position_total night - 0 ≡ position_total night = omega arith in

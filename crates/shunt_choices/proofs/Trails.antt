@@ -48,17 +48,21 @@ pub pushed : (numbered : PlaceLaws) (night : Night) (t : Trail) (b : Block) → 
 pushed numbered night t b is in_range units places = record {
   each = All-append (IsInRange night) t.blocks (b ∷ []) is.each (All-cons (IsInRange night) b [] in_range (All-nil (IsInRange night)));
   apart = record {
-    units = λ u. few_more (times_unit night t.blocks u) _ (has_unit night (shape_of b) u) (unit_more night t.blocks b u) (is.apart.units u) (λ e. free_unit u (has_from night b u e));
-    positions = λ v. few_more (times_position night t.blocks v) _ (has_position night (shape_of b) v) (position_more night t.blocks b v) (is.apart.positions v) (λ e. free_position v (has_position_from night b v e));
+    units = λ u. few_more (times_unit night t.blocks u) _ (has_unit night (shape_of b) u) (unit_more night t.blocks b u) (is.apart.units u)
+        (λ e. free_unit u (has_from night b u e));
+    positions = λ v. few_more (times_position night t.blocks v) _ (has_position night (shape_of b) v) (position_more night t.blocks b v) (is.apart.positions v)
+        (λ e. free_position v (has_position_from night b v e));
   };
   covered = refl;
 }
   where
     free_unit : (u : ℕ) → HasUnit night (shape_of b) u → times_unit night t.blocks u ≡ 0
-    free_unit u has = not_taken (times_unit night t.blocks) (unit_total night) u true (numbered.unit_in night (shape_of b) u in_range.within.runs has) (subst (λ m. slice_index_or m.units u true ≡ false) is.covered (units u has))
+    free_unit u has = not_taken (times_unit night t.blocks) (unit_total night) u true (numbered.unit_in night (shape_of b) u in_range.within.runs has)
+        (subst (λ m. slice_index_or m.units u true ≡ false) is.covered (units u has))
 
     free_position : (v : ℕ) → HasPosition night (shape_of b) v → times_position night t.blocks v ≡ 0
-    free_position v has = not_taken (times_position night t.blocks) (position_total night) v true (numbered.position_in night (shape_of b) v in_range.within.runs has) (subst (λ m. slice_index_or m.places v true ≡ false) is.covered (places v has))
+    free_position v has = not_taken (times_position night t.blocks) (position_total night) v true (numbered.position_in night (shape_of b) v in_range.within.runs has)
+        (subst (λ m. slice_index_or m.places v true ≡ false) is.covered (places v has))
 
 -- ---- a block less
 
@@ -89,10 +93,20 @@ room fewer night t u is next =
 -- ---- the masks that the code makes
 
 pub unit_end : (numbered : PlaceLaws) (night : Night) (b : Block) → IsInRange night b → unit_from night (shape_of b) + b.n ≤ unit_total night
-unit_end numbered night b is = let r = is.within.runs in omega (arith, numbered.unit_in night (shape_of b) (unit_from night (shape_of b) + (b.n - 1)) r (record { from = omega arith; to = omega (arith, r.n) }), r.n)
+unit_end numbered night b is = let r = is.within.runs in omega (
+  arith,
+  numbered.unit_in night (shape_of b) (unit_from night (shape_of b) + (b.n - 1)) r
+      (record { from = omega arith; to = omega (arith, r.n) }),
+  r.n,
+)
 
 pub position_end : (numbered : PlaceLaws) (night : Night) (b : Block) → IsInRange night b → position_from night (shape_of b) + b.n ≤ position_total night
-position_end numbered night b is = let r = is.within.runs in omega (arith, numbered.position_in night (shape_of b) (position_from night (shape_of b) + (b.n - 1)) r (record { from = omega arith; to = omega (arith, r.n) }), r.n)
+position_end numbered night b is = let r = is.within.runs in omega (
+  arith,
+  numbered.position_in night (shape_of b) (position_from night (shape_of b) + (b.n - 1)) r
+      (record { from = omega arith; to = omega (arith, r.n) }),
+  r.n,
+)
 
 both_masks : (m : Masks) (units places : List Bool) → m.units ≡ units → m.places ≡ places → m ≡ record { units = units; places = places }
 both_masks m units places e f = ap (λ x. record { units = x; places = m.places }) e ∙ ap (λ y. record { units = units; places = y }) f
@@ -105,7 +119,8 @@ covered_pushed numbered night blocks b old m is in_range units places = both_mas
     (units ∙ ap (λ c. filled c.units (unit_from night (shape_of b)) b.n true) is ∙ units_pushed night blocks b (unit_end numbered night b in_range))
     (places ∙ ap (λ c. filled c.places (position_from night (shape_of b)) b.n true) is ∙ positions_pushed night blocks b (position_end numbered night b in_range))
 
-pub covered_next : (numbered : PlaceLaws) (night : Night) (blocks : List Block) (k : ℕ) (d : Block) (old m : Masks) → old ≡ masks_of night (take k blocks) → All (IsInRange night) blocks → k < length blocks
+pub covered_next : (numbered : PlaceLaws) (night : Night) (blocks : List Block) (k : ℕ) (d : Block) (old m : Masks) → old ≡ masks_of night (take k blocks)
+    → All (IsInRange night) blocks → k < length blocks
     → m.units ≡ filled old.units (unit_from night (shape_of (get_or blocks k d))) (get_or blocks k d).n true
     → m.places ≡ filled old.places (position_from night (shape_of (get_or blocks k d))) (get_or blocks k d).n true
     → m ≡ masks_of night (take (k + 1) blocks)
@@ -113,7 +128,8 @@ covered_next numbered night blocks k d old m is all lt units places =
     covered_pushed numbered night (take k blocks) (get_or blocks k d) old m is (all k d lt) units places ∙ ap (masks_of night) (sym (take_more blocks k d lt))
 
 pub last_in_range : (night : Night) (t : Trail) (front : List Block) (b : Block) → IsTrailOf night t → t.blocks ≡ front ++ b ∷ [] → IsInRange night b
-last_in_range night t front b is e = subst (λ x. IsInRange night x) (get_or-append_seam front b [] b) (subst (λ bs. All (IsInRange night) bs) e is.each (length front) b (omega (arith, length-append front (b ∷ []))))
+last_in_range night t front b is e = subst (λ x. IsInRange night x) (get_or-append_seam front b [] b)
+    (subst (λ bs. All (IsInRange night) bs) e is.each (length front) b (omega (arith, length-append front (b ∷ []))))
 
 pub popped : (numbered : PlaceLaws) (night : Night) (t : Trail) (front : List Block) (b : Block) (m : Masks) → IsTrailOf night t → t.blocks ≡ front ++ b ∷ []
     → m.units ≡ filled t.covered.units (unit_from night (shape_of b)) b.n false
@@ -123,22 +139,27 @@ popped numbered night t front b m is e units places =
     let in_range = last_in_range night t front b is e in
     let apart = subst (λ bs. ShareNothing night bs) e is.apart in
     record {
-      each = (λ k d lt. subst (λ x. IsInRange night x) (get_or_append_left front (b ∷ []) d k lt) (subst (λ bs. All (IsInRange night) bs) e is.each k d (omega (arith, lt, length-append front (b ∷ [])))));
+      each = (λ k d lt. subst (λ x. IsInRange night x) (get_or_append_left front (b ∷ []) d k lt)
+          (subst (λ bs. All (IsInRange night) bs) e is.each k d (omega (arith, lt, length-append front (b ∷ [])))));
       apart = front_apart night front b apart;
       covered = both_masks m _ _
-          (units ∙ ap (λ c. filled c.units (unit_from night (shape_of b)) b.n false) (is.covered ∙ ap (masks_of night) e) ∙ units_popped night front b apart (unit_end numbered night b in_range))
-          (places ∙ ap (λ c. filled c.places (position_from night (shape_of b)) b.n false) (is.covered ∙ ap (masks_of night) e) ∙ positions_popped night front b apart (position_end numbered night b in_range));
+          (units ∙ ap (λ c. filled c.units (unit_from night (shape_of b)) b.n false) (is.covered ∙ ap (masks_of night) e)
+          ∙ units_popped night front b apart (unit_end numbered night b in_range))
+          (places ∙ ap (λ c. filled c.places (position_from night (shape_of b)) b.n false) (is.covered ∙ ap (masks_of night) e)
+          ∙ positions_popped night front b apart (position_end numbered night b in_range));
     }
 
 -- ---- blocks of one unit
 
 -- the next unit isn't covered
-pub next_free : (night : Night) (b : Block) (covered : Masks) → b.n ≡ 1 → next_of covered ≡ Some (begins_at night b) → (u : ℕ) → HasUnit night (shape_of b) u → slice_index_or covered.units u true ≡ false
+pub next_free : (night : Night) (b : Block) (covered : Masks) → b.n ≡ 1 → next_of covered ≡ Some (begins_at night b) → (u : ℕ) → HasUnit night (shape_of b) u
+    → slice_index_or covered.units u true ≡ false
 next_free night b covered one next u has =
     let same : begins_at night b ≡ u = omega (arith, one, has.from, has.to) in
     subst (λ v. slice_index_or covered.units v true ≡ false) same (not-true _ (position-Some (λ c. not c) covered.units (begins_at night b) true next).1)
 
-pub only_position : (night : Night) (b : Block) (covered : Masks) → b.n ≡ 1 → slice_index_or covered.places (position_from night (shape_of b)) true ≡ false → (v : ℕ) → HasPosition night (shape_of b) v → slice_index_or covered.places v true ≡ false
+pub only_position : (night : Night) (b : Block) (covered : Masks) → b.n ≡ 1 → slice_index_or covered.places (position_from night (shape_of b)) true ≡ false → (v : ℕ)
+    → HasPosition night (shape_of b) v → slice_index_or covered.places v true ≡ false
 only_position night b covered one free v has =
     let same : position_from night (shape_of b) ≡ v = omega (arith, one, has.from, has.to) in
     subst (λ w. slice_index_or covered.places w true ≡ false) same free

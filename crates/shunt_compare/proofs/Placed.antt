@@ -32,7 +32,8 @@ module _ (night : Night) (blocks : List Block) (h : IsFeasible night blocks) whe
 
   -- the block that begins at a unit is the one that has it
   pub begins_with : (u : ℕ) (b c : Block) → u < unit_total night → In b blocks → begins_at night b ≡ u → In c blocks → has_unit night (shape_of c) u ≡ true → b ≡ c
-  begins_with u b c lt there e other has = one_with u b c lt there other (subst (λ (v : ℕ). has_unit night (shape_of b) v ≡ true) e (begins night b (is_block b there).shape.within.n)) has
+  begins_with u b c lt there e other has = one_with u b c lt there other (subst (λ (v : ℕ). has_unit night (shape_of b) v ≡ true) e
+      (begins night b (is_block b there).shape.within.n)) has
 
 -- no unit that both plans place alike is changed
 pub no_change : (night : Night) (was now : List Block) (u : ℕ) (x y : Placement) → IsFeasible night was → IsFeasible night now → u < unit_total night →

@@ -24,7 +24,8 @@ use Rattle.shunt_compare.proofs.Placed.{begins, is_block, some_with, one_with}
 
 -- what the laws of places say
 pub record PlaceLaws : Type 0 where
-  pub position : (night : Night) (s : Shape) (k : ℕ) → AreRunsWithin night s → k < s.n → position_at night (position_from night s + k) ≡ make_position s.dep.0 (s.q + k) (kind_at (train_at night.depart s.dep.0) (s.q + k))
+  pub position : (night : Night) (s : Shape) (k : ℕ) → AreRunsWithin night s → k < s.n
+      → position_at night (position_from night s + k) ≡ make_position s.dep.0 (s.q + k) (kind_at (train_at night.depart s.dep.0) (s.q + k))
   pub unit_in : (night : Night) (s : Shape) (u : ℕ) → AreRunsWithin night s → HasUnit night s u → u < unit_total night
 
 -- ---- what can be told apart
@@ -106,13 +107,16 @@ module _ (laws : PlaceLaws) (night : Night) where
   same_block b c inside outside h e = alike (sym h.arr) (sym h.p) (sym h.n) (sym dep) (sym q) (sym (ap (λ (x : Placement). x.park) e))
     where
       first : begins_at night b ≡ begins_at night c
-      first = ap (λ (a : ArrId). unit_from night (record { arr = a; p = b.p; n = b.n; dep = b.dep; q = b.q })) h.arr ∙ ap (λ (p : ℕ). unit_from night (record { arr = c.arr; p = p; n = b.n; dep = b.dep; q = b.q })) h.p
+      first = ap (λ (a : ArrId). unit_from night (record { arr = a; p = b.p; n = b.n; dep = b.dep; q = b.q })) h.arr
+          ∙ ap (λ (p : ℕ). unit_from night (record { arr = c.arr; p = p; n = b.n; dep = b.dep; q = b.q })) h.p
 
       from : position_from night (shape_of b) + 0 ≡ position_from night (shape_of c) + 0
       from = omega (arith, ap (λ (x : Placement). x.position) e, first)
 
-      positions : make_position b.dep.0 (b.q + 0) (kind_at (train_at night.depart b.dep.0) (b.q + 0)) ≡ make_position c.dep.0 (c.q + 0) (kind_at (train_at night.depart c.dep.0) (c.q + 0))
-      positions = sym (laws.position night (shape_of b) 0 inside (omega (arith, inside.n))) ∙ (ap (position_at night) from ∙ laws.position night (shape_of c) 0 outside (omega (arith, outside.n)))
+      positions : make_position b.dep.0 (b.q + 0) (kind_at (train_at night.depart b.dep.0) (b.q + 0))
+          ≡ make_position c.dep.0 (c.q + 0) (kind_at (train_at night.depart c.dep.0) (c.q + 0))
+      positions = sym (laws.position night (shape_of b) 0 inside (omega (arith, inside.n)))
+          ∙ (ap (position_at night) from ∙ laws.position night (shape_of c) 0 outside (omega (arith, outside.n)))
 
       dep : b.dep ≡ c.dep
       dep = ap (λ (x : ℕ). record { 0 = x }) (ap (λ (x : Position). x.train.0) positions)
@@ -156,7 +160,8 @@ module _ (laws : PlaceLaws) (night : Night) where
             outside = (is_block night was before c is).shape.within
 
             first : begins_at night c ≡ begins_at night b
-            first = sym (ap (λ (a : ArrId). unit_from night (record { arr = a; p = b.p; n = b.n; dep = b.dep; q = b.q })) units.arr ∙ ap (λ (p : ℕ). unit_from night (record { arr = c.arr; p = p; n = b.n; dep = b.dep; q = b.q })) units.p)
+            first = sym (ap (λ (a : ArrId). unit_from night (record { arr = a; p = b.p; n = b.n; dep = b.dep; q = b.q })) units.arr
+                ∙ ap (λ (p : ℕ). unit_from night (record { arr = c.arr; p = p; n = b.n; dep = b.dep; q = b.q })) units.p)
 
             has : has_unit night (shape_of c) (begins_at night b) ≡ true
             has = subst (λ (u : ℕ). has_unit night (shape_of c) u ≡ true) first (begins night c outside.n)
@@ -178,12 +183,14 @@ module _ (laws : PlaceLaws) (night : Night) where
         k = keeps found.0 found.1
 
         one : k.block ≡ c
-        one = one_with night was before (begins_at night c) k.block c (first_in c inside) k.there there (same_unit night found.0 k.block (begins_at night c) (sym k.same) found.2) (begins night c inside.n)
+        one = one_with night was before (begins_at night c) k.block c (first_in c inside) k.there there (same_unit night found.0 k.block (begins_at night c) (sym k.same) found.2)
+            (begins night c inside.n)
 
     -- ---- all is kept, so nothing otherwise
 
     unchanged : Keeps was now → (c : Change) → c.unit < unit_total night → IsChange night was now c → ⊥
-    unchanged keeps c lt h = h.differs (h.before.is ∙ (ap (λ (x : Block). placement_of night x c.unit) (sym one) ∙ (same_placement night k.block h.after.block c.unit k.same ∙ sym h.after.is)))
+    unchanged keeps c lt h = h.differs (h.before.is ∙ (ap (λ (x : Block). placement_of night x c.unit) (sym one)
+        ∙ (same_placement night k.block h.after.block c.unit k.same ∙ sym h.after.is)))
       where
         k : IsKept was h.after.block
         k = let at = in_to now h.after.block h.after.there in subst (IsKept was) at.2 (keeps at.0 h.after.block at.1)
@@ -192,7 +199,12 @@ module _ (laws : PlaceLaws) (night : Night) where
         one = one_with night was before c.unit k.block h.before.block lt k.there h.before.there (same_unit night h.after.block k.block c.unit (sym k.same) h.after.has) h.before.has
 
     together : Keeps was now → (b : Block) → IsRegrouped was now b → ⊥
-    together keeps b h = h.none k.block k.there (record { arr = ap (λ (x : Block). x.arr) (sym k.same); p = ap (λ (x : Block). x.p) (sym k.same); n = ap (λ (x : Block). x.n) (sym k.same) })
+    together keeps b h = h.none k.block k.there (record {
+      arr = ap (λ (x : Block). x.arr) (sym k.same);
+      p = ap (λ (x : Block). x.p) (sym k.same);
+      n = ap (λ (x : Block). x.n)
+          (sym k.same);
+    })
       where
         k : IsKept was b
         k = let at = in_to now b h.there in subst (IsKept was) at.2 (keeps at.0 b at.1)

@@ -19,7 +19,8 @@ pub count_same : (a i d : ℕ) (trains : List Train) → unit_count (take a (del
 count_same zero i d trains = refl
 count_same (suc a) i d [] = refl
 count_same (suc a) zero d (t ∷ trains) = sum_by-cons size (record t { minute = t.minute + d }) (take a trains) ∙ sym (sum_by-cons size t (take a trains))
-count_same (suc a) (suc i) d (t ∷ trains) = sum_by-cons size t (take a (delayed i d trains)) ∙ ap (λ (n : ℕ). size t + n) (count_same a i d trains) ∙ sym (sum_by-cons size t (take a trains))
+count_same (suc a) (suc i) d (t ∷ trains) = sum_by-cons size t (take a (delayed i d trains)) ∙ ap (λ (n : ℕ). size t + n) (count_same a i d trains)
+    ∙ sym (sum_by-cons size t (take a trains))
 
 pub length_same : (i d : ℕ) (trains : List Train) → length (delayed i d trains) ≡ length trains
 length_same i d [] = refl

@@ -53,17 +53,26 @@ no_type = record { name = []; length = 0; turn = 0 }
 turn_some : (s : Station) (kind : TypeId) → IsStation s → kind.0 < length s.types → 1 ≤ turn_of s kind
 turn_some s kind h lt = omega (arith, get_or-map (λ (t : UnitType). t.turn) s.types kind.0 no_type 0 lt, (h.types kind.0 no_type lt).turns)
 
-ready_is : Units → (night : Night) (s : Shape) (k : ℕ) → AreRunsWithin night s → k < s.n → ready night (unit_from night s + k) ≡ (train_at night.arrive s.arr.0).minute + turn_of night.station (kind_at (train_at night.arrive s.arr.0) (s.p + k))
-ready_is units night s k h lt = ap (λ (u : TrainUnit). minute_at night.arrive u.train.0 + turn_of night.station u.kind) (units night s k h lt) ∙ ap (λ (m : ℕ). m + turn_of night.station (kind_at (train_at night.arrive s.arr.0) (s.p + k))) (minute_is night.arrive s.arr.0 h.arr)
+ready_is : Units → (night : Night) (s : Shape) (k : ℕ) → AreRunsWithin night s → k < s.n
+    → ready night (unit_from night s + k) ≡ (train_at night.arrive s.arr.0).minute + turn_of night.station (kind_at (train_at night.arrive s.arr.0) (s.p + k))
+ready_is units night s k h lt = ap (λ (u : TrainUnit). minute_at night.arrive u.train.0 + turn_of night.station u.kind) (units night s k h lt)
+    ∙ ap (λ (m : ℕ). m + turn_of night.station (kind_at (train_at night.arrive s.arr.0) (s.p + k))) (minute_is night.arrive s.arr.0 h.arr)
 
-kind_there : (night : Night) (s : Shape) (k : ℕ) → IsOrderedNight night → AreRunsWithin night s → k < s.n → (kind_at (train_at night.arrive s.arr.0) (s.p + k)).0 < length night.station.types
+kind_there : (night : Night) (s : Shape) (k : ℕ) → IsOrderedNight night → AreRunsWithin night s → k < s.n
+    → (kind_at (train_at night.arrive s.arr.0) (s.p + k)).0 < length night.station.types
 kind_there night s k h r lt = (h.timetable.arrive.each s.arr.0 _ r.arr).kinds (s.p + k - 1) _ (omega (arith, r.p, r.units, lt))
 
 in_time : (night : Night) (d : ℕ) (s : Shape) (k : ℕ) → is_too_soon_by night d s ≡ false → k < s.n → ready night (unit_from night s + k) + d ≤ leave_minute night s
 in_time night d s k soon lt = leb-true _ _ (each_passes s.n _ (not-false _ soon) k lt)
 
-enters_first : Units → (night : Night) (d : ℕ) (s : Shape) → IsOrderedNight night → AreRunsWithin night s → is_too_soon_by night d s ≡ false → (train_at night.arrive s.arr.0).minute + d < leave_minute night s
-enters_first units night d s h r soon = omega (arith, in_time night d s 0 soon (omega (arith, r.n)), ready_is units night s 0 r (omega (arith, r.n)), turn_some night.station (kind_at (train_at night.arrive s.arr.0) (s.p + 0)) h.station (kind_there night s 0 h r (omega (arith, r.n))))
+enters_first : Units → (night : Night) (d : ℕ) (s : Shape) → IsOrderedNight night → AreRunsWithin night s → is_too_soon_by night d s ≡ false
+    → (train_at night.arrive s.arr.0).minute + d < leave_minute night s
+enters_first units night d s h r soon = omega (
+  arith,
+  in_time night d s 0 soon (omega (arith, r.n)),
+  ready_is units night s 0 r (omega (arith, r.n)),
+  turn_some night.station (kind_at (train_at night.arrive s.arr.0) (s.p + 0)) h.station (kind_there night s 0 h r (omega (arith, r.n))),
+)
 
 -- ---- stays of blocks
 
@@ -101,7 +110,8 @@ pub record IsLateStay (night : Night) (d : ℕ) (b : Block) (s : Stay) : Type 0 
 pub of_late : (night : Night) (d : ℕ) (b : Block) (s : Stay) → late_stay night d b ≡ Some s → IsLateStay night d b s
 of_late night d b s e = elim (cases_Bool (is_too_soon_by night d (shape_of b))) [
   | inl soon ↦ absurd (none_some s (sym (cond-true (is_too_soon_by night d (shape_of b)) None (option_map (later d) (stay_of night b)) soon) ∙ e))
-  | inr late_enough ↦ let r = of_later d (stay_of night b) s (sym (cond-false (is_too_soon_by night d (shape_of b)) None (option_map (later d) (stay_of night b)) late_enough) ∙ e) in
+  | inr late_enough ↦ let r = of_later d (stay_of night b) s (sym (cond-false (is_too_soon_by night d (shape_of b)) None
+      (option_map (later d) (stay_of night b)) late_enough) ∙ e) in
       record { stay = r.0; of = r.1; is = r.2; in_time = late_enough }
 ]
   where
@@ -109,10 +119,12 @@ of_late night d b s e = elim (cases_Bool (is_too_soon_by night d (shape_of b))) 
     none_some s e = absurd (cc)
 
 pub to_late : (night : Night) (d : ℕ) (b : Block) (t : Stay) → stay_of night b ≡ Some t → is_too_soon_by night d (shape_of b) ≡ false → late_stay night d b ≡ Some (later d t)
-to_late night d b t e late_enough = cond-false (is_too_soon_by night d (shape_of b)) None (option_map (later d) (stay_of night b)) late_enough ∙ ap (λ (o : Option Stay). option_map (later d) o) e
+to_late night d b t e late_enough = cond-false (is_too_soon_by night d (shape_of b)) None (option_map (later d) (stay_of night b)) late_enough
+    ∙ ap (λ (o : Option Stay). option_map (later d) o) e
 
 before : (k l : EventKey) → k.minute < l.minute → IsBefore k l
-before k l lt = ap (λ (o : Ordering). ordering_then o (ordering_then (bool_cmp k.enters l.enters) (ordering_then (nat_cmp k.train l.train) (ordering_then (nat_cmp k.place l.place) (nat_cmp k.id l.id))))) (less k.minute l.minute lt)
+before k l lt = ap (λ (o : Ordering). ordering_then o (ordering_then (bool_cmp k.enters l.enters)
+    (ordering_then (nat_cmp k.train l.train) (ordering_then (nat_cmp k.place l.place) (nat_cmp k.id l.id))))) (less k.minute l.minute lt)
   where
     less : (a b : ℕ) → a < b → nat_cmp a b ≡ Less
     less a b lt = grind (arith, nat_tests)
@@ -155,19 +167,23 @@ formed_late laws i d night b s n h few e =
 
 -- ---- lists of them
 
-stays_apart : (night : Night) (b : Block) (blocks : List Block) (s : Stay) → stay_of night b ≡ Some s → AllByRecursion (λ c. b.id ≢ c.id) blocks → AllByRecursion (λ t. s.id ≢ t.id) (stays_of night blocks)
+stays_apart : (night : Night) (b : Block) (blocks : List Block) (s : Stay) → stay_of night b ≡ Some s → AllByRecursion (λ c. b.id ≢ c.id) blocks
+    → AllByRecursion (λ t. s.id ≢ t.id) (stays_of night blocks)
 stays_apart night b blocks s e ids = all_from (λ t. s.id ≢ t.id) (stays_of night blocks)
     (λ t i same. let r = of_some (stay_of night) blocks t i in all_in (λ c. b.id ≢ c.id) blocks r.0 ids r.1 (sym (stay_id night b s e) ∙ same ∙ stay_id night r.0 t r.2))
 
-with_first : (o : Option Stay) (stays : List Stay) → ((s : Stay) → o ≡ Some s → IsWellFormed s × AllByRecursion (λ t. s.id ≢ t.id) stays) → AreStays stays → AreStays (cons_option o stays)
+with_first : (o : Option Stay) (stays : List Stay) → ((s : Stay) → o ≡ Some s → IsWellFormed s × AllByRecursion (λ t. s.id ≢ t.id) stays) → AreStays stays
+    → AreStays (cons_option o stays)
 with_first None stays h a = a
 with_first (Some s) stays h a = let r = h s refl in (r.0, r.1, a)
 
-all_formed : (night : Night) (blocks : List Block) → ((b : Block) (s : Stay) → In b blocks → stay_of night b ≡ Some s → IsWellFormed s) → Apart blocks → AreStays (stays_of night blocks)
+all_formed : (night : Night) (blocks : List Block) → ((b : Block) (s : Stay) → In b blocks → stay_of night b ≡ Some s → IsWellFormed s) → Apart blocks
+    → AreStays (stays_of night blocks)
 all_formed night [] each a = tt
 all_formed night (b ∷ blocks) each a = with_first (stay_of night b) (stays_of night blocks)
     (λ s e. (each b s (inl refl) e, stays_apart night b blocks s e a.0))
     (all_formed night blocks (λ c s i e. each c s (inr i) e) a.1)
 
 pub stays_late : Laws → (i d : ℕ) (night : Night) (blocks : List Block) → IsInstance night → AreInRange night blocks → d ≤ 120 → AreStays (stays_of (late i d night) blocks)
-stays_late laws i d night blocks n h few = all_formed (late i d night) blocks (λ b s there e. formed_late laws i d night b s n (in_range night blocks b h there) few e) (apart blocks h.ids)
+stays_late laws i d night blocks n h few = all_formed (late i d night) blocks (λ b s there e. formed_late laws i d night b s n (in_range night blocks b h there) few e)
+    (apart blocks h.ids)

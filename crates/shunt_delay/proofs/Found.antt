@@ -42,10 +42,12 @@ none_kept p (x ∷ xs) h = filter_no p x xs (h x (inl refl)) ∙ none_kept p xs 
 below_gone : (n : ℕ) (t : ℕ → Bool) (note : ℕ → Finding) → ((k : ℕ) → is_of_delay (note k) ≡ false) → filter is_of_delay (noted_below n (λ k. noted (t k) (note k))) ≡ []
 below_gone n t note h = none_kept is_of_delay (noted_below n (λ k. noted (t k) (note k))) (λ f i. let r = of_below_noted n t note f i in ap is_of_delay r.3 ∙ h r.0)
 
-flat_gone : {X : Type 0} (t : X → Bool) (note : X → Finding) (xs : List X) → ((x : X) → is_of_delay (note x) ≡ false) → filter is_of_delay (flat_map (λ x. noted (t x) (note x)) xs) ≡ []
+flat_gone : {X : Type 0} (t : X → Bool) (note : X → Finding) (xs : List X) → ((x : X) → is_of_delay (note x) ≡ false)
+    → filter is_of_delay (flat_map (λ x. noted (t x) (note x)) xs) ≡ []
 flat_gone t note xs h = none_kept is_of_delay (flat_map (λ x. noted (t x) (note x)) xs) (λ f i. let r = of_flat_noted t note xs f i in ap is_of_delay r.3 ∙ h r.0)
 
-flat_kept : {X : Type 0} (t : X → Bool) (note : X → Finding) (xs : List X) → ((x : X) → is_of_delay (note x) ≡ true) → filter is_of_delay (flat_map (λ x. noted (t x) (note x)) xs) ≡ flat_map (λ x. noted (t x) (note x)) xs
+flat_kept : {X : Type 0} (t : X → Bool) (note : X → Finding) (xs : List X) → ((x : X) → is_of_delay (note x) ≡ true)
+    → filter is_of_delay (flat_map (λ x. noted (t x) (note x)) xs) ≡ flat_map (λ x. noted (t x) (note x)) xs
 flat_kept t note xs h = all_kept is_of_delay (flat_map (λ x. noted (t x) (note x)) xs) (λ f i. let r = of_flat_noted t note xs f i in ap is_of_delay r.3 ∙ h r.0)
 
 crossings_kept : (stays : List Stay) → filter is_of_delay (crossings stays) ≡ crossings stays
@@ -86,7 +88,8 @@ clash_kept lengths stays = join is_of_delay (crossings stays) (too_longs lengths
     (crossings_kept stays)
     (flat_kept (λ s. nat_lt (slice_index lengths s.track.0) (load_after stays s)) (λ s. TooLong s.id (load_after stays s)) stays (λ s. refl))
 
-listed : (night : Night) (blocks : List Block) → delay_findings night blocks ≡ too_soons night (by_id blocks) ++ clash_findings (track_lengths night.station) (stays_of night (by_id blocks))
+listed : (night : Night) (blocks : List Block) → delay_findings night blocks ≡ too_soons night (by_id blocks)
+    ++ clash_findings (track_lengths night.station) (stays_of night (by_id blocks))
 unfolding findings_in
 listed night blocks =
     let clashes = clash_findings (track_lengths night.station) (stays_of night (by_id blocks)) in
@@ -107,9 +110,11 @@ module _ (night : Night) (blocks : List Block) (formed : AreStays (stays_of nigh
   nothing p (TooSoon id) k x = false≢true (sym (p.in_time x.item x.there) ∙ x.holds)
   nothing p (NoRouteIn id) k x = false≢true k
   nothing p (NoRouteOut id) k x = false≢true k
-  nothing p (Crossing i j) k x = (through_clear (track_lengths night.station) (stays_of night blocks) formed tracks p.through).0 x.item x.holds.item x.there x.holds.there x.holds.holds
+  nothing p (Crossing i j) k x = (through_clear (track_lengths night.station) (stays_of night blocks) formed tracks p.through).0 x.item x.holds.item x.there x.holds.there
+      x.holds.holds
   nothing p (TooLong id load) k x =
-      let within : load_after (stays_of night blocks) x.item ≤ slice_index (track_lengths night.station) x.item.track.0 = (through_clear (track_lengths night.station) (stays_of night blocks) formed tracks p.through).1 x.item x.there in
+      let within : load_after (stays_of night blocks) x.item ≤ slice_index (track_lengths night.station) x.item.track.0 = (through_clear (track_lengths night.station)
+      (stays_of night blocks) formed tracks p.through).1 x.item x.there in
       let same = x.holds.is in
       let above = x.holds.above in
       absurd (omega arith)
@@ -126,7 +131,9 @@ module _ (night : Night) (blocks : List Block) (formed : AreStays (stays_of nigh
     in_time = λ b i. false_from_ne_true (is_too_soon night (shape_of b)) (λ t. listed_one (TooSoon b.id) refl (record { item = b; there = i; named = refl; holds = t }) e);
     through = clear_through (track_lengths night.station) (stays_of night blocks) formed tracks
         (λ b c i j x. listed_one (Crossing b.id c.id) refl (record { item = b; there = i; named = refl; holds = record { item = c; there = j; named = refl; holds = x } }) e)
-        (λ b i. most (load_after (stays_of night blocks) b) (slice_index (track_lengths night.station) b.track.0) (λ above. listed_one (TooLong b.id (load_after (stays_of night blocks) b)) refl (record { item = b; there = i; named = refl; holds = record { is = refl; above = above } }) e));
+        (λ b i. most (load_after (stays_of night blocks) b) (slice_index (track_lengths night.station) b.track.0)
+        (λ above. listed_one (TooLong b.id (load_after (stays_of night blocks) b)) refl
+        (record { item = b; there = i; named = refl; holds = record { is = refl; above = above } }) e));
   }
     where
       most : (m n : ℕ) → (n < m → ⊥) → m ≤ n
@@ -164,20 +171,30 @@ right (f ∷ xs) ys o e t = absurd (false≢true (sym t ∙ ap is_some e))
 
 -- ---- what the code gives
 
-sorted_list : (night : Night) (blocks : List Block) → by_id blocks ≡ blocks → delay_findings night blocks ≡ too_soons night blocks ++ clash_findings (track_lengths night.station) (stays_of night blocks)
+sorted_list : (night : Night) (blocks : List Block) → by_id blocks ≡ blocks → delay_findings night blocks ≡ too_soons night blocks
+    ++ clash_findings (track_lengths night.station) (stays_of night blocks)
 sorted_list night blocks e = listed night blocks ∙ ap (λ (bs : List Block). too_soons night bs ++ clash_findings (track_lengths night.station) (stays_of night bs)) e
 
-pub at_soon : (night : Night) (blocks : List Block) (o : Option Finding) → by_id blocks ≡ blocks → o ≡ first (too_soons night blocks) → is_some o ≡ true → o ≡ first (delay_findings night blocks)
-at_soon night blocks o s e t = left (too_soons night blocks) (clash_findings (track_lengths night.station) (stays_of night blocks)) o e t ∙ sym (ap first (sorted_list night blocks s))
+pub at_soon : (night : Night) (blocks : List Block) (o : Option Finding) → by_id blocks ≡ blocks → o ≡ first (too_soons night blocks) → is_some o ≡ true
+    → o ≡ first (delay_findings night blocks)
+at_soon night blocks o s e t = left (too_soons night blocks) (clash_findings (track_lengths night.station) (stays_of night blocks)) o e t
+    ∙ sym (ap first (sorted_list night blocks s))
 
-after_soon : (night : Night) (blocks : List Block) (o : Option Finding) → by_id blocks ≡ blocks → o ≡ first (too_soons night blocks) → is_some o ≡ false → first (delay_findings night blocks) ≡ first (clash_findings (track_lengths night.station) (stays_of night blocks))
-after_soon night blocks o s e t = ap first (sorted_list night blocks s) ∙ right (too_soons night blocks) (clash_findings (track_lengths night.station) (stays_of night blocks)) o e t
+after_soon : (night : Night) (blocks : List Block) (o : Option Finding) → by_id blocks ≡ blocks → o ≡ first (too_soons night blocks) → is_some o ≡ false
+    → first (delay_findings night blocks) ≡ first (clash_findings (track_lengths night.station) (stays_of night blocks))
+after_soon night blocks o s e t = ap first (sorted_list night blocks s) ∙ right (too_soons night blocks)
+    (clash_findings (track_lengths night.station) (stays_of night blocks)) o e t
 
-pub at_crossing : (night : Night) (blocks : List Block) (o p : Option Finding) → by_id blocks ≡ blocks → o ≡ first (too_soons night blocks) → is_some o ≡ false → p ≡ first (crossings (stays_of night blocks)) → is_some p ≡ true → p ≡ first (delay_findings night blocks)
-at_crossing night blocks o p s e t f u = left (crossings (stays_of night blocks)) (too_longs (track_lengths night.station) (stays_of night blocks)) p f u ∙ sym (after_soon night blocks o s e t)
+pub at_crossing : (night : Night) (blocks : List Block) (o p : Option Finding) → by_id blocks ≡ blocks → o ≡ first (too_soons night blocks) → is_some o ≡ false
+    → p ≡ first (crossings (stays_of night blocks)) → is_some p ≡ true → p ≡ first (delay_findings night blocks)
+at_crossing night blocks o p s e t f u = left (crossings (stays_of night blocks)) (too_longs (track_lengths night.station) (stays_of night blocks)) p f u
+    ∙ sym (after_soon night blocks o s e t)
 
-pub at_long : (night : Night) (blocks : List Block) (o p q : Option Finding) → by_id blocks ≡ blocks → o ≡ first (too_soons night blocks) → is_some o ≡ false → p ≡ first (crossings (stays_of night blocks)) → is_some p ≡ false → q ≡ first (too_longs (track_lengths night.station) (stays_of night blocks)) → q ≡ first (delay_findings night blocks)
-at_long night blocks o p q s e t f u g = g ∙ sym (right (crossings (stays_of night blocks)) (too_longs (track_lengths night.station) (stays_of night blocks)) p f u) ∙ sym (after_soon night blocks o s e t)
+pub at_long : (night : Night) (blocks : List Block) (o p q : Option Finding) → by_id blocks ≡ blocks → o ≡ first (too_soons night blocks) → is_some o ≡ false
+    → p ≡ first (crossings (stays_of night blocks)) → is_some p ≡ false → q ≡ first (too_longs (track_lengths night.station) (stays_of night blocks))
+    → q ≡ first (delay_findings night blocks)
+at_long night blocks o p q s e t f u g = g ∙ sym (right (crossings (stays_of night blocks)) (too_longs (track_lengths night.station) (stays_of night blocks)) p f u)
+    ∙ sym (after_soon night blocks o s e t)
 
 -- ---- searching from the front
 
@@ -185,7 +202,8 @@ parts_none : (xs ys : List Finding) → xs ++ ys ≡ [] → (xs ≡ []) × (ys �
 parts_none [] ys e = (refl, e)
 parts_none (x ∷ xs) ys e = absurd (cc)
 
-pub seen_some : {X : Type 0} (note : X → List Finding) (xs : List X) (k : ℕ) (d x : X) (o : Option Finding) → k < length xs → x ≡ get_or xs k d → flat_map note (take k xs) ≡ [] → o ≡ first (note x) → is_some o ≡ true → o ≡ first (flat_map note xs)
+pub seen_some : {X : Type 0} (note : X → List Finding) (xs : List X) (k : ℕ) (d x : X) (o : Option Finding) → k < length xs → x ≡ get_or xs k d → flat_map note (take k xs) ≡ []
+    → o ≡ first (note x) → is_some o ≡ true → o ≡ first (flat_map note xs)
 seen_some note [] k d x o lt is before e t = absurd (omega arith)
 seen_some {X} note (y ∷ ys) zero d x o lt is before e t = left (note y) (flat_map note ys) o (e ∙ ap (λ (z : X). first (note z)) is) t ∙ sym (ap first (flat_map-cons note y ys))
 seen_some note (y ∷ ys) (suc k) d x o lt is before e t =
@@ -196,26 +214,35 @@ first_noted : (t : Bool) (f : Finding) → t ≡ true → Some f ≡ first (note
 first_noted true f e = refl
 first_noted false f e = absurd (false≢true e)
 
-pub at_too_soon : (night : Night) (blocks : List Block) (k : ℕ) (d : Block) (t : Bool) → k < length blocks → too_soons night (take k blocks) ≡ [] → t ≡ is_too_soon night (shape_of (get_or blocks k d)) → t ≡ true → Some (TooSoon (get_or blocks k d).id) ≡ first (too_soons night blocks)
+pub at_too_soon : (night : Night) (blocks : List Block) (k : ℕ) (d : Block) (t : Bool) → k < length blocks → too_soons night (take k blocks) ≡ []
+    → t ≡ is_too_soon night (shape_of (get_or blocks k d)) → t ≡ true → Some (TooSoon (get_or blocks k d).id) ≡ first (too_soons night blocks)
 at_too_soon night blocks k d t lt before e held =
-    seen_some (λ (b : Block). noted (is_too_soon night (shape_of b)) (TooSoon b.id)) blocks k d (get_or blocks k d) (Some (TooSoon (get_or blocks k d).id)) lt refl before (first_noted (is_too_soon night (shape_of (get_or blocks k d))) (TooSoon (get_or blocks k d).id) (sym e ∙ held)) refl
+    seen_some (λ (b : Block). noted (is_too_soon night (shape_of b)) (TooSoon b.id)) blocks k d (get_or blocks k d) (Some (TooSoon (get_or blocks k d).id)) lt refl before
+    (first_noted (is_too_soon night (shape_of (get_or blocks k d))) (TooSoon (get_or blocks k d).id) (sym e ∙ held)) refl
 
-pub at_crosser : (stays : List Stay) (e : Stay) (k : ℕ) (d : Stay) (t : Bool) → k < length stays → crossings_of (take k stays) e ≡ [] → t ≡ crosses e (get_or stays k d) → t ≡ true → Some (Crossing e.id (get_or stays k d).id) ≡ first (crossings_of stays e)
+pub at_crosser : (stays : List Stay) (e : Stay) (k : ℕ) (d : Stay) (t : Bool) → k < length stays → crossings_of (take k stays) e ≡ [] → t ≡ crosses e (get_or stays k d) → t ≡ true
+    → Some (Crossing e.id (get_or stays k d).id) ≡ first (crossings_of stays e)
 at_crosser stays e k d t lt before is held =
-    seen_some (λ (c : Stay). noted (crosses e c) (Crossing e.id c.id)) stays k d (get_or stays k d) (Some (Crossing e.id (get_or stays k d).id)) lt refl before (first_noted (crosses e (get_or stays k d)) (Crossing e.id (get_or stays k d).id) (sym is ∙ held)) refl
+    seen_some (λ (c : Stay). noted (crosses e c) (Crossing e.id c.id)) stays k d (get_or stays k d) (Some (Crossing e.id (get_or stays k d).id)) lt refl before
+    (first_noted (crosses e (get_or stays k d)) (Crossing e.id (get_or stays k d).id) (sym is ∙ held)) refl
 
-pub at_pair : (stays : List Stay) (k : ℕ) (d : Stay) (o : Option Finding) → k < length stays → flat_map (crossings_of stays) (take k stays) ≡ [] → o ≡ first (crossings_of stays (get_or stays k d)) → is_some o ≡ true → o ≡ first (crossings stays)
+pub at_pair : (stays : List Stay) (k : ℕ) (d : Stay) (o : Option Finding) → k < length stays → flat_map (crossings_of stays) (take k stays) ≡ []
+    → o ≡ first (crossings_of stays (get_or stays k d)) → is_some o ≡ true → o ≡ first (crossings stays)
 at_pair stays k d o lt before is held = seen_some (crossings_of stays) stays k d (get_or stays k d) o lt refl before is held
 
 -- a stay of another train is met by the late train's stays alone
-flat_filtered : {X : Type 0} (p : X → Bool) (note : X → List Finding) (xs : List X) → ((x : X) → In x xs → p x ≡ false → note x ≡ []) → flat_map note (filter p xs) ≡ flat_map note xs
+flat_filtered : {X : Type 0} (p : X → Bool) (note : X → List Finding) (xs : List X) → ((x : X) → In x xs → p x ≡ false → note x ≡ [])
+    → flat_map note (filter p xs) ≡ flat_map note xs
 flat_filtered p note [] none = refl
 flat_filtered {X} p note (x ∷ xs) none = elim (cases_Bool (p x)) [
-  | inl held ↦ ap (flat_map note) (filter_yes p x xs held) ∙ flat_map-cons note x (filter p xs) ∙ ap (λ (fs : List Finding). note x ++ fs) (flat_filtered p note xs (λ y i. none y (inr i))) ∙ sym (flat_map-cons note x xs)
-  | inr apart ↦ ap (flat_map note) (filter_no p x xs apart) ∙ flat_filtered p note xs (λ y i. none y (inr i)) ∙ sym (flat_map-cons note x xs ∙ ap (λ (fs : List Finding). fs ++ flat_map note xs) (none x (inl refl) apart))
+  | inl held ↦ ap (flat_map note) (filter_yes p x xs held) ∙ flat_map-cons note x (filter p xs)
+      ∙ ap (λ (fs : List Finding). note x ++ fs) (flat_filtered p note xs (λ y i. none y (inr i))) ∙ sym (flat_map-cons note x xs)
+  | inr apart ↦ ap (flat_map note) (filter_no p x xs apart) ∙ flat_filtered p note xs (λ y i. none y (inr i))
+      ∙ sym (flat_map-cons note x xs ∙ ap (λ (fs : List Finding). fs ++ flat_map note xs) (none x (inl refl) apart))
 ]
 
-pub own_crossers : (i : ℕ) (stays own : List Stay) (b : Stay) (o : Option Finding) → own ≡ filter (of_train i) stays → AreOthersApart i stays → In b stays → b.enter.train ≢ i → o ≡ first (crossings_of own b) → o ≡ first (crossings_of stays b)
+pub own_crossers : (i : ℕ) (stays own : List Stay) (b : Stay) (o : Option Finding) → own ≡ filter (of_train i) stays → AreOthersApart i stays → In b stays → b.enter.train ≢ i
+    → o ≡ first (crossings_of own b) → o ≡ first (crossings_of stays b)
 own_crossers i stays own b o is apart there other e =
     e ∙ ap (λ (l : List Stay). first (crossings_of l b)) is ∙ ap first (flat_filtered (of_train i) (λ (c : Stay). noted (crosses b c) (Crossing b.id c.id)) stays
     (λ c j p. ap (λ (t : Bool). noted t (Crossing b.id c.id)) (apart b c there j (ne_eqb b.enter.train i other) p)))
@@ -224,19 +251,25 @@ lt_true : (m n : ℕ) → m < n → nat_lt m n ≡ true
 lt_true m n lt = lt-ltb m n lt
 
 -- the entries of other trains fit, so that only the late train's may not
-pub own_longs : (i : ℕ) (lengths : List ℕ) (stays own : List Stay) → own ≡ filter (of_train i) stays → AreOthersWithin i lengths stays → too_longs_of lengths stays own ≡ too_longs lengths stays
+pub own_longs : (i : ℕ) (lengths : List ℕ) (stays own : List Stay) → own ≡ filter (of_train i) stays → AreOthersWithin i lengths stays
+    → too_longs_of lengths stays own ≡ too_longs lengths stays
 own_longs i lengths stays own is within = ap (too_longs_of lengths stays) is ∙ flat_filtered (of_train i) (λ (s : Stay). too_long_at lengths s (load_after stays s)) stays
     (λ s j p. ap (λ (t : Bool). noted t (TooLong s.id (load_after stays s))) (false_from_ne_true (nat_lt (slice_index lengths s.track.0) (load_after stays s))
     (λ t. let fits = within s j p in absurd (omega (arith, ltb-true (slice_index lengths s.track.0) (load_after stays s) t)))))
 
-pub at_over : (lengths : List ℕ) (stays own : List Stay) (k : ℕ) (d : Stay) (load room : ℕ) → k < length own → too_longs_of lengths stays (take k own) ≡ [] → too_longs_of lengths stays own ≡ too_longs lengths stays
-    → load ≡ load_after stays (get_or own k d) → room ≡ slice_index lengths (get_or own k d).track.0 → room < load → Some (TooLong (get_or own k d).id load) ≡ first (too_longs lengths stays)
+pub at_over : (lengths : List ℕ) (stays own : List Stay) (k : ℕ) (d : Stay) (load room : ℕ) → k < length own → too_longs_of lengths stays (take k own) ≡ []
+    → too_longs_of lengths stays own ≡ too_longs lengths stays
+    → load ≡ load_after stays (get_or own k d) → room ≡ slice_index lengths (get_or own k d).track.0 → room < load
+    → Some (TooLong (get_or own k d).id load) ≡ first (too_longs lengths stays)
 at_over lengths stays own k d load room lt before alone is track above =
     let s = get_or own k d in
     let over : slice_index lengths s.track.0 < load_after stays s = omega arith in
     ap (λ (n : ℕ). Some (TooLong s.id n)) is
-    ∙ seen_some (λ (s : Stay). too_long_at lengths s (load_after stays s)) own k d s (Some (TooLong s.id (load_after stays s))) lt refl before (first_noted (nat_lt (slice_index lengths s.track.0) (load_after stays s)) (TooLong s.id (load_after stays s)) (lt_true (slice_index lengths s.track.0) (load_after stays s) over)) refl
+    ∙ seen_some (λ (s : Stay). too_long_at lengths s (load_after stays s)) own k d s (Some (TooLong s.id (load_after stays s))) lt refl before
+    (first_noted (nat_lt (slice_index lengths s.track.0) (load_after stays s)) (TooLong s.id (load_after stays s))
+    (lt_true (slice_index lengths s.track.0) (load_after stays s) over)) refl
     ∙ ap first alone
 
-pub none_over : (lengths : List ℕ) (stays own : List Stay) (k : ℕ) → length own ≤ k → too_longs_of lengths stays (take k own) ≡ [] → too_longs_of lengths stays own ≡ too_longs lengths stays → None ≡ first (too_longs lengths stays)
+pub none_over : (lengths : List ℕ) (stays own : List Stay) (k : ℕ) → length own ≤ k → too_longs_of lengths stays (take k own) ≡ []
+    → too_longs_of lengths stays own ≡ too_longs lengths stays → None ≡ first (too_longs lengths stays)
 none_over lengths stays own k le before alone = sym (ap first (sym alone ∙ ap (too_longs_of lengths stays) (sym (take_all k own le)) ∙ before))

@@ -22,7 +22,8 @@ at_first night blocks i feasible e lt =
     subst (λ (k : ℕ). StaysFeasible (late i k night) blocks) none (subst (λ (w : Night). StaysFeasible w blocks) (sym (never_late i night)) feasible)
 
 pub one_more : (night : Night) (blocks : List Block) (i m : ℕ) → BearsBelow night blocks i m → StaysFeasible (late i m night) blocks → BearsBelow night blocks i (m + 1)
-one_more night blocks i m below here e lt = ⊎_elim (λ less. below e less) (λ le. let same : m ≡ e = omega arith in subst (λ (k : ℕ). StaysFeasible (late i k night) blocks) same here) (cases_lt e m)
+one_more night blocks i m below here e lt = ⊎_elim (λ less. below e less) (λ le. let same : m
+    ≡ e = omega arith in subst (λ (k : ℕ). StaysFeasible (late i k night) blocks) same here) (cases_lt e m)
 
 pub at_stop : (night : Night) (blocks : List Block) (train : ArrId) (m low : ℕ) (stop : Stop) → low + 1 ≡ m → m ≤ 120 → BearsBelow night blocks train.0 m
     → Stops (late train.0 m night) blocks (Some stop) → IsDelay night blocks (record { train = train; minutes = low; stop = stop })
@@ -33,7 +34,8 @@ at_stop night blocks train m low stop next few below stops = record {
       ∙ sym (cond-false (low == 120) None (first (delay_findings (late train.0 (low + 1) night) blocks)) (ne_eqb low 120 (λ e. omega arith)));
 }
 
-pub at_limit : (night : Night) (blocks : List Block) (train : ArrId) → BearsBelow night blocks train.0 121 → IsDelay night blocks (record { train = train; minutes = 120; stop = Limit })
+pub at_limit : (night : Night) (blocks : List Block) (train : ArrId) → BearsBelow night blocks train.0 121
+    → IsDelay night blocks (record { train = train; minutes = 120; stop = Limit })
 at_limit night blocks train below = record {
   bears = record { most = omega arith; each = λ e le. below e (omega arith) };
   greatest = λ d b. b.most;

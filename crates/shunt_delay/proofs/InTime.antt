@@ -32,10 +32,12 @@ all_ready night s k m all below d le = ap (λ (t : Bool). not t) (all_pass s.n (
     (λ j lt. le-leb (ready night (unit_from night s + j) + d) (leave_minute night s) (below d j le (omega arith))))
 
 -- the late train's block, and one of another train
-pub own_in_time : Units → (i m : ℕ) (night : Night) (b : Block) (k : ℕ) → AreRunsWithin night (shape_of b) → b.arr.0 ≡ i → b.n ≤ k → AreReadyBelow night (shape_of b) k m → (d : ℕ) → d ≤ m → is_too_soon (late i d night) (shape_of b) ≡ false
+pub own_in_time : Units → (i m : ℕ) (night : Night) (b : Block) (k : ℕ) → AreRunsWithin night (shape_of b) → b.arr.0 ≡ i → b.n ≤ k → AreReadyBelow night (shape_of b) k m → (d : ℕ)
+    → d ≤ m → is_too_soon (late i d night) (shape_of b) ≡ false
 own_in_time units i m night b k r own all below d le = sym (soon_own units i d night b false r own (sym (all_ready night (shape_of b) k m all below d le)))
 
-pub other_in_time : Units → (i m : ℕ) (night : Night) (b : Block) → AreRunsWithin night (shape_of b) → b.arr.0 ≢ i → is_too_soon night (shape_of b) ≡ false → (d : ℕ) → d ≤ m → is_too_soon (late i d night) (shape_of b) ≡ false
+pub other_in_time : Units → (i m : ℕ) (night : Night) (b : Block) → AreRunsWithin night (shape_of b) → b.arr.0 ≢ i → is_too_soon night (shape_of b) ≡ false → (d : ℕ) → d ≤ m
+    → is_too_soon (late i d night) (shape_of b) ≡ false
 other_in_time units i m night b r other in_time d le = sym (soon_other units i d night b r other in_time)
 
 -- one block more
@@ -43,4 +45,5 @@ pub next_in_time : (i : ℕ) (night : Night) (blocks : List Block) (k : ℕ) (e 
     → ((d : ℕ) → d ≤ m → (b : Block) → In b (take k blocks) → is_too_soon (late i d night) (shape_of b) ≡ false)
     → ((d : ℕ) → d ≤ one → is_too_soon (late i d night) (shape_of (get_or blocks k e)) ≡ false)
     → after ≡ min m one → (d : ℕ) → d ≤ after → (b : Block) → In b (take (k + 1) blocks) → is_too_soon (late i d night) (shape_of b) ≡ false
-next_in_time i night blocks k e m one after lt before here least d le = all_next (λ (b : Block). is_too_soon (late i d night) (shape_of b) ≡ false) blocks k e lt (before d (omega (arith, le, least))) (here d (omega (arith, le, least)))
+next_in_time i night blocks k e m one after lt before here least d le = all_next (λ (b : Block). is_too_soon (late i d night) (shape_of b) ≡ false) blocks k e lt
+    (before d (omega (arith, le, least))) (here d (omega (arith, le, least)))

@@ -56,7 +56,8 @@ swap true true true d h e = ap (λ (x : Bool). x && true) (h refl)
 
 stands_earlier : (d track : ℕ) (moment : EventKey) (s : Stay) → stands_at track moment (later d s) ≡ true → stands_at track moment s ≡ true
 stands_earlier d track moment s = swap (s.track.0 == track) (is_le (key_cmp (later d s).enter moment)) (key_before moment s.leave) (is_le (key_cmp s.enter moment))
-    (earlier s.enter.minute d moment.minute (ordering_then (bool_cmp s.enter.enters moment.enters) (ordering_then (nat_cmp s.enter.train moment.train) (ordering_then (nat_cmp s.enter.place moment.place) (nat_cmp s.enter.id moment.id)))))
+    (earlier s.enter.minute d moment.minute (ordering_then (bool_cmp s.enter.enters moment.enters)
+    (ordering_then (nat_cmp s.enter.train moment.train) (ordering_then (nat_cmp s.enter.place moment.place) (nat_cmp s.enter.id moment.id)))))
 
 part_less : (d track : ℕ) (moment : EventKey) (o : Option Stay) → part track moment (option_map (later d) o) ≤ part track moment o
 part_less d track moment None = omega arith
@@ -70,9 +71,11 @@ part_less d track moment (Some s) = elim (cases_Bool (stands_at track moment (la
 
 late_less : (night : Night) (d track : ℕ) (moment : EventKey) (b : Block) → part track moment (late_stay night d b) ≤ part track moment (stay_of night b)
 late_less night d track moment b = elim (cases_Bool (is_too_soon_by night d (shape_of b))) [
-  | inl soon ↦ let a : part track moment (late_stay night d b) ≡ 0 = ap (part track moment) (cond-true (is_too_soon_by night d (shape_of b)) None (option_map (later d) (stay_of night b)) soon) in omega (arith, a)
+  | inl soon ↦ let a : part track moment (late_stay night d b) ≡ 0 = ap (part track moment)
+      (cond-true (is_too_soon_by night d (shape_of b)) None (option_map (later d) (stay_of night b)) soon) in omega (arith, a)
   | inr late_enough ↦
-      let a : part track moment (late_stay night d b) ≡ part track moment (option_map (later d) (stay_of night b)) = ap (part track moment) (cond-false (is_too_soon_by night d (shape_of b)) None (option_map (later d) (stay_of night b)) late_enough) in
+      let a : part track moment (late_stay night d b) ≡ part track moment (option_map (later d) (stay_of night b)) = ap (part track moment)
+      (cond-false (is_too_soon_by night d (shape_of b)) None (option_map (later d) (stay_of night b)) late_enough) in
       omega (arith, a, part_less d track moment (stay_of night b))
 ]
 
@@ -80,7 +83,8 @@ pub loads_less : Units → (i d : ℕ) (night : Night) (blocks : List Block) (tr
     → load_at (stays_of (late i d night) blocks) track moment ≤ load_at (stays_of night blocks) track moment
 loads_less units i d night [] track moment within = omega arith
 loads_less units i d night (b ∷ blocks) track moment within =
-    let a : part track moment (stay_of (late i d night) b) ≡ part track moment (late_stay night (late_by i d b) b) = ap (part track moment) (stay_late units i d night b (within b (inl refl))) in
+    let a : part track moment (stay_of (late i d night) b) ≡ part track moment (late_stay night (late_by i d b) b) = ap (part track moment)
+    (stay_late units i d night b (within b (inl refl))) in
     omega (
       arith,
       a,

@@ -50,7 +50,8 @@ in_next (x ∷ xs) (suc k) d t lt (inl (inr i)) = inr (in_next xs k d t (omega a
 in_next (x ∷ xs) (suc k) d t lt (inr e) = inr (in_next xs k d t (omega arith) (inr e))
 
 -- what is true of all up to one, and of it
-pub all_next : {X : Type 0} (P : X → Type 0) (xs : List X) (k : ℕ) (d : X) → k < length xs → ((x : X) → In x (take k xs) → P x) → P (get_or xs k d) → (x : X) → In x (take (k + 1) xs) → P x
+pub all_next : {X : Type 0} (P : X → Type 0) (xs : List X) (k : ℕ) (d : X) → k < length xs → ((x : X) → In x (take k xs) → P x) → P (get_or xs k d) → (x : X)
+    → In x (take (k + 1) xs) → P x
 all_next {X} P xs k d lt before here x i =
     let next : k + 1 ≡ suc k = omega arith in
     ⊎_elim (λ j. before x j) (λ e. subst P (sym e) here) (next_in xs k d x lt (subst (λ (m : ℕ). In x (take m xs)) next i))
@@ -60,7 +61,8 @@ pub ids_before : (f : Stay → Stay) (xs : List Stay) (k : ℕ) (d t : Stay) →
 ids_before f [] k d t a lt i = absurd (omega arith)
 ids_before f (x ∷ xs) zero d t a lt i = absurd i
 ids_before f (x ∷ xs) (suc k) d t a lt (inl e) =
-    λ same. all_in (λ u. (f x).id ≢ u.id) (map f xs) (f (get_or xs k d)) a.1 (in_map f xs (get_or xs k d) (in_place xs k d (omega arith))) (ap (λ (u : Stay). (f u).id) (sym e) ∙ same)
+    λ same. all_in (λ u. (f x).id ≢ u.id) (map f xs) (f (get_or xs k d)) a.1 (in_map f xs (get_or xs k d) (in_place xs k d (omega arith)))
+    (ap (λ (u : Stay). (f u).id) (sym e) ∙ same)
 ids_before f (x ∷ xs) (suc k) d t a lt (inr i) = ids_before f xs k d t a.2 (omega arith) i
 
 -- ---- stays come, one after the other
@@ -71,7 +73,8 @@ pub record HasCome (own : List Stay) (minutes k : ℕ) (before now : Holding) : 
   pub count : length now.stays ≡ length before.stays + k
   pub spare : now.spare + k ≡ before.spare
 
-module _ (own : List Stay) (minutes k : ℕ) (before now : Holding) (x d : Stay) (can : CanCome own minutes before) (h : HasCome own minutes k before now) (lt : k < length own) (is : x ≡ get_or own k d) where
+module _ (own : List Stay) (minutes k : ℕ) (before now : Holding) (x d : Stay) (can : CanCome own minutes before) (h : HasCome own minutes k before now) (lt : k < length own)
+    (is : x ≡ get_or own k d) where
   there : In x own
   there = subst (λ (y : Stay). In y own) (sym is) (in_place own k d lt)
 
@@ -97,13 +100,15 @@ module _ (own : List Stay) (minutes k : ℕ) (before now : Holding) (x d : Stay)
   pub comes_room : 0 < now.spare
   comes_room = let c = h.spare in let m = can.room in omega arith
 
-  come_suc : (after : Holding) → IsPermutation (later minutes x ∷ now.stays) after.stays → length after.stays ≡ length now.stays + 1 → after.lengths ≡ now.lengths → after.spare + 1 ≡ now.spare → HasCome own minutes (suc k) before after
+  come_suc : (after : Holding) → IsPermutation (later minutes x ∷ now.stays) after.stays → length after.stays ≡ length now.stays + 1 → after.lengths ≡ now.lengths
+      → after.spare + 1 ≡ now.spare → HasCome own minutes (suc k) before after
   come_suc after p count lengths spare = record {
     members = λ s. (
       λ i. ⊎_elim
           (λ e. inl (subst (λ (y : Stay). In y (map (later minutes) (take (suc k) own))) (sym e) (in_map (later minutes) (take (suc k) own) x (in_next own k d x lt (inr is)))))
           (λ j. ⊎_elim
-          (λ m. let r = of_map (later minutes) (take k own) s m in inl (subst (λ (y : Stay). In y (map (later minutes) (take (suc k) own))) (sym r.2) (in_map (later minutes) (take (suc k) own) r.0 (in_next own k d r.0 lt (inl r.1)))))
+          (λ m. let r = of_map (later minutes) (take k own) s m in inl (subst (λ (y : Stay). In y (map (later minutes) (take (suc k) own))) (sym r.2)
+          (in_map (later minutes) (take (suc k) own) r.0 (in_next own k d r.0 lt (inl r.1)))))
           (λ o. inr o)
           ((h.members s).0 j))
           (of_permuted (later minutes x ∷ now.stays) after.stays s p i),
@@ -120,8 +125,10 @@ module _ (own : List Stay) (minutes k : ℕ) (before now : Holding) (x d : Stay)
     spare = let c = h.spare in omega arith;
   }
 
-  pub come_next : (after : Holding) → IsPermutation (later minutes x ∷ now.stays) after.stays → length after.stays ≡ length now.stays + 1 → after.lengths ≡ now.lengths → after.spare + 1 ≡ now.spare → HasCome own minutes (k + 1) before after
-  come_next after p count lengths spare = let next : suc k ≡ k + 1 = omega arith in subst (λ (m : ℕ). HasCome own minutes m before after) next (come_suc after p count lengths spare)
+  pub come_next : (after : Holding) → IsPermutation (later minutes x ∷ now.stays) after.stays → length after.stays ≡ length now.stays + 1 → after.lengths ≡ now.lengths
+      → after.spare + 1 ≡ now.spare → HasCome own minutes (k + 1) before after
+  come_next after p count lengths spare = let next : suc k ≡ k + 1 = omega arith in subst (λ (m : ℕ). HasCome own minutes m before after) next
+      (come_suc after p count lengths spare)
 
 -- ---- stays go, one after the other
 
@@ -150,7 +157,8 @@ removed id (Some stay) before after some none gone count same = record {
   room = let c = some.2 in omega (arith, c, count);
 }
 
-gone_suc : (own : List Stay) (k : ℕ) (before now after : Holding) (x d : Stay) → HasGone own k before now → k < length own → x ≡ get_or own k d → IsWithout x.id now after → after.lengths ≡ now.lengths → HasGone own (suc k) before after
+gone_suc : (own : List Stay) (k : ℕ) (before now after : Holding) (x d : Stay) → HasGone own k before now → k < length own → x ≡ get_or own k d → IsWithout x.id now after
+    → after.lengths ≡ now.lengths → HasGone own (suc k) before after
 gone_suc own k before now after x d h lt is w lengths = record {
   members = λ s. (
     λ i. let r = (w.members s).0 i in let q = (h.members s).0 r.0 in
@@ -161,8 +169,10 @@ gone_suc own k before now after x d h lt is w lengths = record {
   room = let a = w.room in let b = h.room in omega arith;
 }
 
-pub gone_next : (own : List Stay) (k : ℕ) (before now after : Holding) (x d : Stay) → HasGone own k before now → k < length own → x ≡ get_or own k d → IsWithout x.id now after → after.lengths ≡ now.lengths → HasGone own (k + 1) before after
-gone_next own k before now after x d h lt is w lengths = let next : suc k ≡ k + 1 = omega arith in subst (λ (m : ℕ). HasGone own m before after) next (gone_suc own k before now after x d h lt is w lengths)
+pub gone_next : (own : List Stay) (k : ℕ) (before now after : Holding) (x d : Stay) → HasGone own k before now → k < length own → x ≡ get_or own k d → IsWithout x.id now after
+    → after.lengths ≡ now.lengths → HasGone own (k + 1) before after
+gone_next own k before now after x d h lt is w lengths = let next : suc k ≡ k + 1 = omega arith in subst (λ (m : ℕ). HasGone own m before after) next
+    (gone_suc own k before now after x d h lt is w lengths)
 
 -- ---- they come and go again
 
@@ -184,7 +194,8 @@ pub runs_through : (own : List Stay) (minutes : ℕ) (before with_own : Holding)
     → AreStays stays → ((s : Stay) → In s stays ↔ In s (map (later minutes) own) ⊎ In s before.stays) → GoesThrough before.lengths stays
 runs_through own minutes before with_own stays come lengths formed on go listed same =
     let within : (s : Stay) → In s stays → In s with_own.stays = λ s i. (come s).1 ((same s).0 i) in
-    subst (λ (ls : List ℕ). GoesThrough ls stays) lengths (part_through with_own.lengths with_own.stays stays formed on listed (tracks_within with_own.lengths with_own.stays stays on within) within go)
+    subst (λ (ls : List ℕ). GoesThrough ls stays) lengths (part_through with_own.lengths with_own.stays stays formed on listed
+    (tracks_within with_own.lengths with_own.stays stays on within) within go)
 
 -- ---- stays of the same members are as many
 
@@ -203,11 +214,14 @@ same_members [] [] a b same = IsPermutation-refl []
 same_members [] (y ∷ ys) a b same = absurd ((same y).1 (inl refl))
 same_members (x ∷ xs) ys a b same =
     let r = split x ys ((same x).0 (inl refl)) in
-    let moved : IsPermutation ys (x ∷ (r.front ++ r.back)) = subst (λ (l : List Stay). IsPermutation l (x ∷ (r.front ++ r.back))) (sym r.is) (IsPermutation-middle r.front x r.back) in
+    let moved : IsPermutation ys (x ∷ (r.front ++ r.back)) = subst (λ (l : List Stay). IsPermutation l (x ∷ (r.front ++ r.back))) (sym r.is)
+    (IsPermutation-middle r.front x r.back) in
     let others : AreStays (x ∷ (r.front ++ r.back)) = stays_permuted ys (x ∷ (r.front ++ r.back)) b moved in
     let rest : IsPermutation xs (r.front ++ r.back) = same_members xs (r.front ++ r.back) a.2 others.2 (λ s. (
-      λ i. ⊎_elim (λ e. absurd (all_in (λ t. x.id ≢ t.id) xs s a.1 i (ap (λ (t : Stay). t.id) (sym e)))) (λ j. j) (in_permuted ys (x ∷ (r.front ++ r.back)) s moved ((same s).0 (inr i))),
-      λ i. ⊎_elim (λ e. absurd (all_in (λ t. x.id ≢ t.id) (r.front ++ r.back) s others.1 i (ap (λ (t : Stay). t.id) (sym e)))) (λ j. j) ((same s).1 (of_permuted ys (x ∷ (r.front ++ r.back)) s moved (inr i))),
+      λ i. ⊎_elim (λ e. absurd (all_in (λ t. x.id ≢ t.id) xs s a.1 i (ap (λ (t : Stay). t.id) (sym e)))) (λ j. j)
+          (in_permuted ys (x ∷ (r.front ++ r.back)) s moved ((same s).0 (inr i))),
+      λ i. ⊎_elim (λ e. absurd (all_in (λ t. x.id ≢ t.id) (r.front ++ r.back) s others.1 i (ap (λ (t : Stay). t.id) (sym e)))) (λ j. j)
+          ((same s).1 (of_permuted ys (x ∷ (r.front ++ r.back)) s moved (inr i))),
     )) in
     IsPermutation-trans (x ∷ xs) (x ∷ (r.front ++ r.back)) ys (IsPermutation-cons x xs (r.front ++ r.back) rest) (IsPermutation-sym ys (x ∷ (r.front ++ r.back)) moved)
 

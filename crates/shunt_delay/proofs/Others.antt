@@ -66,7 +66,8 @@ module _ (laws : Laws) (night : Night) (blocks : List Block) (n : IsInstance nig
         let there : In l.stay (stays_of night blocks) = to_some (stay_of night) blocks r.0 l.stay r.1 l.of in
         ⊎_elim
         (λ own. let is : s ≡ later d l.stay = l.is ∙ ap (λ (k : ℕ). later k l.stay) own.1 in
-        inl (subst (λ (u : Stay). In u (map (later d) (own_of night blocks i))) (sym is) (in_map (later d) (own_of night blocks i) l.stay (filter_to (of_train i) (stays_of night blocks) l.stay there (is_of i night r.0 l.stay l.of own.0)))))
+        inl (subst (λ (u : Stay). In u (map (later d) (own_of night blocks i))) (sym is)
+        (in_map (later d) (own_of night blocks i) l.stay (filter_to (of_train i) (stays_of night blocks) l.stay there (is_of i night r.0 l.stay l.of own.0)))))
         (λ other. let is : s ≡ l.stay = l.is ∙ ap (λ (k : ℕ). later k l.stay) other.1 ∙ on_time l.stay in
         inr (subst (λ (u : Stay). In u (stays_of night blocks) × (of_train i u ≡ false)) (sym is) (there, isnt_of i night r.0 l.stay l.of other.0)))
         (which i d r.0)
@@ -89,7 +90,8 @@ module _ (laws : Laws) (night : Night) (blocks : List Block) (n : IsInstance nig
     late_from s (inr j) = late_other s j.0 j.1
 
     -- what stands where the train is late, of timelines that hold the others
-    pub late_members : (own : List Stay) (held : Holding) → AreOthers night blocks i own held → (s : Stay) → In s (stays_of (late i d night) blocks) ↔ In s (map (later d) own) ⊎ In s held.stays
+    pub late_members : (own : List Stay) (held : Holding) → AreOthers night blocks i own held → (s : Stay)
+        → In s (stays_of (late i d night) blocks) ↔ In s (map (later d) own) ⊎ In s held.stays
     late_members own held o s = (
       λ j. ⊎_elim (λ m. inl (subst (λ (l : List Stay). In s (map (later d) l)) (sym o.own_are) m)) (λ m. inr ((o.members s).1 m)) (late_to s j),
       λ m. late_from s (⊎_elim (λ x. inl (subst (λ (l : List Stay). In s (map (later d) l)) o.own_are x)) (λ x. inr ((o.members s).0 x)) m),
@@ -107,11 +109,13 @@ module _ (laws : Laws) (night : Night) (blocks : List Block) (n : IsInstance nig
 
   pub others_apart : (i d : ℕ) → StaysFeasible night blocks → AreOthersApart i (stays_of (late i d night) blocks)
   others_apart i d feasible b c j k p q = false_from_ne_true (crosses b c) (λ t.
-      (through_clear (track_lengths night.station) (stays_of night blocks) formed (laws.tracks night blocks (laws.can_stand night blocks h)) feasible.through).0 b c (other_same i d b j p) (other_same i d c k q) ((crosses_is b c).0 t))
+      (through_clear (track_lengths night.station) (stays_of night blocks) formed (laws.tracks night blocks (laws.can_stand night blocks h)) feasible.through).0 b c
+      (other_same i d b j p) (other_same i d c k q) ((crosses_is b c).0 t))
 
   pub others_within : (i d : ℕ) → StaysFeasible night blocks → AreOthersWithin i (track_lengths night.station) (stays_of (late i d night) blocks)
   others_within i d feasible b j p =
-      let within : load_after (stays_of night blocks) b ≤ slice_index (track_lengths night.station) b.track.0 = (through_clear (track_lengths night.station) (stays_of night blocks) formed (laws.tracks night blocks (laws.can_stand night blocks h)) feasible.through).1 b (other_same i d b j p) in
+      let within : load_after (stays_of night blocks) b ≤ slice_index (track_lengths night.station) b.track.0 = (through_clear (track_lengths night.station)
+      (stays_of night blocks) formed (laws.tracks night blocks (laws.can_stand night blocks h)) feasible.through).1 b (other_same i d b j p) in
       omega (arith, within, loads_less laws.units i d night blocks b.track.0 b.enter (λ c k. (in_range night blocks c h k).within.runs))
 
   -- ---- counts
@@ -121,11 +125,13 @@ module _ (laws : Laws) (night : Night) (blocks : List Block) (n : IsInstance nig
   count_parts {X} p (x ∷ xs) = elim (cases_Bool (p x)) [
     | inl held ↦
         let a : length (filter p (x ∷ xs)) ≡ length (x ∷ filter p xs) = ap (λ (l : List X). length l) (filter_yes p x xs held) in
-        let b : length (filter (λ x. not (p x)) (x ∷ xs)) ≡ length (filter (λ x. not (p x)) xs) = ap (λ (l : List X). length l) (filter_no (λ x. not (p x)) x xs (ap (λ (t : Bool). not t) held)) in
+        let b : length (filter (λ x. not (p x)) (x ∷ xs)) ≡ length (filter (λ x. not (p x)) xs) = ap (λ (l : List X). length l)
+        (filter_no (λ x. not (p x)) x xs (ap (λ (t : Bool). not t) held)) in
         omega (arith, a, b, count_parts p xs)
     | inr no_more ↦
         let a : length (filter p (x ∷ xs)) ≡ length (filter p xs) = ap (λ (l : List X). length l) (filter_no p x xs no_more) in
-        let b : length (filter (λ x. not (p x)) (x ∷ xs)) ≡ length (x ∷ filter (λ x. not (p x)) xs) = ap (λ (l : List X). length l) (filter_yes (λ x. not (p x)) x xs (ap (λ (t : Bool). not t) no_more)) in
+        let b : length (filter (λ x. not (p x)) (x ∷ xs)) ≡ length (x ∷ filter (λ x. not (p x)) xs) = ap (λ (l : List X). length l)
+        (filter_yes (λ x. not (p x)) x xs (ap (λ (t : Bool). not t) no_more)) in
         omega (arith, a, b, count_parts p xs)
   ]
 
@@ -161,7 +167,8 @@ module _ (laws : Laws) (night : Night) (blocks : List Block) (n : IsInstance nig
   map_formed d [] a each = tt
   map_formed d (s ∷ own) a each = (
     each s (inl refl),
-    all_from (λ t. s.id ≢ t.id) (map (later d) own) (λ t j same. let r = of_map (later d) own t j in all_in (λ u. s.id ≢ u.id) own r.0 a.1 r.1 (same ∙ ap (λ (u : Stay). u.id) r.2)),
+    all_from (λ t. s.id ≢ t.id) (map (later d) own) (λ t j same. let r = of_map (later d) own t j in all_in (λ u. s.id ≢ u.id) own r.0 a.1 r.1
+        (same ∙ ap (λ (u : Stay). u.id) r.2)),
     map_formed d own a.2 (λ t j. each t (inr j)),
   )
 
@@ -171,7 +178,8 @@ module _ (laws : Laws) (night : Night) (blocks : List Block) (n : IsInstance nig
     few = few;
     begin = λ s j. own_begins s (own_in i own held o s j).0;
     formed = map_formed d own (subst AreStays (sym o.own_are) (stays_filter (of_train i) (stays_of night blocks) formed))
-        (λ s j. member_formed (stays_of (late i d night) blocks) (later d s) (stays_late laws i d night blocks n h few) (late_own i d in_time s (subst (λ (l : List Stay). In s l) o.own_are j)));
+        (λ s j. member_formed (stays_of (late i d night) blocks) (later d s) (stays_late laws i d night blocks n h few)
+        (late_own i d in_time s (subst (λ (l : List Stay). In s l) o.own_are j)));
     tracks = λ s j. subst (λ (ls : List ℕ). s.track.0 < length ls) (sym o.lengths) (own_tracks s (own_in i own held o s j).0);
     new = λ s j t k same.
         let m = (o.members s).0 j in
@@ -188,7 +196,8 @@ module _ (laws : Laws) (night : Night) (blocks : List Block) (n : IsInstance nig
       → StaysFeasible (late i d night) blocks
   stays_feasible i d own held few o in_time go = record {
     in_time = in_time;
-    through = subst (λ (ls : List ℕ). GoesThrough ls (stays_of (late i d night) blocks)) o.lengths (go (stays_of (late i d night) blocks) (stays_late laws i d night blocks n h few) (late_members i d in_time own held o));
+    through = subst (λ (ls : List ℕ). GoesThrough ls (stays_of (late i d night) blocks)) o.lengths
+        (go (stays_of (late i d night) blocks) (stays_late laws i d night blocks n h few) (late_members i d in_time own held o));
   }
 
   -- ---- a train is taken out and put back
@@ -220,7 +229,9 @@ module _ (laws : Laws) (night : Night) (blocks : List Block) (n : IsInstance nig
       → ((s : Stay) → In s after.stays ↔ In s (map (later 0) own) ⊎ In s before.stays) → after.lengths ≡ before.lengths
       → after.spare + length after.stays ≡ before.spare + length before.stays → AreAll night blocks after
   put_back i own before after o feasible come lengths room =
-      let same : (s : Stay) → In s (stays_of night blocks) ↔ In s (map (later 0) own) ⊎ In s before.stays = subst (λ (w : Night). (s : Stay) → In s (stays_of w blocks) ↔ In s (map (later 0) own) ⊎ In s before.stays) (never_late i night) (late_members i 0 (in_time_now i feasible) own before o) in
+      let same : (s : Stay) → In s (stays_of night blocks) ↔ In s (map (later 0) own)
+      ⊎ In s before.stays = subst (λ (w : Night). (s : Stay) → In s (stays_of w blocks) ↔ In s (map (later 0) own) ⊎ In s before.stays) (never_late i night)
+      (late_members i 0 (in_time_now i feasible) own before o) in
       record {
         members = λ s. (λ j. (same s).1 ((come s).0 j), λ j. (come s).1 ((same s).0 j));
         lengths = lengths ∙ o.lengths;
@@ -233,7 +244,8 @@ module _ (laws : Laws) (night : Night) (blocks : List Block) (n : IsInstance nig
   same_map [] = refl
   same_map (s ∷ own) = ap (λ (t : Stay). t ∷ map (later 0) own) (on_time s) ∙ ap (λ (l : List Stay). s ∷ l) (same_map own)
 
-  pub first_come : (stays : List Stay) (held : Holding) → stays ≡ stays_of night blocks → held.stays ≡ [] → held.lengths ≡ track_lengths night.station → 400 ≤ held.spare → CanCome stays 0 held
+  pub first_come : (stays : List Stay) (held : Holding) → stays ≡ stays_of night blocks → held.stays ≡ [] → held.lengths ≡ track_lengths night.station → 400 ≤ held.spare
+      → CanCome stays 0 held
   first_come stays held is none lengths room =
       let count : length stays ≤ 400 = subst (λ (l : List Stay). length l ≤ 400) (sym is) (few_stays night blocks h) in
       let empty : length held.stays ≡ 0 = ap (λ (l : List Stay). length l) none in
@@ -247,7 +259,8 @@ module _ (laws : Laws) (night : Night) (blocks : List Block) (n : IsInstance nig
         room = omega arith;
       }
 
-  pub all_come : (stays : List Stay) (before after : Holding) → stays ≡ stays_of night blocks → before.stays ≡ [] → before.lengths ≡ track_lengths night.station → 400 ≤ before.spare
+  pub all_come : (stays : List Stay) (before after : Holding) → stays ≡ stays_of night blocks → before.stays ≡ [] → before.lengths ≡ track_lengths night.station
+      → 400 ≤ before.spare
       → ((s : Stay) → In s after.stays ↔ In s (map (later 0) stays) ⊎ In s before.stays) → after.lengths ≡ before.lengths
       → after.spare + length after.stays ≡ before.spare + length before.stays → AreAll night blocks after
   all_come stays before after is none lengths room come same total = record {
@@ -259,7 +272,8 @@ module _ (laws : Laws) (night : Night) (blocks : List Block) (n : IsInstance nig
     room = omega arith;
   }
 
-pub still_others : (night : Night) (blocks : List Block) (i : ℕ) (own : List Stay) (before after : Holding) → AreOthers night blocks i own before → Hold before after → AreOthers night blocks i own after
+pub still_others : (night : Night) (blocks : List Block) (i : ℕ) (own : List Stay) (before after : Holding) → AreOthers night blocks i own before → Hold before after
+    → AreOthers night blocks i own after
 still_others night blocks i own before after o h = record {
   own_are = o.own_are;
   members = λ s. (λ j. (o.members s).0 ((h.members s).0 j), λ m. (h.members s).1 ((o.members s).1 m));

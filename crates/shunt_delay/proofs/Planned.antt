@@ -63,18 +63,28 @@ module _ (laws : Laws) (night : Night) (n : IsInstance night) where
 
   same_delay : (blocks : List Block) (delay : Delay) → AreInRange night blocks → IsDelay night (by_id blocks) delay → IsDelay night blocks delay
   same_delay blocks delay h d = record {
-    bears = record { most = d.bears.most; each = λ e le. moved_feasible delay.train.0 e (by_id blocks) blocks (sorted_range night blocks h) h (let m = d.bears.most in omega arith) (λ b j. (there blocks b).1 j) (d.bears.each e le) };
-    greatest = λ e b. d.greatest e (record { most = b.most; each = λ k le. moved_feasible delay.train.0 k blocks (by_id blocks) h (sorted_range night blocks h) (let m = b.most in omega arith) (λ c j. (there blocks c).0 j) (b.each k le) });
+    bears = record {
+      most = d.bears.most;
+      each = λ e le. moved_feasible delay.train.0 e (by_id blocks) blocks (sorted_range night blocks h) h (let m = d.bears.most in omega arith)
+          (λ b j. (there blocks b).1 j) (d.bears.each e le);
+    };
+    greatest = λ e b. d.greatest e (record {
+      most = b.most;
+      each = λ k le. moved_feasible delay.train.0 k blocks (by_id blocks) h (sorted_range night blocks h)
+          (let m = b.most in omega arith) (λ c j. (there blocks c).0 j) (b.each k le);
+    });
     stop = d.stop ∙ ap (λ (fs : List Finding). if delay.minutes == 120 then None else first fs) (same_findings delay.train.0 (delay.minutes + 1) blocks h);
   }
 
-  pub same_delays : (blocks sorted : List Block) (delays : List Delay) → AreInRange night blocks → sorted ≡ by_id blocks → AreDelays night sorted delays → AreDelays night blocks delays
+  pub same_delays : (blocks sorted : List Block) (delays : List Delay) → AreInRange night blocks → sorted ≡ by_id blocks → AreDelays night sorted delays
+      → AreDelays night blocks delays
   same_delays blocks sorted delays h is a = record {
     trains = a.trains;
     each = λ k e lt. same_delay blocks (get_or delays k e) h (subst (λ (bs : List Block). IsDelay night bs (get_or delays k e)) is (a.each k e lt));
   }
 
-  pub ready : ((b : Block) → IsBlock night b → IsSound night b) → (blocks sorted : List Block) → AreInRange night blocks → IsFeasible night blocks → sorted ≡ by_id blocks → IsReady night sorted
+  pub ready : ((b : Block) → IsBlock night b → IsSound night b) → (blocks sorted : List Block) → AreInRange night blocks → IsFeasible night blocks → sorted ≡ by_id blocks
+      → IsReady night sorted
   ready sound blocks sorted h f is = subst (IsReady night) (sym is) (record {
     in_range = sorted_range night blocks h;
     sorted = by_id_is (by_id blocks) (ascends blocks (apart blocks h.ids));
@@ -97,7 +107,11 @@ pub trains_there : (night : Night) (blocks : List Block) (delays : List Delay) �
 trains_there night blocks delays a k e lt =
     let x = get_or delays k e in
     let listed : In x.train.0 (comers night) = subst (λ (xs : List ℕ). In x.train.0 xs) a.trains (in_map (λ (d : Delay). d.train.0) delays x (in_place delays k e lt)) in
-    omega (arith, in_numbers 0 (length night.arrive) x.train.0 (filter_from (λ i. not (is_standing (train_at night.arrive i))) (range_with_len 0 (length night.arrive)) x.train.0 listed).0)
+    omega (
+      arith,
+      in_numbers 0 (length night.arrive) x.train.0 (filter_from (λ i. not (is_standing (train_at night.arrive i)))
+          (range_with_len 0 (length night.arrive)) x.train.0 listed).0,
+    )
 
 abbrev comes : Night → ℕ → Bool
 comes night i = not (is_standing (train_at night.arrive i))
@@ -112,21 +126,26 @@ range_more a (suc n) j e = ap (λ (xs : List ℕ). a ∷ xs) (range_more (a + 1)
 next_number : (night : Night) (k : ℕ) → filter (comes night) (range_with_len 0 (k + 1)) ≡ filter (comes night) (range_with_len 0 k) ++ filter (comes night) (k ∷ [])
 next_number night k =
     let next : k + 1 ≡ suc k = omega arith in
-    ap (λ (n : ℕ). filter (comes night) (range_with_len 0 n)) next ∙ ap (filter (comes night)) (range_more 0 k k (omega arith)) ∙ filter-append (comes night) (range_with_len 0 k) (k ∷ [])
+    ap (λ (n : ℕ). filter (comes night) (range_with_len 0 n)) next ∙ ap (filter (comes night)) (range_more 0 k k (omega arith))
+    ∙ filter-append (comes night) (range_with_len 0 k) (k ∷ [])
 
 -- one more train, which comes to a platform
 pub trains_more : (night : Night) (k : ℕ) (delays after : List Delay) (d : Delay) → d.train.0 ≡ k → is_standing (train_at night.arrive k) ≡ false
     → numbers delays ≡ filter (comes night) (range_with_len 0 k) → after ≡ delays ++ d ∷ [] → numbers after ≡ filter (comes night) (range_with_len 0 (k + 1))
 trains_more night k delays after d train stands before is =
-    ap numbers is ∙ map-append (λ (x : Delay). x.train.0) delays (d ∷ []) ∙ ap (λ (xs : List ℕ). xs ++ d.train.0 ∷ []) before ∙ ap (λ (n : ℕ). filter (comes night) (range_with_len 0 k) ++ n ∷ []) train
+    ap numbers is ∙ map-append (λ (x : Delay). x.train.0) delays (d ∷ []) ∙ ap (λ (xs : List ℕ). xs ++ d.train.0 ∷ []) before
+    ∙ ap (λ (n : ℕ). filter (comes night) (range_with_len 0 k) ++ n ∷ []) train
     ∙ ap (λ (xs : List ℕ). filter (comes night) (range_with_len 0 k) ++ xs) (sym (filter_yes (comes night) k [] (ap (λ (t : Bool). not t) stands))) ∙ sym (next_number night k)
 
-pub each_more : (night : Night) (blocks : List Block) (delays after : List Delay) (d : Delay) → All (IsDelay night blocks) delays → IsDelay night blocks d → after ≡ delays ++ d ∷ [] → All (IsDelay night blocks) after
+pub each_more : (night : Night) (blocks : List Block) (delays after : List Delay) (d : Delay) → All (IsDelay night blocks) delays → IsDelay night blocks d
+    → after ≡ delays ++ d ∷ [] → All (IsDelay night blocks) after
 each_more night blocks delays after d all one is = subst (All (IsDelay night blocks)) (sym is)
-    (to_all (IsDelay night blocks) (delays ++ d ∷ []) (λ x i. ⊎_elim (λ j. of_all (IsDelay night blocks) delays x all j) (λ j. subst (IsDelay night blocks) (sym (of_one d x j)) one) (in_cases delays (d ∷ []) x i)))
+    (to_all (IsDelay night blocks) (delays ++ d ∷ []) (λ x i. ⊎_elim (λ j. of_all (IsDelay night blocks) delays x all j)
+    (λ j. subst (IsDelay night blocks) (sym (of_one d x j)) one) (in_cases delays (d ∷ []) x i)))
 
 -- one that stands
 pub trains_same : (night : Night) (k : ℕ) (delays : List Delay) → is_standing (train_at night.arrive k) ≡ true
     → numbers delays ≡ filter (comes night) (range_with_len 0 k) → numbers delays ≡ filter (comes night) (range_with_len 0 (k + 1))
 trains_same night k delays stands before =
-    before ∙ sym (next_number night k ∙ ap (λ (xs : List ℕ). filter (comes night) (range_with_len 0 k) ++ xs) (filter_no (comes night) k [] (ap (λ (t : Bool). not t) stands)) ∙ append-nil (filter (comes night) (range_with_len 0 k)))
+    before ∙ sym (next_number night k ∙ ap (λ (xs : List ℕ). filter (comes night) (range_with_len 0 k) ++ xs) (filter_no (comes night) k [] (ap (λ (t : Bool). not t) stands))
+    ∙ append-nil (filter (comes night) (range_with_len 0 k)))

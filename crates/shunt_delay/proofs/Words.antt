@@ -28,7 +28,8 @@ use Rattle.shunt_delay.proofs.Lately.{Units, soon_late, stay_late, in_range_late
 use Rattle.shunt_delay.proofs.Formed.{Laws, stays_late}
 use Rattle.shunt_delay.proofs.Found.{none_where, where_none, first_none}
 
-pub stay_in_words : Units → (i d : ℕ) (night : Night) (b : Block) → AreRunsWithin night (shape_of b) → is_too_soon (late i d night) (shape_of b) ≡ false → stay_of (late i d night) b ≡ option_map (later (late_by i d b)) (stay_of night b)
+pub stay_in_words : Units → (i d : ℕ) (night : Night) (b : Block) → AreRunsWithin night (shape_of b) → is_too_soon (late i d night) (shape_of b) ≡ false
+    → stay_of (late i d night) b ≡ option_map (later (late_by i d b)) (stay_of night b)
 stay_in_words units i d night b r late_enough = stay_late units i d night b r
     ∙ cond-false (is_too_soon_by night (late_by i d b) (shape_of b)) None (option_map (later (late_by i d b)) (stay_of night b)) (sym (soon_late units i d night b r) ∙ late_enough)
 
@@ -52,8 +53,10 @@ least_of (x ∷ fs) f g r e i t = elim (cases_Bool (is_of_delay x)) [
       i
 ]
 
-pub found_least : (night : Night) (blocks : List Block) (f g : Finding) → AreInRange night blocks → first (delay_findings night blocks) ≡ Some f → In g (delay_findings night blocks) → (g ≡ f) ⊎ FindingBefore f g
-found_least night blocks f g h e i = let r = filter_from is_of_delay (findings_in night blocks) g i in least_of (findings_in night blocks) f g (of_order (findings_in night blocks) (ordered night blocks h)) e r.0 r.1
+pub found_least : (night : Night) (blocks : List Block) (f g : Finding) → AreInRange night blocks → first (delay_findings night blocks) ≡ Some f
+    → In g (delay_findings night blocks) → (g ≡ f) ⊎ FindingBefore f g
+found_least night blocks f g h e i = let r = filter_from is_of_delay (findings_in night blocks) g i in least_of (findings_in night blocks) f g
+    (of_order (findings_in night blocks) (ordered night blocks h)) e r.0 r.1
 
 module _ (laws : Laws) (i d : ℕ) (night : Night) (blocks : List Block) (n : IsInstance night) (h : AreInRange night blocks) (few : d ≤ 120) where
   formed : AreStays (stays_of (late i d night) blocks)
@@ -85,7 +88,8 @@ told_same (TooLong id load) (TooSoon other) e = absurd (cc)
 told_same (TooLong id load) (Crossing x y) e = absurd (cc)
 told_same (TooLong id load) (TooLong other more) e = cc
 
-same_fields : (t u : ArrId) (m k : ℕ) (a b : Stop) → t.0 ≡ u.0 → m ≡ k → a ≡ b → ◌≡◌ {A = Delay} (record { train = t; minutes = m; stop = a }) (record { train = u; minutes = k; stop = b })
+same_fields : (t u : ArrId) (m k : ℕ) (a b : Stop) → t.0 ≡ u.0 → m ≡ k → a ≡ b → ◌≡◌ {A = Delay} (record { train = t; minutes = m; stop = a })
+    (record { train = u; minutes = k; stop = b })
 same_fields t u m k a b e f g = let train : t ≡ u = ap (λ (x : ℕ). record { 0 = x }) e in cc
 
 abbrev stop_at : Night → List Block → ℕ → ℕ → Option Finding
@@ -102,7 +106,8 @@ one_delay night blocks x y e p q =
 head_same : (x y : ℕ) (xs ys : List ℕ) → x ∷ xs ≡ y ∷ ys → (x ≡ y) × (xs ≡ ys)
 head_same x y xs ys e = (cc, cc)
 
-one_list : (night : Night) (blocks : List Block) (xs ys : List Delay) → map (λ (d : Delay). d.train.0) xs ≡ map (λ (d : Delay). d.train.0) ys → All (IsDelay night blocks) xs → All (IsDelay night blocks) ys → xs ≡ ys
+one_list : (night : Night) (blocks : List Block) (xs ys : List Delay) → map (λ (d : Delay). d.train.0) xs ≡ map (λ (d : Delay). d.train.0) ys → All (IsDelay night blocks) xs
+    → All (IsDelay night blocks) ys → xs ≡ ys
 one_list night blocks [] [] e p q = refl
 one_list night blocks [] (y ∷ ys) e p q = absurd (cc)
 one_list night blocks (x ∷ xs) [] e p q = absurd (cc)
@@ -119,9 +124,15 @@ pub limit_at : Laws → (night : Night) (blocks : List Block) (x : Delay) → Is
 limit_at laws night blocks x n h p = (
   λ e. ⊎_elim
       (λ lt.
-      let none : first (delay_findings (late x.train.0 (x.minutes + 1) night) blocks) ≡ None = sym (p.stop ∙ cond-false (x.minutes == 120) None (first (delay_findings (late x.train.0 (x.minutes + 1) night) blocks)) (ne_eqb x.minutes 120 (λ is. omega arith))) ∙ ap told e in
+      let none : first (delay_findings (late x.train.0 (x.minutes + 1) night) blocks)
+      ≡ None = sym (p.stop ∙ cond-false (x.minutes == 120) None (first (delay_findings (late x.train.0 (x.minutes + 1) night) blocks))
+      (ne_eqb x.minutes 120 (λ is. omega arith))) ∙ ap told e in
       let more = (none_found laws x.train.0 (x.minutes + 1) night blocks n h (omega arith)).0 (first_none (delay_findings (late x.train.0 (x.minutes + 1) night) blocks) none) in
-      let le : x.minutes + 1 ≤ x.minutes = p.greatest (x.minutes + 1) (record { most = omega arith; each = λ k below. ⊎_elim (λ less. p.bears.each k (omega arith)) (λ ge. let is : x.minutes + 1 ≡ k = omega arith in subst (λ (j : ℕ). StaysFeasible (late x.train.0 j night) blocks) is more) (cases_lt k (x.minutes + 1)) }) in
+      let le : x.minutes + 1 ≤ x.minutes = p.greatest (x.minutes + 1) (record {
+        most = omega arith;
+        each = λ k below. ⊎_elim (λ less. p.bears.each k (omega arith))
+            (λ ge. let is : x.minutes + 1 ≡ k = omega arith in subst (λ (j : ℕ). StaysFeasible (late x.train.0 j night) blocks) is more) (cases_lt k (x.minutes + 1));
+      }) in
       absurd (omega arith))
       (λ ge. let m = p.bears.most in omega arith)
       (cases_lt x.minutes 120),

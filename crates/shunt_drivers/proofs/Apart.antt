@@ -96,4 +96,5 @@ pub moves_apart : (night : Night) (blocks : List Block) → AreStays (stays_of n
 unfolding moves_of events_of
 moves_apart night blocks a =
     names_differ (filter (λ e. not (is_of_standing night e.key)) (map event_of (in_order (stays_of night blocks))))
-    (AllPairs-filter AreTwo (λ e. not (is_of_standing night e.key)) (map event_of (in_order (stays_of night blocks))) (events_differ (in_order (stays_of night blocks)) (order_differs (stays_of night blocks) a)))
+    (AllPairs-filter AreTwo (λ e. not (is_of_standing night e.key)) (map event_of (in_order (stays_of night blocks)))
+    (events_differ (in_order (stays_of night blocks)) (order_differs (stays_of night blocks) a)))

@@ -42,12 +42,15 @@ apart_from p pairs all q i = let c = in_to pairs q i in subst (AreApart p) c.2 (
 later_apart : (p : Span × ℕ) (pairs : List (Span × ℕ)) → AllPairs AreApart (p ∷ pairs) → AllPairs AreApart pairs
 later_apart p pairs all = λ i j d lt small. all (suc i) (suc j) d (omega (arith, lt)) (omega (arith, small))
 
-no_more : (t : ℕ) (pairs : List (Span × ℕ)) (names : List ℕ) → AllPairs AreApart pairs → ((q : Span × ℕ) → In q pairs → Runs t q ≡ true → In q.1 names) → many (Runs t) pairs ≤ length names
+no_more : (t : ℕ) (pairs : List (Span × ℕ)) (names : List ℕ) → AllPairs AreApart pairs → ((q : Span × ℕ) → In q pairs → Runs t q ≡ true → In q.1 names)
+    → many (Runs t) pairs ≤ length names
 no_more t [] names apart named = omega arith
 no_more t (p ∷ pairs) names apart named =
-    ⊎_elim (runs (λ rest. no_more t pairs rest (later_apart p pairs apart))) (rests (no_more t pairs names (later_apart p pairs apart) (λ q i r. named q (inr i) r))) (cases_Bool (Runs t p))
+    ⊎_elim (runs (λ rest. no_more t pairs rest (later_apart p pairs apart))) (rests (no_more t pairs names (later_apart p pairs apart) (λ q i r. named q (inr i) r)))
+    (cases_Bool (Runs t p))
   where
-    runs : ((rest : List ℕ) → ((q : Span × ℕ) → In q pairs → Runs t q ≡ true → In q.1 rest) → many (Runs t) pairs ≤ length rest) → Runs t p ≡ true → many (Runs t) (p ∷ pairs) ≤ length names
+    runs : ((rest : List ℕ) → ((q : Span × ℕ) → In q pairs → Runs t q ≡ true → In q.1 rest) → many (Runs t) pairs ≤ length rest) → Runs t p ≡ true
+        → many (Runs t) (p ∷ pairs) ≤ length names
     runs less now =
         let s = split names p.1 (named p (inl refl) now) in
         let few = less s.0 (λ q i r. ⊎_elim (λ same. absurd (apart_from p pairs apart q i (sym same) t now r)) (λ k. k) (s.2 q.1 (named q (inr i) r))) in
@@ -91,7 +94,8 @@ from_start : (t : ℕ) (s : Span) → runs_at t s ≡ true → s.start ≤ t
 from_start t s e = grind (arith, nat_tests)
 
 follow_apart : (a b : Share) → Follows a b → AreApart (both a) (both b)
-follow_apart a b follows = λ same t first second. absurd (let le = follows same in let lt = before_end t a.span first in let from = from_start t b.span second in omega (arith, le, lt, from))
+follow_apart a b follows = λ same t first second. absurd (let le = follows same in let lt = before_end t a.span first in let from = from_start t b.span second in omega
+    (arith, le, lt, from))
 
 shares_apart : (shares : List Share) → AllPairs Follows shares → AllPairs AreApart (map both shares)
 shares_apart shares all = λ i j d lt small.
@@ -99,14 +103,16 @@ shares_apart shares all = λ i j d lt small.
     let inside : j < length shares = omega (arith, small, length-map shares both) in
     let first : get_or (map both shares) i d ≡ both (get_or shares i z) = get_or-map both shares i z d (omega (arith, lt, inside)) in
     let second : get_or (map both shares) j d ≡ both (get_or shares j z) = get_or-map both shares j z d inside in
-    subst (λ (x : Span × ℕ). AreApart x (get_or (map both shares) j d)) (sym first) (subst (AreApart (both (get_or shares i z))) (sym second) (follow_apart (get_or shares i z) (get_or shares j z) (all i j z lt inside)))
+    subst (λ (x : Span × ℕ). AreApart x (get_or (map both shares) j d)) (sym first)
+    (subst (AreApart (both (get_or shares i z))) (sym second) (follow_apart (get_or shares i z) (get_or shares j z) (all i j z lt inside)))
 
 busy_is : (shares : List Share) (n last : ℕ) (b : Option ℕ) → Busy shares n b last → IsBusy (map (λ s. s.span) shares) n b
 busy_is shares n last None h = (ap (map (λ (s : Share). s.span)) h.0, h.1)
 busy_is shares n last (Some b) h = (h.1, running_map b shares ∙ h.2, λ t early. let few = h.3 t early in omega (arith, running_map t shares, few))
 
 -- none are needed, or as many as run at the busy minute
-at_least : (spans : List Span) (n : ℕ) (b : Option ℕ) → IsBusy spans n b → (given names : List ℕ) → IsSharing spans given → ((driver : ℕ) → In driver given → In driver names) → n ≤ length names
+at_least : (spans : List Span) (n : ℕ) (b : Option ℕ) → IsBusy spans n b → (given names : List ℕ) → IsSharing spans given → ((driver : ℕ) → In driver given → In driver names)
+    → n ≤ length names
 at_least spans n None h given names s named = omega (arith, h.1)
 at_least spans n (Some b) h given names s named = omega (arith, h.1, no_fewer b spans given names s named)
 
@@ -125,36 +131,48 @@ least_of shares free busy last g =
       fewest = at_least (map (λ s. s.span) shares) (length free) busy busy_so;
     }
 
-pub least : (spans : List Span) (shares : List Share) (free : List ℕ) (n : ℕ) (busy : Option ℕ) (last : ℕ) → IsGreedy shares free busy last → map (λ s. s.span) shares ≡ spans → n ≡ length free → IsLeast spans shares n busy
-least spans shares free n busy last g are many_of = subst (λ k. IsLeast spans shares k busy) (sym many_of) (subst (λ l. IsLeast l shares (length free) busy) are (least_of shares free busy last g))
+pub least : (spans : List Span) (shares : List Share) (free : List ℕ) (n : ℕ) (busy : Option ℕ) (last : ℕ) → IsGreedy shares free busy last → map (λ s. s.span) shares ≡ spans
+    → n ≡ length free → IsLeast spans shares n busy
+least spans shares free n busy last g are many_of = subst (λ k. IsLeast spans shares k busy) (sym many_of)
+    (subst (λ l. IsLeast l shares (length free) busy) are (least_of shares free busy last g))
 
 -- ---- one move more
 
-added : (shares after : List Share) (free free_after : List ℕ) (busy now : Option ℕ) (last : ℕ) (span : Span) (new : Bool) → IsGreedy shares free busy last → last ≤ span.start → span.start < span.end → Adds shares after free free_after span new
+added : (shares after : List Share) (free free_after : List ℕ) (busy now : Option ℕ) (last : ℕ) (span : Span) (new : Bool) → IsGreedy shares free busy last → last ≤ span.start
+    → span.start < span.end → Adds shares after free free_after span new
     → now ≡ cond new (Some span.start) busy → IsGreedy after free_after now span.start
 added shares after free free_after busy now last span new g le runs a is = ⊎_elim reused grown a.took
   where
-    reused : (new ≡ false) × (a.driver < length free) × (slice_index free a.driver ≤ span.start) × (free_after ≡ set free a.driver span.end) → IsGreedy after free_after now span.start
+    reused : (new ≡ false) × (a.driver < length free) × (slice_index free a.driver ≤ span.start) × (free_after ≡ set free a.driver span.end)
+        → IsGreedy after free_after now span.start
     reused t =
-        subst (λ l. IsGreedy l free_after now span.start) (sym a.shared) (subst (λ l. IsGreedy (shares ++ record { span = span; driver = a.driver } ∷ []) l now span.start) (sym t.3)
-        (subst (λ b. IsGreedy (shares ++ record { span = span; driver = a.driver } ∷ []) (set free a.driver span.end) b span.start) (sym (is ∙ ap (λ b. cond b (Some span.start) busy) t.0)) (by_free shares free busy last g span le runs a.driver t.1 t.2)))
+        subst (λ l. IsGreedy l free_after now span.start) (sym a.shared) (subst (λ l. IsGreedy (shares ++ record { span = span; driver = a.driver } ∷ []) l now span.start)
+        (sym t.3)
+        (subst (λ b. IsGreedy (shares ++ record { span = span; driver = a.driver } ∷ []) (set free a.driver span.end) b span.start)
+        (sym (is ∙ ap (λ b. cond b (Some span.start) busy) t.0)) (by_free shares free busy last g span le runs a.driver t.1 t.2)))
 
     grown : (new ≡ true) × All (λ f. span.start < f) free × (a.driver ≡ length free) × (free_after ≡ free ++ span.end ∷ []) → IsGreedy after free_after now span.start
     grown t =
-        subst (λ l. IsGreedy l free_after now span.start) (sym (a.shared ∙ ap (λ d. shares ++ record { span = span; driver = d } ∷ []) t.2)) (subst (λ l. IsGreedy (shares ++ record { span = span; driver = length free } ∷ []) l now span.start) (sym t.3)
-        (subst (λ b. IsGreedy (shares ++ record { span = span; driver = length free } ∷ []) (free ++ span.end ∷ []) b span.start) (sym (is ∙ ap (λ b. cond b (Some span.start) busy) t.0)) (by_new shares free busy last g span le runs t.1)))
+        subst (λ l. IsGreedy l free_after now span.start) (sym (a.shared ∙ ap (λ d. shares ++ record { span = span; driver = d } ∷ []) t.2))
+        (subst (λ l. IsGreedy (shares ++ record { span = span; driver = length free } ∷ []) l now span.start) (sym t.3)
+        (subst (λ b. IsGreedy (shares ++ record { span = span; driver = length free } ∷ []) (free ++ span.end ∷ []) b span.start)
+        (sym (is ∙ ap (λ b. cond b (Some span.start) busy) t.0)) (by_new shares free busy last g span le runs t.1)))
 
 -- ---- the place in the list of moves
 
-so_far : (spans : List Span) (shares after : List Share) (i : ℕ) (span d : Span) (driver : ℕ) → i < length spans → span ≡ get_or spans i d → after ≡ shares ++ record { span = span; driver = driver } ∷ [] → map (λ s. s.span) shares ≡ take i spans
+so_far : (spans : List Span) (shares after : List Share) (i : ℕ) (span d : Span) (driver : ℕ) → i < length spans → span ≡ get_or spans i d
+    → after ≡ shares ++ record { span = span; driver = driver } ∷ [] → map (λ s. s.span) shares ≡ take i spans
     → map (λ s. s.span) after ≡ take (i + 1) spans
 so_far spans shares after i span d driver lt at grown are =
-    ap (map (λ (s : Share). s.span)) grown ∙ spans_push shares span driver ∙ ap (λ (l : List Span). l ++ span ∷ []) are ∙ ap (λ (s : Span). take i spans ++ s ∷ []) at ∙ sym (take_more spans i d lt)
+    ap (map (λ (s : Share). s.span)) grown ∙ spans_push shares span driver ∙ ap (λ (l : List Span). l ++ span ∷ []) are ∙ ap (λ (s : Span). take i spans ++ s ∷ []) at
+    ∙ sym (take_more spans i d lt)
   where
-    spans_push : (shares : List Share) (span : Span) (driver : ℕ) → map (λ (s : Share). s.span) (shares ++ record { span = span; driver = driver } ∷ []) ≡ map (λ (s : Share). s.span) shares ++ span ∷ []
+    spans_push : (shares : List Share) (span : Span) (driver : ℕ) → map (λ (s : Share). s.span) (shares ++ record { span = span; driver = driver } ∷ [])
+        ≡ map (λ (s : Share). s.span) shares ++ span ∷ []
     spans_push shares span driver = map-append (λ (s : Share). s.span) shares (record { span = span; driver = driver } ∷ [])
 
-last_start : (spans : List Span) (i : ℕ) (span d : Span) → AllPairs (λ (a b : Span). a.start ≤ b.start) spans → i < length spans → span ≡ get_or spans i d → slice_index (0 ∷ map (λ s. s.start) spans) i ≤ span.start
+last_start : (spans : List Span) (i : ℕ) (span d : Span) → AllPairs (λ (a b : Span). a.start ≤ b.start) spans → i < length spans → span ≡ get_or spans i d
+    → slice_index (0 ∷ map (λ s. s.start) spans) i ≤ span.start
 last_start spans zero span d rise lt at = omega arith
 last_start spans (suc i) span d rise lt at =
     let start : slice_index (map (λ (s : Span). s.start) spans) i ≡ (get_or spans i d).start = get_or-map (λ (s : Span). s.start) spans i d 0 (omega (arith, lt)) in
@@ -162,18 +180,22 @@ last_start spans (suc i) span d rise lt at =
     omega (arith, start, le, ap (λ (s : Span). s.start) at)
 
 this_start : (spans : List Span) (i : ℕ) (span d : Span) → i < length spans → span ≡ get_or spans i d → slice_index (0 ∷ map (λ s. s.start) spans) (i + 1) ≡ span.start
-this_start spans i span d lt at = ap (slice_index (0 ∷ map (λ (s : Span). s.start) spans)) next ∙ get_or-map (λ (s : Span). s.start) spans i d 0 lt ∙ ap (λ (s : Span). s.start) (sym at)
+this_start spans i span d lt at = ap (slice_index (0 ∷ map (λ (s : Span). s.start) spans)) next ∙ get_or-map (λ (s : Span). s.start) spans i d 0 lt
+    ∙ ap (λ (s : Span). s.start) (sym at)
   where
     next : i + 1 ≡ suc i
     next = omega arith
 
 -- one turn
-pub turn : (spans : List Span) (i : ℕ) (d : Span) (shares after : List Share) (free free_after : List ℕ) (busy now : Option ℕ) (new : Bool) → AllPairs (λ (a b : Span). a.start ≤ b.start) spans → All (λ (s : Span). s.start < s.end) spans → i < length spans
-    → map (λ s. s.span) shares ≡ take i spans → IsGreedy shares free busy (slice_index (0 ∷ map (λ s. s.start) spans) i) → Adds shares after free free_after (get_or spans i d) new → now ≡ cond new (Some (get_or spans i d).start) busy
+pub turn : (spans : List Span) (i : ℕ) (d : Span) (shares after : List Share) (free free_after : List ℕ) (busy now : Option ℕ) (new : Bool)
+    → AllPairs (λ (a b : Span). a.start ≤ b.start) spans → All (λ (s : Span). s.start < s.end) spans → i < length spans
+    → map (λ s. s.span) shares ≡ take i spans → IsGreedy shares free busy (slice_index (0 ∷ map (λ s. s.start) spans) i) → Adds shares after free free_after (get_or spans i d) new
+    → now ≡ cond new (Some (get_or spans i d).start) busy
     → (map (λ s. s.span) after ≡ take (i + 1) spans) × IsGreedy after free_after now (slice_index (0 ∷ map (λ s. s.start) spans) (i + 1))
 turn spans i d shares after free free_after busy now new rise run lt are greedy adds is =
     let span = get_or spans i d in (
       so_far spans shares after i span d adds.driver lt refl adds.shared are,
       subst (IsGreedy after free_after now) (sym (this_start spans i span d lt refl))
-          (added shares after free free_after busy now (slice_index (0 ∷ map (λ (s : Span). s.start) spans) i) span new greedy (last_start spans i span d rise lt refl) (run i d lt) adds is),
+          (added shares after free free_after busy now (slice_index (0 ∷ map (λ (s : Span). s.start) spans) i) span new greedy (last_start spans i span d rise lt refl)
+          (run i d lt) adds is),
     )

@@ -100,12 +100,18 @@ first_formed s d row e = subst (IsDraft s) (says 1 (first_of row) d e).1 (none_f
 pub crew_formed : (s : Station) (rows : List (List (List ℕ))) (c : Crew) → reading (crew_format s) rows ≡ Ok c → IsCrew s c
 crew_formed s rows c e =
     let l = all_kept (crew_format s) (IsDraft s) (first_formed s) (λ n d t row f is. later_formed s n d t row f is) rows c e in
-    let is : IsCrew s (crew_of l.state) = record { takes = l.has.takes; ways_differ = l.has.ways_differ; other = l.has.other (unwrap_or l.state.other 0) (there 0 l.state.other l.whole) } in
+    let is : IsCrew s (crew_of l.state) = record {
+      takes = l.has.takes;
+      ways_differ = l.has.ways_differ;
+      other = l.has.other (unwrap_or l.state.other 0)
+          (there 0 l.state.other l.whole);
+    } in
     subst (IsCrew s) l.value is
 
 -- ---- rosters
 
-duty_formed : (moves : List Event) (n : ℕ) (duties more : List Duty) (row : List (List ℕ)) → IsRoster moves duties → answer n (duties_of moves duties row) ≡ Ok more → IsRoster moves more
+duty_formed : (moves : List Event) (n : ℕ) (duties more : List Duty) (row : List (List ℕ)) → IsRoster moves duties → answer n (duties_of moves duties row) ≡ Ok more
+    → IsRoster moves more
 unfolding duties_of duty_of driver_in move_in
 duty_formed moves n duties more row f e =
     let all = says n (duties_of moves duties row) more e in
@@ -138,9 +144,11 @@ duty_formed moves n duties more row f e =
     } in
     subst (IsRoster moves) all.1 is
 
-roster_later_formed : (moves : List Event) (n : ℕ) (duties more : List Duty) (row : List (List ℕ)) → IsRoster moves duties → answer n (roster_later moves duties row) ≡ Ok more → IsRoster moves more
+roster_later_formed : (moves : List Event) (n : ℕ) (duties more : List Duty) (row : List (List ℕ)) → IsRoster moves duties → answer n (roster_later moves duties row) ≡ Ok more
+    → IsRoster moves more
 unfolding roster_later
-roster_later_formed moves n duties more row f = in_either n (is_word row (codes "duty")) _ _ more (IsRoster moves more) (λ w. duty_formed moves n duties more row f) (λ e. absurd cc)
+roster_later_formed moves n duties more row f = in_either n (is_word row (codes "duty")) _ _ more (IsRoster moves more) (λ w. duty_formed moves n duties more row f)
+    (λ e. absurd cc)
 
 no_duties : (moves : List Event) → IsRoster moves []
 no_duties moves = record {
@@ -154,4 +162,5 @@ unfolding roster_first
 roster_first_formed moves duties row e = subst (IsRoster moves) (says 1 (roster_first row) duties e).1 (no_duties moves)
 
 pub roster_formed : (moves : List Event) (rows : List (List (List ℕ))) (duties : List Duty) → reading (roster_format moves) rows ≡ Ok duties → IsRoster moves duties
-roster_formed moves = formed (roster_format moves) (IsRoster moves) (IsRoster moves) (roster_first_formed moves) (λ n duties more row f e. roster_later_formed moves n duties more row f e) (λ duties is. is)
+roster_formed moves = formed (roster_format moves) (IsRoster moves) (IsRoster moves) (roster_first_formed moves)
+    (λ n duties more row f e. roster_later_formed moves n duties more row f e) (λ duties is. is)

@@ -77,7 +77,15 @@ pub record IsGreedy (shares : List Share) (free : List ℕ) (busy : Option ℕ) 
   pub at_busy : Busy shares (length free) busy last
 
 pub at_first : IsGreedy [] [] None 0
-at_first = record { held = All-nil (Holds []); apart = no_pairs Follows; used = λ driver lt. absurd (omega (arith, lt)); counts = λ t le. refl; most = λ t. omega arith; at_busy = (refl, refl) }
+at_first = record {
+  held = All-nil (Holds []);
+  apart = no_pairs Follows;
+  used = λ driver lt. absurd (omega (arith, lt));
+  counts = λ t le. refl;
+  most = λ t.
+      omega arith;
+  at_busy = (refl, refl);
+}
 
 abbrev share : Span → ℕ → Share
 share span driver = record { span = span; driver = driver }
@@ -101,14 +109,16 @@ drivers_more : (shares : List Share) (s : Share) → map (λ (x : Share). x.driv
 drivers_more [] s = refl
 drivers_more (x ∷ shares) s = ap (λ l. x.driver ∷ l) (drivers_more shares s)
 
-module _ (shares : List Share) (free : List ℕ) (busy : Option ℕ) (last : ℕ) (g : IsGreedy shares free busy last) (span : Span) (le : last ≤ span.start) (runs : span.start < span.end) where
+module _ (shares : List Share) (free : List ℕ) (busy : Option ℕ) (last : ℕ) (g : IsGreedy shares free busy last) (span : Span) (le : last ≤ span.start)
+    (runs : span.start < span.end) where
   before : (driver t : ℕ) → t < span.start → Running (shares ++ share span driver ∷ []) t ≡ Running shares t
   before driver t lt = omega (arith, many_push (λ (s : Share). runs_at t s.span) shares (share span driver), not_yet t span lt)
 
   now : (driver t : ℕ) → span.start ≤ t → Running (shares ++ share span driver ∷ []) t ≡ Running shares t + flag (nat_lt t span.end)
   now driver t from = omega (arith, many_push (λ (s : Share). runs_at t s.span) shares (share span driver), started t span from)
 
-  by_span : (driver : ℕ) (n : ℕ) (after : List ℕ) → length after ≡ n → ((t : ℕ) → span.start ≤ t → Running (shares ++ share span driver ∷ []) t ≡ Free after t) → length free ≤ n → (t : ℕ) → Running (shares ++ share span driver ∷ []) t ≤ n
+  by_span : (driver : ℕ) (n : ℕ) (after : List ℕ) → length after ≡ n → ((t : ℕ) → span.start ≤ t → Running (shares ++ share span driver ∷ []) t ≡ Free after t) → length free ≤ n
+      → (t : ℕ) → Running (shares ++ share span driver ∷ []) t ≤ n
   by_span driver n after long counts fewer t =
       ⊎_elim (λ lt. omega (arith, before driver t lt, g.most t, fewer)) (λ from. omega (arith, counts t from, many_few (λ f. nat_lt t f) after, long)) (cases_lt t span.start)
 
@@ -142,7 +152,12 @@ module _ (shares : List Share) (free : List ℕ) (busy : Option ℕ) (last : ℕ
 
     stays_busy : (b : Option ℕ) → Busy shares (length free) b last → Busy (shares ++ share span k ∷ []) (length free) b span.start
     stays_busy None h = absurd (omega (arith, lt, h.1))
-    stays_busy (Some b) h = (omega (arith, h.0, le), h.1, ⊎_elim (λ early. omega (arith, before k b early, h.2)) at_start (cases_lt b span.start), λ t small. ⊎_elim (λ early. omega (arith, before k t early, h.3 t small)) (λ late. absurd (omega (arith, h.0, le, late, small))) (cases_lt t span.start))
+    stays_busy (Some b) h = (
+      omega (arith, h.0, le),
+      h.1,
+      ⊎_elim (λ early. omega (arith, before k b early, h.2)) at_start (cases_lt b span.start),
+      λ t small. ⊎_elim (λ early. omega (arith, before k t early, h.3 t small)) (λ late. absurd (omega (arith, h.0, le, late, small))) (cases_lt t span.start),
+    )
       where
         at_start : span.start ≤ b → Running (shares ++ share span k ∷ []) b ≡ length free
         at_start late =
@@ -180,11 +195,17 @@ module _ (shares : List Share) (free : List ℕ) (busy : Option ℕ) (last : ℕ
 
     new_busy : Busy (shares ++ share span (length free) ∷ []) (length free + 1) (Some span.start) span.start
     new_busy =
-        let one_more : flag (nat_lt span.start span.end) ≡ 1 = ap flag (lt_true span.start span.end runs) in
-        (omega arith, omega arith, omega (arith, now (length free) span.start (omega arith), g.counts span.start le, whole, one_more), λ t early. omega (arith, before (length free) t early, g.most t))
+        let one_more : flag (nat_lt span.start span.end) ≡ 1 = ap flag (lt_true span.start span.end runs) in (
+          omega arith,
+          omega arith,
+          omega (arith, now (length free) span.start (omega arith), g.counts span.start le, whole, one_more),
+          λ t early. omega (arith, before (length free) t early, g.most t),
+        )
 
     new_used : (d : ℕ) → d < length free + 1 → In d (map (λ s. s.driver) (shares ++ share span (length free) ∷ []))
-    new_used d small = ⊎_elim (λ lt. kept_used (length free) d (g.used d lt)) (λ ge. let same : d ≡ length free = omega (arith, ge, small) in subst (In d) (sym (drivers_more shares (share span (length free)))) (in_right (map (λ (s : Share). s.driver) shares) (length free ∷ []) d (inl same))) (cases_lt d (length free))
+    new_used d small = ⊎_elim (λ lt. kept_used (length free) d (g.used d lt)) (λ ge. let same : d
+        ≡ length free = omega (arith, ge, small) in subst (In d) (sym (drivers_more shares (share span (length free))))
+        (in_right (map (λ (s : Share). s.driver) shares) (length free ∷ []) d (inl same))) (cases_lt d (length free))
 
     pub by_new : IsGreedy (shares ++ share span (length free) ∷ []) (free ++ span.end ∷ []) (Some span.start) span.start
     by_new = record {

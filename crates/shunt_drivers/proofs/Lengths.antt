@@ -36,5 +36,6 @@ roster_short moves duties is =
     let whole = ap length (flat_map-cons text_of_row head_row (map duty_row duties)) in
     omega (arith, few, all, head_short, whole, length-append (text_of_row head_row) (text_of_rows (map duty_row duties)))
 
-pub short_from : (moves : List Event) (duties : List Duty) → IsRoster moves duties → (text bytes : List ℕ) → text ≡ text_of_rows (rows_of duties) → bytes ≡ text → length bytes ≤ 27209
+pub short_from : (moves : List Event) (duties : List Duty) → IsRoster moves duties → (text bytes : List ℕ) → text ≡ text_of_rows (rows_of duties) → bytes ≡ text
+    → length bytes ≤ 27209
 short_from moves duties is text bytes e same = subst (λ (t : List ℕ). length t ≤ 27209) (sym (same ∙ e)) (roster_short moves duties is)

@@ -81,5 +81,6 @@ unfolding decimal_of
 number_small text x e = by (is_decimal_text text) refl
   where
     by : (b : Bool) → is_decimal_text text ≡ b → x < 10 ^ 18
-    by true t = let is : digits_value 10 text ≡ x = some_same (digits_value 10 text) x (sym (ap (λ (b : Bool). if b then Some (digits_value 10 text) else None) t) ∙ e) in omega (arith, small text (spelled text t), is)
+    by true t = let is : digits_value 10 text ≡ x = some_same (digits_value 10 text) x (sym (ap (λ (b : Bool). if b then Some (digits_value 10 text) else None) t) ∙ e) in omega
+        (arith, small text (spelled text t), is)
     by false t = absurd (none-some x (sym (ap (λ (b : Bool). if b then Some (digits_value 10 text) else None) t) ∙ e))

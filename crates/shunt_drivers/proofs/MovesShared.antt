@@ -71,13 +71,15 @@ picked duties e has =
 -- ---- duties dealt out to moves
 
 -- one more move is dealt
-pub one_dealt : (moves : List Event) (shares : List Share) (i : ℕ) (e : Event) (s : Share) (d : Duty) (duties more : List Duty) → i < length moves → i < length shares → d ≡ duty_by ((get_or shares i s).driver + 1) (get_or moves i e)
+pub one_dealt : (moves : List Event) (shares : List Share) (i : ℕ) (e : Event) (s : Share) (d : Duty) (duties more : List Duty) → i < length moves → i < length shares
+    → d ≡ duty_by ((get_or shares i s).driver + 1) (get_or moves i e)
     → more ≡ duties ++ d ∷ [] → more ++ dealt (drop (i + 1) moves) (drop (i + 1) shares) ≡ duties ++ dealt (drop i moves) (drop i shares)
 one_dealt moves shares i e s d duties more lt within is push =
     let one = duty_by ((get_or shares i s).driver + 1) (get_or moves i e) in
     ap (λ l. l ++ dealt (drop (i + 1) moves) (drop (i + 1) shares)) (push ∙ ap (λ x. duties ++ x ∷ []) is)
     ∙ append_assoc duties (one ∷ []) (dealt (drop (i + 1) moves) (drop (i + 1) shares))
-    ∙ ap (λ l. duties ++ l) (sym (ap (λ l. dealt l (drop i shares)) (drop_more moves i e lt) ∙ ap (λ l. dealt (get_or moves i e ∷ drop (i + 1) moves) l) (drop_more shares i s within)))
+    ∙ ap (λ l. duties ++ l) (sym (ap (λ l. dealt l (drop i shares)) (drop_more moves i e lt)
+    ∙ ap (λ l. dealt (get_or moves i e ∷ drop (i + 1) moves) l) (drop_more shares i s within)))
 
 pub small_dealt : (d : Duty) (duties more : List Duty) → d.id < 2 ^ 32 → All (λ (x : Duty). x.id < 2 ^ 32) duties → more ≡ duties ++ d ∷ [] → All (λ (x : Duty). x.id < 2 ^ 32) more
 small_dealt d duties more small all push = subst (All (λ (x : Duty). x.id < 2 ^ 32)) (sym push) (All-push (λ (x : Duty). x.id < 2 ^ 32) duties d all small)
@@ -110,7 +112,8 @@ used_one [] k i = absurd i
 used_one (s ∷ shares) k (inl e) = inl (ap (λ (x : ℕ). x + 1) e)
 used_one (s ∷ shares) k (inr i) = inr (used_one shares k i)
 
-module _ (night : Night) (crew : Crew) (moves : List Event) (shares : List Share) (duties : List Duty) (drivers : ℕ) (busy : Option ℕ) (least : IsLeast (spans_of night crew moves) shares drivers busy) (named : map named_by duties ≡ map name_of moves)
+module _ (night : Night) (crew : Crew) (moves : List Event) (shares : List Share) (duties : List Duty) (drivers : ℕ) (busy : Option ℕ)
+    (least : IsLeast (spans_of night crew moves) shares drivers busy) (named : map named_by duties ≡ map name_of moves)
     (numbered : drivers_of duties ≡ numbers shares) (differ : AreDistinct (map name_of moves)) where
   many_duties : length duties ≡ length moves
   many_duties = omega (arith, ap length named, length-map duties named_by, length-map moves name_of)
@@ -125,7 +128,8 @@ module _ (night : Night) (crew : Crew) (moves : List Event) (shares : List Share
       let within : c.0 < length duties = c.1 in
       let there : get_or (map named_by duties) c.0 (name_of e) ≡ name_of e = get_or-map named_by duties c.0 a (name_of e) within ∙ ap named_by c.2 ∙ is.1 in
       let here : get_or (map name_of moves) i (name_of e) ≡ name_of e = get_or-map name_of moves i e (name_of e) lt ∙ ap name_of at in
-      let same : i ≡ c.0 = same_place (map name_of moves) i c.0 (name_of e) differ (omega (arith, lt, length-map moves name_of)) (omega (arith, within, many_duties, length-map moves name_of))
+      let same : i ≡ c.0 = same_place (map name_of moves) i c.0 (name_of e) differ (omega (arith, lt, length-map moves name_of))
+      (omega (arith, within, many_duties, length-map moves name_of))
       (here ∙ sym there ∙ ap (λ l. get_or l c.0 (name_of e)) named) in
       ap (λ k. get_or duties k a) same ∙ c.2
 
@@ -146,7 +150,8 @@ module _ (night : Night) (crew : Crew) (moves : List Event) (shares : List Share
 
   pair_at : (i : ℕ) (e : Event) → i < length moves → get_or moves i e ≡ e → get_or (zip (spans_of night crew moves) given) i (no_span, 0) ≡ (span_of night crew e, get_or given i 0)
   pair_at i e lt at =
-      get_or-zip (spans_of night crew moves) given i (no_span, 0) (omega (arith, lt, length-map moves (span_of night crew))) (omega (arith, lt, many_shares, many_duties, length-map shares (λ (s : Share). s.driver)))
+      get_or-zip (spans_of night crew moves) given i (no_span, 0) (omega (arith, lt, length-map moves (span_of night crew)))
+      (omega (arith, lt, many_shares, many_duties, length-map shares (λ (s : Share). s.driver)))
       ∙ ap (λ (a : Span). let p : Span × ℕ = (a, get_or given i 0) in p) (span_at i e lt at)
 
   apart : (e f : Event) (a b : Duty) → Before e f moves → Overlap night crew duties e f a b → ⊥
@@ -159,10 +164,20 @@ module _ (night : Night) (crew : Crew) (moves : List Event) (shares : List Share
       let inside : i < length moves = omega (arith, lt, small) in
       let first = driver_at i a (omega (arith, inside, many_duties)) (at_move i e a inside p.4 o.first) in
       let second = driver_at j b (omega (arith, small, many_duties)) (at_move j f b small p.5 o.second) in
-      let long : j < length (zip (spans_of night crew moves) given) = omega (arith, small, many_shares, many_duties, length-zip (spans_of night crew moves) given, length-map moves (span_of night crew), length-map shares (λ (s : Share). s.driver)) in
+      let long : j < length (zip (spans_of night crew moves) given) = omega (
+        arith,
+        small,
+        many_shares,
+        many_duties,
+        length-zip (spans_of night crew moves) given,
+        length-map moves (span_of night crew),
+        length-map shares (λ (s : Share). s.driver),
+      ) in
       let two = least.sharing.apart i j (no_span, 0) lt long in
-      let three : AreApart (span_of night crew e, get_or given i 0) (get_or (zip (spans_of night crew moves) given) j (no_span, 0)) = subst (λ q. AreApart q (get_or (zip (spans_of night crew moves) given) j (no_span, 0))) (pair_at i e inside p.4) two in
-      let four : AreApart (span_of night crew e, get_or given i 0) (span_of night crew f, get_or given j 0) = subst (AreApart (span_of night crew e, get_or given i 0)) (pair_at j f small p.5) three in
+      let three : AreApart (span_of night crew e, get_or given i 0) (get_or (zip (spans_of night crew moves) given) j (no_span, 0)) = subst
+      (λ q. AreApart q (get_or (zip (spans_of night crew moves) given) j (no_span, 0))) (pair_at i e inside p.4) two in
+      let four : AreApart (span_of night crew e, get_or given i 0) (span_of night crew f, get_or given j 0) = subst (AreApart (span_of night crew e, get_or given i 0))
+      (pair_at j f small p.5) three in
       four (omega (arith, first, second, o.driver)) o.minute o.runs o.runs_too
 
   each_number : All (λ (d : Duty). (1 ≤ d.driver) × (d.driver ≤ drivers)) duties
@@ -181,7 +196,8 @@ module _ (night : Night) (crew : Crew) (moves : List Event) (shares : List Share
       subst (In (suc k)) (sym numbered) (subst (λ n. In n (numbers shares)) next (used_one shares k (least.used k (omega (arith, within)))))
 
   -- a move's span beside its driver
-  pair_of : (other : List Duty) (i : ℕ) (d : Span × ℕ) → i < length moves → get_or (zip (spans_of night crew moves) (map (λ e. (pick other e).driver) moves)) i d ≡ (span_of night crew (get_or moves i no_move), (pick other (get_or moves i no_move)).driver)
+  pair_of : (other : List Duty) (i : ℕ) (d : Span × ℕ) → i < length moves → get_or (zip (spans_of night crew moves) (map (λ e. (pick other e).driver) moves)) i d
+      ≡ (span_of night crew (get_or moves i no_move), (pick other (get_or moves i no_move)).driver)
   pair_of other i d lt =
       let theirs = map (λ (e : Event). (pick other e).driver) moves in
       let spans = spans_of night crew moves in
@@ -196,7 +212,13 @@ module _ (night : Night) (crew : Crew) (moves : List Event) (shares : List Share
     apart = λ i j d lt small.
         let theirs = map (λ (e : Event). (pick other e).driver) moves in
         let spans = spans_of night crew moves in
-        let inside : j < length moves = omega (arith, small, length-zip spans theirs, length-map moves (span_of night crew), length-map moves (λ (e : Event). (pick other e).driver)) in
+        let inside : j < length moves = omega (
+          arith,
+          small,
+          length-zip spans theirs,
+          length-map moves (span_of night crew),
+          length-map moves (λ (e : Event). (pick other e).driver),
+        ) in
         let e = get_or moves i no_move in
         let f = get_or moves j no_move in
         let first : get_or (zip spans theirs) i d ≡ (span_of night crew e, (pick other e).driver) = pair_of other i d (omega (arith, lt, inside)) in
@@ -246,15 +268,18 @@ module _ (night : Night) (crew : Crew) (moves : List Event) (shares : List Share
   }
 
 -- the same of the shares as they are seen
-pub all_shared : (night : Night) (crew : Crew) (moves : List Event) (shares seen : List Share) (duties : List Duty) (drivers n : ℕ) (busy b : Option ℕ) → IsLeast (spans_of night crew moves) shares drivers busy → seen ≡ shares → length shares ≡ length moves → duties ≡ dealt moves seen
+pub all_shared : (night : Night) (crew : Crew) (moves : List Event) (shares seen : List Share) (duties : List Duty) (drivers n : ℕ) (busy b : Option ℕ)
+    → IsLeast (spans_of night crew moves) shares drivers busy → seen ≡ shares → length shares ≡ length moves → duties ≡ dealt moves seen
     → AreDistinct (map name_of moves) → n ≡ drivers → b ≡ busy → IsFewest night crew moves duties n b
 all_shared night crew moves shares seen duties drivers n busy b least same many is differ count minute =
     let all = is ∙ ap (dealt moves) same in
     subst (λ k. IsFewest night crew moves duties k b) (sym count) (subst (IsFewest night crew moves duties drivers) (sym minute)
     (shared night crew moves shares duties drivers busy least (ap (map named_by) all ∙ dealt_names moves shares many) (ap drivers_of all ∙ dealt_drivers moves shares many) differ))
 
-pub all_written : (night : Night) (crew : Crew) (moves : List Event) (shares seen : List Share) (duties : List Duty) (drivers : ℕ) (busy : Option ℕ) → IsLeast (spans_of night crew moves) shares drivers busy → seen ≡ shares → length shares ≡ length moves → duties ≡ dealt moves seen
+pub all_written : (night : Night) (crew : Crew) (moves : List Event) (shares seen : List Share) (duties : List Duty) (drivers : ℕ) (busy : Option ℕ)
+    → IsLeast (spans_of night crew moves) shares drivers busy → seen ≡ shares → length shares ≡ length moves → duties ≡ dealt moves seen
     → AreDistinct (map name_of moves) → length moves ≤ 800 → All (λ (d : Duty). d.id < 2 ^ 32) duties → IsRoster moves duties
 all_written night crew moves shares seen duties drivers busy least same many is differ few small =
     let all = is ∙ ap (dealt moves) same in
-    written night crew moves shares duties drivers busy least (ap (map named_by) all ∙ dealt_names moves shares many) (ap drivers_of all ∙ dealt_drivers moves shares many) differ few small
+    written night crew moves shares duties drivers busy least (ap (map named_by) all ∙ dealt_names moves shares many)
+    (ap drivers_of all ∙ dealt_drivers moves shares many) differ few small

@@ -30,22 +30,26 @@ unfolding takes_of
 fields_fail n s d row e fails = part_err n (fields_in row 5 5) (λ _. judging.◌>>=◌ (way_in s row) (with_way d row)) e (sym fails)
 
 -- behind its fields and its way
-after_way : (n : ℕ) (s : Station) (d : Draft) (row : List (List ℕ)) (way : Way) → is_within 5 5 (length row) ≡ true → Ok way ≡ answer n (way_in s row) → answer n (takes_of s d row) ≡ answer n (with_way d row way)
+after_way : (n : ℕ) (s : Station) (d : Draft) (row : List (List ℕ)) (way : Way) → is_within 5 5 (length row) ≡ true → Ok way ≡ answer n (way_in s row)
+    → answer n (takes_of s d row) ≡ answer n (with_way d row way)
 unfolding takes_of
 after_way n s d row way five is = passes_on _ _ _ _ five (part_ok n (way_in s row) (with_way d row) way (sym is))
 
-pub way_fails : (n : ℕ) (s : Station) (d : Draft) (row : List (List ℕ)) (e : RowFault) → is_within 5 5 (length row) ≡ true → Err e ≡ answer n (way_in s row) → answer n (takes_of s d row) ≡ Err e
+pub way_fails : (n : ℕ) (s : Station) (d : Draft) (row : List (List ℕ)) (e : RowFault) → is_within 5 5 (length row) ≡ true → Err e ≡ answer n (way_in s row)
+    → answer n (takes_of s d row) ≡ Err e
 unfolding takes_of
 way_fails n s d row e five fails = passes_on _ _ _ _ five (part_err n (way_in s row) (with_way d row) e (sym fails))
 
-pub takes_fail : (n : ℕ) (s : Station) (d inside : Draft) (row : List (List ℕ)) (way : Way) (takes : List Takes) (e : RowFault) → d ≡ inside → is_within 5 5 (length row) ≡ true → Ok way ≡ answer n (way_in s row)
+pub takes_fail : (n : ℕ) (s : Station) (d inside : Draft) (row : List (List ℕ)) (way : Way) (takes : List Takes) (e : RowFault) → d ≡ inside → is_within 5 5 (length row) ≡ true
+    → Ok way ≡ answer n (way_in s row)
     → takes ≡ inside.takes → Err e ≡ answer n (takes_in takes way row) → answer n (takes_of s d row) ≡ Err e
 takes_fail n s d inside row way takes e same five is has fails =
     ap (λ x. answer n (takes_of s x row)) same ∙ after_way n s inside row way five is
     ∙ part_err n (takes_in inside.takes way row) (with_takes inside) e
     (ap (λ l. answer n (takes_in l way row)) (sym has) ∙ sym fails)
 
-pub takes_ok : (n : ℕ) (s : Station) (d inside : Draft) (row : List (List ℕ)) (way : Way) (takes items : List Takes) (t : Takes) → d ≡ inside → is_within 5 5 (length row) ≡ true → Ok way ≡ answer n (way_in s row)
+pub takes_ok : (n : ℕ) (s : Station) (d inside : Draft) (row : List (List ℕ)) (way : Way) (takes items : List Takes) (t : Takes) → d ≡ inside → is_within 5 5 (length row) ≡ true
+    → Ok way ≡ answer n (way_in s row)
     → takes ≡ inside.takes → Ok t ≡ answer n (takes_in takes way row) → items ≡ inside.takes ++ t ∷ [] → answer n (takes_of s d row) ≡ Ok (record inside { takes = items })
 takes_ok n s d inside row way takes items t same five is has reads more =
     ap (λ x. answer n (takes_of s x row)) same ∙ after_way n s inside row way five is
@@ -63,26 +67,34 @@ err_is {X = X} (Err f) e stated same is = ap (λ (g : RowFault). let s : Result 
 abbrev with_driver : List Event → List Duty → List (List ℕ) → ℕ → Judged Duty
 with_driver moves duties row driver = judging.◌>>=◌ (move_in moves duties row) (λ e. says (duty_by driver e))
 
-pub driver_fails : (n : ℕ) (moves : List Event) (duties : List Duty) (row : List (List ℕ)) (e : RowFault) → answer n (driver_in duties row) ≡ Err e → answer n (duty_of moves duties row) ≡ Err e
+pub driver_fails : (n : ℕ) (moves : List Event) (duties : List Duty) (row : List (List ℕ)) (e : RowFault) → answer n (driver_in duties row) ≡ Err e
+    → answer n (duty_of moves duties row) ≡ Err e
 unfolding duty_of
 driver_fails n moves duties row e is = part_err n (driver_in duties row) (with_driver moves duties row) e is
 
-pub move_fails : (n : ℕ) (moves : List Event) (duties : List Duty) (row : List (List ℕ)) (driver : ℕ) (e : RowFault) → answer n (driver_in duties row) ≡ Ok driver → answer n (move_in moves duties row) ≡ Err e → answer n (duty_of moves duties row) ≡ Err e
+pub move_fails : (n : ℕ) (moves : List Event) (duties : List Duty) (row : List (List ℕ)) (driver : ℕ) (e : RowFault) → answer n (driver_in duties row) ≡ Ok driver
+    → answer n (move_in moves duties row) ≡ Err e → answer n (duty_of moves duties row) ≡ Err e
 unfolding duty_of
-move_fails n moves duties row driver e is fails = part_ok n (driver_in duties row) (with_driver moves duties row) driver is ∙ part_err n (move_in moves duties row) (λ m. says (duty_by driver m)) e fails
+move_fails n moves duties row driver e is fails = part_ok n (driver_in duties row) (with_driver moves duties row) driver is
+    ∙ part_err n (move_in moves duties row) (λ m. says (duty_by driver m)) e fails
 
-pub duty_is : (n : ℕ) (moves : List Event) (duties : List Duty) (row : List (List ℕ)) (driver : ℕ) (m : Event) → answer n (driver_in duties row) ≡ Ok driver → answer n (move_in moves duties row) ≡ Ok m → answer n (duty_of moves duties row) ≡ Ok (duty_by driver m)
+pub duty_is : (n : ℕ) (moves : List Event) (duties : List Duty) (row : List (List ℕ)) (driver : ℕ) (m : Event) → answer n (driver_in duties row) ≡ Ok driver
+    → answer n (move_in moves duties row) ≡ Ok m → answer n (duty_of moves duties row) ≡ Ok (duty_by driver m)
 unfolding duty_of
-duty_is n moves duties row driver m is moved = part_ok n (driver_in duties row) (with_driver moves duties row) driver is ∙ part_ok n (move_in moves duties row) (λ m. says (duty_by driver m)) m moved
+duty_is n moves duties row driver m is moved = part_ok n (driver_in duties row) (with_driver moves duties row) driver is
+    ∙ part_ok n (move_in moves duties row) (λ m. says (duty_by driver m)) m moved
 
 -- the same duties, by another word for them
-pub seen_as : (n : ℕ) (moves : List Event) (row : List (List ℕ)) (seen duties : List Duty) (r : Result Duty RowFault) → seen ≡ duties → r ≡ answer n (duty_of moves seen row) → answer n (duty_of moves duties row) ≡ r
+pub seen_as : (n : ℕ) (moves : List Event) (row : List (List ℕ)) (seen duties : List Duty) (r : Result Duty RowFault) → seen ≡ duties → r ≡ answer n (duty_of moves seen row)
+    → answer n (duty_of moves duties row) ≡ r
 seen_as n moves row seen duties r same is = subst (λ x. answer n (duty_of moves x row) ≡ r) same (sym is)
 
-pub one_more : (n : ℕ) (moves : List Event) (duties more : List Duty) (row : List (List ℕ)) (d : Duty) → answer n (duty_of moves duties row) ≡ Ok d → more ≡ duties ++ d ∷ [] → answer n (duties_of moves duties row) ≡ Ok more
+pub one_more : (n : ℕ) (moves : List Event) (duties more : List Duty) (row : List (List ℕ)) (d : Duty) → answer n (duty_of moves duties row) ≡ Ok d → more ≡ duties ++ d ∷ []
+    → answer n (duties_of moves duties row) ≡ Ok more
 unfolding duties_of
 one_more n moves duties more row d is push = part_ok n (duty_of moves duties row) (λ d. says (duties ++ d ∷ [])) d is ∙ ap (λ l. Ok l) (sym push)
 
-pub none_more : (n : ℕ) (moves : List Event) (duties : List Duty) (row : List (List ℕ)) (e : RowFault) → answer n (duty_of moves duties row) ≡ Err e → answer n (duties_of moves duties row) ≡ Err e
+pub none_more : (n : ℕ) (moves : List Event) (duties : List Duty) (row : List (List ℕ)) (e : RowFault) → answer n (duty_of moves duties row) ≡ Err e
+    → answer n (duties_of moves duties row) ≡ Err e
 unfolding duties_of
 none_more n moves duties row e is = part_err n (duty_of moves duties row) (λ d. says (duties ++ d ∷ [])) e is

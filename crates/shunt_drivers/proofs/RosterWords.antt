@@ -50,7 +50,14 @@ split {X = X} p (y ∷ ys) x e = ⊎_elim here (later (λ rest. split p ys x res
     later : (find p ys ≡ Some x → Split p ys x) → p y ≡ false → Split p (y ∷ ys) x
     later rest f =
         let s = rest (sym (cond-false (p y) (Some y) (find p ys) f) ∙ e) in
-        record { before = y ∷ s.before; after = s.after; place = ap (λ l. y ∷ l) s.place; fail = λ z i. ⊎_elim (λ same. subst (λ w. p w ≡ false) (sym same) f) (λ j. s.fail z j) i; passes = s.passes }
+        record {
+          before = y ∷ s.before;
+          after = s.after;
+          place = ap (λ l. y ∷ l) s.place;
+          fail = λ z i. ⊎_elim (λ same. subst (λ w. p w ≡ false) (sym same) f)
+              (λ j. s.fail z j) i;
+          passes = s.passes;
+        }
 
 finds_first : {X : Type 0} (p : X → Bool) (before after : List X) (x : X) → ((y : X) → In y before → p y ≡ false) → p x ≡ true → find p (before ++ x ∷ after) ≡ Some x
 finds_first p [] after x fail t = cond-true (p x) (Some x) (find p after) t
@@ -99,7 +106,16 @@ module _ (duties : List Duty) where
   absent_is : (moves : List Event) (e : Event) (enters : Bool) (id : ℕ) → find lacks moves ≡ Some e → name_of e ≡ (enters, id) → IsFirstAbsent moves duties enters id
   absent_is moves e enters id found named =
       let s = split lacks moves e found in
-      record { before = s.before; move = e; after = s.after; place = s.place; had = λ f i. has_of f (s.fail f i); absent = λ has. never_both (lacks e) s.passes (of_has e has); named = named }
+      record {
+        before = s.before;
+        move = e;
+        after = s.after;
+        place = s.place;
+        had = λ f i. has_of f (s.fail f i);
+        absent = λ has. never_both (lacks e) s.passes
+            (of_has e has);
+        named = named;
+      }
 
   is_absent : (moves : List Event) (enters : Bool) (id : ℕ) (a : IsFirstAbsent moves duties enters id) → find lacks moves ≡ Some a.move
   is_absent moves enters id a = ap (find lacks) a.place ∙ finds_first lacks a.before a.after a.move (λ e i. of_has e (a.had e i)) (of_none a.move a.absent)
@@ -112,7 +128,8 @@ module _ (duties : List Duty) where
       let long = length-map duties named_by in
       let first : get_or (map named_by duties) c.0 (named_by a) ≡ named_by a = get_or-map named_by duties c.0 a (named_by a) c.1 ∙ ap named_by c.2 in
       let second : get_or (map named_by duties) d.0 (named_by a) ≡ named_by b = get_or-map named_by duties d.0 b (named_by a) d.1 ∙ ap named_by d.2 in
-      let same : c.0 ≡ d.0 = same_place (map named_by duties) c.0 d.0 (named_by a) once (let lt = c.1 in omega (arith, lt, long)) (let lt = d.1 in omega (arith, lt, long)) (first ∙ e ∙ sym second) in
+      let same : c.0 ≡ d.0 = same_place (map named_by duties) c.0 d.0 (named_by a) once (let lt = c.1 in omega (arith, lt, long)) (let lt = d.1 in omega (arith, lt, long))
+      (first ∙ e ∙ sym second) in
       sym c.2 ∙ ap (λ k. get_or duties k a) same ∙ get_or_default duties d.0 a b d.1 ∙ d.2
 
 -- ---- which moves overlap
@@ -145,8 +162,24 @@ module _ (night : Night) (crew : Crew) (is : IsCrew night.station crew) (duties 
       let some_a = some_minutes e in
       let some_b = some_minutes f in
       ⊎_elim
-      (λ lt. let r : Overlap night crew duties e f (pick duties e) (pick duties f) = record { first = (picked duties e has).1; second = (picked duties f too).1; driver = driver; minute = b.start; runs = runs b.start a (omega (arith, lt)) behind; runs_too = runs b.start b (omega arith) some_b } in r)
-      (λ ge. let r : Overlap night crew duties e f (pick duties e) (pick duties f) = record { first = (picked duties e has).1; second = (picked duties f too).1; driver = driver; minute = a.start; runs = runs a.start a (omega arith) some_a; runs_too = runs a.start b ge before } in r)
+      (λ lt. let r : Overlap night crew duties e f (pick duties e) (pick duties f) = record {
+        first = (picked duties e has).1;
+        second = (picked duties f too).1;
+        driver = driver;
+        minute = b.start;
+        runs = runs b.start a
+            (omega (arith, lt)) behind;
+        runs_too = runs b.start b (omega arith) some_b;
+      } in r)
+      (λ ge. let r : Overlap night crew duties e f (pick duties e) (pick duties f) = record {
+        first = (picked duties e has).1;
+        second = (picked duties f too).1;
+        driver = driver;
+        minute = a.start;
+        runs = runs a.start a
+            (omega arith) some_a;
+        runs_too = runs a.start b ge before;
+      } in r)
       (cases_lt a.start b.start)
 
   picks : (e : Event) (a : Duty) → IsDutyOf duties e a → pick duties e ≡ a
@@ -156,8 +189,10 @@ module _ (night : Night) (crew : Crew) (is : IsCrew night.station crew) (duties 
   is_hit e f a b o =
       let r = runs_from o.minute (span_of night crew e) o.runs in
       let s = runs_from o.minute (span_of night crew f) o.runs_too in
-      let driver : (pick duties e).driver ≡ (pick duties f).driver = ap (λ (d : Duty). d.driver) (picks e a o.first) ∙ o.driver ∙ sym (ap (λ (d : Duty). d.driver) (picks f b o.second)) in
-      and_from _ _ (and_from _ _ (eq-eqb (pick duties e).driver (pick duties f).driver driver) (lt-ltb (span_of night crew e).start (span_of night crew f).end (let from = r.0 in let lt = s.1 in omega (arith, from, lt))))
+      let driver : (pick duties e).driver ≡ (pick duties f).driver = ap (λ (d : Duty). d.driver) (picks e a o.first) ∙ o.driver
+      ∙ sym (ap (λ (d : Duty). d.driver) (picks f b o.second)) in
+      and_from _ _ (and_from _ _ (eq-eqb (pick duties e).driver (pick duties f).driver driver)
+      (lt-ltb (span_of night crew e).start (span_of night crew f).end (let from = r.0 in let lt = s.1 in omega (arith, from, lt))))
       (lt-ltb (span_of night crew f).start (span_of night crew e).end (let from = s.0 in let lt = r.1 in omega (arith, from, lt)))
 
   no_hit : (e f : Event) → ((a b : Duty) → Overlap night crew duties e f a b → ⊥) → HasDuty duties e → HasDuty duties f → hit e f ≡ false
@@ -172,7 +207,8 @@ module _ (night : Night) (crew : Crew) (is : IsCrew night.station crew) (duties 
   tasks_are : (moves : List Event) → ((e : Event) → In e moves → HasDuty duties e) → tasks_of night crew duties moves ≡ map task moves
   tasks_are [] each = refl
   tasks_are (e ∷ moves) each =
-      ap (λ o. cons_option (option_map (λ (d : Duty). let t : Task = record { span = span_of night crew e; duty = d } in t) o) (tasks_of night crew duties moves)) (picked duties e (each e (inl refl))).0
+      ap (λ o. cons_option (option_map (λ (d : Duty). let t : Task = record { span = span_of night crew e; duty = d } in t) o) (tasks_of night crew duties moves))
+      (picked duties e (each e (inl refl))).0
       ∙ ap (λ l. task e ∷ l) (tasks_are moves (λ f i. each f (inr i)))
 
   behind_is : (e f : Event) (moves : List Event) → Before e f moves → In e moves × In f moves
@@ -203,7 +239,8 @@ module _ (night : Night) (crew : Crew) (is : IsCrew night.station crew) (duties 
       twice None = refl
       twice (Some f) = refl
 
-  sooner : (m : Event) (moves : List Event) (fault : RosterFault) (p : Pair moves fault) → later_in m moves ≡ None → (g h : Event) → In g (m ∷ p.before) → Before g h (m ∷ moves) → hit g h ≡ false
+  sooner : (m : Event) (moves : List Event) (fault : RosterFault) (p : Pair moves fault) → later_in m moves ≡ None → (g h : Event) → In g (m ∷ p.before) → Before g h (m ∷ moves)
+      → hit g h ≡ false
   sooner m moves fault p none g h (inl e) (inl b) = subst (λ x. hit x h ≡ false) (sym e) (none_passes (hit m) moves h none b.1)
   sooner m moves fault p none g h (inl e) (inr b) = subst (λ x. hit x h ≡ false) (sym e) (none_passes (hit m) moves h none (behind_is g h moves b).1)
   sooner m moves fault p none g h (inr i) (inl b) = subst (λ x. hit x h ≡ false) (sym b.0) (none_passes (hit m) moves h none b.1)
@@ -340,7 +377,8 @@ module _ (night : Night) (crew : Crew) (is : IsCrew night.station crew) (duties 
             let each = each_has duties moves found in
             let p = pair_is moves (faults.Overlap a b) (sym (of_pairs each) ∙ e) in
             let same = overlap_both a b (pick duties p.first) (pick duties p.second) p.fault_is in
-            let first_in : In p.first moves = subst (In p.first) (sym p.place) (in_left (p.before ++ p.first ∷ p.between) (p.second ∷ p.after) p.first (in_right p.before (p.first ∷ p.between) p.first (inl refl))) in
+            let first_in : In p.first moves = subst (In p.first) (sym p.place) (in_left (p.before ++ p.first ∷ p.between) (p.second ∷ p.after) p.first
+            (in_right p.before (p.first ∷ p.between) p.first (inl refl))) in
             let second_in : In p.second moves = subst (In p.second) (sym p.place) (in_right (p.before ++ p.first ∷ p.between) (p.second ∷ p.after) p.second (inl refl)) in
             let both = hit_is p.first p.second (each p.first first_in) (each p.second second_in) p.hits in
             record {
@@ -351,7 +389,8 @@ module _ (night : Night) (crew : Crew) (is : IsCrew night.station crew) (duties 
               second = p.second;
               after = p.after;
               place = p.place;
-              overlap = subst (λ x. Overlap night crew duties p.first p.second x b) (sym same.0) (subst (Overlap night crew duties p.first p.second (pick duties p.first)) (sym same.1) both);
+              overlap = subst (λ x. Overlap night crew duties p.first p.second x b) (sym same.0)
+                  (subst (Overlap night crew duties p.first p.second (pick duties p.first)) (sym same.1) both);
               earlier = λ g h c d i before o. hit_never g h c d (p.earlier g h i before) o;
               nearer = λ h d i o. hit_never p.first h a d (p.nearer h i) o;
             }
@@ -365,7 +404,8 @@ module _ (night : Night) (crew : Crew) (is : IsCrew night.station crew) (duties 
         let first_in : In x.first all = in_left start rest x.first (in_right x.before (x.first ∷ x.between) x.first (inl refl)) in
         of_pairs x.each ∙ ap (λ l. overlap_in (map task l)) x.place
         ∙ is_pair x.before x.first x.between x.second x.after (is_hit x.first x.second a b x.overlap)
-        (λ e f i before. let in_both = behind_is e f all before in no_hit e f (λ c d o. x.earlier e f c d i (subst (Before e f) (sym x.place) before) o) (has e in_both.0) (has f in_both.1))
+        (λ e f i before. let in_both = behind_is e f all before in no_hit e f (λ c d o. x.earlier e f c d i (subst (Before e f) (sym x.place) before) o) (has e in_both.0)
+        (has f in_both.1))
         (λ f i. no_hit x.first f
         (λ c d o. x.nearer f d i (subst (λ y. Overlap night crew duties x.first f y d) (sym (picks x.first c o.first) ∙ picks x.first a x.overlap.first) o))
         (has x.first first_in) (has f (in_left start rest f (in_right x.before (x.first ∷ x.between) f (inr i)))))
@@ -374,7 +414,8 @@ module _ (night : Night) (crew : Crew) (is : IsCrew night.station crew) (duties 
 
 -- ---- of a plan
 
-pub words : (night : Night) (crew : Crew) (plan : Plan) (duties : List Duty) → IsCrew night.station crew → AreDuties (moves_of night plan.blocks) duties → InWords night crew plan duties
+pub words : (night : Night) (crew : Crew) (plan : Plan) (duties : List Duty) → IsCrew night.station crew → AreDuties (moves_of night plan.blocks) duties
+    → InWords night crew plan duties
 unfolding fault_in
 words night crew plan duties is own =
     let moves = moves_of night plan.blocks in

@@ -62,7 +62,8 @@ moved moves d i =
 abbrev duty_named : ℕ → MoveName → Duty
 duty_named driver name = record { driver = driver; enters = name.0; id = name.1 }
 
-duty_read : (moves : List Event) (duties : List Duty) → IsRoster moves duties → (n : ℕ) (xs : List Duty) (y : Duty) (zs : List Duty) → duties ≡ xs ++ y ∷ zs → answer n (roster_later moves xs (duty_row y)) ≡ Ok (xs ++ y ∷ [])
+duty_read : (moves : List Event) (duties : List Duty) → IsRoster moves duties → (n : ℕ) (xs : List Duty) (y : Duty) (zs : List Duty) → duties ≡ xs ++ y ∷ zs
+    → answer n (roster_later moves xs (duty_row y)) ≡ Ok (xs ++ y ∷ [])
 unfolding roster_later duties_of duty_of driver_in move_in is_within
 duty_read moves duties f n xs y zs e =
     let is = of_middle IsSpelled duties xs zs y f.spelled e in
@@ -71,7 +72,8 @@ duty_read moves duties f n xs y zs e =
     let word = word_read y.enters in
     let id = number_again y.id is.id in
     let name : MoveName = (unwrap_or (enters_of (move_word y.enters)) true, unwrap_or (decimal_of (decimal y.id)) 0) in
-    let same : name ≡ named_by y = ap (λ (o : Option Bool). let p : MoveName = (unwrap_or o true, unwrap_or (decimal_of (decimal y.id)) 0) in p) word ∙ ap (λ (o : Option ℕ). let p : MoveName = (y.enters, unwrap_or o 0) in p) id in
+    let same : name ≡ named_by y = ap (λ (o : Option Bool). let p : MoveName = (unwrap_or o true, unwrap_or (decimal_of (decimal y.id)) 0) in p) word
+    ∙ ap (λ (o : Option ℕ). let p : MoveName = (y.enters, unwrap_or o 0) in p) id in
     let found = ap (λ k. move_named k moves) same ∙ m.1 in
     let apart : AreDistinct (map named_by (xs ++ y ∷ zs)) = subst (λ l. AreDistinct (map named_by l)) e f.of_moves.once in
     let new = not_before named_by (λ d. is_one (named_by d) (named_by y)) xs zs y (λ x t. one_tells (named_by x) (named_by y) t) apart in
@@ -97,7 +99,8 @@ duties_back moves duties f =
 
 -- ---- their text is read back
 
-pub back_from : (moves : List Event) (duties : List Duty) → IsRoster moves duties → (text bytes : List ℕ) → text ≡ text_of_rows (rows_of duties) → ReadsBack text bytes → ReadsAsRoster moves duties bytes
+pub back_from : (moves : List Event) (duties : List Duty) → IsRoster moves duties → (text bytes : List ℕ) → text ≡ text_of_rows (rows_of duties) → ReadsBack text bytes
+    → ReadsAsRoster moves duties bytes
 back_from moves duties f text bytes e back =
     let rows = back (rows_of duties) (rows_plain moves duties f) e in
     record { rows = rows; value = ap (reading (roster_format moves)) rows ∙ duties_back moves duties f }
@@ -109,7 +112,8 @@ abbrev wrote : List ℕ → Written
 wrote text = record { text = text; row = [] }
 
 -- all records of a roster, one part after the other
-pub roster_written : (duties seen : List Duty) (w a b : Written) → seen ≡ duties → w ≡ record { text = []; row = [] } → a ≡ record { text = w.text ++ text_of_row head_row; row = [] }
+pub roster_written : (duties seen : List Duty) (w a b : Written) → seen ≡ duties → w ≡ record { text = []; row = [] }
+    → a ≡ record { text = w.text ++ text_of_row head_row; row = [] }
     → b ≡ record { text = a.text ++ text_of_rows (map duty_row seen); row = [] } → b.text ≡ text_of_rows (rows_of duties)
 roster_written duties seen w a b same h0 h1 h2 =
     let all = text_of_rows (rows_of duties) in

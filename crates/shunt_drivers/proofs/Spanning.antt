@@ -27,7 +27,8 @@ each_one P xs x all i = let c = in_to xs x i in subst P c.2 (all c.0 x c.1)
 -- ---- minutes
 
 -- those that are found are of a way, and so in range
-found_within : (s : Station) (test : Takes → Bool) (takes : List Takes) (other : ℕ) → All (IsTakes s) takes → AreMinutes other → AreMinutes (unwrap_or (option_map (λ (t : Takes). t.minutes) (find test takes)) other)
+found_within : (s : Station) (test : Takes → Bool) (takes : List Takes) (other : ℕ) → All (IsTakes s) takes → AreMinutes other
+    → AreMinutes (unwrap_or (option_map (λ (t : Takes). t.minutes) (find test takes)) other)
 found_within s test takes other all own = by (find test takes) refl
   where
     by : (o : Option Takes) → find test takes ≡ o → AreMinutes (unwrap_or (option_map (λ (t : Takes). t.minutes) o) other)
@@ -37,23 +38,28 @@ found_within s test takes other all own = by (find test takes) refl
 pub minutes_within : (night : Night) (s : Station) (crew : Crew) (e : Event) → IsCrew s crew → AreMinutes (minutes_of night crew e)
 minutes_within night s crew e is = found_within s (is_between (train_of night e.key).origin e.track e.side) crew.takes crew.other is.takes is.other
 
-pub spans_rise : (night : Night) (crew : Crew) (moves : List Event) → AllPairs (λ (e f : Event). e.key.minute ≤ f.key.minute) moves → AllPairs (λ (a b : Span). a.start ≤ b.start) (spans_of night crew moves)
+pub spans_rise : (night : Night) (crew : Crew) (moves : List Event) → AllPairs (λ (e f : Event). e.key.minute ≤ f.key.minute) moves
+    → AllPairs (λ (a b : Span). a.start ≤ b.start) (spans_of night crew moves)
 spans_rise night crew moves rise = λ i j d lt small.
     let inside : j < length moves = omega (arith, small, length-map moves (span_of night crew)) in
-    let first : get_or (spans_of night crew moves) i d ≡ span_of night crew (get_or moves i no_move) = get_or-map (span_of night crew) moves i no_move d (omega (arith, lt, inside)) in
+    let first : get_or (spans_of night crew moves) i d ≡ span_of night crew (get_or moves i no_move) = get_or-map (span_of night crew) moves i no_move d
+    (omega (arith, lt, inside)) in
     let second : get_or (spans_of night crew moves) j d ≡ span_of night crew (get_or moves j no_move) = get_or-map (span_of night crew) moves j no_move d inside in
     omega (arith, rise i j no_move lt inside, ap (λ (a : Span). a.start) first, ap (λ (a : Span). a.start) second)
 
 -- what holds of each move's span
-each_span : (P : Span → Type 0) (night : Night) (crew : Crew) (moves : List Event) → ((k : ℕ) → k < length moves → P (span_of night crew (get_or moves k no_move))) → All P (spans_of night crew moves)
+each_span : (P : Span → Type 0) (night : Night) (crew : Crew) (moves : List Event) → ((k : ℕ) → k < length moves → P (span_of night crew (get_or moves k no_move)))
+    → All P (spans_of night crew moves)
 each_span P night crew moves each = λ k d lt.
     let inside : k < length moves = omega (arith, lt, length-map moves (span_of night crew)) in
     subst P (sym (get_or-map (span_of night crew) moves k no_move d inside)) (each k inside)
 
 pub spans_run : (night : Night) (s : Station) (crew : Crew) (moves : List Event) → IsCrew s crew → All (λ (a : Span). a.start < a.end) (spans_of night crew moves)
-spans_run night s crew moves is = each_span (λ (a : Span). a.start < a.end) night crew moves (λ k lt. let m = (minutes_within night s crew (get_or moves k no_move) is).0 in omega (arith, m))
+spans_run night s crew moves is = each_span (λ (a : Span). a.start < a.end) night crew moves
+    (λ k lt. let m = (minutes_within night s crew (get_or moves k no_move) is).0 in omega (arith, m))
 
-pub spans_in_time : (night : Night) (crew : Crew) (moves : List Event) → All (λ (e : Event). e.key.minute < 2880) moves → All (λ (a : Span). a.start < 2880) (spans_of night crew moves)
+pub spans_in_time : (night : Night) (crew : Crew) (moves : List Event) → All (λ (e : Event). e.key.minute < 2880) moves
+    → All (λ (a : Span). a.start < 2880) (spans_of night crew moves)
 spans_in_time night crew moves all = each_span (λ (a : Span). a.start < 2880) night crew moves (λ k lt. all k no_move lt)
 
 -- ---- how many drivers there are
@@ -69,7 +75,8 @@ more : {X : Type 0} (p q : X → Bool) (xs : List X) → ((x : X) → In x xs �
 more p q [] each = omega arith
 more p q (x ∷ xs) each =
     let rest = more p q xs (λ y i. each y (inr i)) in
-    ⊎_elim (λ t. omega (arith, rest, one p x xs, one q x xs, ap flag t, ap flag (each x (inl refl) t))) (λ f. omega (arith, rest, one p x xs, one q x xs, ap flag f)) (cases_Bool (p x))
+    ⊎_elim (λ t. omega (arith, rest, one p x xs, one q x xs, ap flag t, ap flag (each x (inl refl) t))) (λ f. omega (arith, rest, one p x xs, one q x xs, ap flag f))
+    (cases_Bool (p x))
 
 -- what runs at a minute after its start runs at the minute before
 earlier : (t : ℕ) (a : Span) → a.start ≤ t → runs_at (suc t) a ≡ true → runs_at t a ≡ true
@@ -82,16 +89,25 @@ busy_in_time spans n (suc t) all busy = ⊎_elim (λ lt. lt) (λ late. absurd (t
     too_late : 2880 ≤ suc t → ⊥
     too_late late =
         let few = busy.2 t (omega arith) in
-        let least = more (runs_at (suc t)) (runs_at t) spans (λ a i e. earlier t a (let start = each_one (λ (b : Span). b.start < 2880) spans a all i in omega (arith, start, late)) e) in
+        let least = more (runs_at (suc t)) (runs_at t) spans (λ a i e. earlier t a
+        (let start = each_one (λ (b : Span). b.start < 2880) spans a all i in omega (arith, start, late)) e) in
         absurd (omega (arith, few, least, busy.1))
 
 -- ---- shares of the spans of moves
 
-pub as_many : (night : Night) (crew : Crew) (moves : List Event) (shares : List Share) (drivers : ℕ) (busy : Option ℕ) → IsLeast (spans_of night crew moves) shares drivers busy → length shares ≡ length moves
-as_many night crew moves shares drivers busy least = let each = least.sharing.each in omega (arith, each, length-map shares (λ (s : Share). s.driver), length-map moves (span_of night crew))
+pub as_many : (night : Night) (crew : Crew) (moves : List Event) (shares : List Share) (drivers : ℕ) (busy : Option ℕ) → IsLeast (spans_of night crew moves) shares drivers busy
+    → length shares ≡ length moves
+as_many night crew moves shares drivers busy least = let each = least.sharing.each in omega
+    (arith, each, length-map shares (λ (s : Share). s.driver), length-map moves (span_of night crew))
 
-pub below_800 : (night : Night) (crew : Crew) (moves : List Event) (shares : List Share) (drivers : ℕ) (busy : Option ℕ) → IsLeast (spans_of night crew moves) shares drivers busy → length moves ≤ 800 → drivers ≤ 800
-below_800 night crew moves shares drivers busy least few = omega (arith, few_drivers (spans_of night crew moves) shares drivers busy least, few, length-map moves (span_of night crew))
+pub below_800 : (night : Night) (crew : Crew) (moves : List Event) (shares : List Share) (drivers : ℕ) (busy : Option ℕ) → IsLeast (spans_of night crew moves) shares drivers busy
+    → length moves ≤ 800 → drivers ≤ 800
+below_800 night crew moves shares drivers busy least few = omega (
+  arith,
+  few_drivers (spans_of night crew moves) shares drivers busy least,
+  few,
+  length-map moves (span_of night crew),
+)
 
 pub each_below : (shares : List Share) (drivers : ℕ) → drivers ≤ 800 → All (λ (s : Share). s.driver < drivers) shares → All (λ (s : Share). s.driver < 800) shares
 each_below shares drivers few all = λ k d lt. let less = all k d lt in omega (arith, less, few)

@@ -86,7 +86,8 @@ module _ (night : Night) (u v before after : ℕ) (s : Shape) (h : Holds night s
   position_is : position_at night v ≡ make_position s.dep.0 (s.q + h.place) (kind_at (train_at night.depart s.dep.0) (s.q + h.place))
   position_is =
       let e : v ≡ first_position night s.dep.0 + ((s.q + h.place) - 1) = omega (arith, h.position, h.shape.within.q) in
-      ap (position_at night) e ∙ position_there night s.dep.0 (s.q + h.place) h.shape.within.dep (omega (arith, h.shape.within.q)) (omega (arith, h.shape.within.positions, h.within))
+      ap (position_at night) e ∙ position_there night s.dep.0 (s.q + h.place) h.shape.within.dep (omega (arith, h.shape.within.q))
+      (omega (arith, h.shape.within.positions, h.within))
 
   unit_place : (unit_at night u).place ≡ s.p + h.place
   unit_place = ap (λ (x : TrainUnit). x.place) unit_is
@@ -108,10 +109,12 @@ module _ (night : Night) (u v before after : ℕ) (s : Shape) (h : Holds night s
   are_after = record {
     within = record {
       units =
-          let train : length (train_at night.arrive (unit_at night u).train.0).units ≡ length (train_at night.arrive s.arr.0).units = ap (λ (x : TrainUnit). length (train_at night.arrive x.train.0).units) unit_is in
+          let train : length (train_at night.arrive (unit_at night u).train.0).units
+          ≡ length (train_at night.arrive s.arr.0).units = ap (λ (x : TrainUnit). length (train_at night.arrive x.train.0).units) unit_is in
           omega (arith, unit_place, train, h.shape.within.units, h.within);
       positions =
-          let train : length (train_at night.depart (position_at night v).train.0).units ≡ length (train_at night.depart s.dep.0).units = ap (λ (x : Position). length (train_at night.depart x.train.0).units) position_is in
+          let train : length (train_at night.depart (position_at night v).train.0).units
+          ≡ length (train_at night.depart s.dep.0).units = ap (λ (x : Position). length (train_at night.depart x.train.0).units) position_is in
           omega (arith, position_place, train, h.shape.within.positions, h.within);
     };
     pairs = λ k lt. pair (h.place + k) (omega (arith, h.within)) (u + k) (v + k) (omega (arith, h.unit)) (omega (arith, h.position));
@@ -141,7 +144,8 @@ pub share_is : (night : Night) (u v before after share : ℕ) → IsInstance nig
 share_is night u v before after share is ul vl matches bf af most_before most_after least = record {
   pair = matches;
   shape = shape_around night u v least.back least.n;
-  holds = around_holds night u v least.back least.n is ul vl (fewer_before night u v before (least.back + 1) bf (omega (arith, least.one.begins))) (fewer_after night u v after (least.n - least.back) af (omega (arith, least.one.ends))) least.one.holds;
+  holds = around_holds night u v least.back least.n is ul vl (fewer_before night u v before (least.back + 1) bf (omega (arith, least.one.begins)))
+      (fewer_after night u v after (least.n - least.back) af (omega (arith, least.one.ends))) least.one.holds;
   option = least.part.option;
   is_option = least.part.is_option;
   is = least.part.is;
@@ -155,7 +159,11 @@ share_is night u v before after share is ul vl matches bf af most_before most_af
     fewer_before night u v n m h le = record { units = omega (arith, h.units); positions = omega (arith, h.positions); pairs = λ k lt. h.pairs k (omega arith) }
 
     fewer_after : (night : Night) (u v n m : ℕ) → AreAfter night u v n → m ≤ n → AreAfter night u v m
-    fewer_after night u v n m h le = record { within = record { units = omega (arith, h.within.units); positions = omega (arith, h.within.positions) }; pairs = λ k lt. h.pairs k (omega arith) }
+    fewer_after night u v n m h le = record {
+      within = record { units = omega (arith, h.within.units); positions = omega (arith, h.within.positions) };
+      pairs = λ k lt. h.pairs k
+          (omega arith);
+    }
 
 -- a matchable pair is a run of one
 pub one_before : (night : Night) (u v : ℕ) → IsInstance night → u < unit_total night → v < position_total night → IsPair night u v → AreBefore night u v 1

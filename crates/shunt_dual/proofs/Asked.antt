@@ -25,7 +25,12 @@ run_with : (alpha : List ℤ) (first n u : ℕ) (z : ℤ) → u < length alpha �
     → sum_z_below n (λ k. get_or (set alpha u z) (first + k) (pos 0)) ≡ sum_z_below n (λ k. get_or alpha (first + k) (pos 0)) +ℤ z -ℤ get_or alpha u (pos 0)
 run_with alpha first zero u z there from to = absurd (omega arith)
 run_with alpha first (suc n) u z there from to = ⊎_elim
-    (λ (lt : u < first + n). omega (arith, ints, run_with alpha first n u z there from lt, get_or-set_other alpha u (first + n) z (pos 0) (λ (e : first + n ≡ u). omega (arith, e, lt))))
+    (λ (lt : u < first + n). omega (
+      arith,
+      ints,
+      run_with alpha first n u z there from lt,
+      get_or-set_other alpha u (first + n) z (pos 0) (λ (e : first + n ≡ u). omega (arith, e, lt)),
+    ))
     (λ (le : first + n ≤ u).
     let e : first + n ≡ u = omega (arith, le, to) in
     omega (
@@ -54,10 +59,26 @@ module _ (alpha : List ℤ) (a : Ask) (u : ℕ) where
 -- a lesser value
 pub met_less : (alpha : List ℤ) (a : Ask) (u : ℕ) (z less : ℤ) → u < length alpha → less ≤ℤ z → IsMet (set alpha u z) a → IsMet (set alpha u less) a
 met_less alpha a u z less there le h = ⊎_elim
-    (λ (lt : u < a.first). record { met = let m = h.met in omega (arith, ints, m, run_other alpha a.first a.n u z (λ k below e. omega (arith, lt, e)), run_other alpha a.first a.n u less (λ k below e. omega (arith, lt, e))) })
+    (λ (lt : u < a.first). record {
+      met = let m = h.met in omega (
+        arith,
+        ints,
+        m,
+        run_other alpha a.first a.n u z (λ k below e. omega (arith, lt, e)),
+        run_other alpha a.first a.n u less (λ k below e. omega (arith, lt, e)),
+      );
+    })
     (λ (from : a.first ≤ u). ⊎_elim
     (λ (to : u < a.first + a.n). met_within alpha a u there from to less (let m = within_met alpha a u there from to z h in omega (arith, ints, m, le)))
-    (λ (past : a.first + a.n ≤ u). record { met = let m = h.met in omega (arith, ints, m, run_other alpha a.first a.n u z (λ k below e. omega (arith, past, below, e)), run_other alpha a.first a.n u less (λ k below e. omega (arith, past, below, e))) })
+    (λ (past : a.first + a.n ≤ u). record {
+      met = let m = h.met in omega (
+        arith,
+        ints,
+        m,
+        run_other alpha a.first a.n u z (λ k below e. omega (arith, past, below, e)),
+        run_other alpha a.first a.n u less (λ k below e. omega (arith, past, below, e)),
+      );
+    })
     (cases_lt u (a.first + a.n)))
     (cases_lt u a.first)
 
@@ -94,19 +115,22 @@ greatest_is alpha asks u k z e v met most = record {
 
 -- ---- all units, one after the other
 
-pub as_it_was : (asks : List Ask) (covered : List Bool) (alpha : List ℤ) (u : ℕ) (z : ℤ) → get_or covered u true ≡ true → z ≡ get_or alpha u (pos 0) → IsUnitRefit asks covered u alpha (set alpha u z)
+pub as_it_was : (asks : List Ask) (covered : List Bool) (alpha : List ℤ) (u : ℕ) (z : ℤ) → get_or covered u true ≡ true → z ≡ get_or alpha u (pos 0)
+    → IsUnitRefit asks covered u alpha (set alpha u z)
 as_it_was asks covered alpha u z shut e = record {
   kept = λ t. ap (set alpha u) e ∙ set-get_or alpha u (pos 0);
   refit = λ f. absurd (true≢false (sym shut ∙ f));
 }
 
-pub got_greatest : (asks : List Ask) (covered : List Bool) (alpha : List ℤ) (u : ℕ) (z : ℤ) → get_or covered u true ≡ false → IsGreatestUnder asks alpha u z → IsUnitRefit asks covered u alpha (set alpha u z)
+pub got_greatest : (asks : List Ask) (covered : List Bool) (alpha : List ℤ) (u : ℕ) (z : ℤ) → get_or covered u true ≡ false → IsGreatestUnder asks alpha u z
+    → IsUnitRefit asks covered u alpha (set alpha u z)
 got_greatest asks covered alpha u z bare g = record {
   kept = λ t. absurd (true≢false (sym t ∙ bare));
   refit = λ f. (z, g, refl);
 }
 
-pub unit_more : (asks : List Ask) (covered : List Bool) (u : ℕ) (old mid : List ℤ) (z before risen : ℤ) → u < length mid → AreUnitsRefit asks covered u old mid before → IsUnitRefit asks covered u mid (set mid u z)
+pub unit_more : (asks : List Ask) (covered : List Bool) (u : ℕ) (old mid : List ℤ) (z before risen : ℤ) → u < length mid → AreUnitsRefit asks covered u old mid before
+    → IsUnitRefit asks covered u mid (set mid u z)
     → risen ≡ before +ℤ (z -ℤ get_or mid u (pos 0)) → AreUnitsRefit asks covered (u + 1) old (set mid u z) risen
 unit_more asks covered u old mid z before risen there are one e =
     subst (λ (n : ℕ). AreUnitsRefit asks covered n old (set mid u z) risen) (sym (add-one u))
@@ -119,7 +143,11 @@ values_set zs u z all v k d lt = ⊎_elim
     (cases_eq k u)
 
 pub risen_more : (k : ℕ) (total new old z : ℤ) → z ≡ total +ℤ (new -ℤ old) → IsValue new → IsValue old → IsWithin (k * 1999999999998) total → IsWithin ((k + 1) * 1999999999998) z
-risen_more k total new old z e v o w = record { low = omega (arith, ints, v.low, v.high, o.low, o.high, w.low, w.high, e); high = omega (arith, ints, v.low, v.high, o.low, o.high, w.low, w.high, e) }
+risen_more k total new old z e v o w = record {
+  low = omega (arith, ints, v.low, v.high, o.low, o.high, w.low, w.high, e);
+  high = omega
+      (arith, ints, v.low, v.high, o.low, o.high, w.low, w.high, e);
+}
 
 pub risen_seen : (new old : ℤ) → IsValue new → IsValue old → to_z w64 (of_z w64 (to_z w64 (of_z w64 new) -ℤ to_z w64 (of_z w64 old))) ≡ new -ℤ old
 risen_seen new old v o = omega (arith, ints, v.low, v.high, o.low, o.high)
@@ -129,7 +157,12 @@ small_fits (pos n) w = record { sfits = omega (arith, ints, w.high) }
 small_fits (negsuc n) w = record { sfits = omega (arith, ints, w.low) }
 
 pub risen_fits : (k : ℕ) (total new old more : ℤ) → IsValue new → IsValue old → IsWithin (k * 1999999999998) total → more ≡ new -ℤ old → k ≤ 160 → SFits w64 (total +ℤ more)
-risen_fits k total new old more v o w e few = small_fits (total +ℤ more) (record { low = omega (arith, ints, v.low, v.high, o.low, o.high, w.low, w.high, e, few); high = omega (arith, ints, v.low, v.high, o.low, o.high, w.low, w.high, e, few) })
+risen_fits k total new old more v o w e few = small_fits (total +ℤ more) (record {
+  low = omega (arith, ints, v.low, v.high, o.low, o.high, w.low, w.high, e, few);
+  high = omega
+      (arith, ints, v.low, v.high, o.low, o.high, w.low, w.high, e, few);
+})
 
-pub risen_sum : (k : ℕ) (total new old more : ℤ) → IsValue new → IsValue old → IsWithin (k * 1999999999998) total → more ≡ new -ℤ old → k ≤ 160 → to_z w64 (of_z w64 (total +ℤ more)) ≡ total +ℤ (new -ℤ old)
+pub risen_sum : (k : ℕ) (total new old more : ℤ) → IsValue new → IsValue old → IsWithin (k * 1999999999998) total → more ≡ new -ℤ old → k ≤ 160
+    → to_z w64 (of_z w64 (total +ℤ more)) ≡ total +ℤ (new -ℤ old)
 risen_sum k total new old more v o w e few = omega (arith, ints, v.low, v.high, o.low, o.high, w.low, w.high, e, few)

@@ -35,10 +35,12 @@ on_own a b there n v e = grind (arith, nat_tests)
 on_other : (a b : ℕ) (there : Bool) (n v : ℕ) → a ≢ b → v * cond ((a == b) && there) n 0 ≡ 0
 on_other a b there n v ne = grind (arith, nat_tests)
 
-pub charged : (night : Night) (prices : List Price) (s : Shape) (i : ℕ) (d : Price) (parts : List ℕ) (x : ℕ) → i < length prices → length parts ≡ 60 → (get_or prices i d).track.0 < 60
+pub charged : (night : Night) (prices : List Price) (s : Shape) (i : ℕ) (d : Price) (parts : List ℕ) (x : ℕ) → i < length prices → length parts ≡ 60
+    → (get_or prices i d).track.0 < 60
     → x ≡ (get_or prices i d).value * cond (is_there night (get_or prices i d) s) (count night (get_or prices i d) s) 0
     → ((k : Park) → k.track.0 < 60 → get_or parts k.track.0 0 ≡ price_part_with night (take i prices) s (Some k))
-    → (k : Park) → k.track.0 < 60 → get_or (set parts (get_or prices i d).track.0 (get_or parts (get_or prices i d).track.0 0 + x)) k.track.0 0 ≡ price_part_with night (take (i + 1) prices) s (Some k)
+    → (k : Park) → k.track.0 < 60 → get_or (set parts (get_or prices i d).track.0 (get_or parts (get_or prices i d).track.0 0 + x)) k.track.0 0
+    ≡ price_part_with night (take (i + 1) prices) s (Some k)
 charged night prices s i d parts x lt long within is before k low =
     let price : Price = get_or prices i d in
     let t : ℕ = price.track.0 in
@@ -46,11 +48,19 @@ charged night prices s i d parts x lt long within is before k low =
     let more = sum_by_more (λ (q : Price). q.value * counted_with night q s (Some k)) prices i d lt in
     ⊎_elim
     (λ (e : k.track.0 ≡ t).
-    let at : get_or (set parts t (get_or parts t 0 + x)) k.track.0 0 ≡ get_or parts t 0 + x = subst (λ (w : ℕ). get_or (set parts t (get_or parts t 0 + x)) w 0 ≡ get_or parts t 0 + x) (sym e) (get_or-set_same parts t (get_or parts t 0 + x) 0 inside) in
-    let old : get_or parts t 0 ≡ price_part_with night (take i prices) s (Some k) = subst (λ (w : ℕ). get_or parts w 0 ≡ price_part_with night (take i prices) s (Some k)) e (before k low) in
+    let at : get_or (set parts t (get_or parts t 0 + x)) k.track.0 0 ≡ get_or parts t 0 + x = subst
+    (λ (w : ℕ). get_or (set parts t (get_or parts t 0 + x)) w 0 ≡ get_or parts t 0 + x) (sym e) (get_or-set_same parts t (get_or parts t 0 + x) 0 inside) in
+    let old : get_or parts t 0 ≡ price_part_with night (take i prices) s (Some k) = subst (λ (w : ℕ). get_or parts w 0 ≡ price_part_with night (take i prices) s (Some k)) e
+    (before k low) in
     omega (arith, at, old, is, more, on_own k.track.0 t (is_there night price s) (count night price s) price.value e))
     (λ (ne : k.track.0 ≢ t).
-    omega (arith, get_or-set_other parts t k.track.0 (get_or parts t 0 + x) 0 ne, before k low, more, on_other k.track.0 t (is_there night price s) (count night price s) price.value ne))
+    omega (
+      arith,
+      get_or-set_other parts t k.track.0 (get_or parts t 0 + x) 0 ne,
+      before k low,
+      more,
+      on_other k.track.0 t (is_there night price s) (count night price s) price.value ne,
+    ))
     (cases_eq k.track.0 t)
 
 pub charges_small : (parts : List ℕ) (t i most x : ℕ) → t < length parts → x ≤ most → ((w : ℕ) → get_or parts w 0 ≤ i * most)
@@ -58,7 +68,8 @@ pub charges_small : (parts : List ℕ) (t i most x : ℕ) → t < length parts �
 charges_small parts t i most x inside le before w =
     ⊎_elim
     (λ (e : w ≡ t).
-    let at : get_or (set parts t (get_or parts t 0 + x)) w 0 ≡ get_or parts t 0 + x = subst (λ (v : ℕ). get_or (set parts t (get_or parts t 0 + x)) v 0 ≡ get_or parts t 0 + x) (sym e) (get_or-set_same parts t (get_or parts t 0 + x) 0 inside) in
+    let at : get_or (set parts t (get_or parts t 0 + x)) w 0 ≡ get_or parts t 0 + x = subst (λ (v : ℕ). get_or (set parts t (get_or parts t 0 + x)) v 0 ≡ get_or parts t 0 + x)
+    (sym e) (get_or-set_same parts t (get_or parts t 0 + x) 0 inside) in
     omega (arith, at, before t))
     (λ (ne : w ≢ t). omega (arith, get_or-set_other parts t w (get_or parts t 0 + x) 0 ne, before w))
     (cases_eq w t)

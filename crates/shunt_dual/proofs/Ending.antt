@@ -27,7 +27,8 @@ sum_minus : (xs : List ℕ) → sum_of (map minus xs) +ℤ pos (sum_by (λ x. x)
 sum_minus [] = refl
 sum_minus (x ∷ xs) = omega (arith, ints, sum_minus xs, sum_by-cons (λ y. y) x xs)
 
-pub assigned : (n : ℕ) (cost : ℕ → ℕ → ℕ) (alpha debt place owner : List ℕ) → length alpha ≡ n → length debt ≡ n → IsPlace n place → AreDuals n n 480000000001 cost alpha debt place owner
+pub assigned : (n : ℕ) (cost : ℕ → ℕ → ℕ) (alpha debt place owner : List ℕ) → length alpha ≡ n → length debt ≡ n → IsPlace n place
+    → AreDuals n n 480000000001 cost alpha debt place owner
     → IsAssigned n cost place (map pos alpha) (map minus debt)
 assigned n cost alpha debt place owner al dl p d =
     let a = λ (r : ℕ) (k : r < n). get_or-map pos alpha r 0 (pos 0) (omega arith) in
@@ -44,7 +45,8 @@ assigned n cost alpha debt place owner al dl p d =
       betas = λ c k. (omega (arith, ints, b c k, d.small c k), omega (arith, ints, b c k));
     }
 
-pub no_less : (n top : ℕ) (cost : ℕ → ℕ → ℕ) (alpha debt place owner other : List ℕ) → IsPlace n place → AreDuals n n top cost alpha debt place owner → IsPlace n other → total cost place ≤ total cost other
+pub no_less : (n top : ℕ) (cost : ℕ → ℕ → ℕ) (alpha debt place owner other : List ℕ) → IsPlace n place → AreDuals n n top cost alpha debt place owner → IsPlace n other
+    → total cost place ≤ total cost other
 no_less n top cost alpha debt place owner other p d q = least n cost (at alpha) (at debt) place other p q (λ r k. d.tight r k (p.below r k)) d.feasible
 
 pub answered : {n : ℕ} {cost : ℕ → ℕ → ℕ} {alpha debt place owner : List ℕ} (alpha_z beta_z : List ℤ) → length alpha ≡ n → length debt ≡ n → IsPlace n place
@@ -74,11 +76,13 @@ same_duals {n} {top} {cost} {alpha} {debt} {place} {owner} a d p o h ea ed ep eo
     subst A (sym ea) (subst D (sym ed) (subst P (sym ep) (subst O (sym eo) h)))
 
 -- one number more, below zero
-pub pushed : (xs : List ℕ) (i : ℕ) (all new : List ℤ) (z : ℤ) → i < length xs → all ≡ map minus (take i xs) → new ≡ all ++ z ∷ [] → z ≡ minus (at xs i) → new ≡ map minus (take (i + 1) xs)
+pub pushed : (xs : List ℕ) (i : ℕ) (all new : List ℤ) (z : ℤ) → i < length xs → all ≡ map minus (take i xs) → new ≡ all ++ z ∷ [] → z ≡ minus (at xs i)
+    → new ≡ map minus (take (i + 1) xs)
 pushed xs i all new z lt ea en ez = en ∙ (ap (λ (a : List ℤ). a ++ z ∷ []) ea ∙ (ap (λ (y : ℤ). map minus (take i xs) ++ y ∷ []) ez ∙ sym (map_more minus xs i 0 lt)))
 
 -- where some choice takes small entries alone, the least one takes no entry of the top
-pub unfilled : (n : ℕ) (cost : ℕ → ℕ → ℕ) (alpha debt place owner other : List ℕ) → n ≤ 160 → IsPlace n place → AreDuals n n 480000000001 cost alpha debt place owner → IsPlace n other
+pub unfilled : (n : ℕ) (cost : ℕ → ℕ → ℕ) (alpha debt place owner other : List ℕ) → n ≤ 160 → IsPlace n place → AreDuals n n 480000000001 cost alpha debt place owner
+    → IsPlace n other
     → ((r : ℕ) → r < n → cost r (at other r) ≤ 3000000000) → (r : ℕ) → r < n → cost r (at place r) < 480000000001
 unfilled n cost alpha debt place owner other few p d q low r k =
     omega (

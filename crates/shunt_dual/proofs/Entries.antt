@@ -16,7 +16,8 @@ are_shares night entries positions cells pe ce size each = record {
       let w = position_total night in
       let at = u * w + v in
       let within : at < cells = omega (arith, mul-add-lt u w v (unit_total night) ul vl, ce) in
-      let is : IsEntry night (at / w) (at % w) (slice_index_or entries at None) = subst (λ (p : ℕ). IsEntry night (at / p) (at % p) (slice_index_or entries at None)) pe (each at within) in
+      let is : IsEntry night (at / w) (at % w) (slice_index_or entries at None) = subst (λ (p : ℕ). IsEntry night (at / p) (at % p) (slice_index_or entries at None)) pe
+      (each at within) in
       subst (λ (a : ℕ). IsEntry night a v (slice_index_or entries at None)) (div-mul-add u w v vl)
       (subst (λ (b : ℕ). IsEntry night (at / w) b (slice_index_or entries at None)) (mod-mul-add u w v vl) is);
 }

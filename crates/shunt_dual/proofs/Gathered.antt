@@ -27,7 +27,8 @@ module _ (night : Night) (beta : List ℤ) (prices : List Price) (shapes : List 
   pub no_asks : AreSoFar night beta prices shapes 0 []
   no_asks = record { long = refl; each = λ i s a lt. absurd (omega (arith, lt)) }
 
-  pub one_ask : (k : ℕ) (asks : List Ask) (s : Shape) (a : Ask) → k < length shapes → AreSoFar night beta prices shapes k asks → IsAskOf night beta prices (get_or shapes k s) a → AreSoFar night beta prices shapes (k + 1) (asks ++ a ∷ [])
+  pub one_ask : (k : ℕ) (asks : List Ask) (s : Shape) (a : Ask) → k < length shapes → AreSoFar night beta prices shapes k asks → IsAskOf night beta prices (get_or shapes k s) a
+      → AreSoFar night beta prices shapes (k + 1) (asks ++ a ∷ [])
   one_ask k asks s a there h is = record {
     long = omega (arith, length_push asks a, h.long);
     each = λ i t b lt. ⊎_elim
@@ -72,7 +73,8 @@ module _ (night : Night) (covered : Masks) where
         (cases_lt (unit_from night s) u);
   }
 
-  pub all_free : (u : ℕ) (shapes : List Shape) → unit_total night ≤ u → ((a : ℕ) → a < length night.arrive → first_unit night a + length (train_at night.arrive a).units ≤ unit_total night)
+  pub all_free : (u : ℕ) (shapes : List Shape) → unit_total night ≤ u → ((a : ℕ) → a < length night.arrive
+      → first_unit night a + length (train_at night.arrive a).units ≤ unit_total night)
       → AreFreeBelow night covered u shapes → AreFreeShapes night covered shapes
   all_free u shapes le rooms h = record {
     each = h.each;
@@ -84,6 +86,8 @@ module _ (night : Night) (covered : Masks) where
 
 -- ---- shapes with their costs
 
-pub one_demand : (shapes : List Shape) (demands : List Demand) (i : ℕ) (d : Demand) (s : Shape) → i < length shapes → shapes_asked demands ≡ take i shapes → d.shape ≡ get_or shapes i s → shapes_asked (demands ++ d ∷ []) ≡ take (i + 1) shapes
+pub one_demand : (shapes : List Shape) (demands : List Demand) (i : ℕ) (d : Demand) (s : Shape) → i < length shapes → shapes_asked demands ≡ take i shapes
+    → d.shape ≡ get_or shapes i s → shapes_asked (demands ++ d ∷ []) ≡ take (i + 1) shapes
 one_demand shapes demands i d s lt h e =
-    map-append (λ (x : Demand). x.shape) demands (d ∷ []) ∙ ap (λ (xs : List Shape). xs ++ d.shape ∷ []) h ∙ ap (λ (x : Shape). take i shapes ++ x ∷ []) e ∙ sym (take_more shapes i s lt)
+    map-append (λ (x : Demand). x.shape) demands (d ∷ []) ∙ ap (λ (xs : List Shape). xs ++ d.shape ∷ []) h ∙ ap (λ (x : Shape). take i shapes ++ x ∷ []) e
+    ∙ sym (take_more shapes i s lt)

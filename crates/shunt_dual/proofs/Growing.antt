@@ -49,7 +49,8 @@ module _ (n rows top t c r : ℕ) (cost : ℕ → ℕ → ℕ) (alpha debt place
   in_tree b lt = ⊎_elim (λ e. inl e) (λ ne. inr (omega (arith, other b ne))) (cases_eq b c)
 
   not_farther : (b : ℕ) → b ≤ n → at (set when c t) b < n + 1 → at distance b ≤ at distance c
-  not_farther b k lt = ⊎_elim (λ e. let same : at distance b ≡ at distance c = ap (at distance) e in omega arith) (λ old. h.grown.order b c k (omega (arith, h.within)) old h.join) (in_tree b lt)
+  not_farther b k lt = ⊎_elim (λ e. let same : at distance b ≡ at distance c = ap (at distance) e in omega arith) (λ old. h.grown.order b c k (omega (arith, h.within)) old h.join)
+      (in_tree b lt)
 
   -- columns in the tree stay as they are
   stays : (b : ℕ) → b < n → at (set when c t) b < n + 1 → (at new_distance b ≡ at distance b) × (at new_way b ≡ at way b)
@@ -122,7 +123,8 @@ module _ (n rows top t c r : ℕ) (cost : ℕ → ℕ → ℕ) (alpha debt place
   new_path q k =
       let Q : ℕ → Type 0 = λ w. at new_distance q + at alpha w ≡ at new_distance (at place w) + (cost w q + at debt q) in
       ⊎_elim
-      (λ s. let p : at new_distance (at place (at way q)) ≡ at distance (at place (at way q)) = same_dist (at place (at way q)) (parent_in q k) (omega (arith, parent_still q k, old_parent q k)) in
+      (λ s. let p : at new_distance (at place (at way q)) ≡ at distance (at place (at way q)) = same_dist (at place (at way q)) (parent_in q k)
+      (omega (arith, parent_still q k, old_parent q k)) in
       subst Q (sym s.1) (omega (arith, s.0, h.grown.path q k)))
       (λ f. let there : at new_distance (at place r) ≡ at distance c = ap (at new_distance) h.place_of ∙ at_c in
       subst Q (sym f.1) (omega (arith, f.2)))
@@ -180,9 +182,11 @@ slack {c = c} {owner = owner} row rn ck taken p d value q k =
 
 pub turn : (n rows top t c : ℕ) (cost : ℕ → ℕ → ℕ) (alpha debt place owner distance way when new_distance new_way row : List ℕ)
     → rows ≤ n → length when ≡ n + 1 → length debt ≡ n → c < length when → at when c ≡ n + 1 → ((b : ℕ) → b < length when → at when b ≡ n + 1 → at distance c ≤ at distance b)
-    → at owner c ≢ n + 1 → IsPaired n rows (n + 1) place owner → AreDuals n rows top cost alpha debt place owner → IsGrown n rows top t cost alpha debt place owner distance way when
+    → at owner c ≢ n + 1 → IsPaired n rows (n + 1) place owner → AreDuals n rows top cost alpha debt place owner
+    → IsGrown n rows top t cost alpha debt place owner distance way when
     → ((q : ℕ) → q < n → at row q ≡ cost (at owner c) q)
-    → ((q : ℕ) → q < length debt → IsTried (at owner c) (at alpha (at owner c)) (at distance c) (at row q) (at debt q) (at distance q) (at way q) (at new_distance q) (at new_way q))
+    → ((q : ℕ) → q < length debt → IsTried (at owner c) (at alpha (at owner c)) (at distance c) (at row q) (at debt q) (at distance q) (at way q) (at new_distance q)
+    (at new_way q))
     → at new_distance (length debt) ≡ at distance (length debt)
     → IsGrown n rows top (t + 1) cost alpha debt place owner new_distance new_way (set when c t)
 turn n rows top t c cost alpha debt place owner distance way when new_distance new_way row rn wl dl ck join least taken p d g value each rest =
@@ -201,6 +205,7 @@ turn n rows top t c cost alpha debt place owner distance way when new_distance n
       owned = p.owned;
       feasible = λ q k. d.feasible (at owner c) q (omega (arith, o.0)) k;
       grown = g;
-      each = λ q k. subst (λ (w : ℕ). IsTried (at owner c) (at alpha (at owner c)) (at distance c) w (at debt q) (at distance q) (at way q) (at new_distance q) (at new_way q)) (value q k) (each q (omega arith));
+      each = λ q k. subst (λ (w : ℕ). IsTried (at owner c) (at alpha (at owner c)) (at distance c) w (at debt q) (at distance q) (at way q) (at new_distance q) (at new_way q))
+          (value q k) (each q (omega arith));
       rest = subst (λ (i : ℕ). at new_distance i ≡ at distance i) dl rest;
     })

@@ -35,13 +35,16 @@ use Rattle.shunt_dual.specs.declared.holding.Asked.{Asked}
 use Rattle.shunt_dual.specs.declared.holding.Asked.TheVariants.{Every, BesideStacks}
 use Rattle.shunt_dual.specs.defs.Weighed.{case_of, IsAsked, ParkHolds, SideHolds, TrackHolds, TracksHold, ShapeHolds, UnitHolds, CaseHolds}
 
-pub over_is : (night : Night) (d : Duals) (s : Shape) (u v n : ℕ) (alpha beta : List ℤ) (a b : ℤ) → u ≡ unit_from night s → v ≡ position_from night s → alpha ≡ d.alpha → beta ≡ d.beta → n ≡ s.n
+pub over_is : (night : Night) (d : Duals) (s : Shape) (u v n : ℕ) (alpha beta : List ℤ) (a b : ℤ) → u ≡ unit_from night s → v ≡ position_from night s → alpha ≡ d.alpha
+    → beta ≡ d.beta → n ≡ s.n
     → a ≡ sum_z_below n (λ k. get_or alpha (u + k) (pos 0)) → b ≡ sum_z_below n (λ k. get_or beta (v + k) (pos 0)) → a +ℤ b ≡ duals_over night d s
 over_is night d s u v n alpha beta a b eu ev ea eb en ha hb =
     let A : ℕ → List ℤ → ℕ → Type 0 = λ w zs m. a ≡ sum_z_below m (λ k. get_or zs (w + k) (pos 0)) in
     let B : ℕ → List ℤ → ℕ → Type 0 = λ w zs m. b ≡ sum_z_below m (λ k. get_or zs (w + k) (pos 0)) in
-    let a_is : a ≡ sum_z_below s.n (λ k. get_or d.alpha (unit_from night s + k) (pos 0)) = subst (λ (w : ℕ). A w d.alpha s.n) eu (subst (λ (zs : List ℤ). A u zs s.n) ea (subst (λ (m : ℕ). A u alpha m) en ha)) in
-    let b_is : b ≡ sum_z_below s.n (λ k. get_or d.beta (position_from night s + k) (pos 0)) = subst (λ (w : ℕ). B w d.beta s.n) ev (subst (λ (zs : List ℤ). B v zs s.n) eb (subst (λ (m : ℕ). B v beta m) en hb)) in
+    let a_is : a ≡ sum_z_below s.n (λ k. get_or d.alpha (unit_from night s + k) (pos 0)) = subst (λ (w : ℕ). A w d.alpha s.n) eu
+    (subst (λ (zs : List ℤ). A u zs s.n) ea (subst (λ (m : ℕ). A u alpha m) en ha)) in
+    let b_is : b ≡ sum_z_below s.n (λ k. get_or d.beta (position_from night s + k) (pos 0)) = subst (λ (w : ℕ). B w d.beta s.n) ev
+    (subst (λ (zs : List ℤ). B v zs s.n) eb (subst (λ (m : ℕ). B v beta m) en hb)) in
     ap (λ (x : ℤ). x +ℤ b) a_is ∙ ap (λ (x : ℤ). sum_z_below s.n (λ k. get_or d.alpha (unit_from night s + k) (pos 0)) +ℤ x) b_is
 
 -- ---- tests
@@ -63,7 +66,13 @@ module _ (asked : Asked) (night : Night) (s : Shape) (sum : ℤ) (part : ℕ) (t
 
   pub track_is : (a b : Bool) → IsTrue a ↔ SideHolds asked night s sum part track A → a ≡ true → IsTrue b ↔ SideHolds asked night s sum part track B
       → shape_length night s ≤ track_length night track.0 → IsTrue b ↔ TrackHolds asked night s sum part track
-  track_is a b ha e hb le = (λ t. record { holds = λ k same room. subst (λ (w : TrackId). ParkHolds asked night s sum part (record { track = w; side_in = k.side_in; side_out = k.side_out })) (sym same) ((each t k.side_in).holds k.side_out) }, λ h. hb.1 (from_track h le B))
+  track_is a b ha e hb le = (
+    λ t. record {
+      holds = λ k same room. subst (λ (w : TrackId). ParkHolds asked night s sum part
+          (record { track = w; side_in = k.side_in; side_out = k.side_out })) (sym same) ((each t k.side_in).holds k.side_out);
+    },
+    λ h. hb.1 (from_track h le B),
+  )
     where
       each : IsTrue b → (side : Side) → SideHolds asked night s sum part track side
       each t A = ha.0 e
@@ -83,7 +92,8 @@ module _ (asked : Asked) (night : Night) (prices : List Price) (s : Shape) (sum 
   one_track n lt h = record {
     holds = λ k same le.
         let e : k.track.0 ≡ t = ap (λ (w : TrackId). w.0) same in
-        subst (λ (p : ℕ). ParkHolds asked night s sum p k) (sym (part_is k e)) (h.holds k (omega arith) (subst (λ (w : ℕ). shape_length night s ≤ track_length night w) (sym e) le));
+        subst (λ (p : ℕ). ParkHolds asked night s sum p k) (sym (part_is k e)) (h.holds k (omega arith)
+        (subst (λ (w : ℕ). shape_length night s ≤ track_length night w) (sym e) le));
   }
 
   pub more_tracks : TracksHold asked night prices s sum t → TrackHolds asked night s sum (get_or parts t 0) (record { 0 = t }) → TracksHold asked night prices s sum (t + 1)
@@ -93,7 +103,8 @@ module _ (asked : Asked) (night : Night) (prices : List Price) (s : Shape) (sum 
         (λ (less : k.track.0 < t). h.holds k less le)
         (λ (past : t ≤ k.track.0).
         let e : k.track.0 ≡ t = omega arith in
-        subst (λ (p : ℕ). ParkHolds asked night s sum p k) (part_is k e) (now.holds k (ap (λ (w : ℕ). record { 0 = w }) e) (subst (λ (w : ℕ). shape_length night s ≤ track_length night w) e le)))
+        subst (λ (p : ℕ). ParkHolds asked night s sum p k) (part_is k e) (now.holds k (ap (λ (w : ℕ). record { 0 = w }) e)
+        (subst (λ (w : ℕ). shape_length night s ≤ track_length night w) e le)))
         (cases_lt k.track.0 t);
   }
 
@@ -108,7 +119,10 @@ no_part night (p ∷ ps) s = omega (arith, sum_by-cons (λ (q : Price). q.value 
 
 pub shape_is : (asked : Asked) (night : Night) (c : Case) (s : Shape) (sum : ℤ) (tracks : ℕ) (b : Bool) → tracks ≡ length night.station.tracks → sum ≡ duals_over night c.duals s
     → sum ≤ℤ (pos (1000 * cost_with night s None) +ℤ c.multiplier) → IsTrue b ↔ TracksHold asked night c.duals.prices s sum tracks → IsTrue b ↔ ShapeHolds asked night c s
-shape_is asked night c s sum tracks b et is le hb = (λ t. record { holds = each t }, λ h. hb.1 (record { holds = λ k lt room own parkable. omega (arith, ints, is, h.holds (Some k) own parkable room) }))
+shape_is asked night c s sum tracks b et is le hb = (
+  λ t. record { holds = each t },
+  λ h. hb.1 (record { holds = λ k lt room own parkable. omega (arith, ints, is, h.holds (Some k) own parkable room) }),
+)
   where
     each : IsTrue b → (park : Option Park) → IsAsked asked park → IsOption night s park → HasRoom night s park → duals_over night c.duals s ≤ℤ weight_with night c s park
     each t None own option room = omega (arith, ints, is, le, no_part night c.duals.prices s)
@@ -119,14 +133,25 @@ unparked_asked : (asked : Asked) → IsAsked asked None
 unparked_asked Every = tt
 unparked_asked BesideStacks = refl
 
-pub too_light : (asked : Asked) (night : Night) (c : Case) (s : Shape) (sum : ℤ) → sum ≡ duals_over night c.duals s → (pos (1000 * cost_with night s None) +ℤ c.multiplier) <ℤ sum → IsTrue false ↔ ShapeHolds asked night c s
-too_light asked night c s sum is lt = (λ (t : false ≡ true). cc, λ h. absurd (let le = h.holds None (unparked_asked asked) tt tt in omega (arith, ints, is, lt, le, no_part night c.duals.prices s)))
+pub too_light : (asked : Asked) (night : Night) (c : Case) (s : Shape) (sum : ℤ) → sum ≡ duals_over night c.duals s → (pos (1000 * cost_with night s None) +ℤ c.multiplier) <ℤ sum
+    → IsTrue false ↔ ShapeHolds asked night c s
+too_light asked night c s sum is lt = (
+  λ (t : false ≡ true). cc,
+  λ h. absurd (let le = h.holds None (unparked_asked asked) tt tt in omega
+      (arith, ints, is, lt, le, no_part night c.duals.prices s)),
+)
 
 -- ---- units
 
 module _ (asked : Asked) (night : Night) (covered : Masks) (c : Case) (u : ℕ) where
   pub is_covered : slice_index_or covered.units u true ≡ true → IsTrue true ↔ UnitHolds asked night covered c u
-  is_covered e = (λ t. record { holds = λ s free. absurd (true≢false (sym e ∙ free.units u (record { from = omega (arith, free.first); to = omega (arith, free.first, free.shape.within.n) }))) }, λ h. refl)
+  is_covered e = (
+    λ t. record {
+      holds = λ s free. absurd (true≢false (sym e ∙ free.units u
+          (record { from = omega (arith, free.first); to = omega (arith, free.first, free.shape.within.n) })));
+    },
+    λ h. refl,
+  )
 
   module _ (shapes : List Shape) (members : (s : Shape) → In s shapes ↔ IsFreeShape night covered u s) where
     pub unit_is : AllByRecursion (ShapeHolds asked night c) shapes → UnitHolds asked night covered c u
@@ -140,12 +165,16 @@ module _ (asked : Asked) (night : Night) (covered : Masks) (c : Case) (u : ℕ) 
 pub unit_of : (asked : Asked) (night : Night) (covered : Masks) (c : Case) → CaseHolds asked night covered c → (u : ℕ) → UnitHolds asked night covered c u
 unit_of Every night covered c h u = record {
   holds = λ s free. record {
-    holds = λ park own option room. h.holds s park (record { shape = record { shape = free.shape; first = refl; units = free.units; positions = free.positions }; option = option }) room;
+    holds = λ park own option room. h.holds s park (record {
+      shape = record { shape = free.shape; first = refl; units = free.units; positions = free.positions };
+      option = option;
+    }) room;
   };
 }
 unit_of BesideStacks night covered c h u = record {
   holds = λ s free. record {
-    holds = λ park own option room. h.holds s park (record { shape = record { shape = free.shape; first = refl; units = free.units; positions = free.positions }; option = option }) own room;
+    holds = λ park own option room. h.holds s park (record { shape = record { shape = free.shape; first = refl; units = free.units; positions = free.positions }; option = option })
+        own room;
   };
 }
 
@@ -191,4 +220,5 @@ case_back asked night covered cases k c m e same h = subst (CaseHolds asked nigh
 
 pub case_on : (asked : Asked) (night : Night) (covered : Masks) (cases : List Case) (k : ℕ) (c : Case) (m : ℤ) → slice_get cases k ≡ Some c → m ≡ c.multiplier → k < length cases
     → All (CaseHolds asked night covered) cases → CaseHolds asked night covered (case_of m c.duals)
-case_on asked night covered cases k c m e same lt all = retold night covered c (case_of m c.duals) (sym same) refl asked (subst (CaseHolds asked night covered) (got cases k c e) (all k _ lt))
+case_on asked night covered cases k c m e same lt all = retold night covered c (case_of m c.duals) (sym same) refl asked
+    (subst (CaseHolds asked night covered) (got cases k c e) (all k _ lt))

@@ -26,7 +26,8 @@ use Rattle.shunt_dual.proofs.Holds.{got}
 pub one_more : (P : ℤ → Type 0) (xs ys : List ℤ) (z : ℤ) → ys ≡ xs ++ z ∷ [] → All P xs → P z → All P ys
 one_more P xs ys z e all p = subst (λ (l : List ℤ). All P l) (sym e) (All-append P xs (z ∷ []) all (All-cons P z [] p (All-nil P)))
 
-pub each_more : (f : ℕ → ℤ) (n : ℕ) (xs ys : List ℤ) (z : ℤ) → ys ≡ xs ++ z ∷ [] → length xs ≡ n → z ≡ f n → ((j : ℕ) → j < n → get_or xs j (pos 0) ≡ f j) → (j : ℕ) → j < n + 1 → get_or ys j (pos 0) ≡ f j
+pub each_more : (f : ℕ → ℤ) (n : ℕ) (xs ys : List ℤ) (z : ℤ) → ys ≡ xs ++ z ∷ [] → length xs ≡ n → z ≡ f n → ((j : ℕ) → j < n → get_or xs j (pos 0) ≡ f j) → (j : ℕ) → j < n + 1
+    → get_or ys j (pos 0) ≡ f j
 each_more f n xs ys z e long is before j lt =
     ap (λ (l : List ℤ). get_or l j (pos 0)) e
     ∙ ⊎_elim (λ (less : j < n). get_or-append xs (z ∷ []) (pos 0) j (omega (arith, less, long)) ∙ before j less)
@@ -40,7 +41,8 @@ each_more f n xs ys z e long is before j lt =
 pub grown : (night : Night) (path : List Block) (b : Block) (cases : List Case) (k : ℕ) (case : Case) (m s g z : ℤ) → slice_get cases k ≡ Some case → m ≡ case.multiplier
     → s ≡ case_sum night path cases k
     → g ≡ weight night (case_of m case.duals) b -ℤ duals_over night case.duals (shape_of b)
-    → sum_at night (path ++ b ∷ []) (from_of cases k) (case_at cases k) ≡ sum_at night path (from_of cases k) (case_at cases k) +ℤ (weight night (case_at cases k) b -ℤ duals_over night (case_at cases k).duals (shape_of b))
+    → sum_at night (path ++ b ∷ []) (from_of cases k) (case_at cases k) ≡ sum_at night path (from_of cases k) (case_at cases k) +ℤ
+    (weight night (case_at cases k) b -ℤ duals_over night (case_at cases k).duals (shape_of b))
     → z ≡ s +ℤ g → z ≡ case_sum night (path ++ b ∷ []) cases k
 grown night path b cases k case m s g z at same is gains step e =
     let own : g ≡ weight night case b -ℤ duals_over night case.duals (shape_of b) =
@@ -52,13 +54,15 @@ grown night path b cases k case m s g z at same is gains step e =
 pub sum_small : (cases : List Case) (s : PathSums) (k : ℕ) (z : ℤ) → AreSums cases s → k < length cases → z ≡ get_or s.sums.items k z → IsWithin 4010000000000000000 z
 sum_small cases s k z are lt e = subst (IsWithin 4010000000000000000) (sym e) (are.small k z (let many = are.many in omega (arith, lt, many)))
 
-pub sum_there : (night : Night) (path : List Block) (cases : List Case) (s : PathSums) (k : ℕ) (z : ℤ) → AreSumsAt night path cases s → k < length cases → z ≡ get_or s.sums.items k z → z ≡ case_sum night path cases k
+pub sum_there : (night : Night) (path : List Block) (cases : List Case) (s : PathSums) (k : ℕ) (z : ℤ) → AreSumsAt night path cases s → k < length cases
+    → z ≡ get_or s.sums.items k z → z ≡ case_sum night path cases k
 sum_there night path cases s k z are lt e = e ∙ get_or_default s.sums.items k z (pos 0) (let many = are.sums.many in omega (arith, lt, many)) ∙ are.each k lt
 
 pub more_unparked : (path : List Block) (b : Block) → unparked_in (path ++ b ∷ []) ≡ unparked_in path + one_unparked b
 more_unparked path b = omega (arith, sum_by-append (λ (c : Block). cond (is_none c.park) 1 0) path (b ∷ []))
 
-pub unparked_now : (night : Night) (path : List Block) (cases : List Case) (s : PathSums) (b : Block) → AreSumsAt night path cases s → unparked_in (path ++ b ∷ []) ≡ s.unparked + one_unparked b
+pub unparked_now : (night : Night) (path : List Block) (cases : List Case) (s : PathSums) (b : Block) → AreSumsAt night path cases s
+    → unparked_in (path ++ b ∷ []) ≡ s.unparked + one_unparked b
 unparked_now night path cases s b are = more_unparked path b ∙ ap (λ n. n + one_unparked b) (sym are.unparked)
 
 -- ---- tests

@@ -47,12 +47,14 @@ module _ (night : Night) (s : Shape) where
         inr (x.0, subst (IsOption night s) x.1 is, x.3, x.2, x.4))
         (w.one t)
 
-  pub head_least : (option : Option Park) (old new : List ℕ) → AreCostsWith night s option old new → length old ≡ 60 → (least : ℕ → ℕ) → ((t : ℕ) → least t ≤ get_or new t 0) → CostsAtLeast night s least option
+  pub head_least : (option : Option Park) (old new : List ℕ) → AreCostsWith night s option old new → length old ≡ 60 → (least : ℕ → ℕ) → ((t : ℕ) → least t ≤ get_or new t 0)
+      → CostsAtLeast night s least option
   head_least None old new w long least le = tt
   head_least (Some k) old new w long least le = λ room. omega (arith, le k.track.0, w.room k refl long room)
 
   pub costs_are : (costs : List ℕ) → length costs ≡ 60 → ((t : ℕ) → get_or costs t 0 ≤ cost_with night s None) → ((t : ℕ) → t < 60 → IsCostOn night s t (get_or costs t 0))
-      → AllByRecursion (CostsAtLeast night s (λ t. get_or costs t 0)) (options_of night s) → ((o : Option Park) → In o (options_of night s) ↔ IsOption night s o) → AreCosts night s costs
+      → AllByRecursion (CostsAtLeast night s (λ t. get_or costs t 0)) (options_of night s) → ((o : Option Park) → In o (options_of night s) ↔ IsOption night s o)
+      → AreCosts night s costs
   costs_are costs long small one all members = record {
     long = long;
     small = small;

@@ -37,10 +37,12 @@ module _ (night : Night) (d : Duals) where
     all = λ t k i can more. ⊎_elim (λ (same : t ≡ s). (o, inl refl, e ∙ sym same)) (λ none. absurd none) i;
   }
 
-  heavy : (s : Shape) (k : Park) (worth : ℤ) (least : ℕ) → worth ≡ duals_over night d s → worth ≤ℤ pos least → least ≤ 1000 * cost_with night s (Some k) → pos (weight_of night d.prices s (Some k)) <ℤ duals_over night d s → ⊥
+  heavy : (s : Shape) (k : Park) (worth : ℤ) (least : ℕ) → worth ≡ duals_over night d s → worth ≤ℤ pos least → least ≤ 1000 * cost_with night s (Some k)
+      → pos (weight_of night d.prices s (Some k)) <ℤ duals_over night d s → ⊥
   heavy s k worth least is low le more = omega (arith, ints, is, low, le, more)
 
-  pub not_offered : (s : Shape) (worth : ℤ) (least : ℕ) → worth ≡ duals_over night d s → worth ≤ℤ pos least → ((k : Park) → IsParkable night s k → least ≤ 1000 * cost_with night s (Some k)) → AreOffers night d (s ∷ []) []
+  pub not_offered : (s : Shape) (worth : ℤ) (least : ℕ) → worth ≡ duals_over night d s → worth ≤ℤ pos least
+      → ((k : Park) → IsParkable night s k → least ≤ 1000 * cost_with night s (Some k)) → AreOffers night d (s ∷ []) []
   not_offered s worth least is low under = record {
     each = λ o none. absurd none;
     all = λ t k i can more. absurd (⊎_elim
@@ -69,5 +71,6 @@ module _ (night : Night) (c : Case) where
 
   pub offered_is : (o : Offer) (k : Park) (b : Block) → IsOffer night c.duals o → k.track.0 < 60 → shape_of b ≡ o.shape → b.park ≡ Some k → offered night o k ≡ gain night c b
   offered_is o k b is few same park =
-      let there : offered night o k ≡ duals_over night c.duals o.shape -ℤ (pos (1000 * cost_with night o.shape (Some k) + price_part_with night c.duals.prices o.shape (Some k)) +ℤ pos 0) = omega (arith, ints, is.worth, is.charges k few) in
+      let there : offered night o k ≡ duals_over night c.duals o.shape -ℤ (pos (1000 * cost_with night o.shape (Some k) + price_part_with night c.duals.prices o.shape (Some k)) +ℤ
+      pos 0) = omega (arith, ints, is.worth, is.charges k few) in
       there ∙ (ap (λ (s : Shape). with_option s (Some k)) (sym same) ∙ ap (λ (p : Option Park). with_option (shape_of b) p) (sym park))

@@ -15,7 +15,8 @@ use Rattle.shunt_dual.specs.defs.Opened.{IsLeastBelow}
 use Rattle.shunt_dual.specs.defs.Weighed.{case_of}
 use Rattle.shunt_dual.proofs.Holds.{got}
 
-pub case_sum_is : (night : Night) (path : List Block) (cases : List Case) (k : ℕ) (case : Case) (from : ℕ) (m s : ℤ) → slice_get cases k ≡ Some case → m ≡ case.multiplier → from ≡ from_of cases k
+pub case_sum_is : (night : Night) (path : List Block) (cases : List Case) (k : ℕ) (case : Case) (from : ℕ) (m s : ℤ) → slice_get cases k ≡ Some case → m ≡ case.multiplier
+    → from ≡ from_of cases k
     → s ≡ sum_at night path from (record { to = case.to; multiplier = m; duals = case.duals }) → s ≡ case_sum night path cases k
 case_sum_is night path cases k case from m s e same ef is =
     subst (λ (c : Case). s ≡ sum_at night path (from_of cases k) c) (sym (got cases k case e))
@@ -71,7 +72,8 @@ module _ (night : Night) (path : List Block) (cases : List Case) (k : ℕ) (leas
           (cases_lt j k)
 
   module _ (bound : ℤ) (here : IsBoundOf (case_sum night path cases k) bound) (h : IsLeastBelow night path cases k least) where
-    at_most : (new : ℤ) → new ≤ℤ bound → new ≤ℤ least → (j : ℕ) (other : ℤ) → (j < k + 1) ⊎ (j + 1 ≡ length cases) → IsOpenAt cases path j → IsBoundOf (case_sum night path cases j) other → new ≤ℤ other
+    at_most : (new : ℤ) → new ≤ℤ bound → new ≤ℤ least → (j : ℕ) (other : ℤ) → (j < k + 1) ⊎ (j + 1 ≡ length cases) → IsOpenAt cases path j
+        → IsBoundOf (case_sum night path cases j) other → new ≤ℤ other
     at_most new le low j other (inr e) opens is = omega (arith, ints, low, h.least j other (inr e) opens is)
     at_most new le low j other (inl lt) opens is = ⊎_elim
         (λ (less : j < k). omega (arith, ints, low, h.least j other (inl less) opens is))
@@ -91,7 +93,8 @@ module _ (night : Night) (path : List Block) (cases : List Case) (k : ℕ) (leas
     pub kept : least ≤ℤ bound → IsLeastBelow night path cases (k + 1) least
     kept le = record { number = h.number; opens = h.opens; is = h.is; least = at_most least le (omega (arith, ints)) }
 
-pub last_first : (night : Night) (path : List Block) (cases : List Case) (last : ℕ) (bound : ℤ) → last + 1 ≡ length cases → IsBoundOf (case_sum night path cases last) bound → IsLeastBelow night path cases 0 bound
+pub last_first : (night : Night) (path : List Block) (cases : List Case) (last : ℕ) (bound : ℤ) → last + 1 ≡ length cases → IsBoundOf (case_sum night path cases last) bound
+    → IsLeastBelow night path cases 0 bound
 last_first night path cases last bound e is = record {
   number = last;
   opens = record { there = omega arith; opens = last_test (last + 1) (length cases) (unparked_in path) (case_at cases last).to e };
@@ -104,10 +107,12 @@ last_first night path cases last bound e is = record {
       one;
 }
 
-pub all_of : (night : Night) (path : List Block) (cases : List Case) (k : ℕ) (bound : ℤ) → length cases ≤ k + 1 → IsLeastBelow night path cases k bound → IsCasesBound night path cases bound
+pub all_of : (night : Night) (path : List Block) (cases : List Case) (k : ℕ) (bound : ℤ) → length cases ≤ k + 1 → IsLeastBelow night path cases k bound
+    → IsCasesBound night path cases bound
 all_of night path cases k bound le h = record {
   number = h.number;
   opens = h.opens;
   is = h.is;
-  least = λ j other opens is. h.least j other (⊎_elim (λ (lt : j < k). inl lt) (λ (past : k ≤ j). let e : j + 1 ≡ length cases = omega (arith, opens.there) in inr e) (cases_lt j k)) opens is;
+  least = λ j other opens is. h.least j other (⊎_elim (λ (lt : j < k). inl lt) (λ (past : k ≤ j). let e : j + 1 ≡ length cases = omega (arith, opens.there) in inr e)
+      (cases_lt j k)) opens is;
 }

@@ -29,7 +29,8 @@ most_cheapest night u v share s cost h holds k =
 pub given_cheapest : (night : Night) (u v share : ℕ) (h : IsShare night u v share) (cost : ℕ) → IsCheapest night h.shape cost → share ≡ 1000 * cost / h.shape.n
 given_cheapest night u v share h cost k =
     let le = most_cheapest night u v share h.shape cost h h.holds k in
-    let ge : 1000 * cost / h.shape.n ≤ part_with night h.shape h.option = div_rises (1000 * cost) (1000 * cost_with night h.shape h.option) h.shape.n (omega (arith, h.holds.within)) (omega (arith, k.least h.option h.is_option)) in
+    let ge : 1000 * cost / h.shape.n ≤ part_with night h.shape h.option = div_rises (1000 * cost) (1000 * cost_with night h.shape h.option) h.shape.n
+    (omega (arith, h.holds.within)) (omega (arith, k.least h.option h.is_option)) in
     omega (arith, le, ge, h.is)
 
 cond_le : (b : Bool) (n : ℕ) → cond b 0 n ≤ n
@@ -51,12 +52,14 @@ no_surcharge : (park : Option Park) → surcharge (pos 0) park ≡ pos 0
 no_surcharge None = refl
 no_surcharge (Some k) = refl
 
-under_share : (night : Night) (u v limit : ℕ) (o : Option ℕ) (z : ℤ) → IsEntry night u v o → IfSome o (λ share. z ≤ℤ pos share) → (s : Shape) (park : Option Park) → Holds night s u v → IsOption night s park
+under_share : (night : Night) (u v limit : ℕ) (o : Option ℕ) (z : ℤ) → IsEntry night u v o → IfSome o (λ share. z ≤ℤ pos share) → (s : Shape) (park : Option Park)
+    → Holds night s u v → IsOption night s park
     → ((k : ℕ) → IsShare night u v k → k ≤ limit) → (IsEntry night u v None → ⊥) → z ≤ℤ pos limit
 under_share night u v limit None z entry under s park holds option most never = absurd (never entry)
 under_share night u v limit (Some share) z entry under s park holds option most never = omega (arith, ints, under, most share entry)
 
-module _ (night : Night) (t : Table) (d : Duals) (shares : AreShares night t) (under : AreUnder night t d) (s : Shape) (park : Option Park) (shape : IsShape night s) (option : IsOption night s park) where
+module _ (night : Night) (t : Table) (d : Duals) (shares : AreShares night t) (under : AreUnder night t d) (s : Shape) (park : Option Park) (shape : IsShape night s)
+    (option : IsOption night s park) where
   pair_paid : (k : ℕ) → k < s.n → (alpha_at d (unit_from night s + k) +ℤ beta_at d (position_from night s + k)) ≤ℤ pos (part_with night s park)
   pair_paid k lt =
       let u = unit_from night s + k in

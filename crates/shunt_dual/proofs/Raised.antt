@@ -82,8 +82,10 @@ module _ (night : Night) (by t j : ℕ) where
       let first : IsPlaced night p = all 0 p (omega arith) in
       let rest : All (IsPlaced night) ps = All-tail (IsPlaced night) p ps all in
       ⊎_elim
-      (λ e. subst (λ (b : Bool). All (IsPlaced night) (cond b (lifted by p ∷ ps) (p ∷ raised_by by t j ps))) (sym e) (All-cons (IsPlaced night) (lifted by p) ps (record { kind = first.kind; track = first.track; train = first.train }) rest))
-      (λ e. subst (λ (b : Bool). All (IsPlaced night) (cond b (lifted by p ∷ ps) (p ∷ raised_by by t j ps))) (sym e) (All-cons (IsPlaced night) p (raised_by by t j ps) first (placed ps rest own)))
+      (λ e. subst (λ (b : Bool). All (IsPlaced night) (cond b (lifted by p ∷ ps) (p ∷ raised_by by t j ps))) (sym e)
+      (All-cons (IsPlaced night) (lifted by p) ps (record { kind = first.kind; track = first.track; train = first.train }) rest))
+      (λ e. subst (λ (b : Bool). All (IsPlaced night) (cond b (lifted by p ∷ ps) (p ∷ raised_by by t j ps))) (sym e)
+      (All-cons (IsPlaced night) p (raised_by by t j ps) first (placed ps rest own)))
       (cases_Bool (is_length_price t j p))
 
   pub are_prices : (prices : List Price) → ArePrices night prices → t < length night.station.tracks → j < length night.arrive
@@ -91,7 +93,8 @@ module _ (night : Night) (by t j : ℕ) where
   are_prices prices are tt_ jt few values = record {
     few = few;
     each = λ k d lt.
-        let p = placed prices (λ i e l. let h = are.each i e l in record { kind = h.kind; track = h.track; train = h.train }) (record { kind = tt; track = tt_; train = jt }) k d lt in
+        let p = placed prices (λ i e l. let h = are.each i e l in record { kind = h.kind; track = h.track; train = h.train })
+        (record { kind = tt; track = tt_; train = jt }) k d lt in
         record { kind = p.kind; track = p.track; train = p.train; value = values k d lt };
   }
 
@@ -114,7 +117,8 @@ module _ (night : Night) (path : List Block) (t j : ℕ) (d : Duals) where
 
   pub hold_after : StillHold → (m : ℕ) → DualsHold night path d → DualsHold night path (risen_duals (suc m))
   hold_after still zero h = subst (λ (ps : List Price). DualsHold night path (record d { prices = ps })) (sym (raised_one t j d.prices)) (still night path t j d h)
-  hold_after still (suc m) h = subst (λ (ps : List Price). DualsHold night path (record d { prices = ps })) (sym (raised_next t j (suc m) d.prices)) (still night path t j (risen_duals (suc m)) (hold_after still m h))
+  hold_after still (suc m) h = subst (λ (ps : List Price). DualsHold night path (record d { prices = ps })) (sym (raised_next t j (suc m) d.prices))
+      (still night path t j (risen_duals (suc m)) (hold_after still m h))
 
   pub apart_after : StillApart → (m : ℕ) → AreApart d.prices → AreApart (raised_by (suc m) t j d.prices)
   apart_after still zero h = subst AreApart (sym (raised_one t j d.prices)) (still t j d.prices h)
@@ -128,10 +132,12 @@ module _ (night : Night) (path : List Block) (t j : ℕ) (d : Duals) where
 
   sum_rises : SumRises → (m : ℕ) → duals_sum night path (risen_duals (suc m)) ≡ duals_sum night path d +ℤ pos (suc m * counts) -ℤ pos (suc m * track_length night t)
   sum_rises sum zero =
-      let e : duals_sum night path (risen_duals 1) ≡ duals_sum night path (record d { prices = raised t j d.prices }) = ap (λ (ps : List Price). duals_sum night path (record d { prices = ps })) (raised_one t j d.prices) in
+      let e : duals_sum night path (risen_duals 1) ≡ duals_sum night path (record d { prices = raised t j d.prices }) = ap
+      (λ (ps : List Price). duals_sum night path (record d { prices = ps })) (raised_one t j d.prices) in
       omega (arith, ints, e, sum night path t j d, one-mul counts, one-mul (track_length night t))
   sum_rises sum (suc m) =
-      let e : duals_sum night path (risen_duals (suc (suc m))) ≡ duals_sum night path (record d { prices = raised t j (raised_by (suc m) t j d.prices) }) = ap (λ (ps : List Price). duals_sum night path (record d { prices = ps })) (raised_next t j (suc m) d.prices) in
+      let e : duals_sum night path (risen_duals (suc (suc m))) ≡ duals_sum night path (record d { prices = raised t j (raised_by (suc m) t j d.prices) }) = ap
+      (λ (ps : List Price). duals_sum night path (record d { prices = ps })) (raised_next t j (suc m) d.prices) in
       omega (arith, ints, e, sum night path t j (risen_duals (suc m)), sum_rises sum m, one_time_more (suc m) counts, one_time_more (suc m) (track_length night t))
 
   -- what a price of such a value takes of blocks
@@ -149,6 +155,7 @@ module _ (night : Night) (path : List Block) (t j : ℕ) (d : Duals) where
     mul-add m (counted night (length_price t j) b) (sum_by (counted night (length_price t j)) bs),
   )
 
-  pub sum_after_rise : SumRises → (m : ℕ) → 1 ≤ m → duals_sum night path (risen_duals m) ≡ duals_sum night path d +ℤ pos (sum_by (price_part night (price_at m t j ∷ [])) path) -ℤ pos (m * track_length night t)
+  pub sum_after_rise : SumRises → (m : ℕ) → 1 ≤ m → duals_sum night path (risen_duals m)
+      ≡ duals_sum night path d +ℤ pos (sum_by (price_part night (price_at m t j ∷ [])) path) -ℤ pos (m * track_length night t)
   sum_after_rise sum zero le = absurd (omega arith)
   sum_after_rise sum (suc m) le = omega (arith, ints, sum_rises sum m, all_charges (suc m) path)

@@ -24,7 +24,8 @@ use Rattle.shunt_dual.proofs.Demands.{all_met, all_hold}
 
 -- what another value of a unit does to the sum
 abbrev pub OtherAlpha : Type 0
-OtherAlpha = (night : Night) (path : List Block) (d : Duals) (u : ℕ) (z : ℤ) → u < unit_total night → length d.alpha ≡ unit_total night → get_or (masks_of night path).units u true ≡ false
+OtherAlpha = (night : Night) (path : List Block) (d : Duals) (u : ℕ) (z : ℤ) → u < unit_total night → length d.alpha ≡ unit_total night
+    → get_or (masks_of night path).units u true ≡ false
     → duals_sum night path (with_alpha u z d) ≡ duals_sum night path d +ℤ z -ℤ alpha_at d u
 
 module _ (night : Night) (path : List Block) (beta : List ℤ) (prices : List Price) (shapes : List Shape) (asks : List Ask)
@@ -76,13 +77,15 @@ module _ (night : Night) (path : List Block) (beta : List ℤ) (prices : List Pr
       record {
         long = ap length x.2 ∙ length-set mid u x.0 ∙ h.long;
         sum = let value : get_or new u (pos 0) ≡ x.0 = ap (λ (zs : List ℤ). get_or zs u (pos 0)) x.2 ∙ get_or-set_same mid u x.0 (pos 0) there in
-            let equal : duals_sum night path (duals_of new) ≡ duals_sum night path (with_alpha u x.0 (duals_of mid)) = ap (λ (zs : List ℤ). duals_sum night path (duals_of zs)) x.2 in
+            let equal : duals_sum night path (duals_of new) ≡ duals_sum night path (with_alpha u x.0 (duals_of mid)) = ap
+            (λ (zs : List ℤ). duals_sum night path (duals_of zs)) x.2 in
             let s = h.sum in
             omega (arith, ints, value, equal, s, e, other night path (duals_of mid) u x.0 lt h.long bare);
       })
       (cases_Bool (get_or units u true))
 
-  risen_by : OtherAlpha → (n : ℕ) (old new : List ℤ) (risen : ℤ) → n ≤ unit_total night → length old ≡ unit_total night → AreUnitsRefit asks units n old new risen → HasRisen old new risen
+  risen_by : OtherAlpha → (n : ℕ) (old new : List ℤ) (risen : ℤ) → n ≤ unit_total night → length old ≡ unit_total night → AreUnitsRefit asks units n old new risen
+      → HasRisen old new risen
   risen_by other zero old new risen le long r = record {
     long = ap length r.0 ∙ long;
     sum = let equal : duals_sum night path (duals_of new) ≡ duals_sum night path (duals_of old) = ap (λ (zs : List ℤ). duals_sum night path (duals_of zs)) r.0 in
@@ -90,7 +93,8 @@ module _ (night : Night) (path : List Block) (beta : List ℤ) (prices : List Pr
   }
   risen_by other (suc n) old new risen le long r = more other n old r.0 new r.1 risen (omega (arith, le)) (risen_by other n old r.0 r.1 (omega (arith, le)) long r.2) r.3 r.4
 
-  pub long_after : OtherAlpha → (n : ℕ) (old new : List ℤ) (risen : ℤ) → n ≤ unit_total night → length old ≡ unit_total night → AreUnitsRefit asks units n old new risen → length new ≡ unit_total night
+  pub long_after : OtherAlpha → (n : ℕ) (old new : List ℤ) (risen : ℤ) → n ≤ unit_total night → length old ≡ unit_total night → AreUnitsRefit asks units n old new risen
+      → length new ≡ unit_total night
   long_after other n old new risen le long r = (risen_by other n old new risen le long r).long
 
   pub sum_after : OtherAlpha → (n : ℕ) (old new : List ℤ) (risen : ℤ) → n ≤ unit_total night → length old ≡ unit_total night → AreUnitsRefit asks units n old new risen
@@ -98,10 +102,12 @@ module _ (night : Night) (path : List Block) (beta : List ℤ) (prices : List Pr
   sum_after other n old new risen le long r = (risen_by other n old new risen le long r).sum
 
   -- new values of units, as duals
-  pub refit_is : OtherAlpha → (n : ℕ) (covered : List Bool) (old new : List ℤ) (risen : ℤ) → AreDuals night (duals_of old) → covered ≡ units → n ≡ unit_total night → AreUnitsRefit asks covered n old new risen
+  pub refit_is : OtherAlpha → (n : ℕ) (covered : List Bool) (old new : List ℤ) (risen : ℤ) → AreDuals night (duals_of old) → covered ≡ units → n ≡ unit_total night
+      → AreUnitsRefit asks covered n old new risen
       → All IsValue new → All (IsMet new) asks → IsWithin 319999999999680 risen → AreRefit night path (duals_of old) (duals_of new) risen
   refit_is other n covered old new risen are_old ec en r values met small =
-      let done : AreUnitsRefit asks units (unit_total night) old new risen = subst (λ (m : ℕ). AreUnitsRefit asks units m old new risen) en (subst (λ (bs : List Bool). AreUnitsRefit asks bs n old new risen) ec r) in
+      let done : AreUnitsRefit asks units (unit_total night) old new risen = subst (λ (m : ℕ). AreUnitsRefit asks units m old new risen) en
+      (subst (λ (bs : List Bool). AreUnitsRefit asks bs n old new risen) ec r) in
       record {
         held = record {
           are = record {

@@ -8,7 +8,8 @@ use Rattle.shunt_dual.specs.defs.Tables.{at, times}
 use Rattle.shunt_dual.specs.defs.Pairing.{IsPaired, AreDuals}
 use Rattle.shunt_dual.specs.defs.Tree.{IsGrown}
 
-pub seated : (n k : ℕ) (place owner : List ℕ) → length place ≡ n → length owner ≡ n + 1 → k < n → IsPaired n k n place owner → IsPaired n (k + 1) (n + 1) (set place k n) (set owner n k)
+pub seated : (n k : ℕ) (place owner : List ℕ) → length place ≡ n → length owner ≡ n + 1 → k < n → IsPaired n k n place owner
+    → IsPaired n (k + 1) (n + 1) (set place k n) (set owner n k)
 seated n k place owner pl ol kn p = record {
   placed = λ r lt. let o = p.placed r in grind (arith, elements);
   apart = λ r lt e. let o = p.placed r in grind (arith, elements);
@@ -65,7 +66,8 @@ module _ (n k top : ℕ) (cost : ℕ → ℕ → ℕ) (alpha debt place owner di
     order = λ b c bk ck lt e. let there : at distance b ≡ at distance n = ap (at distance) (only_n b bk lt) in omega arith;
     marks = λ c le. ⊎_elim (λ e. inl (let same : at when c ≡ at when n = ap (at when) e in omega arith)) (λ ne. inr (out c (omega arith))) (cases_eq c n);
     held = λ c lt inside. absurd (omega (arith, out c lt));
-    low = λ c le. ⊎_elim (λ e. let same : at distance c ≡ at distance n = ap (at distance) e in omega arith) (λ ne. let lt : c < n = omega arith in omega (arith, far c lt, costs c lt, d.small c lt)) (cases_eq c n);
+    low = λ c le. ⊎_elim (λ e. let same : at distance c ≡ at distance n = ap (at distance) e in omega arith)
+        (λ ne. let lt : c < n = omega arith in omega (arith, far c lt, costs c lt, d.small c lt)) (cases_eq c n);
     root = omega arith;
     count = omega arith;
   }
@@ -74,7 +76,8 @@ module _ (n k top : ℕ) (cost : ℕ → ℕ → ℕ) (alpha debt place owner di
 pub begun : (n k top : ℕ) (cost : ℕ → ℕ → ℕ) (alpha debt place owner distance way when row : List ℕ) → k < n → at place k ≡ n → ((c : ℕ) → c < n → cost k c ≤ top)
     → IsPaired n (k + 1) (n + 1) place owner → AreDuals n (k + 1) top cost alpha debt place owner → at alpha k ≡ 0
     → length debt ≡ n → ((c : ℕ) → c < n → at distance c ≡ at row c + at debt c) → ((c : ℕ) → c < n → at row c ≡ cost k c) → at distance (length debt) ≡ 0
-    → ((c : ℕ) → c < length debt → at way c ≡ k) → ((c : ℕ) → c < length debt → at when c ≡ length debt + 1) → at when (length debt) ≡ 0 → times (length debt + 1) when ≡ length debt
+    → ((c : ℕ) → c < length debt → at way c ≡ k) → ((c : ℕ) → c < length debt → at when c ≡ length debt + 1) → at when (length debt) ≡ 0
+    → times (length debt + 1) when ≡ length debt
     → IsGrown n (k + 1) top 1 cost alpha debt place owner distance way when
 begun n k top cost alpha debt place owner distance way when row kn here costs p d none dl far value root ways out joined count =
     begins n k top cost alpha debt place owner distance way when kn here costs p d none
@@ -86,7 +89,8 @@ begun n k top cost alpha debt place owner distance way when row kn here costs p 
     (subst (λ (m : ℕ). times (m + 1) when ≡ m) dl count)
 
 -- column n is not free after a row is in
-pub no_root : (n k : ℕ) (owner new_owner : List ℕ) → length owner ≡ n + 1 → k < n → ((c : ℕ) → c ≤ n → at new_owner c ≡ n + 1 → at (set owner n k) c ≡ n + 1) → at new_owner n ≢ n + 1
+pub no_root : (n k : ℕ) (owner new_owner : List ℕ) → length owner ≡ n + 1 → k < n → ((c : ℕ) → c ≤ n → at new_owner c ≡ n + 1 → at (set owner n k) c ≡ n + 1)
+    → at new_owner n ≢ n + 1
 no_root n k owner new_owner ol kn kept e = omega (arith, kept n (omega arith) e, get_or-set_same owner n k 0 (omega arith))
 
 -- before any row is in

@@ -41,7 +41,8 @@ module _ (n rows top t end : ℕ) (cost : ℕ → ℕ → ℕ) (alpha debt place
   edge : (c : ℕ) → c < n → (c ≡ end) ⊎ (at when c < n + 1) → at new_alpha (at way c) ≡ cost (at way c) c + at new_debt c
   edge c k which =
       let reach = h.grown.reach c k in
-      let closer : at distance c ≤ at distance end = ⊎_elim (λ e. let same : at distance c ≡ at distance end = ap (at distance) e in omega arith) (λ lt. near c (omega arith) lt) which in
+      let closer : at distance c ≤ at distance end = ⊎_elim (λ e. let same : at distance c ≡ at distance end = ap (at distance) e in omega arith)
+      (λ lt. near c (omega arith) lt) which in
       let below : at when c ≤ n + 1 = ⊎_elim (λ lt. omega (arith, h.grown.count)) (λ e. omega arith) (h.grown.marks c (omega arith)) in
       let parent : at distance (at place (at way c)) ≤ at distance end = near (at place (at way c)) (h.paired.placed (at way c) reach.0) (omega (arith, reach.1)) in
       omega (arith, h.raised (at way c) reach.0, h.lowered c k, h.grown.path c k)
@@ -94,7 +95,8 @@ pub inserted : (n k top end : ℕ) (cost : ℕ → ℕ → ℕ) (alpha debt plac
     → ((c : ℕ) → c ≤ n → at new_owner c ≡ n + 1 → at owner c ≡ n + 1)
     → ((r : ℕ) → r < k + 1 → (at new_place r ≡ at place r) ⊎ ((at way (at new_place r) ≡ r) × ((at new_place r ≡ end) ⊎ (at when (at new_place r) < at when end))))
     → AreDuals n (k + 1) top cost new_alpha new_debt new_place new_owner
-inserted n k top end cost alpha debt place owner distance way when new_alpha new_debt new_place new_owner kn costs paired duals g ended raised rest dl lowered new_paired kept moved =
+inserted n k top end cost alpha debt place owner distance way when new_alpha new_debt new_place new_owner kn costs paired duals g ended raised rest dl lowered new_paired
+    kept moved =
     shifted n (k + 1) top g.0 end cost alpha debt place owner distance way when new_alpha new_debt
     (record {
       rows_in = omega arith;

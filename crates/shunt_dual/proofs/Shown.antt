@@ -35,7 +35,8 @@ module _ (night : Night) (t : Table) (is : IsInstance night) (shares : AreShares
     (a : IsAssigned (unit_total night) (cost_at (map or_top t.entries) (unit_total night)) place alpha beta)
     (is_sum : sum ≡ total (cost_at (map or_top t.entries) (unit_total night)) place)
     (least : (other : List ℕ) → IsPlace (unit_total night) other → sum ≤ total (cost_at (map or_top t.entries) (unit_total night)) other)
-    (unfilled : (other : List ℕ) → IsPlace (unit_total night) other → ((r : ℕ) → r < unit_total night → cost_at (map or_top t.entries) (unit_total night) r (at other r) ≤ 3000000000)
+    (unfilled : (other : List ℕ) → IsPlace (unit_total night) other → ((r : ℕ) → r < unit_total night
+    → cost_at (map or_top t.entries) (unit_total night) r (at other r) ≤ 3000000000)
     → (r : ℕ) → r < unit_total night → cost_at (map or_top t.entries) (unit_total night) r (at place r) < top) where
   same : position_total night ≡ unit_total night
   same = as_many night some.0 some.1
@@ -68,7 +69,8 @@ pub record IsLeastOver (n : ℕ) (table place : List ℕ) (alpha beta : List ℤ
   pub least : (other : List ℕ) → IsPlace n other → sum ≤ total (cost_at table n) other
   pub unfilled : (other : List ℕ) → IsPlace n other → ((r : ℕ) → r < n → cost_at table n r (at other r) ≤ 3000000000) → (r : ℕ) → r < n → cost_at table n r (at place r) < top
 
-pub shown_over : (night : Night) (t : Table) (n : ℕ) (table place : List ℕ) (alpha beta : List ℤ) (sum : ℕ) → IsInstance night → AreShares night t → ((place : List ℕ) × Matches night place)
+pub shown_over : (night : Night) (t : Table) (n : ℕ) (table place : List ℕ) (alpha beta : List ℤ) (sum : ℕ) → IsInstance night → AreShares night t
+    → ((place : List ℕ) × Matches night place)
     → n ≡ unit_total night → table ≡ map or_top t.entries → IsLeastOver n table place alpha beta sum → IsShown night t place alpha beta (pos sum)
 shown_over night t n table place alpha beta sum is shares some ne te h =
     let k = subst (λ (xs : List ℕ). IsLeastOver (unit_total night) xs place alpha beta sum) te (subst (λ (m : ℕ). IsLeastOver m table place alpha beta sum) ne h) in
@@ -109,5 +111,6 @@ bounds_all night t place alpha beta total z shares h e b is = record {
   rounded = omega (arith, ints, h.is, e, is.least);
 }
 
-pub starts_with : (night : Night) (t : Table) (place : List ℕ) (d : Duals) (total z : ℤ) → IsShown night t place d.alpha d.beta total → d.prices ≡ [] → z ≡ total → duals_sum night [] d ≡ z
+pub starts_with : (night : Night) (t : Table) (place : List ℕ) (d : Duals) (total z : ℤ) → IsShown night t place d.alpha d.beta total → d.prices ≡ [] → z ≡ total
+    → duals_sum night [] d ≡ z
 starts_with night t place d total z h none e = starts night d (are_duals night t place d total h none) none ∙ (h.sum ∙ sym e)

@@ -45,5 +45,6 @@ starts night d h none =
     let alphas : uncovered_alphas night (masks_of night []) d ≡ sum_z (λ z. z) d.alpha =
     same_below (unit_total night) _ (alpha_at d) (λ u lt. bare_value _ (alpha_at d u) (nothing_taken (unit_total night) u lt)) ∙ whole (unit_total night) d.alpha h.alphas in
     let betas : uncovered_betas night (masks_of night []) d ≡ sum_z (λ z. z) d.beta =
-    same_below (position_total night) _ (beta_at d) (λ v lt. bare_value _ (beta_at d v) (nothing_taken (position_total night) v lt)) ∙ whole (position_total night) d.beta h.betas in
+    same_below (position_total night) _ (beta_at d) (λ v lt. bare_value _ (beta_at d v) (nothing_taken (position_total night) v lt))
+    ∙ whole (position_total night) d.beta h.betas in
     omega (arith, ints, alphas, betas, no_price night d.prices none)

@@ -78,14 +78,18 @@ pub weights_are : (night : Night) (to : ℕ) (m n : ℤ) (d : Duals) (bs path : 
 weights_are night to m n d bs path w em eb e =
     subst (λ (x : ℤ). w ≡ sum_z (weight night (case_of x d)) path) em (subst (λ (ys : List Block). w ≡ sum_z (weight night (case_of m d)) ys) eb e)
 
-pub units_long : (night : Night) (t : Trail) (covered : Masks) (cs : List Bool) → cs ≡ covered.units → covered ≡ t.covered → IsTrailOf night t → cs ≡ (masks_of night t.blocks).units
+pub units_long : (night : Night) (t : Trail) (covered : Masks) (cs : List Bool) → cs ≡ covered.units → covered ≡ t.covered → IsTrailOf night t
+    → cs ≡ (masks_of night t.blocks).units
 units_long night t covered cs e ec of = e ∙ ap (λ (m : Masks). m.units) (ec ∙ of.covered)
 
-pub places_long : (night : Night) (t : Trail) (covered : Masks) (cs : List Bool) → cs ≡ covered.places → covered ≡ t.covered → IsTrailOf night t → cs ≡ (masks_of night t.blocks).places
+pub places_long : (night : Night) (t : Trail) (covered : Masks) (cs : List Bool) → cs ≡ covered.places → covered ≡ t.covered → IsTrailOf night t
+    → cs ≡ (masks_of night t.blocks).places
 places_long night t covered cs e ec of = e ∙ ap (λ (m : Masks). m.places) (ec ∙ of.covered)
 
-pub as_many_units : (night : Night) (path : List Block) (cs : List Bool) (zs ys : List ℤ) → cs ≡ (masks_of night path).units → zs ≡ ys → length ys ≡ unit_total night → length cs ≡ length zs
+pub as_many_units : (night : Night) (path : List Block) (cs : List Bool) (zs ys : List ℤ) → cs ≡ (masks_of night path).units → zs ≡ ys → length ys ≡ unit_total night
+    → length cs ≡ length zs
 as_many_units night path cs zs ys e ez en = ap length e ∙ length_units night path ∙ sym en ∙ sym (ap length ez)
 
-pub as_many_places : (night : Night) (path : List Block) (cs : List Bool) (zs ys : List ℤ) → cs ≡ (masks_of night path).places → zs ≡ ys → length ys ≡ position_total night → length cs ≡ length zs
+pub as_many_places : (night : Night) (path : List Block) (cs : List Bool) (zs ys : List ℤ) → cs ≡ (masks_of night path).places → zs ≡ ys → length ys ≡ position_total night
+    → length cs ≡ length zs
 as_many_places night path cs zs ys e ez en = ap length e ∙ length_places night path ∙ sym en ∙ sym (ap length ez)

@@ -82,7 +82,8 @@ unfolding total_from
 tight cost alpha debt r [] h = omega arith
 tight cost alpha debt r (c ∷ cs) h =
     let first : alpha r ≡ cost r c + debt c = let P : ℕ → Type 0 = λ q. alpha q ≡ cost q c + debt c in subst P (omega arith) (h 0 (omega arith)) in
-    let rest = tight cost alpha debt (r + 1) cs (λ i lt. let P : ℕ → Type 0 = λ q. alpha q ≡ cost q (at cs i) + debt (at cs i) in subst P (omega arith) (h (suc i) (omega arith))) in
+    let rest = tight cost alpha debt (r + 1) cs (λ i lt. let P : ℕ → Type 0 = λ q. alpha q
+    ≡ cost q (at cs i) + debt (at cs i) in subst P (omega arith) (h (suc i) (omega arith))) in
     omega (arith, sum_by-cons debt c cs, first, rest)
 
 -- the sum of the costs, and of the debts, is that of the alphas

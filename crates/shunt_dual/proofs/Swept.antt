@@ -45,12 +45,21 @@ module _ (night : Night) (path : List Block) (t j : ℕ) (old : Duals) where
 
 module _ (night : Night) (path : List Block) (given : Duals) where
   pub not_yet : (now : Duals) → AreGood night path given → now ≡ given → AreSwept night path given 0 now
-  not_yet now good e = record { good = subst (AreGood night path) (sym e) good; kept = record { beta = ap (λ (d : Duals). d.beta) e; parts = ap (λ (d : Duals). parts_of d.prices) e }; either = inl (e, λ i lt. absurd (omega (arith, lt))) }
+  not_yet now good e = record {
+    good = subst (AreGood night path) (sym e) good;
+    kept = record {
+      beta = ap (λ (d : Duals). d.beta) e;
+      parts = ap
+          (λ (d : Duals). parts_of d.prices) e;
+    };
+    either = inl (e, λ i lt. absurd (omega (arith, lt)));
+  }
 
   abbrev arrivals : ℕ
   arrivals = length night.arrive
 
-  pub one_pair : (k t j : ℕ) (now new : Duals) → t ≡ k / arrivals → j ≡ k % arrivals → AreSwept night path given k now → AreImproved night path t j now new → AreSwept night path given (k + 1) new
+  pub one_pair : (k t j : ℕ) (now new : Duals) → t ≡ k / arrivals → j ≡ k % arrivals → AreSwept night path given k now → AreImproved night path t j now new
+      → AreSwept night path given (k + 1) new
   one_pair k t j now new et ej h is = record {
     good = is.good;
     kept = record { beta = is.kept.beta ∙ h.kept.beta; parts = is.kept.parts ∙ h.kept.parts };
@@ -68,7 +77,8 @@ module _ (night : Night) (path : List Block) (given : Duals) where
         h.either;
   }
     where
-      all_so_far : ((i : ℕ) → i < k → NoneHigher night path (i / arrivals) (i % arrivals) given) → NoneHigher night path t j given → (i : ℕ) → i < k + 1 → NoneHigher night path (i / arrivals) (i % arrivals) given
+      all_so_far : ((i : ℕ) → i < k → NoneHigher night path (i / arrivals) (i % arrivals) given) → NoneHigher night path t j given → (i : ℕ) → i < k + 1
+          → NoneHigher night path (i / arrivals) (i % arrivals) given
       all_so_far before here i lt = ⊎_elim
           (λ (early : i < k). before i early)
           (λ (late : k ≤ i).
@@ -96,7 +106,8 @@ module _ (night : Night) (path : List Block) (given : Duals) where
       let train : q.train.0 < arrivals = p.train in
       (subst (λ (n : ℕ). n < length night.station.tracks) (eqb-true q.track.0 t second.1) track, subst (λ (n : ℕ). n < arrivals) (eqb-true q.train.0 j first.1) train))
       (λ (e : is_length_price t j q ≡ false).
-      step_pair t j qs (All-tail (IsPrice night) q (raised t j qs) (subst (λ (b : Bool). All (IsPrice night) (cond b (record q { value = q.value + 1 } ∷ qs) (q ∷ raised t j qs))) e all)))
+      step_pair t j qs (All-tail (IsPrice night) q (raised t j qs) (subst (λ (b : Bool). All (IsPrice night) (cond b (record q { value = q.value + 1 } ∷ qs) (q ∷ raised t j qs)))
+      e all)))
       (cases_Bool (is_length_price t j q))
 
   pub higher_too : (k : ℕ) (now : Duals) → length night.station.tracks * arrivals ≤ k → AreSwept night path given k now → (step : Duals) → IsPriceStep night path given step

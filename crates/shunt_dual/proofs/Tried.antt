@@ -13,7 +13,8 @@ use Rattle.shunt_prices.specs.defs.Cases.{DualsHold}
 use Rattle.shunt_dual.specs.defs.Raises.{price_at, raised_by, AreHeld, AreGood, AreRefit, IsRaise}
 use Rattle.shunt_dual.proofs.Raised.{StillHold, StillApart, SumRises, hold_after, apart_after, sum_after_rise, parts_raised}
 
-pub charges_seen : (night : Night) (by t j : ℕ) (price : Price) (bs path : List Block) (n : ℕ) → price ≡ price_at by t j → bs ≡ path → n ≡ sum_by (price_part night (price ∷ [])) bs → n ≡ sum_by (price_part night (price_at by t j ∷ [])) path
+pub charges_seen : (night : Night) (by t j : ℕ) (price : Price) (bs path : List Block) (n : ℕ) → price ≡ price_at by t j → bs ≡ path → n ≡ sum_by (price_part night (price ∷ [])) bs
+    → n ≡ sum_by (price_part night (price_at by t j ∷ [])) path
 charges_seen night by t j price bs path n ep eb e =
     subst (λ (p : Price). n ≡ sum_by (price_part night (p ∷ [])) path) ep (subst (λ (xs : List Block). n ≡ sum_by (price_part night (price ∷ [])) xs) eb e)
 
@@ -44,7 +45,8 @@ module _ (night : Night) (path : List Block) (by t j : ℕ) (old : Duals) where
 
   raise : SumRises → StillApart → 1 ≤ by → AreGood night path old → (new : List ℤ) (up gain : ℤ) (charged paid : ℕ)
       → AreRefit night path risen (record { alpha = new; beta = old.beta; prices = raised_by by t j old.prices }) up
-      → charged ≡ sum_by (price_part night (price_at by t j ∷ [])) path → paid ≡ by * track_length night t → gain ≡ up +ℤ pos charged -ℤ pos paid → IsWithin 4000000000000000000 gain
+      → charged ≡ sum_by (price_part night (price_at by t j ∷ [])) path → paid ≡ by * track_length night t → gain ≡ up +ℤ pos charged -ℤ pos paid
+      → IsWithin 4000000000000000000 gain
       → IsRaise night path by t j old (record { alpha = new; beta = old.beta; prices = raised_by by t j old.prices }) gain
   raise sum still some good new up gain charged paid r ec ep eg small = record {
     good = record { are = r.held.are; hold = r.held.hold; apart = apart_by by some still good.apart };
@@ -57,7 +59,8 @@ module _ (night : Night) (path : List Block) (by t j : ℕ) (old : Duals) where
   pub raise_seen : SumRises → StillApart → 1 ≤ by → AreGood night path old → (alpha beta beta_out new : List ℤ) (prices prices_out : List Price) (up gain : ℤ) (charged paid : ℕ)
       → alpha ≡ old.alpha → beta ≡ old.beta → prices ≡ raised_by by t j old.prices → beta_out ≡ old.beta → prices_out ≡ raised_by by t j old.prices
       → AreRefit night path (record { alpha = alpha; beta = beta; prices = prices }) (record { alpha = new; beta = beta; prices = prices }) up
-      → charged ≡ sum_by (price_part night (price_at by t j ∷ [])) path → paid ≡ by * track_length night t → gain ≡ up +ℤ pos charged -ℤ pos paid → IsWithin 4000000000000000000 gain
+      → charged ≡ sum_by (price_part night (price_at by t j ∷ [])) path → paid ≡ by * track_length night t → gain ≡ up +ℤ pos charged -ℤ pos paid
+      → IsWithin 4000000000000000000 gain
       → IsRaise night path by t j old (record { alpha = new; beta = beta_out; prices = prices_out }) gain
   raise_seen sum still some good alpha beta beta_out new prices prices_out up gain charged paid ea eb ep fb fp r ec ed eg small =
       let one : AreRefit night path (record { alpha = old.alpha; beta = beta; prices = prices }) (record { alpha = new; beta = beta; prices = prices }) up =
@@ -65,7 +68,8 @@ module _ (night : Night) (path : List Block) (by t j : ℕ) (old : Duals) where
       let two : AreRefit night path (record { alpha = old.alpha; beta = old.beta; prices = prices }) (record { alpha = new; beta = old.beta; prices = prices }) up =
       subst (λ (bs : List ℤ). AreRefit night path (record { alpha = old.alpha; beta = bs; prices = prices }) (record { alpha = new; beta = bs; prices = prices }) up) eb one in
       let three : AreRefit night path risen (record { alpha = new; beta = old.beta; prices = raised_by by t j old.prices }) up =
-      subst (λ (ps : List Price). AreRefit night path (record { alpha = old.alpha; beta = old.beta; prices = ps }) (record { alpha = new; beta = old.beta; prices = ps }) up) ep two in
+      subst (λ (ps : List Price). AreRefit night path (record { alpha = old.alpha; beta = old.beta; prices = ps }) (record { alpha = new; beta = old.beta; prices = ps }) up)
+      ep two in
       subst (λ (bs : List ℤ). IsRaise night path by t j old (record { alpha = new; beta = bs; prices = prices_out }) gain) (sym fb)
       (subst (λ (ps : List Price). IsRaise night path by t j old (record { alpha = new; beta = old.beta; prices = ps }) gain) (sym fp)
       (raise sum still some good new up gain charged paid three ec ed eg small))

@@ -60,7 +60,11 @@ walk_step n end rows c r way when old_place old_owner place owner pl ol rn cn e 
       inside = w.paired.placed r lt;
       paired = step_paired n rows c r place owner pl ol rn lt cn w.paired;
       near = inr (⊎_elim (λ s. let f : at when c ≡ at when end = ap (at when) s in omega arith) (λ s. omega arith) w.near);
-      links = λ x k near. let l = w.links x k (omega arith) in (l.0, let ne : at way x ≢ r = (λ s. let f : at when (at place (at way x)) ≡ at when (at place r) = ap (λ q. at when (at place q)) s in omega (arith, l.1)) in grind (arith, elements, l.1));
+      links = λ x k near. let l = w.links x k (omega arith) in (
+        l.0,
+        let ne : at way x ≢ r = (λ s. let f : at when (at place (at way x))
+            ≡ at when (at place r) = ap (λ q. at when (at place q)) s in omega (arith, l.1)) in grind (arith, elements, l.1),
+      );
       moved = λ q k. step_moved q r c end rows way when old_place place e (omega arith) w.near k (w.moved q k);
       kept = λ x k s. let kp = w.kept x k in grind (arith, elements);
       count = inr (step_count n c r (at place r) owner old_owner ol w.inside (omega arith) own apart w.count);

@@ -29,7 +29,8 @@ module _ (p : Block → Bool) where
 
   one_more_left : (k : Candidate) (ks : List Candidate) → blocks_in (passed ks) ≡ filter p (blocks_in ks) → blocks_in (passed (k ∷ ks)) ≡ filter p (blocks_in (k ∷ ks))
   one_more_left k ks known = ⊎_elim
-      (λ (t : p k.block ≡ true). ap blocks_in (filter_yes (λ (j : Candidate). p j.block) k ks t) ∙ (ap (λ (l : List Block). k.block ∷ l) known ∙ sym (filter_yes p k.block (blocks_in ks) t)))
+      (λ (t : p k.block ≡ true). ap blocks_in (filter_yes (λ (j : Candidate). p j.block) k ks t)
+      ∙ (ap (λ (l : List Block). k.block ∷ l) known ∙ sym (filter_yes p k.block (blocks_in ks) t)))
       (λ (f : p k.block ≡ false). ap blocks_in (filter_no (λ (j : Candidate). p j.block) k ks f) ∙ (known ∙ sym (filter_no p k.block (blocks_in ks) f)))
       (cases_Bool (p k.block))
 
@@ -38,7 +39,8 @@ module _ (p : Block → Bool) where
   left_blocks (k ∷ ks) = one_more_left k ks (left_blocks ks)
 
 pub left_are : (night : Night) (path : List Block) (b : Block) (c : Case) (stack : Stack) (ks : List Candidate) → AreCandidates night path c stack ks →
-    (AreFreeOf night path c stack (blocks_in ks) → AreFreeOf night (path ++ b ∷ []) c stack (apart_of night b (blocks_in ks))) → AreCandidates night (path ++ b ∷ []) c stack (left night b ks)
+    (AreFreeOf night path c stack (blocks_in ks) → AreFreeOf night (path ++ b ∷ []) c stack (apart_of night b (blocks_in ks)))
+    → AreCandidates night (path ++ b ∷ []) c stack (left night b ks)
 left_are night path b c stack ks are law = record {
   free = subst (AreFreeOf night (path ++ b ∷ []) c stack) (sym (left_blocks (λ x. not (shares night b x)) ks)) (law are.free);
   gains = λ k i. are.gains k (filter_from (λ (j : Candidate). not (shares night b j.block)) ks k i).0;

@@ -23,7 +23,8 @@ is_none None not = refl
 is_none (Some x) not = absurd (not x refl)
 
 -- an option that is of none of these stacks is of none, where they are all
-module _ (stacks : List OurStack) (all : List Stack) (e : all_seen stacks ≡ all) (park : Option Park) (own : (s : Stack) → (is_of s park ≡ true) ↔ (stack_of park ≡ Some s)) (there : (s : Stack) → stack_of park ≡ Some s → In s all) where
+module _ (stacks : List OurStack) (all : List Stack) (e : all_seen stacks ≡ all) (park : Option Park) (own : (s : Stack) → (is_of s park ≡ true) ↔ (stack_of park ≡ Some s))
+    (there : (s : Stack) → stack_of park ≡ Some s → In s all) where
   pub of_none : ((k : ℕ) (d : OurStack) → k < length stacks → is_of (seen (get_or stacks k d)) park ≡ false) → stack_of park ≡ None
   of_none none = is_none (stack_of park) (λ s f.
       let h = of_map seen stacks s (subst (In s) (sym e) (there s f)) in
@@ -31,7 +32,8 @@ module _ (stacks : List OurStack) (all : List Stack) (e : all_seen stacks ≡ al
       let d : OurStack = record { track = record { 0 = 0 }; side = A } in
       false≢true (sym (none p.0 d p.1) ∙ (ap (λ (x : OurStack). is_of (seen x) park) (p.2 d) ∙ (ap (λ (t : Stack). is_of t park) (sym h.2) ∙ (own s).1 f))))
 
-module _ (night : Night) (path : List Block) (b : Block) (cases : List Case) (k : ℕ) (c : Case) (e : case_at cases k ≡ c) (whole : ℤ) (is_whole : IsStackSum night path cases k whole) (own : ℤ) (is_own : own ≡ gain night c b) where
+module _ (night : Night) (path : List Block) (b : Block) (cases : List Case) (k : ℕ) (c : Case) (e : case_at cases k ≡ c) (whole : ℤ)
+    (is_whole : IsStackSum night path cases k whole) (own : ℤ) (is_own : own ≡ gain night c b) where
   own_there : own ≡ gain night (case_at cases k) b
   own_there = is_own ∙ ap (λ (d : Case). gain night d b) (sym e)
 
@@ -44,7 +46,8 @@ module _ (night : Night) (path : List Block) (b : Block) (cases : List Case) (k 
     is = omega (arith, ints, is, own_there);
   }
 
-  pub sum_of_stack : (s : Stack) → stack_of b.park ≡ Some s → (before after : ℤ) → IsStackGain night path (case_at cases k) s before → IsStackGain night (path ++ b ∷ []) (case_at cases k) s after →
+  pub sum_of_stack : (s : Stack) → stack_of b.park ≡ Some s → (before after : ℤ) → IsStackGain night path (case_at cases k) s before
+      → IsStackGain night (path ++ b ∷ []) (case_at cases k) s after →
       (x : ℤ) → x ≡ whole +ℤ (before -ℤ after) -ℤ own → IsChoiceSum night path b cases k x
   sum_of_stack s some before after first later x is = record {
     whole = whole;

@@ -82,7 +82,8 @@ zip_long R (x ∷ xs) [] h = absurd h
 zip_long R (x ∷ xs) (y ∷ ys) h = ap suc (zip_long R xs ys h.1)
 
 -- what is found of the stack with a number
-pub zip_seen : {B : Type 0} (R : Stack → B → Type 0) (stacks : List OurStack) (ys : List B) (i : ℕ) (d : OurStack) (y : B) → AllZip R (all_seen stacks) ys → i < length stacks → R (seen (get_or stacks i d)) (get_or ys i y)
+pub zip_seen : {B : Type 0} (R : Stack → B → Type 0) (stacks : List OurStack) (ys : List B) (i : ℕ) (d : OurStack) (y : B) → AllZip R (all_seen stacks) ys → i < length stacks
+    → R (seen (get_or stacks i d)) (get_or ys i y)
 zip_seen R [] ys i d y h lt = absurd (omega (arith, lt))
 zip_seen R (w ∷ stacks) [] i d y h lt = absurd h
 zip_seen R (w ∷ stacks) (z ∷ ys) zero d y h lt = h.0
@@ -91,7 +92,8 @@ zip_seen R (w ∷ stacks) (z ∷ ys) (suc i) d y h lt = zip_seen R stacks ys i d
 pub zip_there : {B : Type 0} (R : Stack → B → Type 0) (stacks : List OurStack) (ys : List B) (i : ℕ) → AllZip R (all_seen stacks) ys → i < length stacks → i < length ys
 zip_there R stacks ys i h lt = let long = zip_long R (all_seen stacks) ys h in let same = seen_long stacks in omega (arith, lt, long, same)
 
-pub zip_map : {A B C : Type 0} (R : A → B → Type 0) (Q : A → C → Type 0) (f : B → C) → ((x : A) (y : B) → R x y → Q x (f y)) → (xs : List A) (ys : List B) → AllZip R xs ys → AllZip Q xs (map f ys)
+pub zip_map : {A B C : Type 0} (R : A → B → Type 0) (Q : A → C → Type 0) (f : B → C) → ((x : A) (y : B) → R x y → Q x (f y)) → (xs : List A) (ys : List B) → AllZip R xs ys
+    → AllZip Q xs (map f ys)
 zip_map R Q f to [] [] h = tt
 zip_map R Q f to [] (y ∷ ys) h = absurd h
 zip_map R Q f to (x ∷ xs) [] h = absurd h

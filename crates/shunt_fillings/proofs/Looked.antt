@@ -22,7 +22,8 @@ use Rattle.shunt_fillings.proofs.Offered.{from_members, candidates_are}
 pub few_tracks : (s t : Station) (k : ℕ) → s ≡ t → IsStation s → k < length t.tracks → k < 60
 few_tracks s t k e is lt = let few : length t.tracks ≤ 60 = subst (λ (r : Station). length r.tracks ≤ 60) e is.few_tracks in omega (arith, few, lt)
 
-pub candidates_at : (night : Night) (c : Case) (stack : Stack) (path other : List Block) (ks ls : List Candidate) → other ≡ path → ls ≡ ks → AreCandidates night path c stack ks → AreCandidates night other c stack ls
+pub candidates_at : (night : Night) (c : Case) (stack : Stack) (path other : List Block) (ks ls : List Candidate) → other ≡ path → ls ≡ ks → AreCandidates night path c stack ks
+    → AreCandidates night other c stack ls
 candidates_at night c stack path other ks ls e f are = subst (λ (p : List Block). AreCandidates night p c stack ls) (sym e) (subst (AreCandidates night path c stack) (sym f) are)
 
 module _ (s : Scene) (is : IsScene s) where

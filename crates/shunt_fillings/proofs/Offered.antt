@@ -46,7 +46,8 @@ is_parked_on stack None e = absurd (false≢true e)
 is_parked_on stack (Some k) e =
     let h = and_parts (k.track.0 == stack.track.0) (same_side k.side_in stack.side && same_side k.side_out stack.side) e in
     let sides = and_parts (same_side k.side_in stack.side) (same_side k.side_out stack.side) h.1 in
-    same_park k.track.0 stack.track.0 k.side_in k.side_out stack.side (eqb-true k.track.0 stack.track.0 h.0) (same_side_tells k.side_in stack.side sides.0) (same_side_tells k.side_out stack.side sides.1)
+    same_park k.track.0 stack.track.0 k.side_in k.side_out stack.side (eqb-true k.track.0 stack.track.0 h.0) (same_side_tells k.side_in stack.side sides.0)
+    (same_side_tells k.side_out stack.side sides.1)
 
 on_stack : (stack : Stack) → is_of stack (Some (park_on stack)) ≡ true
 on_stack stack = and_from (stack.track.0 == stack.track.0) (same_side stack.side stack.side && same_side stack.side stack.side) (eq-eqb stack.track.0 stack.track.0 refl)
@@ -74,7 +75,8 @@ module _ (night : Night) (c : Case) (stack : Stack) (few : stack.track.0 < 60) (
   free_so : (k : Candidate) → In k candidates → IsFreeBlock night (masks_of night path) (shape_of k.block) k.block.park
   free_so k i =
       let h = taken.each k i in
-      subst (λ (d : Candidate). IsFreeBlock night (masks_of night path) (shape_of d.block) d.block.park) (sym h.2) (record { shape = free.each h.0.shape (are.each h.0 h.1).0; option = h.3.option })
+      subst (λ (d : Candidate). IsFreeBlock night (masks_of night path) (shape_of d.block) d.block.park) (sym h.2)
+      (record { shape = free.each h.0.shape (are.each h.0 h.1).0; option = h.3.option })
 
   of_blocks : (P : Block → Type 0) → ((k : Candidate) → In k candidates → P k.block) → All P (blocks_in candidates)
   of_blocks P each = from_members P (blocks_in candidates) (λ b i. let h = of_map (λ (k : Candidate). k.block) candidates b i in subst P (sym h.2) (each h.0 h.1))
@@ -87,7 +89,8 @@ module _ (night : Night) (c : Case) (stack : Stack) (few : stack.track.0 < 60) (
   more_than : (s : Shape) → pos 0 <ℤ with_option s (Some (park_on stack)) → pos (weight_of night c.duals.prices s (Some (park_on stack))) <ℤ duals_over night c.duals s
   more_than s more = omega (arith, ints, more)
 
-  module _ (b : Block) (own : is_of stack b.park ≡ true) (bare : IsFreeBlock night (masks_of night path) (shape_of b) b.park) (more : pos 0 <ℤ gain night c b) (room : HasRoom night (shape_of b) b.park) where
+  module _ (b : Block) (own : is_of stack b.park ≡ true) (bare : IsFreeBlock night (masks_of night path) (shape_of b) b.park) (more : pos 0 <ℤ gain night c b)
+      (room : HasRoom night (shape_of b) b.park) where
     on : b.park ≡ Some (park_on stack)
     on = is_parked_on stack b.park own
 

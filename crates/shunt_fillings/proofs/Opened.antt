@@ -48,7 +48,8 @@ module _ (path : List Block) (cases : List Case) (sums : List ℤ) (k : ℕ) (le
           (cases_lt j k)
 
   module _ (bound : ℤ) (here : IsBoundOf (get_or sums k (pos 0)) bound) (h : IsLeastBelow cases path sums k least) where
-    at_most : (new : ℤ) → new ≤ℤ bound → new ≤ℤ least → (j : ℕ) (other : ℤ) → (j < k + 1) ⊎ (j + 1 ≡ length cases) → IsOpenAt cases path j → IsBoundOf (get_or sums j (pos 0)) other → new ≤ℤ other
+    at_most : (new : ℤ) → new ≤ℤ bound → new ≤ℤ least → (j : ℕ) (other : ℤ) → (j < k + 1) ⊎ (j + 1 ≡ length cases) → IsOpenAt cases path j → IsBoundOf (get_or sums j (pos 0)) other
+        → new ≤ℤ other
     at_most new le low j other (inr e) opens is = omega (arith, ints, low, h.least j other (inr e) opens is)
     at_most new le low j other (inl lt) opens is = ⊎_elim
         (λ (less : j < k). omega (arith, ints, low, h.least j other (inl less) opens is))
@@ -68,7 +69,8 @@ module _ (path : List Block) (cases : List Case) (sums : List ℤ) (k : ℕ) (le
     pub kept : least ≤ℤ bound → IsLeastBelow cases path sums (k + 1) least
     kept le = record { number = h.number; opens = h.opens; is = h.is; least = at_most least le (omega (arith, ints)) }
 
-pub last_first : (path : List Block) (cases : List Case) (sums : List ℤ) (last : ℕ) (bound : ℤ) → last + 1 ≡ length cases → IsBoundOf (get_or sums last (pos 0)) bound → IsLeastBelow cases path sums 0 bound
+pub last_first : (path : List Block) (cases : List Case) (sums : List ℤ) (last : ℕ) (bound : ℤ) → last + 1 ≡ length cases → IsBoundOf (get_or sums last (pos 0)) bound
+    → IsLeastBelow cases path sums 0 bound
 last_first path cases sums last bound e is = record {
   number = last;
   opens = record { there = omega arith; opens = last_test (last + 1) (length cases) (unparked_in path) (case_at cases last).to e };
@@ -81,10 +83,12 @@ last_first path cases sums last bound e is = record {
       one;
 }
 
-pub all_of : (path : List Block) (cases : List Case) (sums : List ℤ) (k : ℕ) (bound : ℤ) → length cases ≤ k + 1 → IsLeastBelow cases path sums k bound → IsLeastBound cases path sums bound
+pub all_of : (path : List Block) (cases : List Case) (sums : List ℤ) (k : ℕ) (bound : ℤ) → length cases ≤ k + 1 → IsLeastBelow cases path sums k bound
+    → IsLeastBound cases path sums bound
 all_of path cases sums k bound le h = record {
   number = h.number;
   opens = h.opens;
   is = h.is;
-  least = λ j other opens is. h.least j other (⊎_elim (λ (lt : j < k). inl lt) (λ (past : k ≤ j). let e : j + 1 ≡ length cases = omega (arith, opens.there) in inr e) (cases_lt j k)) opens is;
+  least = λ j other opens is. h.least j other (⊎_elim (λ (lt : j < k). inl lt) (λ (past : k ≤ j). let e : j + 1 ≡ length cases = omega (arith, opens.there) in inr e)
+      (cases_lt j k)) opens is;
 }

@@ -30,7 +30,8 @@ module _ (IsSum : ℕ → ℤ → Type 0) where
         (All-append (IsWithin 4100000000000000000) old (x ∷ []) are.small (All-cons (IsWithin 4100000000000000000) x [] small (All-nil (IsWithin 4100000000000000000))));
   }
 
-pub one_outlook_more : (night : Night) (path : List Block) (cases : List Case) (k : ℕ) (old new : List Outlook) (x : Outlook) → new ≡ old ++ x ∷ [] → AreOutlooks night path cases k old →
+pub one_outlook_more : (night : Night) (path : List Block) (cases : List Case) (k : ℕ) (old new : List Outlook) (x : Outlook) → new ≡ old ++ x ∷ []
+    → AreOutlooks night path cases k old →
     IsOutlook night path cases k x → AreOutlooks night path cases (k + 1) new
 one_outlook_more night path cases k old new x e are own = record {
   long = ap length e ∙ (length-append old (x ∷ []) ∙ ap (λ (n : ℕ). n + 1) are.long);

@@ -43,12 +43,18 @@ on_track night s None o = tt
 on_track night s (Some k) o = o.track
 
 pub blocks_within : (night : Night) (path : List Block) → All (IsBlockButId night) path → All (IsWithinTrains night) path
-blocks_within night path each k d lt = let is = each k d lt in record { runs = is.shape.within; track = on_track night (shape_of (get_or path k d)) (get_or path k d).park is.option }
+blocks_within night path each k d lt = let is = each k d lt in record {
+  runs = is.shape.within;
+  track = on_track night (shape_of (get_or path k d))
+      (get_or path k d).park is.option;
+}
 
 module _ (night : Night) (e : Events) (c : Case) where
-  pub spans_same : (ks : List Candidate) → ((k : Candidate) → In k ks → k.gain ≡ gain night c k.block) → spans_with night e ks ≡ free_spans night (entry_of e) (leave_of e) c (blocks_in ks)
+  pub spans_same : (ks : List Candidate) → ((k : Candidate) → In k ks → k.gain ≡ gain night c k.block)
+      → spans_with night e ks ≡ free_spans night (entry_of e) (leave_of e) c (blocks_in ks)
   spans_same [] h = refl
-  spans_same (k ∷ ks) h = same_head (span_with night e k) (span_of night (entry_of e) (leave_of e) (gain night c) k.block) (spans_with night e ks) (free_spans night (entry_of e) (leave_of e) c (blocks_in ks))
+  spans_same (k ∷ ks) h = same_head (span_with night e k) (span_of night (entry_of e) (leave_of e) (gain night c) k.block) (spans_with night e ks)
+      (free_spans night (entry_of e) (leave_of e) c (blocks_in ks))
       (ap (λ (z : ℤ). span_of night (entry_of e) (leave_of e) (λ b. z) k.block) (h k (inl refl)))
       (spans_same ks (λ d i. h d (inr i)))
 
@@ -69,7 +75,8 @@ module _ (night : Night) (e : Events) (c : Case) where
 
     pub all_within : All (λ (k : Candidate). IsWithinTrains night k.block) ks
     all_within = from_members (λ (k : Candidate). IsWithinTrains night k.block) ks (λ k i.
-        let h = each_one (λ (b : Block). IsFreeBlock night (masks_of night path) (shape_of b) b.park) (blocks_in ks) k.block are.free.free (in_map (λ (j : Candidate). j.block) ks k i) in
+        let h = each_one (λ (b : Block). IsFreeBlock night (masks_of night path) (shape_of b) b.park) (blocks_in ks) k.block are.free.free
+        (in_map (λ (j : Candidate). j.block) ks k i) in
         record { runs = h.shape.shape.within; track = on_track night (shape_of k.block) k.block.park h.option })
 
 -- a gain by the recursion, where that is told of others

@@ -64,7 +64,8 @@ module _ (night : Night) (laws : OrderLaws night) where
   gone_at v m within left stays = record {
     within = omega (arith, within);
     left = left;
-    stay = λ w le lt. ⊎_elim (λ more. let r = departure_rises v w more lt in omega (arith, r, stays)) (λ back. subst (λ (k : ℕ). m < departs night k) (omega (arith, le, back)) stays) (cases_lt v w);
+    stay = λ w le lt. ⊎_elim (λ more. let r = departure_rises v w more lt in omega (arith, r, stays))
+        (λ back. subst (λ (k : ℕ). m < departs night k) (omega (arith, le, back)) stays) (cases_lt v w);
   }
 
   pub gone_all : (n m : ℕ) → position_total night ≤ n → n ≤ position_total night → ((w : ℕ) → w < n → departs night w ≤ m) → IsGoneBy night m n
@@ -74,7 +75,8 @@ module _ (night : Night) (laws : OrderLaws night) where
   come_at u m within before later = record {
     within = omega (arith, within);
     before = before;
-    later = λ w le lt. ⊎_elim (λ more. let r = arrival_rises u w more lt in omega (arith, r, later)) (λ back. subst (λ (k : ℕ). m ≤ arrives night k) (omega (arith, le, back)) later) (cases_lt u w);
+    later = λ w le lt. ⊎_elim (λ more. let r = arrival_rises u w more lt in omega (arith, r, later))
+        (λ back. subst (λ (k : ℕ). m ≤ arrives night k) (omega (arith, le, back)) later) (cases_lt u w);
   }
 
   pub come_all : (n m : ℕ) → unit_total night ≤ n → n ≤ unit_total night → ((w : ℕ) → w < n → arrives night w < m) → IsComeBefore night m n
@@ -110,7 +112,8 @@ module _ (night : Night) (laws : OrderLaws night) where
       let y = laws.position w b in
       ⊎_elim
       (λ lt.
-      let r : first_position night (position_at night v).train.0 + length (train_at night.depart (position_at night v).train.0).units ≤ first_position night (position_at night w).train.0 =
+      let r : first_position night (position_at night v).train.0 + length (train_at night.depart (position_at night v).train.0).units ≤ first_position night
+      (position_at night w).train.0 =
       laws.behind night.depart (position_at night v).train.0 (position_at night w).train.0 lt x.train in
       omega (arith, r, x.placed, x.place))
       (λ same.
@@ -129,7 +132,8 @@ module _ (night : Night) (laws : OrderLaws night) where
       let y = laws.position (places_before night v) (places_within v within) in
       ⊎_elim
       (λ more.
-      let r : first_position night (position_at night v).train.0 + length (train_at night.depart (position_at night v).train.0).units ≤ first_position night (position_at night (places_before night v)).train.0 =
+      let r : first_position night (position_at night v).train.0 + length (train_at night.depart (position_at night v).train.0).units ≤ first_position night
+      (position_at night (places_before night v)).train.0 =
       laws.behind night.depart (position_at night v).train.0 (position_at night (places_before night v)).train.0 more x.train in
       absurd (omega (arith, r, y.number, y.placed, x.placed, x.place)))
       (λ le. le)
@@ -140,7 +144,8 @@ module _ (night : Night) (laws : OrderLaws night) where
       let y = laws.position (places_before night v) (places_within v within) in
       ⊎_elim
       (λ less.
-      let r : first_position night (position_at night (places_before night v)).train.0 + length (train_at night.depart (position_at night (places_before night v)).train.0).units ≤ first_position night (position_at night v).train.0 =
+      let r : first_position night (position_at night (places_before night v)).train.0 + length
+      (train_at night.depart (position_at night (places_before night v)).train.0).units ≤ first_position night (position_at night v).train.0 =
       laws.behind night.depart (position_at night (places_before night v)).train.0 (position_at night v).train.0 less y.train in
       absurd (omega (arith, r, y.number, y.place)))
       (λ le. le)

@@ -62,7 +62,8 @@ module _ (rest : ℕ → ℕ → ℕ → Option ℤ) (small : (x y room : ℕ) �
       (λ t. let le = le_from s.past y (and_parts (nat_le s.past y) (nat_le s.length room) t).0 in
       plus_small 1000000000000000 (most (s.until - s.inside) + most (y - s.past)) (most (y - x)) (Some s.gain) (plus (rest s.inside s.until (room - s.length)) (rest s.past y room))
       (let a = is.enters in let b = is.stays in let c = is.leaves in omega (arith, a, b, c, le, e)) own
-      (plus_small (most (s.until - s.inside)) (most (y - s.past)) (most (s.until - s.inside) + most (y - s.past)) (rest s.inside s.until (room - s.length)) (rest s.past y room) (omega arith)
+      (plus_small (most (s.until - s.inside)) (most (y - s.past)) (most (s.until - s.inside) + most (y - s.past)) (rest s.inside s.until (room - s.length)) (rest s.past y room)
+      (omega arith)
       (small s.inside s.until (room - s.length)) (small s.past y room)))
 
   step_small : (fixed free : List Span) → ((s : Span) → In s fixed ⊎ In s free → IsSpan s × IsWithin 1000000000000000 s.gain) → (x y room : ℕ) →

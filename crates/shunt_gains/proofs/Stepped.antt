@@ -48,13 +48,15 @@ gone x y le = grind (arith, nat_tests)
 pub nothing : (fixed free : List Span) (n x y room : ℕ) → y ≤ x → Some (pos 0) ≡ best n fixed free x y room
 nothing fixed free zero x y room le = refl
 nothing fixed free (suc n) x y room le =
-    sym (ap (λ (t : Bool). cond t (Some (pos 0)) (best_at (coming_at x fixed) (coming_at x free) (best n fixed free (x + 1) y room) (best_with (best n fixed free) y room))) (gone x y le))
+    sym (ap (λ (t : Bool). cond t (Some (pos 0)) (best_at (coming_at x fixed) (coming_at x free) (best n fixed free (x + 1) y room) (best_with (best n fixed free) y room)))
+    (gone x y le))
 
 module _ (rest : ℕ → ℕ → ℕ → Option ℤ) (fixed free : List Span) (x y room : ℕ) (lt : x < y) where
   stepped : best_at (coming_at x fixed) (coming_at x free) (rest (x + 1) y room) (best_with rest y room) ≡ best_step rest fixed free x y room
   stepped = sym (ap (λ (t : Bool). cond t (Some (pos 0)) (best_at (coming_at x fixed) (coming_at x free) (rest (x + 1) y room) (best_with rest y room))) (not_yet x y lt))
 
-  some_fixed : (l : List Span) → 0 < length l → greater None (greatest_of (map (best_with rest y room) l)) ≡ best_at l (coming_at x free) (rest (x + 1) y room) (best_with rest y room)
+  some_fixed : (l : List Span) → 0 < length l → greater None (greatest_of (map (best_with rest y room) l))
+      ≡ best_at l (coming_at x free) (rest (x + 1) y room) (best_with rest y room)
   some_fixed [] few = absurd (omega (arith, few))
   some_fixed (f ∷ fs) few = refl
 

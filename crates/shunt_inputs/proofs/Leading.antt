@@ -14,7 +14,13 @@ use Rattle.shunt_inputs.proofs.Seeing.{FailsWith, fails, seen_texts}
 
 -- nothing was written before
 pub none_first : (P : Reply → Type 0) (old new : Known) (r : Reply) → Stays old new → P r → HasFirst P old new r
-none_first P old new r same p = record { first = []; reply = p; files = both_same _ old.files new.files same.0 (λ a. refl); stored = both_same _ old.stored new.stored same.1 (λ a. sym (append-nil a)) }
+none_first P old new r same p = record {
+  first = [];
+  reply = p;
+  files = both_same _ old.files new.files same.0 (λ a. refl);
+  stored = both_same _ old.stored new.stored same.1
+      (λ a. sym (append-nil a));
+}
 
 -- what leads to a reply leads to all that follows of it
 pub leads_with : (P Q : Reply → Type 0) (old new : Known) (r : Result Answer Halt) → ((reply : Reply) → P reply → Q reply) → Leads P old new r → Leads Q old new r
@@ -28,7 +34,8 @@ leads_memory P old new r is same = subst (λ (q : Result Answer Halt). Leads P o
 
 -- ---- the answer over what the files hold
 
-module _ {X : Type 0} (view : Option Files) (names : List (List ℕ)) (states : List (List ℕ) → Result X (List ℕ)) (P : X → Reply → Type 0) (old new : Known) (are : AreNames names) (same : Stays old new) where
+module _ {X : Type 0} (view : Option Files) (names : List (List ℕ)) (states : List (List ℕ) → Result X (List ℕ)) (P : X → Reply → Type 0) (old new : Known) (are : AreNames names)
+    (same : Stays old new) where
   abbrev IsIts : Reply → Type 0
   IsIts r = IsAnswerOver view names states P r
 

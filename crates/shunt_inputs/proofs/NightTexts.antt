@@ -25,15 +25,20 @@ parts_in texts = stated_over 1 (λ ts. stated_station (get_or ts 0 [])) (λ s t.
 
 night_parts : (texts : List (List ℕ)) → then_stated (parts_in texts) (λ (v : Station × Timetable). Ok (night_of v.0 v.1)) ≡ stated_night (get_or texts 0 []) (get_or texts 1 [])
 night_parts texts =
-    ap (λ (b : List ℕ). then_stated (then_stated (stated_station b) (λ s. then_stated (stated_timetable s (get_or texts 1 [])) (λ t. Ok (s, t)))) (λ (v : Station × Timetable). Ok (night_of v.0 v.1))) (first_text texts)
+    ap (λ (b : List ℕ). then_stated (then_stated (stated_station b) (λ s. then_stated (stated_timetable s (get_or texts 1 [])) (λ t. Ok (s, t))))
+    (λ (v : Station × Timetable). Ok (night_of v.0 v.1))) (first_text texts)
     ∙ regrouped (stated_station (get_or texts 0 [])) (λ s. stated_timetable s (get_or texts 1 [])) night_of
 
-pub night_refused : (r : Result Night Halt) (e : Halt) → FailsWith r e → (texts : List (List ℕ)) → Loads {X = Station × Timetable} (Err e) (parts_in texts) → Loads r (stated_night (get_or texts 0 []) (get_or texts 1 []))
-night_refused r e is texts l = loads_failed r e _ is (subst (λ (s : Result Night (List ℕ)). Loads {X = Night} (Err e) s) (night_parts texts) (first_refused {X = Station × Timetable} {Y = Night} e (parts_in texts) _ l))
+pub night_refused : (r : Result Night Halt) (e : Halt) → FailsWith r e → (texts : List (List ℕ)) → Loads {X = Station × Timetable} (Err e) (parts_in texts)
+    → Loads r (stated_night (get_or texts 0 []) (get_or texts 1 []))
+night_refused r e is texts l = loads_failed r e _ is (subst (λ (s : Result Night (List ℕ)). Loads {X = Night} (Err e) s) (night_parts texts)
+    (first_refused {X = Station × Timetable} {Y = Night} e (parts_in texts) _ l))
 
-pub night_stated_in : (parts : Station × Timetable) (night : Night) → night ≡ night_of parts.0 parts.1 → (texts : List (List ℕ)) → parts_in texts ≡ Ok parts → stated_night (get_or texts 0 []) (get_or texts 1 []) ≡ Ok night
+pub night_stated_in : (parts : Station × Timetable) (night : Night) → night ≡ night_of parts.0 parts.1 → (texts : List (List ℕ)) → parts_in texts ≡ Ok parts
+    → stated_night (get_or texts 0 []) (get_or texts 1 []) ≡ Ok night
 night_stated_in parts night is texts a =
-    sym (night_parts texts) ∙ ap (λ (s : Result (Station × Timetable) (List ℕ)). then_stated s (λ (v : Station × Timetable). Ok (night_of v.0 v.1))) a ∙ ap (λ (n : Night). Ok n) (sym is)
+    sym (night_parts texts) ∙ ap (λ (s : Result (Station × Timetable) (List ℕ)). then_stated s (λ (v : Station × Timetable). Ok (night_of v.0 v.1))) a
+    ∙ ap (λ (n : Night). Ok n) (sym is)
 
 -- ---- pins in it
 
@@ -52,14 +57,18 @@ pin_parts texts = stated_over 2 (λ ts. stated_night (get_or ts 0 []) (get_or ts
 abbrev made_pinned : List ℕ → List ℕ → List ℕ → Result Pinned (List ℕ)
 made_pinned a b i = then_stated (then_stated (stated_night a b) (λ n. then_stated (stated_pins n i) (λ p. Ok (n, p)))) (λ (v : Night × List Block). Ok (pinned_of v.0 v.1))
 
-pinned_parts : (texts : List (List ℕ)) → then_stated (pin_parts texts) (λ (v : Night × List Block). Ok (pinned_of v.0 v.1)) ≡ stated_pinned (get_or texts 0 []) (get_or texts 1 []) (get_or texts 2 [])
+pinned_parts : (texts : List (List ℕ)) → then_stated (pin_parts texts) (λ (v : Night × List Block). Ok (pinned_of v.0 v.1))
+    ≡ stated_pinned (get_or texts 0 []) (get_or texts 1 []) (get_or texts 2 [])
 pinned_parts texts =
     ap (λ (a : List ℕ). made_pinned a (get_or (take 2 texts) 1 []) (get_or texts 2 [])) (first_of_two texts)
     ∙ ap (λ (b : List ℕ). made_pinned (get_or texts 0 []) b (get_or texts 2 [])) (second_of_two texts)
     ∙ regrouped (stated_night (get_or texts 0 []) (get_or texts 1 [])) (λ n. stated_pins n (get_or texts 2 [])) pinned_of
 
-pub pinned_refused : (r : Result Pinned Halt) (e : Halt) → FailsWith r e → (texts : List (List ℕ)) → Loads {X = Night × List Block} (Err e) (pin_parts texts) → Loads r (stated_pinned (get_or texts 0 []) (get_or texts 1 []) (get_or texts 2 []))
-pinned_refused r e is texts l = loads_failed r e _ is (subst (λ (s : Result Pinned (List ℕ)). Loads {X = Pinned} (Err e) s) (pinned_parts texts) (first_refused {X = Night × List Block} {Y = Pinned} e (pin_parts texts) _ l))
+pub pinned_refused : (r : Result Pinned Halt) (e : Halt) → FailsWith r e → (texts : List (List ℕ)) → Loads {X = Night × List Block} (Err e) (pin_parts texts)
+    → Loads r (stated_pinned (get_or texts 0 []) (get_or texts 1 []) (get_or texts 2 []))
+pinned_refused r e is texts l = loads_failed r e _ is (subst (λ (s : Result Pinned (List ℕ)). Loads {X = Pinned} (Err e) s) (pinned_parts texts)
+    (first_refused {X = Night × List Block} {Y = Pinned} e (pin_parts texts) _ l))
 
-pub pinned_stated_in : (parts : Night × List Block) (texts : List (List ℕ)) → pin_parts texts ≡ Ok parts → stated_pinned (get_or texts 0 []) (get_or texts 1 []) (get_or texts 2 []) ≡ Ok (pinned_of parts.0 parts.1)
+pub pinned_stated_in : (parts : Night × List Block) (texts : List (List ℕ)) → pin_parts texts ≡ Ok parts
+    → stated_pinned (get_or texts 0 []) (get_or texts 1 []) (get_or texts 2 []) ≡ Ok (pinned_of parts.0 parts.1)
 pinned_stated_in parts texts a = sym (pinned_parts texts) ∙ ap (λ (s : Result (Night × List Block) (List ℕ)). then_stated s (λ (v : Night × List Block). Ok (pinned_of v.0 v.1))) a

@@ -57,7 +57,10 @@ plan_stated s t p y e =
     let first = parted (stated_night s t) _ y e in
     let second = parted (stated_plan first.0 p) _ y first.2 in
     let made : (first.0, second.0) ≡ y = cc (second.2) in
-    subst (λ (z : Night × Plan). IsInstance z.0 × IsPlanInRange z.0 z.1) made (night_stated s t first.0 first.1, plan_formed first.0 (records_of p) second.0 (stated_value word.Plan (plan_format first.0) p second.0 second.1))
+    subst (λ (z : Night × Plan). IsInstance z.0 × IsPlanInRange z.0 z.1) made (
+      night_stated s t first.0 first.1,
+      plan_formed first.0 (records_of p) second.0 (stated_value word.Plan (plan_format first.0) p second.0 second.1),
+    )
 
 pub plans_are : (s t p : List ℕ) (night : Night) (plan : Plan) → stated_night s t ≡ Ok night → stated_plan night p ≡ Ok plan → stated_plans s t p ≡ Ok (night, plan)
 plans_are s t p night plan a b =
@@ -71,7 +74,8 @@ pins_stated s t p x e =
     let first = parted (stated_night s t) _ x e in
     let second = parted (stated_pins first.0 p) _ x first.2 in
     let made : pinned_of first.0 second.0 ≡ x = cc (second.2) in
-    subst (λ (z : Pinned). IsInstance z.instance × AreInRange z.instance z.pins) made (night_stated s t first.0 first.1, pins_formed first.0 (records_of p) second.0 (stated_value word.Pins (pins_format first.0) p second.0 second.1))
+    subst (λ (z : Pinned). IsInstance z.instance × AreInRange z.instance z.pins) made
+    (night_stated s t first.0 first.1, pins_formed first.0 (records_of p) second.0 (stated_value word.Pins (pins_format first.0) p second.0 second.1))
 
 -- a later step's cause is one of the whole
 pub cause_later : {A : Type 0} (before mid now : ℕ) (r : Result A Halt) → before ≤ mid → HasCause halt.Fault mid now r → HasCause halt.Fault before now r
@@ -81,7 +85,8 @@ cause_later before mid now r le cause = record {
 }
 
 -- a text that is short enough states what its records state
-pub stated_again : {S X : Type 0} (file : FileWord) (format : Format S X) (bytes : List ℕ) (v : X) → length bytes ≤ most_bytes_of file → reading format (records_of bytes) ≡ Ok v → stated file format bytes ≡ Ok v
+pub stated_again : {S X : Type 0} (file : FileWord) (format : Format S X) (bytes : List ℕ) (v : X) → length bytes ≤ most_bytes_of file → reading format (records_of bytes) ≡ Ok v
+    → stated file format bytes ≡ Ok v
 stated_again file format bytes v le e =
     ap (λ (b : Bool). if b then value_or file (reading format (records_of bytes)) else Err (input_of file None)) (le-leb (length bytes) (most_bytes_of file) le)
     ∙ ap (value_or file) e

@@ -39,7 +39,8 @@ module _ (files : Files) (ns ms : List (List ℕ)) where
       ((xs, is, first_hold files xs ys same), (ys, also, last_hold files xs ys same))
 
 -- a view of two steps is one of each
-pub cut_view : (told t : Option Files) (h0 h1 h2 : Option Entries) (view : Option Files) (ns ms : List (List ℕ)) → t ≡ told → HearsFirst ns h0 h1 → HearsFirst ms h1 h2 → IsView told h0 h2 view → IsView told h0 h1 view × IsView t h1 h2 view
+pub cut_view : (told t : Option Files) (h0 h1 h2 : Option Entries) (view : Option Files) (ns ms : List (List ℕ)) → t ≡ told → HearsFirst ns h0 h1 → HearsFirst ms h1 h2
+    → IsView told h0 h2 view → IsView told h0 h1 view × IsView t h1 h2 view
 cut_view told t h0 h1 h2 view ns ms same g f (inl e) = (inl e, inl (e ∙ sym same))
 cut_view told t h0 h1 h2 view ns ms same g f (inr (files, is, h)) = let parts = cut files ns ms h0 h1 h2 g f h in (inr (files, is, parts.0), inr (files, is, parts.1))
 
@@ -67,8 +68,12 @@ hears_both ns ms None None (Some c) g f = absurd f
 hears_both ns ms None (Some b) h2 g f = absurd g
 hears_both ns ms (Some a) None h2 g f = absurd g
 hears_both ns ms (Some a) (Some b) None g f = absurd f
-hears_both ns ms (Some a) (Some b) (Some c) (xs, is, names) (ys, also, more) =
-    (xs ++ ys, also ∙ ap (λ (l : Entries). l ++ ys) is ∙ append_assoc a xs ys, names_of_both xs ys ∙ ap (λ (l : List (List ℕ)). l ++ names_of ys) names ∙ ap (λ (l : List (List ℕ)). ns ++ l) more)
+hears_both ns ms (Some a) (Some b) (Some c) (xs, is, names) (ys, also, more) = (
+  xs ++ ys,
+  also ∙ ap (λ (l : Entries). l ++ ys) is ∙ append_assoc a xs ys,
+  names_of_both xs ys ∙ ap (λ (l : List (List ℕ)). l ++ names_of ys) names
+      ∙ ap (λ (l : List (List ℕ)). ns ++ l) more,
+)
 
 pub hears_all : (ns : List (List ℕ)) (h0 h1 : Option Entries) → Hears ns h0 h1 → HearsFirst ns h0 h1
 hears_all ns None None h = tt
@@ -111,11 +116,13 @@ heard_here files name v (Some a) (Some b) (es, is, hold) e =
     sym ((subst (AllByRecursion (Holds files)) same hold).0)
 
 -- the bytes that were read are those of the view
-pub read_in : (told : Option Files) (h0 h1 : Option Entries) (view : Option Files) (name v : List ℕ) → IsView told h0 h1 view → IfSome told (λ files. v ≡ content files name) → BothTold h0 h1 (λ a b. b ≡ a ++ (name, v) ∷ []) → IfSome view (λ files. v ≡ content files name)
+pub read_in : (told : Option Files) (h0 h1 : Option Entries) (view : Option Files) (name v : List ℕ) → IsView told h0 h1 view → IfSome told (λ files. v ≡ content files name)
+    → BothTold h0 h1 (λ a b. b ≡ a ++ (name, v) ∷ []) → IfSome view (λ files. v ≡ content files name)
 read_in told h0 h1 view name v (inl e) is heard = subst (λ w. IfSome w (λ files. v ≡ content files name)) (sym e) is
 read_in told h0 h1 view name v (inr (files, e, h)) is heard = subst (λ w. IfSome w (λ fs. v ≡ content fs name)) (sym e) (heard_here files name v h0 h1 h heard)
 
-long_here : (files : Files) (told : Option Files) (name : List ℕ) (most : ℕ) (h0 h1 : Option Entries) → HeardIn h0 h1 files → BothTold h0 h1 (Adds name (AreFirst told name (most + 1))) → most < length (content files name)
+long_here : (files : Files) (told : Option Files) (name : List ℕ) (most : ℕ) (h0 h1 : Option Entries) → HeardIn h0 h1 files
+    → BothTold h0 h1 (Adds name (AreFirst told name (most + 1))) → most < length (content files name)
 long_here files told name most None h1 h e = absurd h
 long_here files told name most (Some a) None h e = absurd h
 long_here files told name most (Some a) (Some b) h (text, long, e) =
@@ -125,9 +132,12 @@ long_here files told name most (Some a) (Some b) h (text, long, e) =
     omega (arith, first, same)
 
 -- a file of which more was read than it may have is as long in the view
-pub long_in : (told : Option Files) (h0 h1 : Option Entries) (view : Option Files) (name : List ℕ) (most : ℕ) → IsView told h0 h1 view → IfSome told (λ files. most < length (content files name)) → BothTold h0 h1 (Adds name (AreFirst told name (most + 1))) → IfSome view (λ files. most < length (content files name))
+pub long_in : (told : Option Files) (h0 h1 : Option Entries) (view : Option Files) (name : List ℕ) (most : ℕ) → IsView told h0 h1 view
+    → IfSome told (λ files. most < length (content files name)) → BothTold h0 h1 (Adds name (AreFirst told name (most + 1)))
+    → IfSome view (λ files. most < length (content files name))
 long_in told h0 h1 view name most (inl e) is heard = subst (λ w. IfSome w (λ files. most < length (content files name))) (sym e) is
-long_in told h0 h1 view name most (inr (files, e, h)) is heard = subst (λ w. IfSome w (λ fs. most < length (content fs name))) (sym e) (long_here files told name most h0 h1 h heard)
+long_in told h0 h1 view name most (inr (files, e, h)) is heard = subst (λ w. IfSome w (λ fs. most < length (content fs name))) (sym e)
+    (long_here files told name most h0 h1 h heard)
 
 -- ---- nothing more was heard
 
@@ -141,5 +151,6 @@ pub on_ok : {X E : Type 0} (r : Result X E) (P : Type 0) → P → OnOk r P
 on_ok (Ok x) P p = p
 on_ok (Err e) P p = tt
 
-pub refused_word : {X : Type 0} (file word : FileWord) (states : List (List (List ℕ)) → Result X RowFault) (b : List ℕ) (h : Halt) → word ≡ file → LoadsBytes {A = Global} word b (Err h) → Loads {X = X} (Err h) (stated_by file states b)
+pub refused_word : {X : Type 0} (file word : FileWord) (states : List (List (List ℕ)) → Result X RowFault) (b : List ℕ) (h : Halt) → word ≡ file
+    → LoadsBytes {A = Global} word b (Err h) → Loads {X = X} (Err h) (stated_by file states b)
 refused_word file word states b h same l = refused_bytes file states b h (subst (λ (w : FileWord). LoadsBytes {A = Global} w b (Err h)) same l)

@@ -79,13 +79,19 @@ costs_start routes costs e = rw (e, drop-length routes) record {
 abbrev told : Option Route → Option (Option ℕ)
 told o = Some (option_map (λ q. q.cost) o)
 
-cost_at : (r : Route) (routes : List Route) (costs : List (Option ℕ)) → AreCosts routes costs → r.platform.0 < 30 → r.track.0 < 60 → (p : PlatformId) (t : TrackId) (s : Side) → p.0 < 30 → t.0 < 60 → slice_get (set costs (route_cell r.platform r.track r.side) (Some r.cost)) (route_cell p t s) ≡ told (cond (joins p t s r) (Some r) (find (joins p t s) routes))
+cost_at : (r : Route) (routes : List Route) (costs : List (Option ℕ)) → AreCosts routes costs → r.platform.0 < 30 → r.track.0 < 60 → (p : PlatformId) (t : TrackId) (s : Side)
+    → p.0 < 30 → t.0 < 60 → slice_get (set costs (route_cell r.platform r.track r.side) (Some r.cost)) (route_cell p t s)
+    ≡ told (cond (joins p t s r) (Some r) (find (joins p t s) routes))
 cost_at r routes costs h m n p t s a b = elim (cases_Bool (joins p t s r)) [
-  | inl is ↦ subst (λ (i : ℕ). slice_get (set costs (route_cell r.platform r.track r.side) (Some r.cost)) i ≡ Some (Some r.cost)) (its_cell r p t s is) (written costs (route_cell r.platform r.track r.side) (Some r.cost) (subst (λ (n : ℕ). route_cell r.platform r.track r.side < n) (sym h.size) (cell_small r.platform.0 r.track.0 (side_number r.side) m n (side_small r.side)))) ∙ ap told (sym (cond-true (joins p t s r) (Some r) (find (joins p t s) routes) is))
-  | inr apart ↦ elsewhere costs (route_cell r.platform r.track r.side) (route_cell p t s) (Some r.cost) (λ e. both_ways (joins p t s r) apart (joined r p t s n b e)) ∙ h.each p t s a b ∙ ap told (sym (cond-false (joins p t s r) (Some r) (find (joins p t s) routes) apart))
+  | inl is ↦ subst (λ (i : ℕ). slice_get (set costs (route_cell r.platform r.track r.side) (Some r.cost)) i ≡ Some (Some r.cost)) (its_cell r p t s is)
+      (written costs (route_cell r.platform r.track r.side) (Some r.cost) (subst (λ (n : ℕ). route_cell r.platform r.track r.side < n) (sym h.size)
+      (cell_small r.platform.0 r.track.0 (side_number r.side) m n (side_small r.side)))) ∙ ap told (sym (cond-true (joins p t s r) (Some r) (find (joins p t s) routes) is))
+  | inr apart ↦ elsewhere costs (route_cell r.platform r.track r.side) (route_cell p t s) (Some r.cost) (λ e. both_ways (joins p t s r) apart (joined r p t s n b e))
+      ∙ h.each p t s a b ∙ ap told (sym (cond-false (joins p t s r) (Some r) (find (joins p t s) routes) apart))
 ]
 
-pub costs_step : (r : Route) (routes : List Route) (costs : List (Option ℕ)) → AreCosts routes costs → r.platform.0 < 30 → r.track.0 < 60 → AreCosts (r ∷ routes) (set costs (route_cell r.platform r.track r.side) (Some r.cost))
+pub costs_step : (r : Route) (routes : List Route) (costs : List (Option ℕ)) → AreCosts routes costs → r.platform.0 < 30 → r.track.0 < 60
+    → AreCosts (r ∷ routes) (set costs (route_cell r.platform r.track r.side) (Some r.cost))
 costs_step r routes costs h m n = record {
   size = length-set costs (route_cell r.platform r.track r.side) (Some r.cost) ∙ h.size;
   each = cost_at r routes costs h m n;
@@ -97,7 +103,9 @@ earlier xs left d some within =
     let again : suc (left - 1) ≡ left = omega arith in
     drop-cons xs (left - 1) d (omega arith) ∙ ap (λ (n : ℕ). get_or xs (left - 1) d ∷ drop n xs) again
 
-pub costs_back : (routes : List Route) (left : ℕ) (costs : List (Option ℕ)) (d : Route) → 0 < left → left ≤ length routes → All (λ r. (r.platform.0 < 30) × (r.track.0 < 60)) routes → AreCosts (drop left routes) costs → AreCosts (drop (left - 1) routes) (set costs (route_cell (get_or routes (left - 1) d).platform (get_or routes (left - 1) d).track (get_or routes (left - 1) d).side) (Some (get_or routes (left - 1) d).cost))
+pub costs_back : (routes : List Route) (left : ℕ) (costs : List (Option ℕ)) (d : Route) → 0 < left → left ≤ length routes → All (λ r. (r.platform.0 < 30) × (r.track.0 < 60)) routes
+    → AreCosts (drop left routes) costs → AreCosts (drop (left - 1) routes) (set costs
+    (route_cell (get_or routes (left - 1) d).platform (get_or routes (left - 1) d).track (get_or routes (left - 1) d).side) (Some (get_or routes (left - 1) d).cost))
 costs_back routes left costs d some within all h =
     let at = all (left - 1) d (omega arith) in
     rw (earlier routes left d some within) (costs_step (get_or routes (left - 1) d) (drop left routes) costs h at.0 at.1)
@@ -107,7 +115,8 @@ whole P xs zero none h = h
 whole P xs (suc n) none h = absurd (omega arith)
 
 -- cells of tests: one written cell is true, and the others are as they were
-test_at : (cells : List Bool) (i j : ℕ) (same rest : Bool) → i < length cells → (same ≡ true → i ≡ j) → (i ≡ j → same ≡ true) → slice_get cells j ≡ Some rest → slice_get (set cells i true) j ≡ Some (same || rest)
+test_at : (cells : List Bool) (i j : ℕ) (same rest : Bool) → i < length cells → (same ≡ true → i ≡ j) → (i ≡ j → same ≡ true) → slice_get cells j ≡ Some rest
+    → slice_get (set cells i true) j ≡ Some (same || rest)
 test_at cells i j true rest lt there back h = subst (λ (k : ℕ). slice_get (set cells i true) k ≡ Some true) (there refl) (written cells i true lt)
 test_at cells i j false rest lt there back h = elsewhere cells i j true (λ e. false≢true (back e)) ∙ h
 
@@ -138,17 +147,23 @@ pairs_start permits pairs e = rw (e, drop-length permits) record {
   each = λ t k a b. filled 2400 (permit_cell t k) false (pair_small t.0 k.0 a b);
 }
 
-pub pairs_step : (p : Permit) (permits : List Permit) (pairs : List Bool) → ArePairs permits pairs → p.track.0 < 60 → p.kind.0 < 40 → ArePairs (p ∷ permits) (set pairs (permit_cell p.track p.kind) true)
+pub pairs_step : (p : Permit) (permits : List Permit) (pairs : List Bool) → ArePairs permits pairs → p.track.0 < 60 → p.kind.0 < 40
+    → ArePairs (p ∷ permits) (set pairs (permit_cell p.track p.kind) true)
 pairs_step p permits pairs h m n = record {
   size = length-set pairs (permit_cell p.track p.kind) true ∙ h.size;
-  each = λ t k a b. test_at pairs (permit_cell p.track p.kind) (permit_cell t k) (p.track.0 == t.0 && p.kind.0 == k.0) _ (subst (λ (c : ℕ). permit_cell p.track p.kind < c) (sym h.size) (pair_small p.track.0 p.kind.0 m n)) (λ is. let f = and_parts (p.track.0 == t.0) (p.kind.0 == k.0) is in same_pair p.track.0 p.kind.0 t.0 k.0 (eqb-true _ _ f.0) (eqb-true _ _ f.1)) (λ e. let f = pair_tells p.track.0 p.kind.0 t.0 k.0 n b e in and_from _ _ (eq-eqb _ _ f.0) (eq-eqb _ _ f.1)) (h.each t k a b);
+  each = λ t k a b. test_at pairs (permit_cell p.track p.kind) (permit_cell t k) (p.track.0 == t.0 && p.kind.0 == k.0) _
+      (subst (λ (c : ℕ). permit_cell p.track p.kind < c) (sym h.size) (pair_small p.track.0 p.kind.0 m n))
+      (λ is. let f = and_parts (p.track.0 == t.0) (p.kind.0 == k.0) is in same_pair p.track.0 p.kind.0 t.0 k.0 (eqb-true _ _ f.0) (eqb-true _ _ f.1))
+      (λ e. let f = pair_tells p.track.0 p.kind.0 t.0 k.0 n b e in and_from _ _ (eq-eqb _ _ f.0) (eq-eqb _ _ f.1)) (h.each t k a b);
 }
 
-pub named_back : (permits : List Permit) (left : ℕ) (named : List Bool) (d : Permit) → 0 < left → left ≤ length permits → All (λ p. p.track.0 < 60) permits → AreNamed (drop left permits) named → AreNamed (drop (left - 1) permits) (set named (get_or permits (left - 1) d).track.0 true)
+pub named_back : (permits : List Permit) (left : ℕ) (named : List Bool) (d : Permit) → 0 < left → left ≤ length permits → All (λ p. p.track.0 < 60) permits
+    → AreNamed (drop left permits) named → AreNamed (drop (left - 1) permits) (set named (get_or permits (left - 1) d).track.0 true)
 named_back permits left named d some within all h =
     rw (earlier permits left d some within) (named_step (get_or permits (left - 1) d) (drop left permits) named h (all (left - 1) d (omega arith)))
 
-pub pairs_back : (permits : List Permit) (left : ℕ) (pairs : List Bool) (d : Permit) → 0 < left → left ≤ length permits → All (λ p. (p.track.0 < 60) × (p.kind.0 < 40)) permits → ArePairs (drop left permits) pairs → ArePairs (drop (left - 1) permits) (set pairs (permit_cell (get_or permits (left - 1) d).track (get_or permits (left - 1) d).kind) true)
+pub pairs_back : (permits : List Permit) (left : ℕ) (pairs : List Bool) (d : Permit) → 0 < left → left ≤ length permits → All (λ p. (p.track.0 < 60) × (p.kind.0 < 40)) permits
+    → ArePairs (drop left permits) pairs → ArePairs (drop (left - 1) permits) (set pairs (permit_cell (get_or permits (left - 1) d).track (get_or permits (left - 1) d).kind) true)
 pairs_back permits left pairs d some within all h =
     let at = all (left - 1) d (omega arith) in
     rw (earlier permits left d some within) (pairs_step (get_or permits (left - 1) d) (drop left permits) pairs h at.0 at.1)

@@ -69,7 +69,8 @@ position_at_is night v h lt = position_facts night v (position_at night v) h (lo
 pub units_in : (s : Station) (ts : List Train) → AreTrains s ts → All (λ u. (u.train.0 < length ts) × (u.kind.0 < length s.types)) (units_of ts)
 units_in s ts h k d lt =
     let at = located make_unit 0 ts k d lt in
-    subst (λ (x : TrainUnit). (x.train.0 < length ts) × (x.kind.0 < length s.types)) (sym (at.is ∙ unit_is (0 + at.i) at.i (at.p + 1) (type_at ts at.i at.p) (omega arith))) (at.i_in, kind_in s ts at.i at.p h at.i_in at.p_in)
+    subst (λ (x : TrainUnit). (x.train.0 < length ts) × (x.kind.0 < length s.types)) (sym (at.is ∙ unit_is (0 + at.i) at.i (at.p + 1) (type_at ts at.i at.p) (omega arith)))
+    (at.i_in, kind_in s ts at.i at.p h at.i_in at.p_in)
 
 pub positions_in : (ts : List Train) → All (λ v. v.train.0 < length ts) (positions_of ts)
 positions_in ts k d lt =
@@ -78,7 +79,8 @@ positions_in ts k d lt =
 
 -- the minutes of trains in their order rise
 minute_rises : (ts : List Train) (i j : ℕ) → IsNonDecreasingBy (λ t. t.minute) ts → i ≤ j → j < length ts → minute_at ts i ≤ minute_at ts j
-minute_rises ts i j h le lt = rw (get_or-map (λ (t : Train). t.minute) ts i (train_at ts j) 0 (omega arith), get_or-map (λ (t : Train). t.minute) ts j (train_at ts j) 0 lt) (h i j (train_at ts j) le lt)
+minute_rises ts i j h le lt = rw (get_or-map (λ (t : Train). t.minute) ts i (train_at ts j) 0 (omega arith), get_or-map (λ (t : Train). t.minute) ts j (train_at ts j) 0 lt)
+    (h i j (train_at ts j) le lt)
 
 turn_same : (s : Station) (k l : TypeId) → k.0 ≡ l.0 → turn_of s k ≡ turn_of s l
 turn_same s k l e = ap (λ (n : ℕ). turn_of s (record { 0 = n })) e
@@ -87,7 +89,8 @@ le_along : (a b c d : ℕ) → a ≡ b → c ≡ d → b ≤ d → a ≤ c
 le_along a b c d e f le = omega arith
 
 -- a later unit's train is no earlier
-unit_trains : (ts : List Train) (i j : ℕ) → i ≤ j → j < length (units_of ts) → ((get_or (units_of ts) i (make_unit 0 0 no_type)).train.0 ≤ (get_or (units_of ts) j (make_unit 0 0 no_type)).train.0) × ((get_or (units_of ts) j (make_unit 0 0 no_type)).train.0 < length ts)
+unit_trains : (ts : List Train) (i j : ℕ) → i ≤ j → j < length (units_of ts) → ((get_or (units_of ts) i (make_unit 0 0 no_type)).train.0 ≤
+    (get_or (units_of ts) j (make_unit 0 0 no_type)).train.0) × ((get_or (units_of ts) j (make_unit 0 0 no_type)).train.0 < length ts)
 unit_trains ts i j le lt =
     let x = get_or (units_of ts) i (make_unit 0 0 no_type) in
     let y = get_or (units_of ts) j (make_unit 0 0 no_type) in
@@ -97,7 +100,9 @@ unit_trains ts i j le lt =
     let second : y.train.0 ≡ 0 + t.i = ap (λ (u : TrainUnit). u.train.0) t.is in
     (omega (arith, first, second, train_rises make_unit 0 ts i j x y s t le), omega (arith, second, t.i_in))
 
-position_trains : (ts : List Train) (i j : ℕ) → i ≤ j → j < length (positions_of ts) → ((get_or (positions_of ts) i (make_position 0 0 no_type)).train.0 ≤ (get_or (positions_of ts) j (make_position 0 0 no_type)).train.0) × ((get_or (positions_of ts) j (make_position 0 0 no_type)).train.0 < length ts)
+position_trains : (ts : List Train) (i j : ℕ) → i ≤ j → j < length (positions_of ts)
+    → ((get_or (positions_of ts) i (make_position 0 0 no_type)).train.0 ≤ (get_or (positions_of ts) j (make_position 0 0 no_type)).train.0)
+    × ((get_or (positions_of ts) j (make_position 0 0 no_type)).train.0 < length ts)
 position_trains ts i j le lt =
     let x = get_or (positions_of ts) i (make_position 0 0 no_type) in
     let y = get_or (positions_of ts) j (make_position 0 0 no_type) in
@@ -108,7 +113,8 @@ position_trains ts i j le lt =
     (omega (arith, first, second, train_rises make_position 0 ts i j x y s t le), omega (arith, second, t.i_in))
 
 -- of two units of one type the later one is ready no earlier
-pub ready_rises : (night : Night) (i j : ℕ) → IsOrderedNight night → i ≤ j → j < length (units_of night.arrive) → (unit_at night i).kind.0 ≡ (unit_at night j).kind.0 → ready night i ≤ ready night j
+pub ready_rises : (night : Night) (i j : ℕ) → IsOrderedNight night → i ≤ j → j < length (units_of night.arrive) → (unit_at night i).kind.0 ≡ (unit_at night j).kind.0
+    → ready night i ≤ ready night j
 ready_rises night i j h le lt same =
     let t = unit_trains night.arrive i j le lt in
     let minutes = minute_rises night.arrive (unit_at night i).train.0 (unit_at night j).train.0 h.arrive_rises t.0 t.1 in
@@ -128,10 +134,12 @@ abbrev position_entry : Night → Position → Entry
 position_entry night v = record { kind = v.kind.0; minute = leaves_of night.depart v }
 
 -- the entries of an instance by their numbers
-pub unit_entry_is : (night : Night) (u : ℕ) → u < length (units_of night.arrive) → entry_at (unit_entries night) u ≡ record { kind = (unit_at night u).kind.0; minute = ready night u }
+pub unit_entry_is : (night : Night) (u : ℕ) → u < length (units_of night.arrive) → entry_at (unit_entries night) u
+    ≡ record { kind = (unit_at night u).kind.0; minute = ready night u }
 unit_entry_is night u lt = get_or-map (unit_entry night) (units_of night.arrive) u (make_unit 0 0 no_type) (record { kind = 0; minute = 0 }) lt
 
-pub position_entry_is : (night : Night) (v : ℕ) → v < length (positions_of night.depart) → entry_at (position_entries night) v ≡ record { kind = (position_at night v).kind.0; minute = leaves night v }
+pub position_entry_is : (night : Night) (v : ℕ) → v < length (positions_of night.depart)
+    → entry_at (position_entries night) v ≡ record { kind = (position_at night v).kind.0; minute = leaves night v }
 position_entry_is night v lt = get_or-map (position_entry night) (positions_of night.depart) v (make_position 0 0 no_type) (record { kind = 0; minute = 0 }) lt
 
 pub units_rise : (night : Night) → IsOrderedNight night → RisesByKind (unit_entries night)
@@ -140,7 +148,8 @@ units_rise night h i j le lt same =
     let before : i < length (units_of night.arrive) = omega arith in
     let one = unit_entry_is night i before in
     let two = unit_entry_is night j within in
-    le_along _ _ _ _ (ap (λ (e : Entry). e.minute) one) (ap (λ (e : Entry). e.minute) two) (ready_rises night i j h (omega arith) within (sym (ap (λ (e : Entry). e.kind) one) ∙ same ∙ ap (λ (e : Entry). e.kind) two))
+    le_along _ _ _ _ (ap (λ (e : Entry). e.minute) one) (ap (λ (e : Entry). e.minute) two)
+    (ready_rises night i j h (omega arith) within (sym (ap (λ (e : Entry). e.kind) one) ∙ same ∙ ap (λ (e : Entry). e.kind) two))
 
 pub positions_rise : (night : Night) → IsOrderedNight night → RisesByKind (position_entries night)
 positions_rise night h i j le lt same =
@@ -151,12 +160,16 @@ positions_rise night h i j le lt same =
     le_along _ _ _ _ (ap (λ (e : Entry). e.minute) one) (ap (λ (e : Entry). e.minute) two) (leaves_rise night i j h (omega arith) within)
 
 -- the unit and the position at a place of a train
-pub unit_there : (night : Night) (a q : ℕ) → a < length night.arrive → 1 ≤ q → q ≤ length (train_at night.arrive a).units → unit_at night (first_unit night a + (q - 1)) ≡ make_unit a q (kind_at (train_at night.arrive a) q)
+pub unit_there : (night : Night) (a q : ℕ) → a < length night.arrive → 1 ≤ q → q ≤ length (train_at night.arrive a).units
+    → unit_at night (first_unit night a + (q - 1)) ≡ make_unit a q (kind_at (train_at night.arrive a) q)
 unit_there night a q lt some within =
     let again : q - 1 + 1 ≡ q = omega arith in
-    numbered_at make_unit 0 night.arrive a (q - 1) (make_unit 0 0 no_type) lt (omega arith) ∙ unit_is (0 + a) a (q - 1 + 1) (type_at night.arrive a (q - 1)) (omega arith) ∙ ap (λ (n : ℕ). make_unit a n (kind_at (train_at night.arrive a) q)) again
+    numbered_at make_unit 0 night.arrive a (q - 1) (make_unit 0 0 no_type) lt (omega arith) ∙ unit_is (0 + a) a (q - 1 + 1) (type_at night.arrive a (q - 1)) (omega arith)
+    ∙ ap (λ (n : ℕ). make_unit a n (kind_at (train_at night.arrive a) q)) again
 
-pub position_there : (night : Night) (d q : ℕ) → d < length night.depart → 1 ≤ q → q ≤ length (train_at night.depart d).units → position_at night (first_position night d + (q - 1)) ≡ make_position d q (kind_at (train_at night.depart d) q)
+pub position_there : (night : Night) (d q : ℕ) → d < length night.depart → 1 ≤ q → q ≤ length (train_at night.depart d).units
+    → position_at night (first_position night d + (q - 1)) ≡ make_position d q (kind_at (train_at night.depart d) q)
 position_there night d q lt some within =
     let again : q - 1 + 1 ≡ q = omega arith in
-    numbered_at make_position 0 night.depart d (q - 1) (make_position 0 0 no_type) lt (omega arith) ∙ position_is (0 + d) d (q - 1 + 1) (type_at night.depart d (q - 1)) (omega arith) ∙ ap (λ (n : ℕ). make_position d n (kind_at (train_at night.depart d) q)) again
+    numbered_at make_position 0 night.depart d (q - 1) (make_position 0 0 no_type) lt (omega arith)
+    ∙ position_is (0 + d) d (q - 1 + 1) (type_at night.depart d (q - 1)) (omega arith) ∙ ap (λ (n : ℕ). make_position d n (kind_at (train_at night.depart d) q)) again

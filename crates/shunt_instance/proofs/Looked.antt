@@ -73,51 +73,63 @@ whichever : {X : Type 0} (xs : List X) (i : ℕ) (x d : X) → i < length xs →
 whichever xs i x d lt is = sym (get_or_from_slice_get xs i x d (slice_get_read xs (length xs) i x refl lt is))
 
 -- what is read is what the definitions say, of the night that a caller sees
-pub unit_read : (n m : Night) (units : List TrainUnit) (positions : List Position) (ready leaves : List ℕ) (u : ℕ) (x : TrainUnit) → n ≡ m → IsOrderedNight n → AreEntries n units positions ready leaves → u < unit_total m → x ≡ get_or units u x → IsUnitAt m u x
+pub unit_read : (n m : Night) (units : List TrainUnit) (positions : List Position) (ready leaves : List ℕ) (u : ℕ) (x : TrainUnit) → n ≡ m → IsOrderedNight n
+    → AreEntries n units positions ready leaves → u < unit_total m → x ≡ get_or units u x → IsUnitAt m u x
 unit_read n m units positions ready leaves u x e h t lt is =
     let within : u < length (units_of n.arrive) = subst (λ (k : Night). u < unit_total k) (sym e) lt in
     let here : x ≡ get_or (units_of n.arrive) u x = is ∙ ap (λ (us : List TrainUnit). get_or us u x) t.unit_list in
     let same : x ≡ unit_at m u = whichever (units_of n.arrive) u x (make_unit 0 0 (record { 0 = 0 })) within here ∙ ap (λ (k : Night). unit_at k u) e in
     subst (IsUnitAt m u) (sym same) (unit_at_is m u (subst IsOrderedNight e h) lt)
 
-pub position_read : (n m : Night) (units : List TrainUnit) (positions : List Position) (ready leaves : List ℕ) (v : ℕ) (x : Position) → n ≡ m → IsOrderedNight n → AreEntries n units positions ready leaves → v < position_total m → x ≡ get_or positions v x → IsPositionAt m v x
+pub position_read : (n m : Night) (units : List TrainUnit) (positions : List Position) (ready leaves : List ℕ) (v : ℕ) (x : Position) → n ≡ m → IsOrderedNight n
+    → AreEntries n units positions ready leaves → v < position_total m → x ≡ get_or positions v x → IsPositionAt m v x
 position_read n m units positions ready leaves v x e h t lt is =
     let within : v < length (positions_of n.depart) = subst (λ (k : Night). v < position_total k) (sym e) lt in
     let here : x ≡ get_or (positions_of n.depart) v x = is ∙ ap (λ (us : List Position). get_or us v x) t.position_list in
     let same : x ≡ position_at m v = whichever (positions_of n.depart) v x (make_position 0 0 (record { 0 = 0 })) within here ∙ ap (λ (k : Night). position_at k v) e in
     subst (IsPositionAt m v) (sym same) (position_at_is m v (subst IsOrderedNight e h) lt)
 
-pub units_counted : (n : Night) (units : List TrainUnit) (positions : List Position) (ready leaves : List ℕ) (count : ℕ) → IsOrderedNight n → AreEntries n units positions ready leaves → count ≡ length units → count ≤ 160
+pub units_counted : (n : Night) (units : List TrainUnit) (positions : List Position) (ready leaves : List ℕ) (count : ℕ) → IsOrderedNight n
+    → AreEntries n units positions ready leaves → count ≡ length units → count ≤ 160
 units_counted n units positions ready leaves count h t is = omega (arith, is, ap (λ (us : List TrainUnit). length us) t.unit_list, units_few n h)
 
-pub positions_counted : (n : Night) (units : List TrainUnit) (positions : List Position) (ready leaves : List ℕ) (count : ℕ) → IsOrderedNight n → AreEntries n units positions ready leaves → count ≡ length positions → count ≤ 160
+pub positions_counted : (n : Night) (units : List TrainUnit) (positions : List Position) (ready leaves : List ℕ) (count : ℕ) → IsOrderedNight n
+    → AreEntries n units positions ready leaves → count ≡ length positions → count ≤ 160
 positions_counted n units positions ready leaves count h t is = omega (arith, is, ap (λ (us : List Position). length us) t.position_list, positions_few n h)
 
 below_along : (a b n : ℕ) → a ≡ b → b < n → a < n
 below_along a b n e lt = omega arith
 
-pub ready_read : (n m : Night) (units : List TrainUnit) (positions : List Position) (ready leaves : List ℕ) (u r : ℕ) → n ≡ m → IsOrderedNight n → AreEntries n units positions ready leaves → u < unit_total m → r ≡ get_or ready u r → r < 4320
+pub ready_read : (n m : Night) (units : List TrainUnit) (positions : List Position) (ready leaves : List ℕ) (u r : ℕ) → n ≡ m → IsOrderedNight n
+    → AreEntries n units positions ready leaves → u < unit_total m → r ≡ get_or ready u r → r < 4320
 ready_read n m units positions ready leaves u r e h t lt is =
     let within : u < length (units_of n.arrive) = subst (λ (k : Night). u < unit_total k) (sym e) lt in
-    below_along _ _ 4320 (is ∙ ap (λ (rs : List ℕ). get_or rs u r) (t.ready_list ∙ ap (map (ready_of n.station n.arrive)) t.unit_list) ∙ get_or-map (ready_of n.station n.arrive) (units_of n.arrive) u (make_unit 0 0 (record { 0 = 0 })) r within) (ready_small n u h within)
+    below_along _ _ 4320 (is ∙ ap (λ (rs : List ℕ). get_or rs u r) (t.ready_list ∙ ap (map (ready_of n.station n.arrive)) t.unit_list)
+    ∙ get_or-map (ready_of n.station n.arrive) (units_of n.arrive) u (make_unit 0 0 (record { 0 = 0 })) r within) (ready_small n u h within)
 
-pub leave_read : (n m : Night) (units : List TrainUnit) (positions : List Position) (ready leaves : List ℕ) (v r : ℕ) → n ≡ m → IsOrderedNight n → AreEntries n units positions ready leaves → v < position_total m → r ≡ get_or leaves v r → r < 2880
+pub leave_read : (n m : Night) (units : List TrainUnit) (positions : List Position) (ready leaves : List ℕ) (v r : ℕ) → n ≡ m → IsOrderedNight n
+    → AreEntries n units positions ready leaves → v < position_total m → r ≡ get_or leaves v r → r < 2880
 leave_read n m units positions ready leaves v r e h t lt is =
     let within : v < length (positions_of n.depart) = subst (λ (k : Night). v < position_total k) (sym e) lt in
-    below_along _ _ 2880 (is ∙ ap (λ (rs : List ℕ). get_or rs v r) (t.leave_list ∙ ap (map (leaves_of n.depart)) t.position_list) ∙ get_or-map (leaves_of n.depart) (positions_of n.depart) v (make_position 0 0 (record { 0 = 0 })) r within) (leaves_small n v h within)
+    below_along _ _ 2880 (is ∙ ap (λ (rs : List ℕ). get_or rs v r) (t.leave_list ∙ ap (map (leaves_of n.depart)) t.position_list)
+    ∙ get_or-map (leaves_of n.depart) (positions_of n.depart) v (make_position 0 0 (record { 0 = 0 })) r within) (leaves_small n v h within)
 
-pub cost_read : (n m : Night) (costs : List (Option ℕ)) (p : PlatformId) (t : TrackId) (s : Side) (cell : ℕ) (r : Option ℕ) → n ≡ m → IsOrderedNight n → AreCosts n.station.routes costs → p.0 < length m.station.platforms → t.0 < length m.station.tracks → cell ≡ route_cell p t s → r ≡ get_or costs cell r → r ≡ route_cost m.station p t s
+pub cost_read : (n m : Night) (costs : List (Option ℕ)) (p : PlatformId) (t : TrackId) (s : Side) (cell : ℕ) (r : Option ℕ) → n ≡ m → IsOrderedNight n
+    → AreCosts n.station.routes costs → p.0 < length m.station.platforms → t.0 < length m.station.tracks → cell ≡ route_cell p t s → r ≡ get_or costs cell r
+    → r ≡ route_cost m.station p t s
 cost_read n m costs p t s cell r e h c a b at is =
     let w = subst IsOrderedNight e h in
     let platform : p.0 < 30 = omega (arith, w.station.few_platforms) in
     let track : t.0 < 60 = omega (arith, w.station.few_tracks) in
-    is ∙ ap (λ (k : ℕ). get_or costs k r) at ∙ get_or_from_slice_get costs (route_cell p t s) (route_cost n.station p t s) r (c.each p t s platform track) ∙ ap (λ (k : Night). route_cost k.station p t s) e
+    is ∙ ap (λ (k : ℕ). get_or costs k r) at ∙ get_or_from_slice_get costs (route_cell p t s) (route_cost n.station p t s) r (c.each p t s platform track)
+    ∙ ap (λ (k : Night). route_cost k.station p t s) e
 
 -- the cost that is read is small, and the side is open
 pub cost_bound : (m : Night) (p : PlatformId) (t : TrackId) (s : Side) (r : Option ℕ) → IsOrderedNight m → r ≡ route_cost m.station p t s → IfSome r (λ c. c ≤ 1000000)
 cost_bound m p t s r h e = subst (λ (o : Option ℕ). IfSome o (λ c. c ≤ 1000000)) (sym e) (cost_small m.station p t s h.station)
 
-pub cost_open : (m : Night) (p : PlatformId) (t : TrackId) (s : Side) (r : Option ℕ) → IsOrderedNight m → r ≡ route_cost m.station p t s → IfSome r (λ c. IsTrue (is_open_at m.station t s))
+pub cost_open : (m : Night) (p : PlatformId) (t : TrackId) (s : Side) (r : Option ℕ) → IsOrderedNight m → r ≡ route_cost m.station p t s
+    → IfSome r (λ c. IsTrue (is_open_at m.station t s))
 cost_open m p t s r h e = subst (λ (o : Option ℕ). IfSome o (λ c. IsTrue (is_open_at m.station t s))) (sym e) (side_open m.station p t s h.station)
 
 -- numbers of first units, read
@@ -130,14 +142,18 @@ first_read n m firsts k r e h lt is =
     default xs k r lt = get_or_default_zero xs k r lt
 
 -- the invariant of what `join` makes
-pub formed_of : (s : Station) (arrive depart ts us : List Train) → IsStation s → IsTimetable s (record { arrive = arrive; depart = depart }) → ts ≡ sort_by_minute arrive → us ≡ sort_by_minute depart → IsOrderedNight (record { station = s; arrive = ts; depart = us })
-formed_of s arrive depart ts us p q e f = subst (λ (xs : List Train). IsOrderedNight (record { station = s; arrive = xs; depart = us })) (sym e) (subst (λ (xs : List Train). IsOrderedNight (record { station = s; arrive = sort_by_minute arrive; depart = xs })) (sym f) (night_is s (record { arrive = arrive; depart = depart }) p q))
+pub formed_of : (s : Station) (arrive depart ts us : List Train) → IsStation s → IsTimetable s (record { arrive = arrive; depart = depart }) → ts ≡ sort_by_minute arrive
+    → us ≡ sort_by_minute depart → IsOrderedNight (record { station = s; arrive = ts; depart = us })
+formed_of s arrive depart ts us p q e f = subst (λ (xs : List Train). IsOrderedNight (record { station = s; arrive = xs; depart = us })) (sym e)
+    (subst (λ (xs : List Train). IsOrderedNight (record { station = s; arrive = sort_by_minute arrive; depart = xs })) (sym f)
+    (night_is s (record { arrive = arrive; depart = depart }) p q))
 
 -- names, read
 pub train_has : (ts us : List Train) (name : List ℕ) (k : ℕ) → ts ≡ us → Some k ≡ train_of_name ts name → slice_get (names_of us) k ≡ Some name
 train_has ts us name k e is = found_has (λ (t : Train). t.name) us name k no_train (ap (λ (xs : List Train). train_of_name xs name) (sym e) ∙ sym is)
 
-pub train_there : (ts us : List Train) (name : List ℕ) (o : Option ℕ) (k : ℕ) → ts ≡ us → o ≡ train_of_name ts name → AreDistinct (names_of us) → slice_get (names_of us) k ≡ Some name → o ≡ Some k
+pub train_there : (ts us : List Train) (name : List ℕ) (o : Option ℕ) (k : ℕ) → ts ≡ us → o ≡ train_of_name ts name → AreDistinct (names_of us)
+    → slice_get (names_of us) k ≡ Some name → o ≡ Some k
 train_there ts us name o k e is h there = is ∙ ap (λ (xs : List Train). train_of_name xs name) e ∙ found_there (λ (t : Train). t.name) us name k no_train h there
 
 abbrev no_track : Track
@@ -149,7 +165,8 @@ name_test name t = bytes_eq t.name name
 pub track_has : (ts us : List Track) (name : List ℕ) (k : ℕ) → ts ≡ us → Some k ≡ position (name_test name) ts → slice_get (map (λ (t : Track). t.name) us) k ≡ Some name
 track_has ts us name k e is = found_has (λ (t : Track). t.name) us name k no_track (ap (position (name_test name)) (sym e) ∙ sym is)
 
-pub track_there : (ts us : List Track) (name : List ℕ) (o : Option ℕ) (k : ℕ) → ts ≡ us → o ≡ position (name_test name) ts → AreDistinct (map (λ (t : Track). t.name) us) → slice_get (map (λ (t : Track). t.name) us) k ≡ Some name → o ≡ Some k
+pub track_there : (ts us : List Track) (name : List ℕ) (o : Option ℕ) (k : ℕ) → ts ≡ us → o ≡ position (name_test name) ts → AreDistinct (map (λ (t : Track). t.name) us)
+    → slice_get (map (λ (t : Track). t.name) us) k ≡ Some name → o ≡ Some k
 track_there ts us name o k e is h there = is ∙ ap (position (name_test name)) e ∙ found_there (λ (t : Track). t.name) us name k no_track h there
 
 -- numbers as ids
@@ -163,7 +180,9 @@ abbrev pub as_track : Option ℕ → Option TrackId
 as_track o = option_map (λ k. record { 0 = k }) o
 
 -- the lists of what `join` makes
-pub entries_of : (s : Station) (ar dp a b e f : List Train) (units us : List TrainUnit) (positions ps : List Position) (ready leaves : List ℕ) → a ≡ ar → b ≡ dp → units ≡ units_of a → positions ≡ positions_of b → e ≡ ar → us ≡ units → ready ≡ map (ready_of s e) us → f ≡ dp → ps ≡ positions → leaves ≡ map (leaves_of f) ps → AreEntries (record { station = s; arrive = ar; depart = dp }) units positions ready leaves
+pub entries_of : (s : Station) (ar dp a b e f : List Train) (units us : List TrainUnit) (positions ps : List Position) (ready leaves : List ℕ) → a ≡ ar → b ≡ dp
+    → units ≡ units_of a → positions ≡ positions_of b → e ≡ ar → us ≡ units → ready ≡ map (ready_of s e) us → f ≡ dp → ps ≡ positions → leaves ≡ map (leaves_of f) ps
+    → AreEntries (record { station = s; arrive = ar; depart = dp }) units positions ready leaves
 entries_of s ar dp a b e f units us positions ps ready leaves ae be ue pe ee uu re fe pp le = record {
   unit_list = ue ∙ ap units_of ae;
   position_list = pe ∙ ap positions_of be;
@@ -172,14 +191,16 @@ entries_of s ar dp a b e f units us positions ps ready leaves ae be ue pe ee uu 
 }
 
 -- the place of a name is that of the train, or the track, that has it
-pub named_train : (names : List (List ℕ)) (ts us : List Train) (name : List ℕ) (o : Option ℕ) → names ≡ names_of ts → ts ≡ us → o ≡ position (λ n. bytes_eq n name) names → o ≡ train_of_name us name
+pub named_train : (names : List (List ℕ)) (ts us : List Train) (name : List ℕ) (o : Option ℕ) → names ≡ names_of ts → ts ≡ us → o ≡ position (λ n. bytes_eq n name) names
+    → o ≡ train_of_name us name
 named_train names ts us name o is same e =
     e
     ∙ ap (position (λ n. bytes_eq n name)) is
     ∙ sym (at_one_place (λ (t : Train). t.name) (λ t. bytes_eq t.name name) (λ n. bytes_eq n name) (λ t. refl) ts)
     ∙ ap (λ (xs : List Train). train_of_name xs name) same
 
-pub named_track : (names : List (List ℕ)) (ts us : List Track) (name : List ℕ) (o : Option ℕ) → names ≡ map (λ (t : Track). t.name) ts → ts ≡ us → o ≡ position (λ n. bytes_eq n name) names → o ≡ position (name_test name) us
+pub named_track : (names : List (List ℕ)) (ts us : List Track) (name : List ℕ) (o : Option ℕ) → names ≡ map (λ (t : Track). t.name) ts → ts ≡ us
+    → o ≡ position (λ n. bytes_eq n name) names → o ≡ position (name_test name) us
 named_track names ts us name o is same e =
     e
     ∙ ap (position (λ n. bytes_eq n name)) is

@@ -19,11 +19,13 @@ flipped a b = ⊎_elim
 
 alike_or_len : {X Y : Type 0} (f : X → Y) (p : X → Bool) (q : Y → Bool) → ((x : X) → p x ≡ q (f x)) → (xs : List X) → position_or_len p xs ≡ position_or_len q (map f xs)
 alike_or_len f p q same [] = refl
-alike_or_len f p q same (x ∷ xs) = ap (λ (b : Bool). cond (not b) (1 + position_or_len p xs) 0) (same x) ∙ ap (λ (n : ℕ). cond (not (q (f x))) (1 + n) 0) (alike_or_len f p q same xs)
+alike_or_len f p q same (x ∷ xs) = ap (λ (b : Bool). cond (not b) (1 + position_or_len p xs) 0) (same x)
+    ∙ ap (λ (n : ℕ). cond (not (q (f x))) (1 + n) 0) (alike_or_len f p q same xs)
 
 -- where a test of the names agrees with one of what has them, both are first passed at one place
 pub at_one_place : {X Y : Type 0} (f : X → Y) (p : X → Bool) (q : Y → Bool) → ((x : X) → p x ≡ q (f x)) → (xs : List X) → position p xs ≡ position q (map f xs)
-at_one_place f p q same xs = ap {B = Option ℕ} (λ k. cond (nat_lt k (length xs)) (Some k) None) (alike_or_len f p q same xs) ∙ ap (λ n. cond (nat_lt (position_or_len q (map f xs)) n) (Some (position_or_len q (map f xs))) None) (sym (length-map xs f))
+at_one_place f p q same xs = ap {B = Option ℕ} (λ k. cond (nat_lt k (length xs)) (Some k) None) (alike_or_len f p q same xs)
+    ∙ ap (λ n. cond (nat_lt (position_or_len q (map f xs)) n) (Some (position_or_len q (map f xs))) None) (sym (length-map xs f))
 
 -- and in one list
 pub found_alike : {X Y : Type 0} (f : X → Y) (p : X → Bool) (q : Y → Bool) → ((x : X) → p x ≡ q (f x)) → (xs : List X) → list_any p xs ≡ list_any q (map f xs)
@@ -45,7 +47,8 @@ goes_last items eq keys new k name old tests is view absent after =
     ∙ ap (λ n. old ++ n ∷ []) is
 
 -- of distinct names the next is none of those before it
-pub comes_first : {X : Type 0} (name : X → List ℕ) (xs : List X) (i : ℕ) (d : X) → i < length xs → AreDistinct (map name xs) → list_any (λ n. bytes_eq n (name (get_or xs i d))) (map name (take i xs)) ≡ false
+pub comes_first : {X : Type 0} (name : X → List ℕ) (xs : List X) (i : ℕ) (d : X) → i < length xs → AreDistinct (map name xs)
+    → list_any (λ n. bytes_eq n (name (get_or xs i d))) (map name (take i xs)) ≡ false
 comes_first {X} name xs i d lt distinct =
     list_any_none (λ n. bytes_eq n (name (get_or xs i d))) (map name (take i xs)) (λ k e below.
     let low : k < i = omega (arith, below, length-map (take i xs) name, length-take-le i xs (omega arith)) in
@@ -56,7 +59,8 @@ comes_first {X} name xs i d lt distinct =
     ∙ (bytes_eq-Decides (get_or (map name (take i xs)) k e) (name (get_or xs i d))).0 same
     ∙ sym (get_or-map name xs i d [] lt))))
 
-pub next_is_new : {X : Type 0} (name : X → List ℕ) (xs : List X) (i : ℕ) (x : X) (this : List ℕ) (names : List (List ℕ)) → i < length xs → AreDistinct (map name xs) → names ≡ map name (take i xs) → this ≡ name x → x ≡ get_or xs i x → list_any (λ n. bytes_eq n this) names ≡ false
+pub next_is_new : {X : Type 0} (name : X → List ℕ) (xs : List X) (i : ℕ) (x : X) (this : List ℕ) (names : List (List ℕ)) → i < length xs → AreDistinct (map name xs)
+    → names ≡ map name (take i xs) → this ≡ name x → x ≡ get_or xs i x → list_any (λ n. bytes_eq n this) names ≡ false
 next_is_new name xs i x this names lt distinct are is at =
     ap (λ n. list_any (λ m. bytes_eq m n) names) (is ∙ ap name at) ∙ ap (list_any (λ m. bytes_eq m (name (get_or xs i x)))) are ∙ comes_first name xs i x lt distinct
 

@@ -36,23 +36,27 @@ length_through make a (t ∷ ts) =
 alike : {X : Type 0} (make : ℕ → ℕ → TypeId → X) (a b p q : ℕ) (k : TypeId) → a ≡ b → p ≡ q → make a p k ≡ make b q k
 alike make a b p q k e f = cc
 
-at_place : {X : Type 0} (make : ℕ → ℕ → TypeId → X) (a p : ℕ) (ks : List TypeId) (i : ℕ) (d : X) → i < length ks → get_or (numbered_from make a p ks) i d ≡ make a (p + i) (get_or ks i no_type)
+at_place : {X : Type 0} (make : ℕ → ℕ → TypeId → X) (a p : ℕ) (ks : List TypeId) (i : ℕ) (d : X) → i < length ks
+    → get_or (numbered_from make a p ks) i d ≡ make a (p + i) (get_or ks i no_type)
 at_place make a p [] i d lt = absurd (omega arith)
 at_place make a p (k ∷ ks) zero d lt = alike make a a p (p + zero) k refl (omega arith)
 at_place make a p (k ∷ ks) (suc i) d lt = at_place make a (p + 1) ks i d (omega arith) ∙ alike make a a (p + 1 + i) (p + suc i) (get_or ks i no_type) refl (omega arith)
 
 -- the first train, or a later one
-in_first : {X : Type 0} (make : ℕ → ℕ → TypeId → X) (a : ℕ) (t : Train) (ts : List Train) (u : ℕ) (d : X) → u < length t.units → Stands make a (t ∷ ts) u (get_or (numbered_from make a 1 t.units ++ numbered_through make (a + 1) ts) u d)
+in_first : {X : Type 0} (make : ℕ → ℕ → TypeId → X) (a : ℕ) (t : Train) (ts : List Train) (u : ℕ) (d : X) → u < length t.units
+    → Stands make a (t ∷ ts) u (get_or (numbered_from make a 1 t.units ++ numbered_through make (a + 1) ts) u d)
 in_first make a t ts u d lt = record {
   i = 0;
   p = u;
   i_in = omega arith;
   p_in = lt;
-  is = get_or-append (numbered_from make a 1 t.units) (numbered_through make (a + 1) ts) d u (rw (length_from make a 1 t.units) lt) ∙ at_place make a 1 t.units u d lt ∙ alike make a (a + 0) (1 + u) (u + 1) (get_or t.units u no_type) (omega arith) (omega arith);
+  is = get_or-append (numbered_from make a 1 t.units) (numbered_through make (a + 1) ts) d u (rw (length_from make a 1 t.units) lt) ∙ at_place make a 1 t.units u d lt
+      ∙ alike make a (a + 0) (1 + u) (u + 1) (get_or t.units u no_type) (omega arith) (omega arith);
   number = omega arith;
 }
 
-in_later : {X : Type 0} (make : ℕ → ℕ → TypeId → X) (a : ℕ) (t : Train) (ts : List Train) (u v : ℕ) (x : X) → u ≡ length t.units + v → Stands make (a + 1) ts v x → Stands make a (t ∷ ts) u x
+in_later : {X : Type 0} (make : ℕ → ℕ → TypeId → X) (a : ℕ) (t : Train) (ts : List Train) (u v : ℕ) (x : X) → u ≡ length t.units + v → Stands make (a + 1) ts v x
+    → Stands make a (t ∷ ts) u x
 in_later make a t ts u v x e s =
     let sums = sum_by-cons (λ (t : Train). length t.units) t (take s.i ts) in
     record {
@@ -64,7 +68,8 @@ in_later make a t ts u v x e s =
       number = omega (arith, s.number, sums);
     }
 
-pub located : {X : Type 0} (make : ℕ → ℕ → TypeId → X) (a : ℕ) (ts : List Train) (u : ℕ) (d : X) → u < length (numbered_through make a ts) → Stands make a ts u (get_or (numbered_through make a ts) u d)
+pub located : {X : Type 0} (make : ℕ → ℕ → TypeId → X) (a : ℕ) (ts : List Train) (u : ℕ) (d : X) → u < length (numbered_through make a ts)
+    → Stands make a ts u (get_or (numbered_through make a ts) u d)
 located make a [] u d lt = absurd (omega arith)
 located make a (t ∷ ts) u d lt = elim (cases_lt u (length t.units)) [
   | inl here ↦ in_first make a t ts u d here
@@ -74,14 +79,22 @@ located make a (t ∷ ts) u d lt = elim (cases_lt u (length t.units)) [
       let le : length (numbered_from make a 1 t.units) ≤ u = omega arith in
       let e : u ≡ length t.units + (u - length (numbered_from make a 1 t.units)) = omega arith in
       let rest : u - length (numbered_from make a 1 t.units) < length (numbered_through make (a + 1) ts) = omega arith in
-      in_later make a t ts u (u - length (numbered_from make a 1 t.units)) (get_or (numbered_from make a 1 t.units ++ numbered_through make (a + 1) ts) u d) e (subst (Stands make (a + 1) ts (u - length (numbered_from make a 1 t.units))) (sym (get_or-append_right (numbered_from make a 1 t.units) (numbered_through make (a + 1) ts) u d le)) (located make (a + 1) ts (u - length (numbered_from make a 1 t.units)) d rest))
+      in_later make a t ts u (u - length (numbered_from make a 1 t.units)) (get_or (numbered_from make a 1 t.units ++ numbered_through make (a + 1) ts) u d) e
+      (subst (Stands make (a + 1) ts (u - length (numbered_from make a 1 t.units)))
+      (sym (get_or-append_right (numbered_from make a 1 t.units) (numbered_through make (a + 1) ts) u d le))
+      (located make (a + 1) ts (u - length (numbered_from make a 1 t.units)) d rest))
 ]
 
 -- the entries of a train stand behind those of the trains before it
 pub counts_more : (ts : List Train) (i j : ℕ) → i < j → i < length ts → unit_count (take i ts) + length (train_at ts i).units ≤ unit_count (take j ts)
 counts_more [] i j lt within = absurd (omega arith)
 counts_more (t ∷ ts) zero (suc j) lt within = omega (arith, sum_by-cons (λ (t : Train). length t.units) t (take j ts))
-counts_more (t ∷ ts) (suc i) (suc j) lt within = omega (arith, sum_by-cons (λ (t : Train). length t.units) t (take i ts), sum_by-cons (λ (t : Train). length t.units) t (take j ts), counts_more ts i j (omega arith) (omega arith))
+counts_more (t ∷ ts) (suc i) (suc j) lt within = omega (
+  arith,
+  sum_by-cons (λ (t : Train). length t.units) t (take i ts),
+  sum_by-cons (λ (t : Train). length t.units) t (take j ts),
+  counts_more ts i j (omega arith) (omega arith),
+)
 counts_more (t ∷ ts) i zero lt within = absurd (omega arith)
 
 -- so the train rises with the number
@@ -92,12 +105,17 @@ train_rises make a ts u v x y s t le = elim (cases_lt t.i s.i) [
 ]
 
 -- the one at a place of a train has the number that its train and place tell
-pub numbered_at : {X : Type 0} (make : ℕ → ℕ → TypeId → X) (a : ℕ) (ts : List Train) (i p : ℕ) (d : X) → i < length ts → p < length (train_at ts i).units → get_or (numbered_through make a ts) (unit_count (take i ts) + p) d ≡ make (a + i) (p + 1) (get_or (train_at ts i).units p no_type)
+pub numbered_at : {X : Type 0} (make : ℕ → ℕ → TypeId → X) (a : ℕ) (ts : List Train) (i p : ℕ) (d : X) → i < length ts → p < length (train_at ts i).units
+    → get_or (numbered_through make a ts) (unit_count (take i ts) + p) d ≡ make (a + i) (p + 1) (get_or (train_at ts i).units p no_type)
 numbered_at make a [] i p d lt within = absurd (omega arith)
 numbered_at make a (t ∷ ts) zero p d lt within =
     let none : 0 + p ≡ p = omega arith in
-    ap (λ (n : ℕ). get_or (numbered_from make a 1 t.units ++ numbered_through make (a + 1) ts) n d) none ∙ get_or-append (numbered_from make a 1 t.units) (numbered_through make (a + 1) ts) d p (rw (length_from make a 1 t.units) within) ∙ at_place make a 1 t.units p d within ∙ alike make a (a + 0) (1 + p) (p + 1) (get_or t.units p no_type) (omega arith) (omega arith)
+    ap (λ (n : ℕ). get_or (numbered_from make a 1 t.units ++ numbered_through make (a + 1) ts) n d) none
+    ∙ get_or-append (numbered_from make a 1 t.units) (numbered_through make (a + 1) ts) d p (rw (length_from make a 1 t.units) within) ∙ at_place make a 1 t.units p d within
+    ∙ alike make a (a + 0) (1 + p) (p + 1) (get_or t.units p no_type) (omega arith) (omega arith)
 numbered_at make a (t ∷ ts) (suc i) p d lt within =
     let sums = sum_by-cons (λ (t : Train). length t.units) t (take i ts) in
     let place : unit_count (t ∷ take i ts) + p ≡ length (numbered_from make a 1 t.units) + (unit_count (take i ts) + p) = omega (arith, sums, length_from make a 1 t.units) in
-    ap (λ (n : ℕ). get_or (numbered_from make a 1 t.units ++ numbered_through make (a + 1) ts) n d) place ∙ get_or-append-add (numbered_from make a 1 t.units) (numbered_through make (a + 1) ts) (unit_count (take i ts) + p) d ∙ numbered_at make (a + 1) ts i p d (omega arith) within ∙ alike make (a + 1 + i) (a + suc i) (p + 1) (p + 1) (get_or (train_at ts i).units p no_type) (omega arith) refl
+    ap (λ (n : ℕ). get_or (numbered_from make a 1 t.units ++ numbered_through make (a + 1) ts) n d) place
+    ∙ get_or-append-add (numbered_from make a 1 t.units) (numbered_through make (a + 1) ts) (unit_count (take i ts) + p) d
+    ∙ numbered_at make (a + 1) ts i p d (omega arith) within ∙ alike make (a + 1 + i) (a + suc i) (p + 1) (p + 1) (get_or (train_at ts i).units p no_type) (omega arith) refl

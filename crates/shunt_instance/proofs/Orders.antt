@@ -33,7 +33,10 @@ Rises (t ∷ ts) = AllByRecursion (λ u. t.minute ≤ u.minute) ts × Rises ts
 
 rises_from : (ts : List Train) → IsNonDecreasingBy (λ t. t.minute) ts → Rises ts
 rises_from [] h = tt
-rises_from (t ∷ ts) h = (recursion_from_All (λ u. t.minute ≤ u.minute) ts (λ k d lt. h 0 (suc k) d (omega arith) (omega arith)), rises_from ts (λ i j d le lt. h (suc i) (suc j) d (omega arith) (omega arith)))
+rises_from (t ∷ ts) h = (
+  recursion_from_All (λ u. t.minute ≤ u.minute) ts (λ k d lt. h 0 (suc k) d (omega arith) (omega arith)),
+  rises_from ts (λ i j d le lt. h (suc i) (suc j) d (omega arith) (omega arith)),
+)
 
 pub to_non_decreasing : (ts : List Train) → Rises ts → IsNonDecreasingBy (λ t. t.minute) ts
 to_non_decreasing [] h i j d le lt = absurd (omega arith)
@@ -58,7 +61,8 @@ not_empty : (t : Train) (ts : List Train) → [] ≡ t ∷ ts → ⊥
 not_empty t ts e = cc
 
 -- of two rising lists with the same trains at each minute, the heads' minutes are the same
-no_earlier : (t u : Train) (ts us : List Train) → AllByRecursion (λ v. u.minute ≤ v.minute) us → ((m : ℕ) → filter (at_minute m) (t ∷ ts) ≡ filter (at_minute m) (u ∷ us)) → t.minute < u.minute → ⊥
+no_earlier : (t u : Train) (ts us : List Train) → AllByRecursion (λ v. u.minute ≤ v.minute) us → ((m : ℕ) → filter (at_minute m) (t ∷ ts) ≡ filter (at_minute m) (u ∷ us))
+    → t.minute < u.minute → ⊥
 no_earlier t u ts us h same lt = not_empty t _ (sym (none_before t.minute (u ∷ us) (lt, later t.minute u.minute us lt h)) ∙ sym (same t.minute) ∙ its_own t ts)
 
 head_is : (t u : Train) (ts us : List Train) → t ∷ ts ≡ u ∷ us → t ≡ u
@@ -67,7 +71,8 @@ head_is t u ts us e = cc
 tail_is : (t u : Train) (ts us : List Train) → t ∷ ts ≡ u ∷ us → ts ≡ us
 tail_is t u ts us e = cc
 
-rest_same : (t : Train) (ts us : List Train) (m : ℕ) (b : Bool) → cond b (t ∷ filter (at_minute m) ts) (filter (at_minute m) ts) ≡ cond b (t ∷ filter (at_minute m) us) (filter (at_minute m) us) → filter (at_minute m) ts ≡ filter (at_minute m) us
+rest_same : (t : Train) (ts us : List Train) (m : ℕ) (b : Bool) → cond b (t ∷ filter (at_minute m) ts) (filter (at_minute m) ts)
+    ≡ cond b (t ∷ filter (at_minute m) us) (filter (at_minute m) us) → filter (at_minute m) ts ≡ filter (at_minute m) us
 rest_same t ts us m true e = tail_is t t (filter (at_minute m) ts) (filter (at_minute m) us) e
 rest_same t ts us m false e = e
 
@@ -85,27 +90,31 @@ one_order (t ∷ ts) [] h g same = absurd (not_empty t (filter (at_minute t.minu
 one_order (t ∷ ts) (u ∷ us) h g same = elim (cases_order t.minute u.minute) [
   | inl e ↦
       let f = first_same t u ts us e (same t.minute) in
-      let rest = one_order ts us h.1 g.1 (λ m. rest_same t ts us m (t.minute == m) (subst (λ (v : Train). filter (at_minute m) (t ∷ ts) ≡ filter (at_minute m) (v ∷ us)) (sym f) (same m))) in
+      let rest = one_order ts us h.1 g.1 (λ m. rest_same t ts us m (t.minute == m)
+      (subst (λ (v : Train). filter (at_minute m) (t ∷ ts) ≡ filter (at_minute m) (v ∷ us)) (sym f) (same m))) in
       alike t u ts us f rest
   | inr (inl lt) ↦ absurd (no_earlier t u ts us g.0 same lt)
   | inr (inr lt) ↦ absurd (no_earlier u t us ts h.0 (λ m. sym (same m)) lt)
 ]
 
 -- an inserted train stands among those of its minute as at the front
-picked : (t u : Train) (us : List Train) (b d : Bool) → (b ≡ true → d ≡ true → ⊥) → cond b (u ∷ cond d (t ∷ us) us) (cond d (t ∷ us) us) ≡ cond d (t ∷ cond b (u ∷ us) us) (cond b (u ∷ us) us)
+picked : (t u : Train) (us : List Train) (b d : Bool) → (b ≡ true → d ≡ true → ⊥)
+    → cond b (u ∷ cond d (t ∷ us) us) (cond d (t ∷ us) us) ≡ cond d (t ∷ cond b (u ∷ us) us) (cond b (u ∷ us) us)
 picked t u us true true ne = absurd (ne refl refl)
 picked t u us true false ne = refl
 picked t u us false true ne = refl
 picked t u us false false ne = refl
 
-swapped : (t u : Train) (m : ℕ) (us : List Train) → u.minute < t.minute → cond (u.minute == m) (u ∷ cond (t.minute == m) (t ∷ us) us) (cond (t.minute == m) (t ∷ us) us) ≡ cond (t.minute == m) (t ∷ cond (u.minute == m) (u ∷ us) us) (cond (u.minute == m) (u ∷ us) us)
+swapped : (t u : Train) (m : ℕ) (us : List Train) → u.minute < t.minute → cond (u.minute == m) (u ∷ cond (t.minute == m) (t ∷ us) us) (cond (t.minute == m) (t ∷ us) us)
+    ≡ cond (t.minute == m) (t ∷ cond (u.minute == m) (u ∷ us) us) (cond (u.minute == m) (u ∷ us) us)
 swapped t u m us lt = picked t u us (u.minute == m) (t.minute == m) (λ is also. omega (arith, eqb-true u.minute m is, eqb-true t.minute m also))
 
 insert_keeps : (m : ℕ) (t : Train) (us : List Train) → filter (at_minute m) (insert_by_minute t us) ≡ filter (at_minute m) (t ∷ us)
 insert_keeps m t [] = refl
 insert_keeps m t (u ∷ us) = elim (cases_Bool (nat_le t.minute u.minute)) [
   | inl is ↦ ap (filter (at_minute m)) (cond-true (nat_le t.minute u.minute) (t ∷ u ∷ us) (u ∷ insert_by_minute t us) is)
-  | inr apart ↦ ap (filter (at_minute m)) (cond-false (nat_le t.minute u.minute) (t ∷ u ∷ us) (u ∷ insert_by_minute t us) apart) ∙ ap (λ (r : List Train). cond (u.minute == m) (u ∷ r) r) (insert_keeps m t us) ∙ swapped t u m (filter (at_minute m) us) (leb-false t.minute u.minute apart)
+  | inr apart ↦ ap (filter (at_minute m)) (cond-false (nat_le t.minute u.minute) (t ∷ u ∷ us) (u ∷ insert_by_minute t us) apart)
+      ∙ ap (λ (r : List Train). cond (u.minute == m) (u ∷ r) r) (insert_keeps m t us) ∙ swapped t u m (filter (at_minute m) us) (leb-false t.minute u.minute apart)
 ]
 
 pub sort_keeps : (m : ℕ) (ts : List Train) → filter (at_minute m) (sort_by_minute ts) ≡ filter (at_minute m) ts
@@ -127,8 +136,10 @@ from_here m n (t ∷ ts) le h = (omega (arith, h.0), from_here m n ts le h.1)
 insert_rises : (t : Train) (us : List Train) → Rises us → Rises (insert_by_minute t us)
 insert_rises t [] h = (tt, tt)
 insert_rises t (u ∷ us) h = elim (cases_Bool (nat_le t.minute u.minute)) [
-  | inl is ↦ let le = leb-true t.minute u.minute is in subst Rises (sym (cond-true (nat_le t.minute u.minute) (t ∷ u ∷ us) (u ∷ insert_by_minute t us) is)) ((le, from_here t.minute u.minute us le h.0), h)
-  | inr apart ↦ let lt = leb-false t.minute u.minute apart in subst Rises (sym (cond-false (nat_le t.minute u.minute) (t ∷ u ∷ us) (u ∷ insert_by_minute t us) apart)) (insert_all (λ v. u.minute ≤ v.minute) t us (omega arith) h.0, insert_rises t us h.1)
+  | inl is ↦ let le = leb-true t.minute u.minute is in subst Rises (sym (cond-true (nat_le t.minute u.minute) (t ∷ u ∷ us) (u ∷ insert_by_minute t us) is))
+      ((le, from_here t.minute u.minute us le h.0), h)
+  | inr apart ↦ let lt = leb-false t.minute u.minute apart in subst Rises (sym (cond-false (nat_le t.minute u.minute) (t ∷ u ∷ us) (u ∷ insert_by_minute t us) apart))
+      (insert_all (λ v. u.minute ≤ v.minute) t us (omega arith) h.0, insert_rises t us h.1)
 ]
 
 pub sort_rises : (ts : List Train) → Rises (sort_by_minute ts)
@@ -166,7 +177,8 @@ mark m = record { name = []; minute = m; origin = origin.Platform (record { 0 = 
 
 -- whatever sorts by minute and keeps the order of those that tie gives this list
 pub stable_sort : (ts us : List Train) → IsNonDecreasingBy (λ t. t.minute) us → IsStableByKey (λ t. t.minute) nat_cmp ts us → us ≡ sort_by_minute ts
-stable_sort ts us rises stable = one_order us (sort_by_minute ts) (rises_from us rises) (sort_rises ts) (λ m. sym (agree m us) ∙ stable (mark m) ∙ agree m ts ∙ sym (sort_keeps m ts))
+stable_sort ts us rises stable = one_order us (sort_by_minute ts) (rises_from us rises) (sort_rises ts)
+    (λ m. sym (agree m us) ∙ stable (mark m) ∙ agree m ts ∙ sym (sort_keeps m ts))
   where
     agree : (m : ℕ) (vs : List Train) → filter (ties (λ a b. is_lt (nat_cmp a.minute b.minute)) (mark m)) vs ≡ filter (at_minute m) vs
     agree m vs = filter_agree (ties (λ a b. is_lt (nat_cmp a.minute b.minute)) (mark m)) (at_minute m) (λ t. numbers_tie m t.minute) vs
@@ -176,15 +188,19 @@ insert_moves : (t : Train) (us : List Train) → IsPermutation (t ∷ us) (inser
 insert_moves t [] = IsPermutation-refl (t ∷ [])
 insert_moves t (u ∷ us) = elim (cases_Bool (nat_le t.minute u.minute)) [
   | inl is ↦ subst (IsPermutation (t ∷ u ∷ us)) (sym (cond-true (nat_le t.minute u.minute) (t ∷ u ∷ us) (u ∷ insert_by_minute t us) is)) (IsPermutation-refl (t ∷ u ∷ us))
-  | inr apart ↦ subst (IsPermutation (t ∷ u ∷ us)) (sym (cond-false (nat_le t.minute u.minute) (t ∷ u ∷ us) (u ∷ insert_by_minute t us) apart)) (IsPermutation-trans (t ∷ u ∷ us) (u ∷ t ∷ us) (u ∷ insert_by_minute t us) (IsPermutation-sym (u ∷ t ∷ us) (t ∷ u ∷ us) (IsPermutation-middle (u ∷ []) t us)) (IsPermutation-cons u (t ∷ us) (insert_by_minute t us) (insert_moves t us)))
+  | inr apart ↦ subst (IsPermutation (t ∷ u ∷ us)) (sym (cond-false (nat_le t.minute u.minute) (t ∷ u ∷ us) (u ∷ insert_by_minute t us) apart))
+      (IsPermutation-trans (t ∷ u ∷ us) (u ∷ t ∷ us) (u ∷ insert_by_minute t us) (IsPermutation-sym (u ∷ t ∷ us) (t ∷ u ∷ us) (IsPermutation-middle (u ∷ []) t us))
+      (IsPermutation-cons u (t ∷ us) (insert_by_minute t us) (insert_moves t us)))
 ]
 
 pub sort_moves : (ts : List Train) → IsPermutation ts (sort_by_minute ts)
 sort_moves [] = IsPermutation-refl []
-sort_moves (t ∷ ts) = IsPermutation-trans (t ∷ ts) (t ∷ sort_by_minute ts) (insert_by_minute t (sort_by_minute ts)) (IsPermutation-cons t ts (sort_by_minute ts) (sort_moves ts)) (insert_moves t (sort_by_minute ts))
+sort_moves (t ∷ ts) = IsPermutation-trans (t ∷ ts) (t ∷ sort_by_minute ts) (insert_by_minute t (sort_by_minute ts)) (IsPermutation-cons t ts (sort_by_minute ts) (sort_moves ts))
+    (insert_moves t (sort_by_minute ts))
 
 names_stay : (xs ys : List (List ℕ)) → IsPermutation xs ys → AreDistinct xs → AreDistinct ys
-names_stay xs ys moves h = AllPairs-from_IsDistinct bytes_eq-Decides ys (IsDistinct-IsPermutation bytes_eq nat_list_eq_equiv.symm xs ys moves (IsDistinct-from_AllPairs bytes_eq-Decides xs h))
+names_stay xs ys moves h = AllPairs-from_IsDistinct bytes_eq-Decides ys (IsDistinct-IsPermutation bytes_eq nat_list_eq_equiv.symm xs ys moves
+    (IsDistinct-from_AllPairs bytes_eq-Decides xs h))
 
 -- trains in another order are within the limits too
 pub trains_stay : (s : Station) (ts us : List Train) → IsPermutation ts us → AreTrains s ts → AreTrains s us
@@ -217,8 +233,12 @@ is_moving t = not (is_standing t)
 -- a list of standing trains and then of others has the standing ones first
 parts : (ss ts : List Train) → All (λ t. is_standing t ≡ true) ss → All (λ t. is_moving t ≡ true) ts → StandingFirst (ss ++ ts)
 parts ss ts p q =
-    let standing : filter is_standing (ss ++ ts) ≡ ss = filter-append is_standing ss ts ∙ ap (λ (r : List Train). r ++ filter is_standing ts) (all_pass is_standing ss (recursion_from_All _ ss p)) ∙ ap (λ (r : List Train). ss ++ r) (none_pass is_standing ts (recursion_from_All _ ts (λ k d lt. not-true (is_standing (get_or ts k d)) (q k d lt)))) ∙ append-nil ss in
-    let moving : filter is_moving (ss ++ ts) ≡ ts = filter-append is_moving ss ts ∙ ap (λ (r : List Train). r ++ filter is_moving ts) (none_pass is_moving ss (recursion_from_All _ ss (λ k d lt. not_from_true (is_standing (get_or ss k d)) (p k d lt)))) ∙ all_pass is_moving ts (recursion_from_All _ ts q) in
+    let standing : filter is_standing (ss ++ ts) ≡ ss = filter-append is_standing ss ts
+    ∙ ap (λ (r : List Train). r ++ filter is_standing ts) (all_pass is_standing ss (recursion_from_All _ ss p))
+    ∙ ap (λ (r : List Train). ss ++ r) (none_pass is_standing ts (recursion_from_All _ ts (λ k d lt. not-true (is_standing (get_or ts k d)) (q k d lt)))) ∙ append-nil ss in
+    let moving : filter is_moving (ss ++ ts) ≡ ts = filter-append is_moving ss ts
+    ∙ ap (λ (r : List Train). r ++ filter is_moving ts) (none_pass is_moving ss (recursion_from_All _ ss (λ k d lt. not_from_true (is_standing (get_or ss k d)) (p k d lt))))
+    ∙ all_pass is_moving ts (recursion_from_All _ ts q) in
     sym (ap (λ (r : List Train). r ++ filter is_moving (ss ++ ts)) standing ∙ ap (λ (r : List Train). ss ++ r) moving)
 
 -- standing trains stay in front
@@ -227,7 +247,9 @@ standing_stay ts first start =
     let ss = filter is_standing ts in
     let ms = filter is_moving ts in
     let zero' : All (λ t. t.minute ≡ 0) ss = λ k d lt. All-filter is_standing (λ t. IsTrue (is_standing t) → t.minute ≡ 0) ts start k d lt (filter_passes is_standing ts k d lt) in
-    subst StandingFirst (sym (ap sort_by_minute first ∙ front_stays ss ms (recursion_from_All _ ss zero'))) (parts ss (sort_by_minute ms) (filter_passes is_standing ts) (All-permutation (λ t. is_moving t ≡ true) ms (sort_by_minute ms) (sort_moves ms) (filter_passes is_moving ts)))
+    subst StandingFirst (sym (ap sort_by_minute first ∙ front_stays ss ms (recursion_from_All _ ss zero')))
+    (parts ss (sort_by_minute ms) (filter_passes is_standing ts) (All-permutation (λ t. is_moving t ≡ true) ms (sort_by_minute ms) (sort_moves ms)
+    (filter_passes is_moving ts)))
 
 -- what a well-formed station and timetable make is an instance
 pub night_is : (s : Station) (t : Timetable) → IsStation s → IsTimetable s t → IsOrderedNight (night_of s t)
@@ -255,7 +277,8 @@ night_alike : (s : Station) (a b c d : List Train) → a ≡ c → b ≡ d → n
 night_alike s a b c d e f = cc
 
 pub night_again : (night : Night) → IsOrderedNight night → night ≡ night_of night.station (record { arrive = night.arrive; depart = night.depart })
-night_again night h = night_alike night.station night.arrive night.depart (sort_by_minute night.arrive) (sort_by_minute night.depart) (sorted_again night.arrive h.arrive_rises) (sorted_again night.depart h.depart_rises)
+night_again night h = night_alike night.station night.arrive night.depart (sort_by_minute night.arrive) (sort_by_minute night.depart) (sorted_again night.arrive h.arrive_rises)
+    (sorted_again night.depart h.depart_rises)
 
 -- an instance is such a night
 pub opened : (night : Night) → IsInstance night → IsOrderedNight night

@@ -50,10 +50,13 @@ module _ (x : Replayable) (start end : Bench) (is : start ≡ bench_of x) (done 
     findings = findings;
     told = subst (λ night. AreFindings night (last_of x).blocks findings) end_night (subst (λ (l : List Block). AreFindings end.night l findings) blocks_are found);
     outcome = ended;
-    writes = one ∙ ap (λ b. (file, b) ∷ []) (written ∙ ap (λ (p : Plan). text_of_rows (rows_of x.night p)) (same_plan last.blocks (last_of x).blocks last.cost (total_cost x.night (last_of x).blocks) (blocks ∙ blocks_are) (cost ∙ cost_is)));
-    text = joined ∙ ap (λ l. l ++ told) (from ∙ ap (λ (b : Bench). lines_from 1 b x.turns) is) ∙ ap (λ t. replay_lines x ++ t) (text ∙ ap (findings_of x.night findings) (cost ∙ cost_is));
+    writes = one ∙ ap (λ b. (file, b) ∷ []) (written ∙ ap (λ (p : Plan). text_of_rows (rows_of x.night p))
+        (same_plan last.blocks (last_of x).blocks last.cost (total_cost x.night (last_of x).blocks) (blocks ∙ blocks_are) (cost ∙ cost_is)));
+    text = joined ∙ ap (λ l. l ++ told) (from ∙ ap (λ (b : Bench). lines_from 1 b x.turns) is)
+        ∙ ap (λ t. replay_lines x ++ t) (text ∙ ap (findings_of x.night findings) (cost ∙ cost_is));
   }
 
 -- the same turns, as a slice has them
-pub with_turns : (file : List ℕ) (night : Night) (plan : Plan) (ts us : List Turn) (r : Reply) → ts ≡ us → IsReplayed file (record { night = night; plan = plan; turns = ts }) r → IsReplayed file (record { night = night; plan = plan; turns = us }) r
+pub with_turns : (file : List ℕ) (night : Night) (plan : Plan) (ts us : List Turn) (r : Reply) → ts ≡ us → IsReplayed file (record { night = night; plan = plan; turns = ts }) r
+    → IsReplayed file (record { night = night; plan = plan; turns = us }) r
 with_turns file night plan ts us r same h = subst (λ (x : List Turn). IsReplayed file (record { night = night; plan = plan; turns = x }) r) same h

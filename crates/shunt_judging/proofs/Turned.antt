@@ -66,7 +66,9 @@ pub tally_total : (night : Night) (blocks : List Block) → sum_of (tally_of nig
 unfolding tally_of
 tally_total night blocks = all_kinds night blocks (findings_in night blocks) (λ f. (exactly night blocks f).0)
 
-pub line_is : {A E : Type 0} (r : Result (Vec ℕ A) E) (number : ℕ) (ended : Outcome) (total : ℕ) (tally : Tally) (night : Night) (blocks : List Block) → tally ≡ tally_of night blocks → total ≡ sum_of tally → IfOk r (λ v. v.items ≡ turn_line number ended total tally.cost) → IfOk r (λ v. v.items ≡ line_with number ended night blocks)
+pub line_is : {A E : Type 0} (r : Result (Vec ℕ A) E) (number : ℕ) (ended : Outcome) (total : ℕ) (tally : Tally) (night : Night) (blocks : List Block)
+    → tally ≡ tally_of night blocks → total ≡ sum_of tally → IfOk r (λ v. v.items ≡ turn_line number ended total tally.cost)
+    → IfOk r (λ v. v.items ≡ line_with number ended night blocks)
 unfolding tally_of
 line_is r number ended total tally night blocks is sum h =
     subst (λ n. IfOk r (λ v. v.items ≡ turn_line number ended n (total_cost night blocks))) (sum ∙ ap sum_of is ∙ tally_total night blocks)

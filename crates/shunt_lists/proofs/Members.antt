@@ -66,7 +66,8 @@ in_flat {X} {Y} f (z ∷ xs) x y (inr h) i = subst (λ (l : List Y). In y l) (sy
 pub of_flat : {X Y : Type 0} (f : X → List Y) (xs : List X) (y : Y) → In y (flat_map f xs) → (x : X) × In x xs × In y (f x)
 of_flat f [] y h = absurd h
 of_flat {X} {Y} f (x ∷ xs) y h =
-    ⊎_elim (λ i. (x, inl refl, i)) (λ i. let r = of_flat f xs y i in (r.0, inr r.1, r.2)) (in_cases (f x) (flat_map f xs) y (subst (λ (l : List Y). In y l) (flat_map-cons f x xs) h))
+    ⊎_elim (λ i. (x, inl refl, i)) (λ i. let r = of_flat f xs y i in (r.0, inr r.1, r.2))
+    (in_cases (f x) (flat_map f xs) y (subst (λ (l : List Y). In y l) (flat_map-cons f x xs) h))
 
 -- the first is kept, or it isn't
 pub filter_yes : {X : Type 0} (p : X → Bool) (x : X) (xs : List X) → p x ≡ true → filter p (x ∷ xs) ≡ x ∷ filter p xs
@@ -103,7 +104,8 @@ Distinct (x ∷ xs) = (In x xs → ⊥) × Distinct xs
 pub distinct_filter : {X : Type 0} (p : X → Bool) (xs : List X) → Distinct xs → Distinct (filter p xs)
 distinct_filter p [] d = tt
 distinct_filter p (x ∷ xs) d =
-    ⊎_elim (λ t. subst Distinct (sym (filter_yes p x xs t)) (λ h. d.0 (filter_from p xs x h).0, distinct_filter p xs d.1)) (λ t. subst Distinct (sym (filter_no p x xs t)) (distinct_filter p xs d.1)) (cases_Bool (p x))
+    ⊎_elim (λ t. subst Distinct (sym (filter_yes p x xs t)) (λ h. d.0 (filter_from p xs x h).0, distinct_filter p xs d.1))
+    (λ t. subst Distinct (sym (filter_no p x xs t)) (distinct_filter p xs d.1)) (cases_Bool (p x))
 
 pub of_one : {X : Type 0} (x y : X) → In y (x ∷ []) → y ≡ x
 of_one x y (inl e) = e

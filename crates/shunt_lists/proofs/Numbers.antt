@@ -32,7 +32,8 @@ length-passing (suc n) p = omega (arith, ap length (passing_more n p), length-ap
 pub get_or-passing : (n : ℕ) (p : ℕ → Bool) (i d : ℕ) → i < n → p i ≡ true → get_or (passing n p) (count_below i p) d ≡ i
 get_or-passing zero p i d lt e = absurd (omega arith)
 get_or-passing (suc n) p i d lt e =
-    let longer : get_or (passing (suc n) p) (count_below i p) d ≡ get_or (passing n p ++ cond (p n) (n ∷ []) []) (count_below i p) d = ap (λ ns. get_or ns (count_below i p) d) (passing_more n p) in
+    let longer : get_or (passing (suc n) p) (count_below i p) d ≡ get_or (passing n p ++ cond (p n) (n ∷ []) []) (count_below i p) d = ap (λ ns. get_or ns (count_below i p) d)
+    (passing_more n p) in
     ⊎_elim
     (λ less.
     longer

@@ -34,8 +34,10 @@ to_middle front back x y h = ⊎_elim (λ l. in_left front (x ∷ back) y l) (λ
 distinct_middle : {X : Type 0} (front back : List X) (x : X) → Distinct (front ++ x ∷ back) → (In x (front ++ back) → ⊥) × Distinct (front ++ back)
 distinct_middle [] back x d = d
 distinct_middle {X} (y ∷ front) back x d =
-    let rest = distinct_middle front back x d.1 in
-    (λ h. ⊎_elim (λ e. d.0 (subst (λ (z : X). In z (front ++ x ∷ back)) e (in_right front (x ∷ back) x (inl refl)))) (λ i. rest.0 i) h, (λ h. d.0 (to_middle front back x y h), rest.1))
+    let rest = distinct_middle front back x d.1 in (
+      λ h. ⊎_elim (λ e. d.0 (subst (λ (z : X). In z (front ++ x ∷ back)) e (in_right front (x ∷ back) x (inl refl)))) (λ i. rest.0 i) h,
+      (λ h. d.0 (to_middle front back x y h), rest.1),
+    )
 
 -- xs has the members of ys that pass
 abbrev pub SameMembers : {X : Type 0} → (X → Bool) → List X → List X → Type 0
@@ -85,7 +87,8 @@ sum_within {X} f p (y ∷ ys) xs d h = ⊎_elim (yes (λ zs k. sum_within f p ys
     yes : ((zs : List X) → ((x : X) → In x ys → p x ≡ true → In x zs) → sum_by (some_of f p) ys ≤ sum_by f zs) → p y ≡ true → sum_by (some_of f p) (y ∷ ys) ≤ sum_by f xs
     yes known t =
         let q = parts y xs (h y (inl refl) t) in
-        let rest = known (q.front ++ q.back) (λ x i u. ⊎_elim (λ e. absurd (d.0 (subst (λ (z : X). In z ys) e i))) (λ k. k) (in_middle q.front q.back y x (subst (In x) q.is (h x (inr i) u)))) in
+        let rest = known (q.front ++ q.back) (λ x i u. ⊎_elim (λ e. absurd (d.0 (subst (λ (z : X). In z ys) e i))) (λ k. k)
+        (in_middle q.front q.back y x (subst (In x) q.is (h x (inr i) u)))) in
         let all : sum_by f xs ≡ f y + sum_by f (q.front ++ q.back) = ap (sum_by f) q.is ∙ sum_middle f q.front q.back y in
         let first : some_of f p y ≡ f y = ap (λ b. cond b (f y) 0) t in
         omega (arith, sum_by-cons (some_of f p) y ys)
@@ -98,8 +101,10 @@ sum_within {X} f p (y ∷ ys) xs d h = ⊎_elim (yes (λ zs k. sum_within f p ys
 pub sum_filter : {X : Type 0} (f : X → ℕ) (p : X → Bool) (xs : List X) → sum_by f (filter p xs) ≡ sum_by (some_of f p) xs
 sum_filter f p [] = refl
 sum_filter f p (x ∷ xs) =
-    ⊎_elim (λ t. let e : some_of f p x ≡ f x = ap (λ b. cond b (f x) 0) t in let g = ap (sum_by f) (filter_yes p x xs t) in let r = sum_filter f p xs in omega (arith, sum_by-cons f x (filter p xs), sum_by-cons (some_of f p) x xs))
-    (λ t. let e : some_of f p x ≡ 0 = ap (λ b. cond b (f x) 0) t in let g = ap (sum_by f) (filter_no p x xs t) in let r = sum_filter f p xs in omega (arith, sum_by-cons (some_of f p) x xs))
+    ⊎_elim (λ t. let e : some_of f p x ≡ f x = ap (λ b. cond b (f x) 0) t in let g = ap (sum_by f) (filter_yes p x xs t) in let r = sum_filter f p xs in omega
+    (arith, sum_by-cons f x (filter p xs), sum_by-cons (some_of f p) x xs))
+    (λ t. let e : some_of f p x ≡ 0 = ap (λ b. cond b (f x) 0) t in let g = ap (sum_by f) (filter_no p x xs t) in let r = sum_filter f p xs in omega
+    (arith, sum_by-cons (some_of f p) x xs))
     (cases_Bool (p x))
 
 pub filter_least : {X : Type 0} (f : X → ℕ) (p : X → Bool) (xs : List X) → sum_by f (filter p xs) ≤ sum_by f xs

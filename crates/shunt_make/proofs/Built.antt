@@ -28,29 +28,57 @@ use Rattle.shunt_make.proofs.Sized.{taken, made_tracks, made_arrive, made_depart
 pub few_tracks : (x units : ℕ) (tracks : List Track) → units ≤ 160 → tracks ≡ tracks_of x units → length tracks ≤ 60
 few_tracks x units tracks few is = omega (arith, ap length is, tracks_few x units few)
 
-same_station : (name name' : List ℕ) (types types' : List UnitType) (platforms platforms' : List (List ℕ)) (tracks tracks' : List Track) (routes routes' : List Route) (permits permits' : List Permit) (split couple unparked : ℕ)
+same_station : (name name' : List ℕ) (types types' : List UnitType) (platforms platforms' : List (List ℕ)) (tracks tracks' : List Track) (routes routes' : List Route)
+    (permits permits' : List Permit) (split couple unparked : ℕ)
     → name ≡ name' → types ≡ types' → platforms ≡ platforms' → tracks ≡ tracks' → routes ≡ routes' → permits ≡ permits'
-    → (let s : Station = record { name = name; types = types; platforms = platforms; tracks = tracks; routes = routes; permits = permits; split = split; couple = couple; unparked = unparked } in
-    let t : Station = record { name = name'; types = types'; platforms = platforms'; tracks = tracks'; routes = routes'; permits = permits'; split = split; couple = couple; unparked = unparked } in
+    → (let s : Station = record {
+      name = name;
+      types = types;
+      platforms = platforms;
+      tracks = tracks;
+      routes = routes;
+      permits = permits;
+      split = split;
+      couple = couple;
+      unparked =
+          unparked;
+    } in
+    let t : Station = record {
+      name = name';
+      types = types';
+      platforms = platforms';
+      tracks = tracks';
+      routes = routes';
+      permits = permits';
+      split = split;
+      couple = couple;
+      unparked = unparked;
+    } in
     s ≡ t)
 same_station name name' types types' platforms platforms' tracks tracks' routes routes' permits permits' split couple unparked a b c d e f = cc
 
-pub station_is : (x units y : ℕ) (name : List ℕ) (types : List UnitType) (platforms : List (List ℕ)) (tracks seen : List Track) (ways : List Way) (routes : List Route) (permits : List Permit)
-    → name ≡ codes "G" → types ≡ unit_types → platforms ≡ platform_names → tracks ≡ tracks_of x units → seen ≡ tracks_of x units → y ≡ after x (track_count units) → ways ≡ ways_of seen → routes ≡ drawn_for route_of y ways → permits ≡ []
-    → (let s : Station = record { name = name; types = types; platforms = platforms; tracks = tracks; routes = routes; permits = permits; split = 10; couple = 10; unparked = 500 } in s ≡ station_of x units)
+pub station_is : (x units y : ℕ) (name : List ℕ) (types : List UnitType) (platforms : List (List ℕ)) (tracks seen : List Track) (ways : List Way) (routes : List Route)
+    (permits : List Permit)
+    → name ≡ codes "G" → types ≡ unit_types → platforms ≡ platform_names → tracks ≡ tracks_of x units → seen ≡ tracks_of x units → y ≡ after x (track_count units)
+    → ways ≡ ways_of seen → routes ≡ drawn_for route_of y ways → permits ≡ []
+    → (let s : Station = record { name = name; types = types; platforms = platforms; tracks = tracks; routes = routes; permits = permits; split = 10; couple = 10; unparked = 500 }
+    in s ≡ station_of x units)
 unfolding station_of
 station_is x units y name types platforms tracks seen ways routes permits named typed stand long see state go routed none =
-    same_station name (codes "G") types unit_types platforms platform_names tracks (tracks_of x units) routes (drawn_for route_of (after x (track_count units)) (ways_of (tracks_of x units))) permits [] 10 10 500 named typed stand long
+    same_station name (codes "G") types unit_types platforms platform_names tracks (tracks_of x units) routes
+    (drawn_for route_of (after x (track_count units)) (ways_of (tracks_of x units))) permits [] 10 10 500 named typed stand long
     (routed ∙ ap (λ (z : ℕ). drawn_for route_of z ways) state ∙ ap (drawn_for route_of (after x (track_count units))) (go ∙ ap ways_of see)) none
 
-pub station_state : (x units y z : ℕ) (seen : List Track) (ways : List Way) → seen ≡ tracks_of x units → y ≡ after x (track_count units) → ways ≡ ways_of seen → z ≡ after y (length ways) → z ≡ after_station x units
+pub station_state : (x units y z : ℕ) (seen : List Track) (ways : List Way) → seen ≡ tracks_of x units → y ≡ after x (track_count units) → ways ≡ ways_of seen
+    → z ≡ after y (length ways) → z ≡ after_station x units
 unfolding after_station
 station_state x units y z seen ways see state go now =
     now ∙ ap (λ (w : ℕ). after w (length ways)) state ∙ ap (λ (l : List Way). after (after x (track_count units)) (length l)) (go ∙ ap ways_of see)
 
 -- ---- the trains
 
-pub arriving_turn : (x units i y : ℕ) (xs ys : List Train) (t : Train) → i < train_count units → xs ≡ map (arriving_of x units) (range_with_len 0 i) → y ≡ after x (min (2 * i) units) → ((z : ℕ) → y ≡ after z (2 * i) → t ≡ arriving_of z units i) → ys ≡ xs ++ t ∷ [] → ys ≡ map (arriving_of x units) (range_with_len 0 (i + 1))
+pub arriving_turn : (x units i y : ℕ) (xs ys : List Train) (t : Train) → i < train_count units → xs ≡ map (arriving_of x units) (range_with_len 0 i)
+    → y ≡ after x (min (2 * i) units) → ((z : ℕ) → y ≡ after z (2 * i) → t ≡ arriving_of z units i) → ys ≡ xs ++ t ∷ [] → ys ≡ map (arriving_of x units) (range_with_len 0 (i + 1))
 arriving_turn x units i y xs ys t lt made state one pushed =
     let all : min (2 * i) units ≡ 2 * i = omega arith in
     pushed
@@ -74,7 +102,8 @@ unfolding departing
 none_departing x [] xs none is = is
 none_departing x (t ∷ ts) xs none is = absurd (omega arith)
 
-pub departing_end : (x count shift y : ℕ) (arrive xs : List Train) → count ≡ length arrive → y ≡ next x → shift ≡ drawn y count → xs ≡ drawn_for (departing_of arrive shift) y (range_with_len 0 (length arrive)) → xs ≡ departing x arrive
+pub departing_end : (x count shift y : ℕ) (arrive xs : List Train) → count ≡ length arrive → y ≡ next x → shift ≡ drawn y count
+    → xs ≡ drawn_for (departing_of arrive shift) y (range_with_len 0 (length arrive)) → xs ≡ departing x arrive
 departing_end x count shift y arrive xs long state drew made =
     made
     ∙ ap (λ (s : ℕ). drawn_for (departing_of arrive s) y (range_with_len 0 (length arrive))) (drew ∙ ap (λ (n : ℕ). drawn y n) long)
@@ -96,10 +125,12 @@ timetable_is x units y arrive seen depart is see state made =
 
 -- ---- the night
 
-pub night_made : (number units : ℕ) (s : Station) (t : Timetable) → units ≤ 160 → s ≡ station_of number units → t ≡ timetable_of (after_station number units) units → IsStation s × IsTimetable s t × HasMatching (night_of s t) [] []
+pub night_made : (number units : ℕ) (s : Station) (t : Timetable) → units ≤ 160 → s ≡ station_of number units → t ≡ timetable_of (after_station number units) units
+    → IsStation s × IsTimetable s t × HasMatching (night_of s t) [] []
 night_made number units s t few is made = (
   subst IsStation (sym is) (station_formed number units few),
-  subst (λ (u : Station). IsTimetable u t) (sym is) (subst (λ (v : Timetable). IsTimetable (station_of number units) v) (sym made) (made_formed number (after_station number units) units few)),
+  subst (λ (u : Station). IsTimetable u t) (sym is) (subst (λ (v : Timetable). IsTimetable (station_of number units) v) (sym made)
+      (made_formed number (after_station number units) units few)),
   subst (λ (u : Station). HasMatching (night_of u t) [] []) (sym is)
       (subst (λ (v : Timetable). HasMatching (night_of (station_of number units) v) [] []) (sym made) (made_matched number (after_station number units) units few)),
 )

@@ -121,7 +121,8 @@ module _ (value : List TypeId → ℕ) (either_way : (kinds : List TypeId) → v
   pub same_sums : (x : ℕ) (arrive : List Train) → sum_by (λ (t : Train). value t.units) (departing x arrive) ≡ sum_by (λ (t : Train). value t.units) arrive
   same_sums x arrive =
       ap (sum_by (λ (t : Train). value t.units)) (departing_is x arrive)
-      ∙ sum_drawn (departing_of arrive (drawn (next x) (length arrive))) (λ (t : Train). value t.units) (λ i. value (train_at arrive ((i + drawn (next x) (length arrive)) % length arrive)).units)
+      ∙ sum_drawn (departing_of arrive (drawn (next x) (length arrive))) (λ (t : Train). value t.units)
+      (λ i. value (train_at arrive ((i + drawn (next x) (length arrive)) % length arrive)).units)
       (λ i y. turned_same y (train_at arrive ((i + drawn (next x) (length arrive)) % length arrive)).units) (next x) (length arrive)
       ∙ round (length arrive) (λ k. value (train_at arrive k).units) (drawn (next x) (length arrive))
       ∙ sym (sum_at (λ (t : Train). value t.units) arrive)

@@ -26,20 +26,25 @@ pub drawn_below : (x n : ℕ) → 0 < n → drawn x n < n
 unfolding drawn
 drawn_below x n some = mod_below (x / 65536) n some
 
-a_type : (name : List ℕ) (long turn : ℕ) → is_name_text name ≡ true → 1 ≤ long → long ≤ 5000 → 1 ≤ turn → turn ≤ 1440 → IsUnitType (record { name = name; length = long; turn = turn })
+a_type : (name : List ℕ) (long turn : ℕ) → is_name_text name ≡ true → 1 ≤ long → long ≤ 5000 → 1 ≤ turn → turn ≤ 1440
+    → IsUnitType (record { name = name; length = long; turn = turn })
 a_type name long turn is some le turns few = record { name = name_from name is; some = some; long = le; turns = turns; turn = few }
 
 types_formed : All IsUnitType unit_types
 types_formed =
-    All-cons IsUnitType (record { name = codes "K"; length = 250; turn = 10 }) (record { name = codes "L"; length = 500; turn = 20 } ∷ record { name = codes "M"; length = 750; turn = 30 } ∷ []) (a_type (codes "K") 250 10 refl (omega arith) (omega arith) (omega arith) (omega arith))
-    (All-cons IsUnitType (record { name = codes "L"; length = 500; turn = 20 }) (record { name = codes "M"; length = 750; turn = 30 } ∷ []) (a_type (codes "L") 500 20 refl (omega arith) (omega arith) (omega arith) (omega arith))
-    (All-cons IsUnitType (record { name = codes "M"; length = 750; turn = 30 }) [] (a_type (codes "M") 750 30 refl (omega arith) (omega arith) (omega arith) (omega arith)) (All-nil IsUnitType)))
+    All-cons IsUnitType (record { name = codes "K"; length = 250; turn = 10 }) (record { name = codes "L"; length = 500; turn = 20 } ∷
+    record { name = codes "M"; length = 750; turn = 30 } ∷ []) (a_type (codes "K") 250 10 refl (omega arith) (omega arith) (omega arith) (omega arith))
+    (All-cons IsUnitType (record { name = codes "L"; length = 500; turn = 20 }) (record { name = codes "M"; length = 750; turn = 30 } ∷ [])
+    (a_type (codes "L") 500 20 refl (omega arith) (omega arith) (omega arith) (omega arith))
+    (All-cons IsUnitType (record { name = codes "M"; length = 750; turn = 30 }) [] (a_type (codes "M") 750 30 refl (omega arith) (omega arith) (omega arith) (omega arith))
+    (All-nil IsUnitType)))
 
 types_differ : AreDistinct (map (λ (t : UnitType). t.name) unit_types)
 types_differ = distinct_over (λ (i : ℕ). (75 + i) ∷ []) 0 3 (λ i j lt small e. omega (arith, ap (λ (l : List ℕ). get_or l 0 0) e))
 
 platforms_formed : All IsName platform_names
-platforms_formed = All-cons IsName (numbered 80 1) (numbered 80 2 ∷ []) (named 80 1 refl (omega arith)) (All-cons IsName (numbered 80 2) [] (named 80 2 refl (omega arith)) (All-nil IsName))
+platforms_formed = All-cons IsName (numbered 80 1) (numbered 80 2 ∷ []) (named 80 1 refl (omega arith))
+    (All-cons IsName (numbered 80 2) [] (named 80 2 refl (omega arith)) (All-nil IsName))
 
 platforms_differ : AreDistinct platform_names
 platforms_differ = distinct_over (numbered 80) 1 2 (λ i j lt small e. apart 80 i j lt (omega arith) e)
@@ -62,7 +67,8 @@ a_track k x small = let below = drawn_below x 5 (omega arith) in record {
 
 tracks_formed : (x units : ℕ) → units ≤ 160 → All IsTrack (tracks_of x units)
 tracks_formed x units few =
-    drawn_all track_of (λ k. (1 ≤ k) × (k < 1 + track_count units)) IsTrack (λ k y q. a_track k y (omega (arith, q.1, few))) x (range_with_len 1 (track_count units)) (range_in 1 (track_count units))
+    drawn_all track_of (λ k. (1 ≤ k) × (k < 1 + track_count units)) IsTrack (λ k y q. a_track k y (omega (arith, q.1, few))) x (range_with_len 1 (track_count units))
+    (range_in 1 (track_count units))
 
 tracks_differ : (x units : ℕ) → units ≤ 160 → AreDistinct (map (λ (t : Track). t.name) (tracks_of x units))
 tracks_differ x units few =

@@ -31,16 +31,22 @@ and_false true b e = e
 and_false false b e = refl
 
 -- where each type has as many units as positions, and all units are ready before any position leaves, the counts allow a matching
-in_time : (us vs : List Entry) (noon : ℕ) → ((kind : ℕ) → count_of_kind us [] kind ≡ count_of_kind vs [] kind) → ((i : ℕ) → i < length us → (entry_at us i).minute ≤ noon) → ((i : ℕ) → i < length vs → noon ≤ (entry_at vs i).minute) → IsBalanced us vs [] []
+in_time : (us vs : List Entry) (noon : ℕ) → ((kind : ℕ) → count_of_kind us [] kind ≡ count_of_kind vs [] kind) → ((i : ℕ) → i < length us → (entry_at us i).minute ≤ noon)
+    → ((i : ℕ) → i < length vs → noon ≤ (entry_at vs i).minute) → IsBalanced us vs [] []
 in_time us vs noon same before behind = record {
   same = same;
   enough = λ kind m. ⊎_elim
-      (λ early. omega (arith, count_below-none (length vs) (is_by_minute vs [] kind m) (λ i lt. and_false (is_of_kind vs [] kind i) (leb (entry_at vs i).minute m) (lt-leb (entry_at vs i).minute m (omega (arith, behind i lt))))))
+      (λ early. omega (
+        arith,
+        count_below-none (length vs) (is_by_minute vs [] kind m)
+            (λ i lt. and_false (is_of_kind vs [] kind i) (leb (entry_at vs i).minute m) (lt-leb (entry_at vs i).minute m (omega (arith, behind i lt)))),
+      ))
       (λ late. omega (
         arith,
         same kind,
         count_below-le (length vs) (is_by_minute vs [] kind m) (is_of_kind vs [] kind) (λ i lt passes. (and_parts _ _ passes).0),
-        count_below-le (length us) (is_of_kind us [] kind) (is_by_minute us [] kind m) (λ i lt passes. and_from _ _ passes (le-leb (entry_at us i).minute m (omega (arith, before i lt)))),
+        count_below-le (length us) (is_of_kind us [] kind) (is_by_minute us [] kind m)
+            (λ i lt passes. and_from _ _ passes (le-leb (entry_at us i).minute m (omega (arith, before i lt)))),
       )) (cases_lt m noon);
 }
 
@@ -62,7 +68,8 @@ module _ (night : Night) (is : IsOrderedNight night) where
   leaves_from v lt late = minutes_at (λ m. 1740 ≤ m) night.depart (position_at night v).train.0 late (position_at_is night v is lt).train
 
   -- types, trains that come early and trains that leave late
-  matching : All (λ t. t.minute ≤ 1674) night.arrive → All (λ t. 1740 ≤ t.minute) night.depart → All (λ (t : UnitType). t.turn ≤ 30) night.station.types → ((kind : ℕ) → count_of_kind (unit_entries night) [] kind ≡ count_of_kind (position_entries night) [] kind) → HasMatching night [] []
+  matching : All (λ t. t.minute ≤ 1674) night.arrive → All (λ t. 1740 ≤ t.minute) night.depart → All (λ (t : UnitType). t.turn ≤ 30) night.station.types
+      → ((kind : ℕ) → count_of_kind (unit_entries night) [] kind ≡ count_of_kind (position_entries night) [] kind) → HasMatching night [] []
   matching early late quick same = (
     first_fit_of (unit_entries night) (position_entries night) [] [],
     matched (unit_entries night) (position_entries night) [] [] (units_rise night is) (positions_rise night is)
@@ -81,12 +88,14 @@ module _ (night : Night) (is : IsOrderedNight night) where
 
 quick_types : All (λ (t : UnitType). t.turn ≤ 30) unit_types
 quick_types =
-    All-cons (λ (t : UnitType). t.turn ≤ 30) (record { name = codes "K"; length = 250; turn = 10 }) (record { name = codes "L"; length = 500; turn = 20 } ∷ record { name = codes "M"; length = 750; turn = 30 } ∷ []) (omega arith)
+    All-cons (λ (t : UnitType). t.turn ≤ 30) (record { name = codes "K"; length = 250; turn = 10 })
+    (record { name = codes "L"; length = 500; turn = 20 } ∷ record { name = codes "M"; length = 750; turn = 30 } ∷ []) (omega arith)
     (All-cons (λ (t : UnitType). t.turn ≤ 30) (record { name = codes "L"; length = 500; turn = 20 }) (record { name = codes "M"; length = 750; turn = 30 } ∷ []) (omega arith)
     (All-cons (λ (t : UnitType). t.turn ≤ 30) (record { name = codes "M"; length = 750; turn = 30 }) [] (omega arith) (All-nil (λ (t : UnitType). t.turn ≤ 30))))
 
 -- a station and trains with as many units of each type
-same_counts : (s : Station) (t : Timetable) → ((kind : ℕ) → sum_by (own kind) t.depart ≡ sum_by (own kind) t.arrive) → (kind : ℕ) → count_of_kind (unit_entries (night_of s t)) [] kind ≡ count_of_kind (position_entries (night_of s t)) [] kind
+same_counts : (s : Station) (t : Timetable) → ((kind : ℕ) → sum_by (own kind) t.depart ≡ sum_by (own kind) t.arrive) → (kind : ℕ)
+    → count_of_kind (unit_entries (night_of s t)) [] kind ≡ count_of_kind (position_entries (night_of s t)) [] kind
 same_counts s t same kind =
     count_of_trains make_unit (λ u. record { kind = u.kind.0; minute = ready_of s (sort_by_minute t.arrive) u }) (λ a p k. refl) kind (sort_by_minute t.arrive)
     ∙ sum_by-IsPermutation (own kind) t.arrive (sort_by_minute t.arrive) (sort_moves t.arrive)
@@ -94,7 +103,8 @@ same_counts s t same kind =
     ∙ sym (sum_by-IsPermutation (own kind) t.depart (sort_by_minute t.depart) (sort_moves t.depart))
     ∙ sym (count_of_trains make_position (λ v. record { kind = v.kind.0; minute = leaves_of (sort_by_minute t.depart) v }) (λ a p k. refl) kind (sort_by_minute t.depart))
 
-night_matched : (s : Station) (t : Timetable) → IsStation s → IsTimetable s t → All (λ r. r.minute ≤ 1674) t.arrive → All (λ r. 1740 ≤ r.minute) t.depart → All (λ (r : UnitType). r.turn ≤ 30) s.types → ((kind : ℕ) → sum_by (own kind) t.depart ≡ sum_by (own kind) t.arrive) → HasMatching (night_of s t) [] []
+night_matched : (s : Station) (t : Timetable) → IsStation s → IsTimetable s t → All (λ r. r.minute ≤ 1674) t.arrive → All (λ r. 1740 ≤ r.minute) t.depart
+    → All (λ (r : UnitType). r.turn ≤ 30) s.types → ((kind : ℕ) → sum_by (own kind) t.depart ≡ sum_by (own kind) t.arrive) → HasMatching (night_of s t) [] []
 night_matched s t station timetable early late quick same =
     matching (night_of s t) (night_is s t station timetable)
     (All-permutation (λ r. r.minute ≤ 1674) t.arrive (sort_by_minute t.arrive) (sort_moves t.arrive) early)
@@ -139,4 +149,5 @@ made_matched x y units few =
 
 pub made_moving : (y units : ℕ) → units ≤ 160 → All (λ t. is_standing t ≡ false) (timetable_of y units).arrive
 unfolding timetable_of
-made_moving y units few = All-weaker (IsMade (station_of 0 0) 1200) (λ t. is_standing t ≡ false) (λ t m. m.moving) (arriving y units) (arriving_all (station_of 0 0) y units (two_platforms 0 0) few)
+made_moving y units few = All-weaker (IsMade (station_of 0 0) 1200) (λ t. is_standing t ≡ false) (λ t m. m.moving) (arriving y units)
+    (arriving_all (station_of 0 0) y units (two_platforms 0 0) few)

@@ -16,8 +16,13 @@ use Rattle.shunt_make.proofs.Counted.{same_sums}
 
 size_cases : (units i : ℕ) → ((size_of units i ≡ 1) × (units % 2 ≡ 1) × (i + 1 ≡ train_count units)) ⊎ ((size_of units i ≡ 2) × (units % 2 ≡ 1 → i + 1 ≡ train_count units → ⊥))
 size_cases units i = ⊎_elim
-    (λ is. let parts = and_parts (units % 2 == 1) (i + 1 == train_count units) is in inl (ap (λ b. cond b 1 2) is, eqb-true (units % 2) 1 parts.0, eqb-true (i + 1) (train_count units) parts.1))
-    (λ is. inr (ap (λ b. cond b 1 2) is, λ odd last. false≢true (sym is ∙ and_from (units % 2 == 1) (i + 1 == train_count units) (eq-eqb (units % 2) 1 odd) (eq-eqb (i + 1) (train_count units) last))))
+    (λ is. let parts = and_parts (units % 2 == 1) (i + 1 == train_count units) is in inl
+    (ap (λ b. cond b 1 2) is, eqb-true (units % 2) 1 parts.0, eqb-true (i + 1) (train_count units) parts.1))
+    (λ is. inr (
+      ap (λ b. cond b 1 2) is,
+      λ odd last. false≢true (sym is ∙ and_from (units % 2 == 1) (i + 1 == train_count units) (eq-eqb (units % 2) 1 odd)
+          (eq-eqb (i + 1) (train_count units) last)),
+    ))
     (cases_Bool (units % 2 == 1 && i + 1 == train_count units))
 
 -- with train i as many units are there as two for each train so far, but not more than there are to be
@@ -32,8 +37,10 @@ sized : (x units n : ℕ) → n ≤ train_count units → unit_count (map (arriv
 sized x units zero le = omega arith
 sized x units (suc n) le =
     let longer : suc n ≡ n + 1 = omega arith in
-    let long : length (arriving_of x units n).units ≡ size_of units n = drawn_length kind_of (after x (2 * n)) (range_with_len 0 (size_of units n)) ∙ length-range_with_len 0 (size_of units n) in
-    let more : unit_count (map (arriving_of x units) (range_with_len 0 (suc n))) ≡ unit_count (map (arriving_of x units) (range_with_len 0 n)) + length (arriving_of x units n).units =
+    let long : length (arriving_of x units n).units ≡ size_of units n = drawn_length kind_of (after x (2 * n)) (range_with_len 0 (size_of units n))
+    ∙ length-range_with_len 0 (size_of units n) in
+    let more : unit_count (map (arriving_of x units) (range_with_len 0 (suc n))) ≡ unit_count (map (arriving_of x units) (range_with_len 0 n)) + length
+    (arriving_of x units n).units =
     ap (λ m. unit_count (map (arriving_of x units) (range_with_len 0 m))) longer
     ∙ ap unit_count (map-range_with_len_more (arriving_of x units) 0 n n (omega arith))
     ∙ sum_by_push (λ (t : Train). length t.units) (map (arriving_of x units) (range_with_len 0 n)) (arriving_of x units n) in

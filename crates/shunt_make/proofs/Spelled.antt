@@ -21,7 +21,8 @@ named letter n is small =
     let short : length (decimal n) ≤ 10 = length-decimal-le 10 n (omega arith) (omega arith) (omega arith) in (
       omega arith,
       omega arith,
-      All-cons (λ b. IsTrue (is_name_byte b)) letter (decimal n) is (All-weaker (λ b. IsTrue (is_ascii_digit b)) (λ b. IsTrue (is_name_byte b)) digit_name (decimal n) (spelled n (omega arith)).digits),
+      All-cons (λ b. IsTrue (is_name_byte b)) letter (decimal n) is (All-weaker (λ b. IsTrue (is_ascii_digit b)) (λ b. IsTrue (is_name_byte b)) digit_name (decimal n)
+          (spelled n (omega arith)).digits),
     )
 
 -- names of two numbers differ

@@ -38,7 +38,8 @@ pub record IsMade (s : Station) (first : ℕ) (t : Train) : Type 0 where
   pub moving : is_standing t ≡ false
   pub kinds : AreKinds t.units
 
-made_train : (s : Station) (letter first i platform : ℕ) (kinds : List TypeId) → length s.platforms ≡ 2 → is_name_byte letter ≡ true → i < 80 → platform < 2 → AreKinds kinds → IsMade s first (train_of letter first i platform kinds)
+made_train : (s : Station) (letter first i platform : ℕ) (kinds : List TypeId) → length s.platforms ≡ 2 → is_name_byte letter ≡ true → i < 80 → platform < 2 → AreKinds kinds
+    → IsMade s first (train_of letter first i platform kinds)
 made_train s letter first i platform kinds two is small below are = record {
   name = named letter (i + 1) is (omega arith);
   from = omega arith;
@@ -77,7 +78,8 @@ pub arriving_all : (s : Station) (x units : ℕ) → length s.platforms ≡ 2 �
 unfolding arriving
 arriving_all s x units two few =
     All-map (IsMade s 1200) (arriving_of x units) (range_with_len 0 (train_count units))
-    (All-weaker (λ i. (0 ≤ i) × (i < 0 + train_count units)) (λ i. IsMade s 1200 (arriving_of x units i)) (λ i q. arriving_made s x units i two (omega (arith, q.1, few))) (range_with_len 0 (train_count units)) (range_in 0 (train_count units)))
+    (All-weaker (λ i. (0 ≤ i) × (i < 0 + train_count units)) (λ i. IsMade s 1200 (arriving_of x units i)) (λ i q. arriving_made s x units i two (omega (arith, q.1, few)))
+    (range_with_len 0 (train_count units)) (range_in 0 (train_count units)))
 
 pub arriving_length : (x units : ℕ) → length (arriving x units) ≡ train_count units
 unfolding arriving
@@ -94,7 +96,8 @@ map_map {X} {Y} {Z} f g h same (x ∷ xs) = ap (λ (l : List Z). f (g x) ∷ l) 
 arriving_names : (x units : ℕ) → units ≤ 160 → AreDistinct (names_of (arriving x units))
 unfolding arriving
 arriving_names x units few =
-    subst (λ (names : List (List ℕ)). AreDistinct names) (sym (map_map (λ (t : Train). t.name) (arriving_of x units) (λ i. numbered 97 (i + 1)) (λ i. refl) (range_with_len 0 (train_count units))))
+    subst (λ (names : List (List ℕ)). AreDistinct names) (sym (map_map (λ (t : Train). t.name) (arriving_of x units) (λ i. numbered 97 (i + 1)) (λ i. refl)
+    (range_with_len 0 (train_count units))))
     (names_differ 97 (train_count units) (omega arith))
 
 -- ---- departing trains
@@ -116,18 +119,21 @@ turned_kinds x kinds are = by (drawn x 2 == 1)
     }
     by false = are
 
-departing_made : (s : Station) (arrive : List Train) (shift i x : ℕ) → length s.platforms ≡ 2 → All (IsMade s 1200) arrive → i < length arrive → length arrive ≤ 80 → IsMade s 1740 (departing_of arrive shift i x)
+departing_made : (s : Station) (arrive : List Train) (shift i x : ℕ) → length s.platforms ≡ 2 → All (IsMade s 1200) arrive → i < length arrive → length arrive ≤ 80
+    → IsMade s 1740 (departing_of arrive shift i x)
 departing_made s arrive shift i x two all small few =
     let like : IsMade s 1200 (train_at arrive ((i + shift) % length arrive)) = all ((i + shift) % length arrive) _ (mod_below (i + shift) (length arrive) (omega arith)) in
     let below : cond (i % 2 == 0) 1 0 ≤ 1 = one_of_two (i % 2 == 0) 1 0 1 (omega arith) (omega arith) in
     made_train s 100 1740 i (cond (i % 2 == 0) 1 0) (turned x (train_at arrive ((i + shift) % length arrive)).units) two refl (omega arith) (omega arith)
     (turned_kinds x (train_at arrive ((i + shift) % length arrive)).units like.kinds)
 
-pub departing_all : (s : Station) (x : ℕ) (arrive : List Train) → length s.platforms ≡ 2 → All (IsMade s 1200) arrive → length arrive ≤ 80 → All (IsMade s 1740) (departing x arrive)
+pub departing_all : (s : Station) (x : ℕ) (arrive : List Train) → length s.platforms ≡ 2 → All (IsMade s 1200) arrive → length arrive ≤ 80
+    → All (IsMade s 1740) (departing x arrive)
 departing_all s x arrive two all few =
     subst (λ (ts : List Train). All (IsMade s 1740) ts) (sym (departing_is x arrive))
     (drawn_all (departing_of arrive (drawn (next x) (length arrive))) (λ i. (0 ≤ i) × (i < 0 + length arrive)) (IsMade s 1740)
-    (λ i y q. departing_made s arrive (drawn (next x) (length arrive)) i y two all (omega (arith, q.1)) few) (next x) (range_with_len 0 (length arrive)) (range_in 0 (length arrive)))
+    (λ i y q. departing_made s arrive (drawn (next x) (length arrive)) i y two all (omega (arith, q.1)) few) (next x) (range_with_len 0 (length arrive))
+    (range_in 0 (length arrive)))
 
 pub departing_length : (x : ℕ) (arrive : List Train) → length (departing x arrive) ≡ length arrive
 departing_length x arrive =
@@ -138,7 +144,8 @@ departing_length x arrive =
 departing_names : (x : ℕ) (arrive : List Train) → length arrive ≤ 80 → AreDistinct (names_of (departing x arrive))
 departing_names x arrive few =
     subst (λ (names : List (List ℕ)). AreDistinct names)
-    (sym (ap names_of (departing_is x arrive) ∙ drawn_map (departing_of arrive (drawn (next x) (length arrive))) (λ (t : Train). t.name) (λ (i : ℕ). numbered 100 (i + 1)) (λ i y. refl) (next x) (range_with_len 0 (length arrive))))
+    (sym (ap names_of (departing_is x arrive) ∙ drawn_map (departing_of arrive (drawn (next x) (length arrive))) (λ (t : Train). t.name) (λ (i : ℕ). numbered 100 (i + 1))
+    (λ i y. refl) (next x) (range_with_len 0 (length arrive))))
     (names_differ 100 (length arrive) few)
 
 -- ---- both
@@ -180,7 +187,8 @@ all_move (t ∷ ts) h = filter_yes is_moving t ts (ap not h.0) ∙ ap (λ (l : L
 moving_first : (ts : List Train) → AllByRecursion (λ t. is_standing t ≡ false) ts → StandingFirst ts
 moving_first ts h = sym (ap (λ (l : List Train). l ++ filter is_moving ts) (none_stand ts h) ∙ all_move ts h)
 
-pub trains_formed : (s : Station) (arrive depart : List Train) → 3 ≤ length s.types → length arrive ≤ 80 → length depart ≤ 80 → All (IsMade s 1200) arrive → All (IsMade s 1740) depart → AreDistinct (names_of arrive) → AreDistinct (names_of depart) → IsTimetable s (record { arrive = arrive; depart = depart })
+pub trains_formed : (s : Station) (arrive depart : List Train) → 3 ≤ length s.types → length arrive ≤ 80 → length depart ≤ 80 → All (IsMade s 1200) arrive
+    → All (IsMade s 1740) depart → AreDistinct (names_of arrive) → AreDistinct (names_of depart) → IsTimetable s (record { arrive = arrive; depart = depart })
 trains_formed s arrive depart three few fewer all others names other_names = record {
   arrive = are_trains s 1200 arrive three (omega arith) few all names;
   depart = are_trains s 1740 depart three (omega arith) fewer others other_names;

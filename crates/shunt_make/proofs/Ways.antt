@@ -35,7 +35,8 @@ one_way P true w h = All-cons P w [] (h refl) (All-nil P)
 one_way P false w h = All-nil P
 
 module _ (all : List Track) (p : PlatformId) (first : p.0 < 2) where
-  opens : (k : ℕ) (t : Track) (side : Side) → k < length all → slice_get all k ≡ Some t → is_open t side ≡ true → IsWayOf all (record { platform = p; track = record { 0 = k }; side = side })
+  opens : (k : ℕ) (t : Track) (side : Side) → k < length all → slice_get all k ≡ Some t → is_open t side ≡ true
+      → IsWayOf all (record { platform = p; track = record { 0 = k }; side = side })
   opens k t side lt there open_at = record {
     platform = first;
     track = lt;
@@ -60,7 +61,8 @@ module _ (all : List Track) (p : PlatformId) (first : p.0 < 2) where
   from_platform = from_track 0 all (omega arith) (λ i. let same : 0 + i ≡ i = omega arith in ap (slice_get all) same)
 
 pub ways_open : (tracks : List Track) → All (IsWayOf tracks) (ways_of tracks)
-ways_open tracks = All-append (IsWayOf tracks) (ways_from (record { 0 = 0 }) 0 tracks) (ways_from (record { 0 = 1 }) 0 tracks) (from_platform tracks (record { 0 = 0 }) (omega arith)) (from_platform tracks (record { 0 = 1 }) (omega arith))
+ways_open tracks = All-append (IsWayOf tracks) (ways_from (record { 0 = 0 }) 0 tracks) (ways_from (record { 0 = 1 }) 0 tracks)
+    (from_platform tracks (record { 0 = 0 }) (omega arith)) (from_platform tracks (record { 0 = 1 }) (omega arith))
 
 -- ---- no two are alike
 
@@ -111,13 +113,15 @@ rise_from p k (t ∷ tracks) =
 
 rise_all : (m n : ℕ) (ways : List Way) → Rise m ways n → All (λ w. m ≤ rank w) ways
 rise_all m n [] h = All-nil (λ w. m ≤ rank w)
-rise_all m n (w ∷ ways) h = All-cons (λ v. m ≤ rank v) w ways h.0 (All-weaker (λ v. rank w + 1 ≤ rank v) (λ v. m ≤ rank v) (λ v le. omega (arith, h.0, le)) ways (rise_all (rank w + 1) n ways h.1))
+rise_all m n (w ∷ ways) h = All-cons (λ v. m ≤ rank v) w ways h.0 (All-weaker (λ v. rank w + 1 ≤ rank v) (λ v. m ≤ rank v) (λ v le. omega (arith, h.0, le)) ways
+    (rise_all (rank w + 1) n ways h.1))
 
 rise_distinct : (m n : ℕ) (ways : List Way) → Rise m ways n → AreDistinct (map joined ways)
 rise_distinct m n [] h = no_pairs (λ x y. x ≡ y → ⊥)
 rise_distinct m n (w ∷ ways) h =
     AllPairs-cons (λ x y. x ≡ y → ⊥) (joined w) (map joined ways)
-    (All-map (λ y. joined w ≡ y → ⊥) joined ways (All-weaker (λ v. rank w + 1 ≤ rank v) (λ v. joined w ≡ joined v → ⊥) (λ v le e. omega (arith, le, ap rank_of e)) ways (rise_all (rank w + 1) n ways h.1)))
+    (All-map (λ y. joined w ≡ y → ⊥) joined ways (All-weaker (λ v. rank w + 1 ≤ rank v) (λ v. joined w ≡ joined v → ⊥) (λ v le e. omega (arith, le, ap rank_of e)) ways
+    (rise_all (rank w + 1) n ways h.1)))
     (rise_distinct (rank w + 1) n ways h.1)
 
 pub ways_distinct : (tracks : List Track) → length tracks ≤ 60 → AreDistinct (map joined (ways_of tracks))

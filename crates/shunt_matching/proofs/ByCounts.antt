@@ -34,9 +34,11 @@ balanced us vs um vm place m = record {
       ∙ sym (given_to us vs um vm place m (λ v. eqb (entry_at vs v).kind kind));
   enough = λ kind by. omega (
     arith,
-    count_below-same (length vs) (is_by_minute vs vm kind by) (λ v. is_in_rest vm v && (eqb (entry_at vs v).kind kind && leb (entry_at vs v).minute by)) (λ v lt. and_assoc (is_in_rest vm v) (eqb (entry_at vs v).kind kind) (leb (entry_at vs v).minute by)),
+    count_below-same (length vs) (is_by_minute vs vm kind by) (λ v. is_in_rest vm v && (eqb (entry_at vs v).kind kind && leb (entry_at vs v).minute by))
+        (λ v lt. and_assoc (is_in_rest vm v) (eqb (entry_at vs v).kind kind) (leb (entry_at vs v).minute by)),
     given_to us vs um vm place m (λ v. eqb (entry_at vs v).kind kind && leb (entry_at vs v).minute by),
-    count_below-le (length us) (λ u. is_in_rest um u && (eqb (entry_at vs (place_of place u)).kind kind && leb (entry_at vs (place_of place u)).minute by)) (is_by_minute us um kind by)
+    count_below-le (length us) (λ u. is_in_rest um u && (eqb (entry_at vs (place_of place u)).kind kind && leb (entry_at vs (place_of place u)).minute by))
+        (is_by_minute us um kind by)
         (λ u lt passes.
         let parts = and_parts _ _ passes in
         let tests = and_parts _ _ parts.1 in

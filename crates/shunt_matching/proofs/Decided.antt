@@ -64,7 +64,14 @@ night_late night um vm kinds kind v minute need have is e even late before m n h
       even = night_even night um vm kinds is e even;
       need_is = n;
       have_is = h;
-      short = omega (arith, n, h, late.short, ap (λ (x : ℕ). count_by_minute (position_entries night) vm kind x) same, ap (λ (x : ℕ). count_by_minute (unit_entries night) um kind x) same);
+      short = omega (
+        arith,
+        n,
+        h,
+        late.short,
+        ap (λ (x : ℕ). count_by_minute (position_entries night) vm kind x) same,
+        ap (λ (x : ℕ). count_by_minute (unit_entries night) um kind x) same,
+      );
       sooner = λ x lt. late.sooner x (omega arith);
       before = before;
     }

@@ -48,7 +48,8 @@ late_first us vs um vm k m a d l n b e s t lt = omega (arith, t.before k m lt, s
 late_sooner : (us vs : List Entry) (um vm : List Bool) (k m a d n b e : ℕ) → IsFirstLate us vs um vm k m a d → IsFirstLate us vs um vm k n b e → m < n → ⊥
 late_sooner us vs um vm k m a d n b e s t lt = omega (arith, t.sooner m lt, s.need_is, s.have_is, s.short)
 
-one_balance : (us vs : List Entry) (um vm : List Bool) (k l : TypeId) (a d b e : ℕ) → IsFirstUneven us vs um vm k.0 a d → IsFirstUneven us vs um vm l.0 b e → Balance k a d ≡ Balance l b e
+one_balance : (us vs : List Entry) (um vm : List Bool) (k l : TypeId) (a d b e : ℕ) → IsFirstUneven us vs um vm k.0 a d → IsFirstUneven us vs um vm l.0 b e
+    → Balance k a d ≡ Balance l b e
 one_balance us vs um vm k l a d b e s t =
     let same : k.0 ≡ l.0 = ⊎_elim (λ e. e) (λ other. ⊎_elim
     (λ lt. absurd (uneven_first us vs um vm k.0 a d l.0 b e s t lt))
@@ -58,7 +59,8 @@ one_balance us vs um vm k l a d b e s t =
     let depart : d ≡ e = s.depart_is ∙ ap (λ (n : ℕ). count_of_kind vs vm n) same ∙ sym t.depart_is in
     cc
 
-one_late : (us vs : List Entry) (um vm : List Bool) (k l : TypeId) (m a d n b e : ℕ) → IsFirstLate us vs um vm k.0 m a d → IsFirstLate us vs um vm l.0 n b e → ByMinute k m a d ≡ ByMinute l n b e
+one_late : (us vs : List Entry) (um vm : List Bool) (k l : TypeId) (m a d n b e : ℕ) → IsFirstLate us vs um vm k.0 m a d → IsFirstLate us vs um vm l.0 n b e
+    → ByMinute k m a d ≡ ByMinute l n b e
 one_late us vs um vm k l m a d n b e s t =
     let same : k.0 ≡ l.0 = ⊎_elim (λ e. e) (λ other. ⊎_elim
     (λ lt. absurd (late_first us vs um vm k.0 m a d l.0 n b e s t lt))

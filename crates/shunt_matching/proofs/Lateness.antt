@@ -33,11 +33,13 @@ last_by vs vm kind m k up e =
 -- by an earlier minute no more are ready
 fewer : (es : List Entry) (mask : List Bool) (kind m n : ℕ) → m ≤ n → count_by_minute es mask kind m ≤ count_by_minute es mask kind n
 fewer es mask kind m n le = count_below-le (length es) (is_by_minute es mask kind m) (is_by_minute es mask kind n)
-    (λ i lt passes. let parts = and_parts _ _ passes in and_from _ _ parts.0 (le-leb (entry_at es i).minute n (let by : (entry_at es i).minute ≤ m = leb-true _ _ parts.1 in omega arith)))
+    (λ i lt passes. let parts = and_parts _ _ passes in and_from _ _ parts.0 (le-leb (entry_at es i).minute n
+    (let by : (entry_at es i).minute ≤ m = leb-true _ _ parts.1 in omega arith)))
 
 -- where m is short, so is the minute of a position that leaves by m
 short_at : (us vs : List Entry) (um vm : List Bool) (kind m : ℕ) → RisesByKind vs → count_by_minute us um kind m < count_by_minute vs vm kind m
-    → (w : ℕ) × (w < length vs) × (is_of_kind vs vm kind w ≡ true) × ((entry_at vs w).minute ≤ m) × (count_by_minute us um kind (entry_at vs w).minute < count_by_minute vs vm kind (entry_at vs w).minute)
+    → (w : ℕ) × (w < length vs) × (is_of_kind vs vm kind w ≡ true) × ((entry_at vs w).minute ≤ m)
+    × (count_by_minute us um kind (entry_at vs w).minute < count_by_minute vs vm kind (entry_at vs w).minute)
 short_at us vs um vm kind m up lt =
     let w = last_by vs vm kind m (count_by_minute vs vm kind m - 1) up (omega arith) in
     let parts = and_parts _ _ w.2 in

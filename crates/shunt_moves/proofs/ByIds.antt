@@ -77,23 +77,28 @@ taken_again b (c ∷ blocks) h = ⊎_elim
     (cases_lt c.id b.id)
 
 -- a member's change in place is its going and the other's coming
-pub changed_is : (b : Block) (change : Block → Block) (blocks : List Block) → Ascend blocks → In b blocks → (change b).id ≡ b.id → insert_by_id (change b) (without_block b.id blocks) ≡ changed b.id change blocks
+pub changed_is : (b : Block) (change : Block → Block) (blocks : List Block) → Ascend blocks → In b blocks → (change b).id ≡ b.id
+    → insert_by_id (change b) (without_block b.id blocks) ≡ changed b.id change blocks
 changed_is b change [] a i e = absurd i
 changed_is b change (c ∷ blocks) a (inl is) e =
     let here : (b.id == b.id) ≡ true = same_id b.id b.id refl in
-    let above : AllByRecursion (λ d. (change b).id < d.id) blocks = all_from (λ d. (change b).id < d.id) blocks (λ d i. let lt : c.id < d.id = all_in (λ d. c.id < d.id) blocks d a.0 i in omega (arith, ap (λ (x : Block). x.id) is)) in
-    let new : IsNew b.id blocks = all_from (λ d. d.id ≢ b.id) blocks (λ d i f. let lt : c.id < d.id = all_in (λ d. c.id < d.id) blocks d a.0 i in absurd (omega (arith, ap (λ (x : Block). x.id) is))) in
+    let above : AllByRecursion (λ d. (change b).id < d.id) blocks = all_from (λ d. (change b).id < d.id) blocks
+    (λ d i. let lt : c.id < d.id = all_in (λ d. c.id < d.id) blocks d a.0 i in omega (arith, ap (λ (x : Block). x.id) is)) in
+    let new : IsNew b.id blocks = all_from (λ d. d.id ≢ b.id) blocks (λ d i f. let lt : c.id < d.id = all_in (λ d. c.id < d.id) blocks d a.0 i in absurd
+    (omega (arith, ap (λ (x : Block). x.id) is))) in
     ap (insert_by_id (change b)) (without_same b.id c blocks (ap (λ (x : Block). x.id) (sym is)) ∙ without_new b.id blocks new)
     ∙ insert_below (change b) blocks above
     ∙ sym (first new)
   where
     rest : (ds : List Block) → IsNew b.id ds → changed b.id change ds ≡ ds
     rest [] n = refl
-    rest (d ∷ ds) n = ap (λ (x : Block). x ∷ changed b.id change ds) (cond-false (d.id == b.id) (change d) d (other_id d.id b.id n.0)) ∙ ap (λ (l : List Block). d ∷ l) (rest ds n.1)
+    rest (d ∷ ds) n = ap (λ (x : Block). x ∷ changed b.id change ds) (cond-false (d.id == b.id) (change d) d (other_id d.id b.id n.0))
+        ∙ ap (λ (l : List Block). d ∷ l) (rest ds n.1)
 
     first : IsNew b.id blocks → changed b.id change (c ∷ blocks) ≡ change b ∷ blocks
     first new = subst (λ (x : Block). changed b.id change (x ∷ blocks) ≡ change b ∷ blocks) is
-        (ap (λ (x : Block). x ∷ changed b.id change blocks) (cond-true (b.id == b.id) (change b) b (same_id b.id b.id refl)) ∙ ap (λ (l : List Block). change b ∷ l) (rest blocks new))
+        (ap (λ (x : Block). x ∷ changed b.id change blocks) (cond-true (b.id == b.id) (change b) b (same_id b.id b.id refl))
+        ∙ ap (λ (l : List Block). change b ∷ l) (rest blocks new))
 changed_is b change (c ∷ blocks) a (inr i) e =
     let lt : c.id < b.id = all_in (λ d. c.id < d.id) blocks b a.0 i in
     ap (insert_by_id (change b)) (without_other b.id c blocks (λ f. absurd (omega arith)))
@@ -118,7 +123,8 @@ put_again b blocks a i = changed_is b (λ x. x) blocks a i refl ∙ unchanged bl
 pub with_in : (blocks : List Block) (id : ℕ) (b : Block) → block_with blocks id ≡ Some b → In b blocks × (b.id ≡ id)
 with_in [] id b e = absurd (cc)
 with_in (c ∷ blocks) id b e = ⊎_elim
-    (λ t. let is : c ≡ b = some_same c b (sym (cond-true (c.id == id) (Some c) (block_with blocks id) t) ∙ e) in (inl (sym is), ap (λ (x : Block). x.id) (sym is) ∙ is_same c.id id t))
+    (λ t. let is : c ≡ b = some_same c b (sym (cond-true (c.id == id) (Some c) (block_with blocks id) t) ∙ e) in
+    (inl (sym is), ap (λ (x : Block). x.id) (sym is) ∙ is_same c.id id t))
     (λ f. let r = with_in blocks id b (sym (cond-false (c.id == id) (Some c) (block_with blocks id) f) ∙ e) in (inr r.0, r.1))
     (cases_Bool (c.id == id))
   where
@@ -131,5 +137,7 @@ with_none (c ∷ blocks) id h = cond-false (c.id == id) (Some c) (block_with blo
 
 pub with_is : (blocks : List Block) (b : Block) → Ascend blocks → In b blocks → block_with blocks b.id ≡ Some b
 with_is [] b a i = absurd i
-with_is (c ∷ blocks) b a (inl is) = subst (λ (x : Block). block_with (x ∷ blocks) b.id ≡ Some b) is (cond-true (b.id == b.id) (Some b) (block_with blocks b.id) (same_id b.id b.id refl))
-with_is (c ∷ blocks) b a (inr i) = let lt : c.id < b.id = all_in (λ d. c.id < d.id) blocks b a.0 i in cond-false (c.id == b.id) (Some c) (block_with blocks b.id) (other_id c.id b.id (λ f. absurd (omega arith))) ∙ with_is blocks b a.1 i
+with_is (c ∷ blocks) b a (inl is) = subst (λ (x : Block). block_with (x ∷ blocks) b.id ≡ Some b) is
+    (cond-true (b.id == b.id) (Some b) (block_with blocks b.id) (same_id b.id b.id refl))
+with_is (c ∷ blocks) b a (inr i) = let lt : c.id < b.id = all_in (λ d. c.id < d.id) blocks b a.0 i in cond-false (c.id == b.id) (Some c) (block_with blocks b.id)
+    (other_id c.id b.id (λ f. absurd (omega arith))) ∙ with_is blocks b a.1 i

@@ -70,7 +70,8 @@ goes_in (Some c) b blocks e h = let same : c ≡ b = some_same c b e in subst (�
 
 pub comes_range : (night : Night) (o : Option Block) (b : Block) (blocks : List Block) → o ≡ Some b → MayCome night o blocks → IsInRange night b
 comes_range night None b blocks e h = absurd (cc)
-comes_range night (Some c) b blocks e h = let same : c ≡ b = some_same c b e in subst (IsInRange night) same (of_all (IsInRange night) h.0 c h.2 (subst (In c) (sym h.1.0) (inserted c blocks)))
+comes_range night (Some c) b blocks e h = let same : c ≡ b = some_same c b e in subst (IsInRange night) same
+    (of_all (IsInRange night) h.0 c h.2 (subst (In c) (sym h.1.0) (inserted c blocks)))
   where
     some_same : (x y : Block) → Some x ≡ Some y → x ≡ y
     some_same x y e = cc

@@ -30,7 +30,8 @@ use Rattle.shunt_moves.proofs.Made.{of_all, to_all, same_block, of_without, asce
 took : (b : Block) (blocks : List Block) → Ascend blocks → In b blocks → Extends (Some b) (without_block b.id blocks) blocks
 took b blocks a i = (sym (put_again b blocks a i), gone b.id blocks)
 
-came : (b : Block) (change : Block → Block) (blocks : List Block) → Ascend blocks → In b blocks → (change b).id ≡ b.id → Extends (Some (change b)) (without_block b.id blocks) (changed b.id change blocks)
+came : (b : Block) (change : Block → Block) (blocks : List Block) → Ascend blocks → In b blocks → (change b).id ≡ b.id
+    → Extends (Some (change b)) (without_block b.id blocks) (changed b.id change blocks)
 came b change blocks a i e = (sym (changed_is b change blocks a i e), subst (λ n. IsNew n (without_block b.id blocks)) (sym e) (gone b.id blocks))
 
 came_last : (b : Block) (blocks : List Block) → AllByRecursion (λ c. c.id < b.id) blocks → Extends (Some b) blocks (blocks ++ b ∷ [])
@@ -105,9 +106,11 @@ module _ (night : Night) (s : State) (h : IsState night s) where
     };
   }
 
-  drop_found : (id : ℕ) (o : Option Block) → block_with s.blocks id ≡ o → Agrees night s (record s { blocks = without_block id s.blocks }) (if not (is_some o) then Some errors.NoBlock else None) (found o >>= λ b. Ok (record { gone = one b; come = none; next = s.next }))
+  drop_found : (id : ℕ) (o : Option Block) → block_with s.blocks id ≡ o → Agrees night s (record s { blocks = without_block id s.blocks })
+      (if not (is_some o) then Some errors.NoBlock else None) (found o >>= λ b. Ok (record { gone = one b; come = none; next = s.next }))
   drop_found id None e = refl
-  drop_found id (Some b) e = let r = with_in s.blocks id b e in subst (λ (n : ℕ). Leads night (record { gone = one b; come = none; next = s.next }) s (record s { blocks = without_block n s.blocks })) r.1 (dropped b r.0)
+  drop_found id (Some b) e = let r = with_in s.blocks id b e in subst (λ (n : ℕ). Leads night (record { gone = one b; come = none; next = s.next }) s
+      (record s { blocks = without_block n s.blocks })) r.1 (dropped b r.0)
 
   -- ---- a block that is changed
 
@@ -118,14 +121,17 @@ module _ (night : Night) (s : State) (h : IsState night s) where
     changed_state : (b : Block) → In b s.blocks → IsInRange night (change b) → IsState night (record s { blocks = changed b.id change s.blocks })
     changed_state b i good = record {
       few = omega (arith, few_changed b.id s.blocks, h.few);
-      each = to_all (IsInRange night) (changed b.id change s.blocks) (each_changed b.id change (IsInRange night) s.blocks in_range (λ c j e. subst (λ (x : Block). IsInRange night (change x)) (sym (same_block s.blocks b c h.ascend i j e)) good));
+      each = to_all (IsInRange night) (changed b.id change s.blocks) (each_changed b.id change (IsInRange night) s.blocks in_range
+          (λ c j e. subst (λ (x : Block). IsInRange night (change x)) (sym (same_block s.blocks b c h.ascend i j e)) good));
       ascend = ascend_changed b.id change same s.blocks h.ascend;
-      below = all_from (λ c. c.id < s.next) (changed b.id change s.blocks) (each_changed b.id change (λ c. c.id < s.next) s.blocks is_below (λ c j e. omega (arith, same c, is_below c j)));
+      below = all_from (λ c. c.id < s.next) (changed b.id change s.blocks) (each_changed b.id change (λ c. c.id < s.next) s.blocks is_below
+          (λ c j e. omega (arith, same c, is_below c j)));
       some = h.some;
       next = h.next;
     }
 
-    changes : (b : Block) → In b s.blocks → IsInRange night (change b) → Leads night (record { gone = one b; come = one (change b); next = s.next }) s (record s { blocks = changed b.id change s.blocks })
+    changes : (b : Block) → In b s.blocks → IsInRange night (change b) → Leads night (record { gone = one b; come = one (change b); next = s.next }) s
+        (record s { blocks = changed b.id change s.blocks })
     changes b i good = record {
       one = without_block b.id s.blocks;
       both = without_block b.id s.blocks;
@@ -144,14 +150,17 @@ module _ (night : Night) (s : State) (h : IsState night s) where
   parked_range : (b : Block) (park : Option Park) → IsInRange night b → is_on_track night.station park ≡ true → IsInRange night (record b { park = park })
   parked_range b park g t = record { from = g.from; to = g.to; within = record { runs = g.within.runs; track = track_true night.station park t } }
 
-  park_tested : (id : ℕ) (b : Block) (park : Option Park) → block_with s.blocks id ≡ Some b → (t : Bool) → is_on_track night.station park ≡ t → Agrees night s (record s { blocks = changed id (λ c. record c { park = park }) s.blocks })
+  park_tested : (id : ℕ) (b : Block) (park : Option Park) → block_with s.blocks id ≡ Some b → (t : Bool) → is_on_track night.station park ≡ t
+      → Agrees night s (record s { blocks = changed id (λ c. record c { park = park }) s.blocks })
       (if not t then Some errors.BadRange else None) (must t errors.BadRange >>= λ _. Ok (record { gone = one b; come = one (record b { park = park }); next = s.next }))
   park_tested id b park e true t = let r = with_in s.blocks id b e in
-      subst (λ (n : ℕ). Leads night (record { gone = one b; come = one (record b { park = park }); next = s.next }) s (record s { blocks = changed n (λ c. record c { park = park }) s.blocks })) r.1
+      subst (λ (n : ℕ). Leads night (record { gone = one b; come = one (record b { park = park }); next = s.next }) s
+      (record s { blocks = changed n (λ c. record c { park = park }) s.blocks })) r.1
       (changes (λ c. record c { park = park }) (λ c. refl) b r.0 (parked_range b park (in_range b r.0) t))
   park_tested id b park e false t = refl
 
-  park_found : (id : ℕ) (park : Option Park) (o : Option Block) → block_with s.blocks id ≡ o → Agrees night s (record s { blocks = changed id (λ c. record c { park = park }) s.blocks })
+  park_found : (id : ℕ) (park : Option Park) (o : Option Block) → block_with s.blocks id ≡ o
+      → Agrees night s (record s { blocks = changed id (λ c. record c { park = park }) s.blocks })
       (if not (is_some o) then Some errors.NoBlock else if not (is_on_track night.station park) then Some errors.BadRange else None)
       (found o >>= λ b. must (is_on_track night.station park) errors.BadRange >>= λ _. Ok (record { gone = one b; come = one (record b { park = park }); next = s.next }))
   park_found id park None e = refl
@@ -159,16 +168,19 @@ module _ (night : Night) (s : State) (h : IsState night s) where
 
   -- ---- a block at the end
 
-  last_state : (blocks : List Block) (b : Block) → IsState night (record s { blocks = blocks }) → b.id ≡ s.next → IsWithinTrains night b → length blocks ≢ 400 → s.next ≢ 1000001 → IsState night (record { blocks = blocks ++ b ∷ []; next = s.next + 1 })
+  last_state : (blocks : List Block) (b : Block) → IsState night (record s { blocks = blocks }) → b.id ≡ s.next → IsWithinTrains night b → length blocks ≢ 400 → s.next ≢ 1000001
+      → IsState night (record { blocks = blocks ++ b ∷ []; next = s.next + 1 })
   last_state blocks b g e within full spent =
-      let low : AllByRecursion (λ c. c.id < b.id) blocks = all_from (λ c. c.id < b.id) blocks (λ c i. let lt : c.id < s.next = all_in (λ c. c.id < s.next) blocks c g.below i in omega arith) in
+      let low : AllByRecursion (λ c. c.id < b.id) blocks = all_from (λ c. c.id < b.id) blocks
+      (λ c i. let lt : c.id < s.next = all_in (λ c. c.id < s.next) blocks c g.below i in omega arith) in
       let few = g.few in let some = g.some in let most = g.next in
       record {
         few = let n = few_last blocks b in ⊎_elim (λ lt. omega arith) (λ eq. absurd (full eq)) (below_or (length blocks) 400 few);
         each = to_all (IsInRange night) (blocks ++ b ∷ []) (each_last (IsInRange night) blocks b (λ c i. of_all (IsInRange night) blocks c g.each i)
             (record { from = omega arith; to = ⊎_elim (λ lt. omega arith) (λ eq. absurd (spent eq)) (below_or s.next 1000001 most); within = within }));
         ascend = ascend_last blocks b g.ascend low;
-        below = all_from (λ c. c.id < s.next + 1) (blocks ++ b ∷ []) (each_last (λ c. c.id < s.next + 1) blocks b (λ c i. let lt : c.id < s.next = all_in (λ c. c.id < s.next) blocks c g.below i in omega arith) (omega arith));
+        below = all_from (λ c. c.id < s.next + 1) (blocks ++ b ∷ []) (each_last (λ c. c.id < s.next + 1) blocks b
+            (λ c i. let lt : c.id < s.next = all_in (λ c. c.id < s.next) blocks c g.below i in omega arith) (omega arith));
         some = omega arith;
         next = ⊎_elim (λ lt. omega arith) (λ eq. absurd (spent eq)) (below_or s.next 1000001 most);
       }
@@ -178,7 +190,8 @@ module _ (night : Night) (s : State) (h : IsState night s) where
 
   -- ---- add
 
-  added : (b : Block) → b.id ≡ s.next → IsWithinTrains night b → length s.blocks ≢ 400 → s.next ≢ 1000001 → Leads night (record { gone = none; come = one b; next = s.next + 1 }) s (record { blocks = s.blocks ++ b ∷ []; next = s.next + 1 })
+  added : (b : Block) → b.id ≡ s.next → IsWithinTrains night b → length s.blocks ≢ 400 → s.next ≢ 1000001
+      → Leads night (record { gone = none; come = one b; next = s.next + 1 }) s (record { blocks = s.blocks ++ b ∷ []; next = s.next + 1 })
   added b e within full spent = record {
     one = s.blocks;
     both = s.blocks;
@@ -195,7 +208,8 @@ module _ (night : Night) (s : State) (h : IsState night s) where
   is_not : (x y : ℕ) → (x == y) ≡ false → x ≢ y
   is_not x y e = grind (arith, nat_tests)
 
-  add_tested : (b : Block) → b.id ≡ s.next → (good full spent : Bool) → (are_runs_within night (shape_of b) && is_on_track night.station b.park) ≡ good → (length s.blocks == 400) ≡ full → (s.next == 1000001) ≡ spent →
+  add_tested : (b : Block) → b.id ≡ s.next → (good full spent : Bool) → (are_runs_within night (shape_of b) && is_on_track night.station b.park) ≡ good
+      → (length s.blocks == 400) ≡ full → (s.next == 1000001) ≡ spent →
       Agrees night s (record { blocks = s.blocks ++ b ∷ []; next = s.next + 1 }) (if not good then Some errors.BadRange else no_room full spent)
       (must good errors.BadRange >>= λ _. room full spent >>= λ _. Ok (record { gone = none; come = one b; next = s.next + 1 }))
   add_tested b e false full spent g f n = refl
@@ -211,12 +225,24 @@ module _ (night : Night) (s : State) (h : IsState night s) where
       let r = g.within.runs in
       let some : 1 ≤ k = grind (arith, nat_tests) in let less : k < b.n = grind (arith, nat_tests) in
       let p = r.p in let q = r.q in let u = r.units in let v = r.positions in (
-        record { from = g.from; to = g.to; within = record { runs = record { arr = r.arr; dep = r.dep; p = r.p; n = some; q = r.q; units = omega arith; positions = omega arith }; track = g.within.track } },
-        record { runs = record { arr = r.arr; dep = r.dep; p = omega arith; n = omega arith; q = omega arith; units = omega arith; positions = omega arith }; track = g.within.track },
+        record {
+          from = g.from;
+          to = g.to;
+          within = record {
+            runs = record { arr = r.arr; dep = r.dep; p = r.p; n = some; q = r.q; units = omega arith; positions = omega arith };
+            track = g.within.track;
+          };
+        },
+        record {
+          runs = record { arr = r.arr; dep = r.dep; p = omega arith; n = omega arith; q = omega arith; units = omega arith; positions = omega arith };
+          track =
+              g.within.track;
+        },
       )
 
   cuts : (b : Block) (k : ℕ) → In b s.blocks → (k == 0 || nat_le b.n k) ≡ false → length s.blocks ≢ 400 → s.next ≢ 1000001 →
-      Leads night (record { gone = one b; come = two (front_of k b) (rest_of k s.next b); next = s.next + 1 }) s (record { blocks = changed b.id (front_of k) s.blocks ++ rest_of k s.next b ∷ []; next = s.next + 1 })
+      Leads night (record { gone = one b; come = two (front_of k b) (rest_of k s.next b); next = s.next + 1 }) s
+      (record { blocks = changed b.id (front_of k) s.blocks ++ rest_of k s.next b ∷ []; next = s.next + 1 })
   cuts b k i e full spent =
       let parts = parts_within b k (in_range b i) e in
       let count = few_changed (front_of k) (λ c. refl) b.id s.blocks in
@@ -235,7 +261,8 @@ module _ (night : Night) (s : State) (h : IsState night s) where
       }
 
   cut_tested : (b : Block) (k : ℕ) → In b s.blocks → (bad full spent : Bool) → (k == 0 || nat_le b.n k) ≡ bad → (length s.blocks == 400) ≡ full → (s.next == 1000001) ≡ spent →
-      Agrees night s (record { blocks = changed b.id (front_of k) s.blocks ++ rest_of k s.next b ∷ []; next = s.next + 1 }) (if bad then Some errors.BadCount else no_room full spent)
+      Agrees night s (record { blocks = changed b.id (front_of k) s.blocks ++ rest_of k s.next b ∷ []; next = s.next + 1 })
+      (if bad then Some errors.BadCount else no_room full spent)
       (must (not bad) errors.BadCount >>= λ _. room full spent >>= λ _. Ok (record { gone = one b; come = two (front_of k b) (rest_of k s.next b); next = s.next + 1 }))
   cut_tested b k i true full spent g f n = refl
   cut_tested b k i false true spent g f n = refl
@@ -244,7 +271,8 @@ module _ (night : Night) (s : State) (h : IsState night s) where
 
   cut_found : (id k : ℕ) (o : Option Block) → block_with s.blocks id ≡ o → Agrees night s (cut s o k)
       (if not (is_some o) then Some errors.NoBlock else if cuts_nothing o k then Some errors.BadCount else no_room (length s.blocks == 400) (s.next == 1000001))
-      (found o >>= λ b. must (not (k == 0 || nat_le b.n k)) errors.BadCount >>= λ _. room (length s.blocks == 400) (s.next == 1000001) >>= λ _. Ok (record { gone = one b; come = two (front_of k b) (rest_of k s.next b); next = s.next + 1 }))
+      (found o >>= λ b. must (not (k == 0 || nat_le b.n k)) errors.BadCount >>= λ _. room (length s.blocks == 400) (s.next == 1000001) >>= λ _. Ok
+      (record { gone = one b; come = two (front_of k b) (rest_of k s.next b); next = s.next + 1 }))
   cut_found id k None e = refl
   cut_found id k (Some b) e = cut_tested b k (member id b e) (k == 0 || nat_le b.n k) (length s.blocks == 400) (s.next == 1000001) refl refl refl
 
@@ -255,10 +283,27 @@ module _ (night : Night) (s : State) (h : IsState night s) where
       let one = both (b.arr.0 == c.arr.0) _ e in let two = both (b.p + b.n == c.p) _ one.1 in let three = both (b.dep.0 == c.dep.0) (b.q + b.n == c.q) two.1 in
       let arr : b.arr.0 ≡ c.arr.0 = is_same b.arr.0 c.arr.0 one.0 in let p : b.p + b.n ≡ c.p = is_same (b.p + b.n) c.p two.0 in
       let dep : b.dep.0 ≡ c.dep.0 = is_same b.dep.0 c.dep.0 three.0 in let q : b.q + b.n ≡ c.q = is_same (b.q + b.n) c.q three.1 in
-      let units : c.p + c.n ≤ length (train_at night.arrive b.arr.0).units + 1 = subst (λ (a : ℕ). c.p + c.n ≤ length (train_at night.arrive a).units + 1) (sym arr) f.within.runs.units in
-      let positions : c.q + c.n ≤ length (train_at night.depart b.dep.0).units + 1 = subst (λ (d : ℕ). c.q + c.n ≤ length (train_at night.depart d).units + 1) (sym dep) f.within.runs.positions in
+      let units : c.p + c.n ≤ length (train_at night.arrive b.arr.0).units + 1 = subst (λ (a : ℕ). c.p + c.n ≤ length (train_at night.arrive a).units + 1)
+      (sym arr) f.within.runs.units in
+      let positions : c.q + c.n ≤ length (train_at night.depart b.dep.0).units + 1 = subst (λ (d : ℕ). c.q + c.n ≤ length (train_at night.depart d).units + 1)
+      (sym dep) f.within.runs.positions in
       let r = g.within.runs in let n = r.n in
-      record { from = g.from; to = g.to; within = record { runs = record { arr = r.arr; dep = r.dep; p = r.p; n = omega arith; q = r.q; units = omega arith; positions = omega arith }; track = g.within.track } }
+      record {
+        from = g.from;
+        to = g.to;
+        within = record {
+          runs = record {
+            arr = r.arr;
+            dep = r.dep;
+            p = r.p;
+            n = omega arith;
+            q = r.q;
+            units = omega arith;
+            positions = omega arith;
+          };
+          track = g.within.track;
+        };
+      }
 
   -- blocks that continue each other aren't one block
   apart_ids : (b c : Block) → In b s.blocks → In c s.blocks → continues b c ≡ true → b.id ≢ c.id
@@ -272,7 +317,8 @@ module _ (night : Night) (s : State) (h : IsState night s) where
   stays_in b c i ne = filter_to (λ x. not (x.id == c.id)) s.blocks b i (ap not (other_id b.id c.id ne))
 
   joins : (b c : Block) → In b s.blocks → In c s.blocks → continues b c ≡ true →
-      Leads night (record { gone = two c b; come = one (record b { n = b.n + c.n }); next = s.next }) s (record s { blocks = changed b.id (λ x. record x { n = x.n + c.n }) (without_block c.id s.blocks) })
+      Leads night (record { gone = two c b; come = one (record b { n = b.n + c.n }); next = s.next }) s
+      (record s { blocks = changed b.id (λ x. record x { n = x.n + c.n }) (without_block c.id s.blocks) })
   joins b c i j e =
       let ascend = ascend_without c.id s.blocks h.ascend in let k = stays_in b c i (apart_ids b c i j e) in
       let good = joined_range b c (in_range b i) (in_range c j) e in
@@ -289,24 +335,30 @@ module _ (night : Night) (s : State) (h : IsState night s) where
         from = h;
         to = record {
           few = omega (arith, few_changed (λ x. record x { n = x.n + c.n }) (λ x. refl) b.id (without_block c.id s.blocks), few_without c.id s.blocks, h.few);
-          each = to_all (IsInRange night) (changed b.id (λ x. record x { n = x.n + c.n }) (without_block c.id s.blocks)) (each_changed b.id (λ x. record x { n = x.n + c.n }) (IsInRange night) (without_block c.id s.blocks) (λ x m. in_range x (members x m))
+          each = to_all (IsInRange night) (changed b.id (λ x. record x { n = x.n + c.n }) (without_block c.id s.blocks))
+              (each_changed b.id (λ x. record x { n = x.n + c.n }) (IsInRange night) (without_block c.id s.blocks) (λ x m. in_range x (members x m))
               (λ x m f. subst (λ (y : Block). IsInRange night (record y { n = y.n + c.n })) (sym (same_block s.blocks b x h.ascend i (members x m) f)) good));
           ascend = ascend_changed b.id (λ x. record x { n = x.n + c.n }) (λ x. refl) (without_block c.id s.blocks) ascend;
-          below = all_from (λ x. x.id < s.next) (changed b.id (λ x. record x { n = x.n + c.n }) (without_block c.id s.blocks)) (each_changed b.id (λ x. record x { n = x.n + c.n }) (λ x. x.id < s.next) (without_block c.id s.blocks) (λ x m. is_below x (members x m)) (λ x m f. is_below x (members x m)));
+          below = all_from (λ x. x.id < s.next) (changed b.id (λ x. record x { n = x.n + c.n }) (without_block c.id s.blocks))
+              (each_changed b.id (λ x. record x { n = x.n + c.n }) (λ x. x.id < s.next) (without_block c.id s.blocks) (λ x m. is_below x (members x m))
+              (λ x m f. is_below x (members x m)));
           some = h.some;
           next = h.next;
         };
       }
 
   join_tested : (first : ℕ) (b c : Block) → block_with s.blocks first ≡ Some b → In c s.blocks → (t : Bool) → continues b c ≡ t →
-      Agrees night s (join s first (Some c)) (if not t then Some errors.NotAdjacent else None) (must t errors.NotAdjacent >>= λ _. Ok (record { gone = two c b; come = one (record b { n = b.n + c.n }); next = s.next }))
+      Agrees night s (join s first (Some c)) (if not t then Some errors.NotAdjacent else None)
+      (must t errors.NotAdjacent >>= λ _. Ok (record { gone = two c b; come = one (record b { n = b.n + c.n }); next = s.next }))
   join_tested first b c e j true t = let r = with_in s.blocks first b e in
-      subst (λ (n : ℕ). Leads night (record { gone = two c b; come = one (record b { n = b.n + c.n }); next = s.next }) s (record s { blocks = changed n (λ x. record x { n = x.n + c.n }) (without_block c.id s.blocks) })) r.1 (joins b c r.0 j t)
+      subst (λ (n : ℕ). Leads night (record { gone = two c b; come = one (record b { n = b.n + c.n }); next = s.next }) s
+      (record s { blocks = changed n (λ x. record x { n = x.n + c.n }) (without_block c.id s.blocks) })) r.1 (joins b c r.0 j t)
   join_tested first b c e j false t = refl
 
   join_found : (first second : ℕ) (o other : Option Block) → block_with s.blocks first ≡ o → block_with s.blocks second ≡ other → Agrees night s (join s first other)
       (if not (is_some o) || not (is_some other) then Some errors.NoBlock else if are_apart o other then Some errors.NotAdjacent else None)
-      (found o >>= λ b. found other >>= λ c. must (continues b c) errors.NotAdjacent >>= λ _. Ok (record { gone = two c b; come = one (record b { n = b.n + c.n }); next = s.next }))
+      (found o >>= λ b. found other >>= λ c. must (continues b c) errors.NotAdjacent >>= λ _. Ok
+      (record { gone = two c b; come = one (record b { n = b.n + c.n }); next = s.next }))
   join_found first second None other e f = refl
   join_found first second (Some b) None e f = refl
   join_found first second (Some b) (Some c) e f = join_tested first b c e (member second c f) (continues b c) refl

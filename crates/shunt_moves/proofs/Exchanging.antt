@@ -49,7 +49,8 @@ module _ (night : Night) (x : Exchange) (s t : State) (h : Leads night x s t) wh
   }
 
 -- the state before is put in front of those that it leads to
-pub back_lead : (night : Night) (x : Exchange) (s t : State) (exchanges : List Exchange) → Leads night x s t → AllLead night s exchanges → AllLead night t (flipped x s.next ∷ exchanges)
+pub back_lead : (night : Night) (x : Exchange) (s t : State) (exchanges : List Exchange) → Leads night x s t → AllLead night s exchanges
+    → AllLead night t (flipped x s.next ∷ exchanges)
 back_lead night x s t exchanges h all =
     let back = leads_back night x s t h in let is : exchanged (flipped x s.next) t ≡ s = leads_to night (flipped x s.next) t s back in
     (subst (Leads night (flipped x s.next) t) (sym is) back, subst (λ (u : State). AllLead night u exchanges) (sym is) all)

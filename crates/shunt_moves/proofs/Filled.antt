@@ -38,7 +38,8 @@ next_by_id xs n d lt = sym (ap by_id (drop_at xs n d lt))
 pub new_by_id : (xs : List Block) (n : ℕ) (d : Block) → n < length xs → AreDistinct (map (λ b. b.id) xs) → IsNew (get_or xs n d).id (by_id (drop (suc n) xs))
 new_by_id xs n d lt distinct =
     let a : Apart (get_or xs n d ∷ drop (suc n) xs) = subst Apart (drop_at xs n d lt) (drop_apart xs n (apart xs distinct)) in
-    all_from (λ c. c.id ≢ (get_or xs n d).id) (by_id (drop (suc n) xs)) (λ c i e. all_in (λ c. (get_or xs n d).id ≢ c.id) (drop (suc n) xs) c a.0 ((there (drop (suc n) xs) c).0 i) (sym e))
+    all_from (λ c. c.id ≢ (get_or xs n d).id) (by_id (drop (suc n) xs)) (λ c i e. all_in (λ c. (get_or xs n d).id ≢ c.id) (drop (suc n) xs) c a.0 ((there (drop (suc n) xs) c).0 i)
+    (sym e))
 
 pub few_by_id : (xs : List Block) (n : ℕ) → n < length xs → length xs ≤ 400 → length (by_id (drop (suc n) xs)) < 400
 few_by_id xs n lt few = let a = length_drop xs (suc n) (omega arith) in omega (arith, length_permutation (drop (suc n) xs) (by_id (drop (suc n) xs)) (moves (drop (suc n) xs)))
@@ -90,8 +91,10 @@ greatest_next xs i d lt = subst (λ (n : ℕ). greatest_id (take n xs) ≡ max (
 before : (n : ℕ) → 0 < n → suc (n - 1) ≡ n
 before n lt = omega arith
 
-pub new_before : (xs : List Block) (n : ℕ) (d : Block) (blocks : List Block) → 0 < n → n ≤ length xs → AreDistinct (map (λ b. b.id) xs) → blocks ≡ by_id (drop n xs) → IsNew (get_or xs (n - 1) d).id blocks
-new_before xs n d blocks lt le distinct e = subst (IsNew (get_or xs (n - 1) d).id) (ap (λ (k : ℕ). by_id (drop k xs)) (before n lt) ∙ sym e) (new_by_id xs (n - 1) d (omega arith) distinct)
+pub new_before : (xs : List Block) (n : ℕ) (d : Block) (blocks : List Block) → 0 < n → n ≤ length xs → AreDistinct (map (λ b. b.id) xs) → blocks ≡ by_id (drop n xs)
+    → IsNew (get_or xs (n - 1) d).id blocks
+new_before xs n d blocks lt le distinct e = subst (IsNew (get_or xs (n - 1) d).id) (ap (λ (k : ℕ). by_id (drop k xs)) (before n lt) ∙ sym e)
+    (new_by_id xs (n - 1) d (omega arith) distinct)
 
 pub few_before : (xs : List Block) (n : ℕ) (blocks : List Block) → 0 < n → n ≤ length xs → length xs ≤ 400 → blocks ≡ by_id (drop n xs) → length blocks < 400
 few_before xs n blocks lt le few e = subst (λ (l : List Block). length l < 400) (ap (λ (k : ℕ). by_id (drop k xs)) (before n lt) ∙ sym e) (few_by_id xs (n - 1) (omega arith) few)
@@ -120,13 +123,15 @@ start_state night blocks h =
 abbrev stands : Night → List Block → ℕ → Standing
 stands night blocks next = record { night = night; state = record { blocks = blocks; next = next } }
 
-pub start_stands : (q p : Standing) (n : ℕ) (night : Night) (blocks : List Block) → q ≡ record p { state = record p.state { next = n } } → p.night ≡ night → p.state.blocks ≡ by_id blocks → n ≡ greatest_id blocks + 1 → AreInRange night blocks → IsState q.night q.state
+pub start_stands : (q p : Standing) (n : ℕ) (night : Night) (blocks : List Block) → q ≡ record p { state = record p.state { next = n } } → p.night ≡ night
+    → p.state.blocks ≡ by_id blocks → n ≡ greatest_id blocks + 1 → AreInRange night blocks → IsState q.night q.state
 start_stands q p n night blocks e a b f h =
     let is : q ≡ stands night (by_id blocks) (greatest_id blocks + 1) =
     e ∙ ap (λ (m : Night). stands m p.state.blocks n) a ∙ ap (λ (l : List Block). stands night l n) b ∙ ap (λ (k : ℕ). stands night (by_id blocks) k) f in
     subst (λ (r : Standing). IsState r.night r.state) (sym is) (start_state night blocks h)
 
-pub started_bench : (night : Night) (s : State) (past undone : List Exchange) (past_room undone_room : ℕ) → past ≡ [] → undone ≡ [] → IsState night s → IsBench night s past undone past_room undone_room
+pub started_bench : (night : Night) (s : State) (past undone : List Exchange) (past_room undone_room : ℕ) → past ≡ [] → undone ≡ [] → IsState night s
+    → IsBench night s past undone past_room undone_room
 started_bench night s past undone past_room undone_room e f h = record {
   state = h;
   past_leads = subst (λ (l : List Exchange). AllLead night s (reverse l)) (sym e) tt;

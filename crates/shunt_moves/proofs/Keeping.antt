@@ -38,7 +38,9 @@ pub insert_moves : (b : Block) (blocks : List Block) → IsPermutation (b ∷ bl
 insert_moves b [] = IsPermutation-refl (b ∷ [])
 insert_moves b (c ∷ blocks) = elim (cases_Bool (nat_le b.id c.id)) [
   | inl is ↦ subst (IsPermutation (b ∷ c ∷ blocks)) (sym (cond-true (nat_le b.id c.id) (b ∷ c ∷ blocks) (c ∷ insert_by_id b blocks) is)) (IsPermutation-refl (b ∷ c ∷ blocks))
-  | inr apart ↦ subst (IsPermutation (b ∷ c ∷ blocks)) (sym (cond-false (nat_le b.id c.id) (b ∷ c ∷ blocks) (c ∷ insert_by_id b blocks) apart)) (IsPermutation-trans (b ∷ c ∷ blocks) (c ∷ b ∷ blocks) (c ∷ insert_by_id b blocks) (swap b c blocks) (IsPermutation-cons c (b ∷ blocks) (insert_by_id b blocks) (insert_moves b blocks)))
+  | inr apart ↦ subst (IsPermutation (b ∷ c ∷ blocks)) (sym (cond-false (nat_le b.id c.id) (b ∷ c ∷ blocks) (c ∷ insert_by_id b blocks) apart))
+      (IsPermutation-trans (b ∷ c ∷ blocks) (c ∷ b ∷ blocks) (c ∷ insert_by_id b blocks) (swap b c blocks)
+      (IsPermutation-cons c (b ∷ blocks) (insert_by_id b blocks) (insert_moves b blocks)))
 ]
 
 pub of_insert : (b : Block) (blocks : List Block) (c : Block) → In c (insert_by_id b blocks) → (c ≡ b) ⊎ In c blocks
@@ -61,12 +63,16 @@ cons_same : {Y : Type 0} (o : Option Y) (xs ys : List Y) → IsPermutation xs ys
 cons_same None xs ys p = p
 cons_same (Some x) xs ys p = IsPermutation-cons x xs ys p
 
-pub stays_insert : (night : Night) (b : Block) (blocks : List Block) → IsPermutation (cons_option (stay_of night b) (stays_of night blocks)) (stays_of night (insert_by_id b blocks))
+pub stays_insert : (night : Night) (b : Block) (blocks : List Block) → IsPermutation (cons_option (stay_of night b) (stays_of night blocks))
+    (stays_of night (insert_by_id b blocks))
 stays_insert night b [] = IsPermutation-refl (stays_of night (b ∷ []))
 stays_insert night b (c ∷ blocks) = elim (cases_Bool (nat_le b.id c.id)) [
-  | inl is ↦ subst (λ (l : List Block). IsPermutation (stays_of night (b ∷ c ∷ blocks)) (stays_of night l)) (sym (cond-true (nat_le b.id c.id) (b ∷ c ∷ blocks) (c ∷ insert_by_id b blocks) is)) (IsPermutation-refl (stays_of night (b ∷ c ∷ blocks)))
-  | inr apart ↦ subst (λ (l : List Block). IsPermutation (stays_of night (b ∷ c ∷ blocks)) (stays_of night l)) (sym (cond-false (nat_le b.id c.id) (b ∷ c ∷ blocks) (c ∷ insert_by_id b blocks) apart))
-      (IsPermutation-trans (stays_of night (b ∷ c ∷ blocks)) (cons_option (stay_of night c) (cons_option (stay_of night b) (stays_of night blocks))) (stays_of night (c ∷ insert_by_id b blocks)) (cons_swap (stay_of night b) (stay_of night c) (stays_of night blocks))
+  | inl is ↦ subst (λ (l : List Block). IsPermutation (stays_of night (b ∷ c ∷ blocks)) (stays_of night l))
+      (sym (cond-true (nat_le b.id c.id) (b ∷ c ∷ blocks) (c ∷ insert_by_id b blocks) is)) (IsPermutation-refl (stays_of night (b ∷ c ∷ blocks)))
+  | inr apart ↦ subst (λ (l : List Block). IsPermutation (stays_of night (b ∷ c ∷ blocks)) (stays_of night l))
+      (sym (cond-false (nat_le b.id c.id) (b ∷ c ∷ blocks) (c ∷ insert_by_id b blocks) apart))
+      (IsPermutation-trans (stays_of night (b ∷ c ∷ blocks)) (cons_option (stay_of night c) (cons_option (stay_of night b) (stays_of night blocks)))
+      (stays_of night (c ∷ insert_by_id b blocks)) (cons_swap (stay_of night b) (stay_of night c) (stays_of night blocks))
       (cons_same (stay_of night c) (cons_option (stay_of night b) (stays_of night blocks)) (stays_of night (insert_by_id b blocks)) (stays_insert night b blocks)))
 ]
 
@@ -87,7 +93,8 @@ made_faults v s i o c = record { wrong_type = v; too_soon = s; no_route_in = i; 
 same_faults : (v s i o c w t j p d : ℕ) → v ≡ w → s ≡ t → i ≡ j → o ≡ p → c ≡ d → made_faults v s i o c ≡ made_faults w t j p d
 same_faults v s i o c w t j p d e1 e2 e3 e4 e5 = cc
 
-pub faults_more : (night : Night) (b : Block) (blocks : List Block) (f : Faults) → f ≡ faults_of night blocks → plus f (own_faults night b) ≡ faults_of night (insert_by_id b blocks)
+pub faults_more : (night : Night) (b : Block) (blocks : List Block) (f : Faults) → f ≡ faults_of night blocks
+    → plus f (own_faults night b) ≡ faults_of night (insert_by_id b blocks)
 faults_more night b blocks f e = ap (λ (g : Faults). plus g (own_faults night b)) e ∙ same_faults _ _ _ _ _ _ _ _ _ _
     (omega (arith, count_insert (type_fault night) b blocks))
     (omega (arith, count_insert (λ c. is_too_soon night (shape_of c)) b blocks))
@@ -95,7 +102,8 @@ faults_more night b blocks f e = ap (λ (g : Faults). plus g (own_faults night b
     (omega (arith, count_insert (lacks_way_out night) b blocks))
     (omega (arith, cost_insert night b blocks))
 
-pub faults_less : (night : Night) (b : Block) (blocks : List Block) (f : Faults) → f ≡ faults_of night (insert_by_id b blocks) → less f (own_faults night b) ≡ faults_of night blocks
+pub faults_less : (night : Night) (b : Block) (blocks : List Block) (f : Faults) → f ≡ faults_of night (insert_by_id b blocks)
+    → less f (own_faults night b) ≡ faults_of night blocks
 faults_less night b blocks f e = ap (λ (g : Faults). less g (own_faults night b)) e ∙ same_faults _ _ _ _ _ _ _ _ _ _
     (omega (arith, count_insert (type_fault night) b blocks))
     (omega (arith, count_insert (λ c. is_too_soon night (shape_of c)) b blocks))
@@ -108,8 +116,11 @@ faults_less night b blocks f e = ap (λ (g : Faults). less g (own_faults night b
 pub ascend_insert : (b : Block) (blocks : List Block) → IsNew b.id blocks → Ascend blocks → Ascend (insert_by_id b blocks)
 ascend_insert b [] new a = (tt, tt)
 ascend_insert b (c ∷ blocks) new a = ⊎_elim
-    (λ lt. subst Ascend (sym (cond-false (nat_le b.id c.id) (b ∷ c ∷ blocks) (c ∷ insert_by_id b blocks) (not_below b.id c.id lt)))
-    (all_from (λ d. c.id < d.id) (insert_by_id b blocks) (λ d i. ⊎_elim (λ e. omega (arith, ap (λ (x : Block). x.id) e)) (λ j. all_in (λ d. c.id < d.id) blocks d a.0 j) (of_insert b blocks d i)), ascend_insert b blocks new.1 a.1))
+    (λ lt. subst Ascend (sym (cond-false (nat_le b.id c.id) (b ∷ c ∷ blocks) (c ∷ insert_by_id b blocks) (not_below b.id c.id lt))) (
+      all_from (λ d. c.id < d.id) (insert_by_id b blocks) (λ d i. ⊎_elim (λ e. omega (arith, ap (λ (x : Block). x.id) e)) (λ j. all_in (λ d. c.id < d.id) blocks d a.0 j)
+          (of_insert b blocks d i)),
+      ascend_insert b blocks new.1 a.1,
+    ))
     (λ ge. subst Ascend (sym (cond-true (nat_le b.id c.id) (b ∷ c ∷ blocks) (c ∷ insert_by_id b blocks) (is_below b.id c.id ge)))
     (let lt : b.id < c.id = strict b.id c.id ge new.0 in
     ((lt, all_from (λ d. b.id < d.id) blocks (λ d i. let more : c.id < d.id = all_in (λ d. c.id < d.id) blocks d a.0 i in omega arith)), a)))
@@ -148,12 +159,14 @@ pub new_stays : (night : Night) (blocks : List Block) (id : ℕ) → IsNew id bl
 new_stays night blocks id new t i e = let r = of_some (stay_of night) blocks t i in let named = stay_id night r.0 t r.2 in all_in (λ c. c.id ≢ id) blocks r.0 new r.1 (omega arith)
 
 pub new_held : (night : Night) (blocks : List Block) (held : List Stay) (id : ℕ) → IsPermutation (stays_of night blocks) held → IsNew id blocks → All (λ t. t.id ≢ id) held
-new_held night blocks held id p new = All-permutation (λ t. t.id ≢ id) (stays_of night blocks) held p (to_all (λ t. t.id ≢ id) (stays_of night blocks) (new_stays night blocks id new))
+new_held night blocks held id p new = All-permutation (λ t. t.id ≢ id) (stays_of night blocks) held p
+    (to_all (λ t. t.id ≢ id) (stays_of night blocks) (new_stays night blocks id new))
 
 pub few_held : (night : Night) (blocks : List Block) (held : List Stay) → IsPermutation (stays_of night blocks) held → length held ≤ length blocks
 few_held night blocks held p = omega (arith, length_permutation (stays_of night blocks) held p, few_some (stay_of night) blocks)
 
-comes_stays : (o : Option Stay) (stays : List Stay) (before after : Holding) → Comes o before after → IsPermutation stays before.stays → IsPermutation (cons_option o stays) after.stays
+comes_stays : (o : Option Stay) (stays : List Stay) (before after : Holding) → Comes o before after → IsPermutation stays before.stays
+    → IsPermutation (cons_option o stays) after.stays
 comes_stays None stays before after e p = subst (λ (h : Holding). IsPermutation stays h.stays) (sym e) p
 comes_stays (Some t) stays before after e p = IsPermutation-trans (t ∷ stays) (t ∷ before.stays) after.stays (IsPermutation-cons t stays before.stays p) e.0
 
@@ -172,7 +185,8 @@ module _ (night : Night) (b : Block) (less : List Block) (before after : Holding
       → IsKept night (insert_by_id b less) after units_after places_after (plus f (own_faults night b))
   come k new range low few held ut ue pt pe = record {
     ascend = ascend_insert b less new k.ascend;
-    each = to_all (IsInRange night) (insert_by_id b less) (λ c i. ⊎_elim (λ e. subst (IsInRange night) (sym e) range) (λ j. of_all (IsInRange night) less c k.each j) (of_insert b less c i));
+    each = to_all (IsInRange night) (insert_by_id b less) (λ c i. ⊎_elim (λ e. subst (IsInRange night) (sym e) range) (λ j. of_all (IsInRange night) less c k.each j)
+        (of_insert b less c i));
     few = omega (arith, length_insert b less);
     stays = IsPermutation-trans (stays_of night (insert_by_id b less)) (cons_option (stay_of night b) (stays_of night less)) after.stays
         (IsPermutation-sym (cons_option (stay_of night b) (stays_of night less)) (stays_of night (insert_by_id b less)) (stays_insert night b less))
@@ -183,10 +197,12 @@ module _ (night : Night) (b : Block) (less : List Block) (before after : Holding
     each_unit = λ u lt. let e = ue u (subst (λ n. u < n) (sym k.unit_count) lt) in let c = count_insert (λ c. has_unit night (shape_of c) u) b less in let w = k.each_unit u lt in
         let g : flag (is_within (unit_from night (shape_of b)) b.n u) ≡ flag (has_unit night (shape_of b) u) = refl in omega arith;
     place_count = pt ∙ k.place_count;
-    each_place = λ v lt. let e = pe v (subst (λ n. v < n) (sym k.place_count) lt) in let c = count_insert (λ c. has_position night (shape_of c) v) b less in let w = k.each_place v lt in
+    each_place = λ v lt. let e = pe v (subst (λ n. v < n) (sym k.place_count) lt) in let c = count_insert
+        (λ c. has_position night (shape_of c) v) b less in let w = k.each_place v lt in
         let g : flag (is_within (position_from night (shape_of b)) b.n v) ≡ flag (has_position night (shape_of b) v) = refl in omega arith;
     faults_are = faults_more night b less f k.faults_are;
-    cheap = all_from (λ c. block_cost night c ≤ 4000000) (insert_by_id b less) (λ c i. ⊎_elim (λ e. subst (λ (x : Block). block_cost night x ≤ 4000000) (sym e) low) (λ j. all_in (λ c. block_cost night c ≤ 4000000) less c k.cheap j) (of_insert b less c i));
+    cheap = all_from (λ c. block_cost night c ≤ 4000000) (insert_by_id b less) (λ c i. ⊎_elim (λ e. subst (λ (x : Block). block_cost night x ≤ 4000000) (sym e) low)
+        (λ j. all_in (λ c. block_cost night c ≤ 4000000) less c k.cheap j) (of_insert b less c i));
   }
 
 -- that many blocks cost so much at most

@@ -41,33 +41,44 @@ same_members [] [] a b same = IsPermutation-refl []
 same_members [] (y ∷ ys) a b same = absurd ((same y).1 (inl refl))
 same_members (x ∷ xs) ys a b same =
     let r = split x ys ((same x).0 (inl refl)) in
-    let moved : IsPermutation ys (x ∷ (r.front ++ r.back)) = subst (λ (l : List Stay). IsPermutation l (x ∷ (r.front ++ r.back))) (sym r.is) (IsPermutation-middle r.front x r.back) in
+    let moved : IsPermutation ys (x ∷ (r.front ++ r.back)) = subst (λ (l : List Stay). IsPermutation l (x ∷ (r.front ++ r.back))) (sym r.is)
+    (IsPermutation-middle r.front x r.back) in
     let others : AreStays (x ∷ (r.front ++ r.back)) = stays_permuted ys (x ∷ (r.front ++ r.back)) b moved in
     let rest : IsPermutation xs (r.front ++ r.back) = same_members xs (r.front ++ r.back) a.2 others.2 (λ s. (
-      λ i. ⊎_elim (λ e. absurd (all_in (λ t. x.id ≢ t.id) xs s a.1 i (ap (λ (t : Stay). t.id) (sym e)))) (λ j. j) (in_permuted ys (x ∷ (r.front ++ r.back)) s moved ((same s).0 (inr i))),
-      λ i. ⊎_elim (λ e. absurd (all_in (λ t. x.id ≢ t.id) (r.front ++ r.back) s others.1 i (ap (λ (t : Stay). t.id) (sym e)))) (λ j. j) ((same s).1 (of_permuted ys (x ∷ (r.front ++ r.back)) s moved (inr i))),
+      λ i. ⊎_elim (λ e. absurd (all_in (λ t. x.id ≢ t.id) xs s a.1 i (ap (λ (t : Stay). t.id) (sym e)))) (λ j. j)
+          (in_permuted ys (x ∷ (r.front ++ r.back)) s moved ((same s).0 (inr i))),
+      λ i. ⊎_elim (λ e. absurd (all_in (λ t. x.id ≢ t.id) (r.front ++ r.back) s others.1 i (ap (λ (t : Stay). t.id) (sym e)))) (λ j. j)
+          ((same s).1 (of_permuted ys (x ∷ (r.front ++ r.back)) s moved (inr i))),
     )) in
     IsPermutation-trans (x ∷ xs) (x ∷ (r.front ++ r.back)) ys (IsPermutation-cons x xs (r.front ++ r.back) rest) (IsPermutation-sym ys (x ∷ (r.front ++ r.back)) moved)
 
 -- one stay less on both sides
-one_less : (t u : Stay) (stays before after : List Stay) → AreStays (t ∷ stays) → IsPermutation (t ∷ stays) before → IsPermutation (u ∷ after) before → u.id ≡ t.id → IsPermutation stays after
+one_less : (t u : Stay) (stays before after : List Stay) → AreStays (t ∷ stays) → IsPermutation (t ∷ stays) before → IsPermutation (u ∷ after) before → u.id ≡ t.id
+    → IsPermutation stays after
 one_less t u stays before after formed p q e =
     let all : AreStays before = stays_permuted (t ∷ stays) before formed p in
     let others : AreStays (u ∷ after) = stays_permuted before (u ∷ after) all (IsPermutation-sym (u ∷ after) before q) in
     same_members stays after formed.2 others.2 (λ s. (
-      λ i. ⊎_elim (λ is. absurd (all_in (λ x. t.id ≢ x.id) stays s formed.1 i (sym (ap (λ (x : Stay). x.id) is ∙ e)))) (λ j. j) (of_permuted (u ∷ after) before s q (in_permuted (t ∷ stays) before s p (inr i))),
-      λ i. ⊎_elim (λ is. absurd (all_in (λ x. u.id ≢ x.id) after s others.1 i (e ∙ sym (ap (λ (x : Stay). x.id) is)))) (λ j. j) (of_permuted (t ∷ stays) before s p (in_permuted (u ∷ after) before s q (inr i))),
+      λ i. ⊎_elim (λ is. absurd (all_in (λ x. t.id ≢ x.id) stays s formed.1 i (sym (ap (λ (x : Stay). x.id) is ∙ e)))) (λ j. j)
+          (of_permuted (u ∷ after) before s q (in_permuted (t ∷ stays) before s p (inr i))),
+      λ i. ⊎_elim (λ is. absurd (all_in (λ x. u.id ≢ x.id) after s others.1 i (e ∙ sym (ap (λ (x : Stay). x.id) is)))) (λ j. j)
+          (of_permuted (t ∷ stays) before s p (in_permuted (u ∷ after) before s q (inr i))),
     ))
 
-removed_stays : (id : ℕ) (t : Stay) (stays : List Stay) (gone : Option Stay) (before after : Holding) → t.id ≡ id → AreStays (t ∷ stays) → IsPermutation (t ∷ stays) before.stays → Removed id gone before after → IsPermutation stays after.stays × (before.spare + length before.stays ≤ after.spare + length after.stays)
+removed_stays : (id : ℕ) (t : Stay) (stays : List Stay) (gone : Option Stay) (before after : Holding) → t.id ≡ id → AreStays (t ∷ stays) → IsPermutation (t ∷ stays) before.stays
+    → Removed id gone before after → IsPermutation stays after.stays × (before.spare + length before.stays ≤ after.spare + length after.stays)
 removed_stays id t stays None before after e formed p r = absurd (of_all (λ s. s.id ≢ id) before.stays t (r.none refl) (in_permuted (t ∷ stays) before.stays t p (inl refl)) e)
 removed_stays id t stays (Some u) before after e formed p r =
     let s = r.some in let spare = s.2 in
     (one_less t u stays before.stays after.stays formed p s.1 (s.0 ∙ sym e), omega (arith, length_permutation (u ∷ after.stays) before.stays s.1, spare))
 
-goes_stays : (id : ℕ) (o : Option Stay) (stays : List Stay) (before after : Holding) → ((t : Stay) → o ≡ Some t → t.id ≡ id) → AreStays (cons_option o stays) → Goes id o before after → IsPermutation (cons_option o stays) before.stays
+goes_stays : (id : ℕ) (o : Option Stay) (stays : List Stay) (before after : Holding) → ((t : Stay) → o ≡ Some t → t.id ≡ id) → AreStays (cons_option o stays)
+    → Goes id o before after → IsPermutation (cons_option o stays) before.stays
     → IsPermutation stays after.stays × (before.spare + length before.stays ≤ after.spare + length after.stays)
-goes_stays id None stays before after named formed e p = (subst (λ (h : Holding). IsPermutation stays h.stays) (sym e) p, omega (arith, ap (λ (h : Holding). h.spare + length h.stays) e))
+goes_stays id None stays before after named formed e p = (
+  subst (λ (h : Holding). IsPermutation stays h.stays) (sym e) p,
+  omega (arith, ap (λ (h : Holding). h.spare + length h.stays) e),
+)
 goes_stays id (Some t) stays before after named formed e p = removed_stays id t stays e.0 before after (named t refl) formed p e.1
 
 goes_lengths : (id : ℕ) (o : Option Stay) (before after : Holding) → Goes id o before after → after.lengths ≡ before.lengths
@@ -93,10 +104,12 @@ module _ (night : Night) (b : Block) (rest : List Block) (before after : Holding
         lengths = goes_lengths b.id (stay_of night b) before after held ∙ k.lengths;
         room = let r = gone.1 in let q = k.room in omega arith;
         unit_count = ut ∙ k.unit_count;
-        each_unit = λ u lt. let e = ue u (subst (λ n. u < n) (sym k.unit_count) lt) in let c = count_insert (λ c. has_unit night (shape_of c) u) b rest in let w = k.each_unit u lt in
+        each_unit = λ u lt. let e = ue u (subst (λ n. u < n) (sym k.unit_count) lt) in let c = count_insert
+            (λ c. has_unit night (shape_of c) u) b rest in let w = k.each_unit u lt in
             let g : flag (is_within (unit_from night (shape_of b)) b.n u) ≡ flag (has_unit night (shape_of b) u) = refl in omega arith;
         place_count = pt ∙ k.place_count;
-        each_place = λ v lt. let e = pe v (subst (λ n. v < n) (sym k.place_count) lt) in let c = count_insert (λ c. has_position night (shape_of c) v) b rest in let w = k.each_place v lt in
+        each_place = λ v lt. let e = pe v (subst (λ n. v < n) (sym k.place_count) lt) in let c = count_insert
+            (λ c. has_position night (shape_of c) v) b rest in let w = k.each_place v lt in
             let g : flag (is_within (position_from night (shape_of b)) b.n v) ≡ flag (has_position night (shape_of b) v) = refl in omega arith;
         faults_are = faults_less night b rest f k.faults_are;
         cheap = all_from (λ c. block_cost night c ≤ 4000000) rest (λ c i. all_in (λ c. block_cost night c ≤ 4000000) (insert_by_id b rest) c k.cheap (to_insert b rest c i));

@@ -33,15 +33,21 @@ of_without id blocks c i = (filter_from (λ b. not (b.id == id)) blocks c i).0
 pub ascend_without : (id : ℕ) (blocks : List Block) → Ascend blocks → Ascend (without_block id blocks)
 ascend_without id [] a = tt
 ascend_without id (b ∷ blocks) a = ⊎_elim
-    (λ t. subst Ascend (sym (filter_yes (λ c. not (c.id == id)) b blocks t)) (all_from (λ c. b.id < c.id) (without_block id blocks) (λ c i. all_in (λ d. b.id < d.id) blocks c a.0 (of_without id blocks c i)), ascend_without id blocks a.1))
+    (λ t. subst Ascend (sym (filter_yes (λ c. not (c.id == id)) b blocks t)) (
+      all_from (λ c. b.id < c.id) (without_block id blocks)
+          (λ c i. all_in (λ d. b.id < d.id) blocks c a.0 (of_without id blocks c i)),
+      ascend_without id blocks a.1,
+    ))
     (λ t. subst Ascend (sym (filter_no (λ c. not (c.id == id)) b blocks t)) (ascend_without id blocks a.1))
     (cases_Bool (not (b.id == id)))
 
 pub few_without : (id : ℕ) (blocks : List Block) → length (without_block id blocks) ≤ length blocks
 few_without id [] = omega arith
 few_without id (b ∷ blocks) = ⊎_elim
-    (λ t. let e : length (without_block id (b ∷ blocks)) ≡ suc (length (without_block id blocks)) = ap length (filter_yes (λ c. not (c.id == id)) b blocks t) in omega (arith, few_without id blocks))
-    (λ t. let e : length (without_block id (b ∷ blocks)) ≡ length (without_block id blocks) = ap length (filter_no (λ c. not (c.id == id)) b blocks t) in omega (arith, few_without id blocks))
+    (λ t. let e : length (without_block id (b ∷ blocks)) ≡ suc (length (without_block id blocks)) = ap length (filter_yes (λ c. not (c.id == id)) b blocks t) in omega
+    (arith, few_without id blocks))
+    (λ t. let e : length (without_block id (b ∷ blocks)) ≡ length (without_block id blocks) = ap length (filter_no (λ c. not (c.id == id)) b blocks t) in omega
+    (arith, few_without id blocks))
     (cases_Bool (not (b.id == id)))
 
 -- ---- with a block at the end
@@ -71,7 +77,8 @@ few_last (c ∷ blocks) b = let rest = few_last blocks b in omega arith
 -- ---- with a block changed
 
 module _ (id : ℕ) (change : Block → Block) where
-  pub each_changed : (P : Block → Type 0) (blocks : List Block) → ((c : Block) → In c blocks → P c) → ((c : Block) → In c blocks → c.id ≡ id → P (change c)) → (c : Block) → In c (changed id change blocks) → P c
+  pub each_changed : (P : Block → Type 0) (blocks : List Block) → ((c : Block) → In c blocks → P c) → ((c : Block) → In c blocks → c.id ≡ id → P (change c)) → (c : Block)
+      → In c (changed id change blocks) → P c
   each_changed P blocks h p c i = let r = of_map (λ b. if b.id == id then change b else b) blocks c i in subst P (sym r.2) (one r.0 r.1)
     where
       one : (b : Block) → In b blocks → P (if b.id == id then change b else b)

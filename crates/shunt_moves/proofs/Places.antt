@@ -33,7 +33,8 @@ in_drop (suc n) (y ∷ xs) x h = let r = in_drop n xs x h in (suc r.0, let p = r
 
 module _ (xs : List Block) (id : ℕ) where
   pub parted_ids : Ascend xs → IsPartitionedBy (λ b. ltb b.id id) xs
-  parted_ids a i j d le lt t = let later = ltb-true (get_or xs j d).id id t in let up : (get_or xs i d).id ≤ (get_or xs j d).id = ascends_at xs i j d a le lt in lt-ltb (get_or xs i d).id id (omega arith)
+  parted_ids a i j d le lt t = let later = ltb-true (get_or xs j d).id id t in let up : (get_or xs i d).id ≤ (get_or xs j d).id = ascends_at xs i j d a le lt in lt-ltb
+      (get_or xs i d).id id (omega arith)
 
   module _ (n : ℕ) (point : IsPartitionPoint (λ b. ltb b.id id ≡ true) (λ b. ltb b.id id ≡ false) xs n) where
     pub ids_before : (b : Block) → In b (take n xs) → b.id < id
@@ -57,7 +58,8 @@ pub insert_at : (b : Block) (xs : List Block) (n : ℕ) → n ≤ length xs → 
 insert_at b [] zero le before after = refl
 insert_at b [] (suc n) le before after = absurd (omega arith)
 insert_at b (c ∷ xs) zero le before after = sym (insert_first b c xs (after c (inl refl)))
-insert_at b (c ∷ xs) (suc n) le before after = ap (λ (l : List Block). c ∷ l) (insert_at b xs n (omega arith) (λ d i. before d (inr i)) (λ d i. after d i)) ∙ sym (insert_later b c xs (before c (inl refl)))
+insert_at b (c ∷ xs) (suc n) le before after = ap (λ (l : List Block). c ∷ l) (insert_at b xs n (omega arith) (λ d i. before d (inr i)) (λ d i. after d i))
+    ∙ sym (insert_later b c xs (before c (inl refl)))
 
 -- a block that is there goes from its place
 pub place_within : (b : Block) (xs : List Block) (n : ℕ) → n ≤ length xs → Before xs n b.id → In b xs → n < length xs
@@ -69,7 +71,8 @@ place_within b (c ∷ xs) (suc n) le before (inr i) = let r = place_within b xs 
 pub remove_at : (b : Block) (xs : List Block) (n : ℕ) → Ascend xs → In b xs → Before xs n b.id → After xs n b.id → remove xs n ≡ without_block b.id xs
 remove_at b [] n a i before after = absurd i
 remove_at b (c ∷ xs) zero a (inl e) before after =
-    sym (without_same b.id c xs (ap (λ (x : Block). x.id) (sym e)) ∙ without_new b.id xs (all_from (λ d. d.id ≢ b.id) xs (λ d i f. let lt : c.id < d.id = all_in (λ d. c.id < d.id) xs d a.0 i in omega (arith, ap (λ (x : Block). x.id) e))))
+    sym (without_same b.id c xs (ap (λ (x : Block). x.id) (sym e)) ∙ without_new b.id xs
+    (all_from (λ d. d.id ≢ b.id) xs (λ d i f. let lt : c.id < d.id = all_in (λ d. c.id < d.id) xs d a.0 i in omega (arith, ap (λ (x : Block). x.id) e))))
 remove_at b (c ∷ xs) zero a (inr i) before after = let lt : c.id < b.id = all_in (λ d. c.id < d.id) xs b a.0 i in let ge = after c (inl refl) in absurd (omega arith)
 remove_at b (c ∷ xs) (suc n) a (inl e) before after = let lt = before c (inl refl) in absurd (omega (arith, ap (λ (x : Block). x.id) e))
 remove_at b (c ∷ xs) (suc n) a (inr i) before after =
@@ -80,14 +83,16 @@ remove_at b (c ∷ xs) (suc n) a (inr i) before after =
 pub found_at : (xs : List Block) (id n : ℕ) (d : Block) → Ascend xs → n < length xs → (get_or xs n d).id ≡ id → block_with xs id ≡ Some (get_or xs n d)
 found_at xs id n d a lt e = ap (block_with xs) (sym e) ∙ with_is xs (get_or xs n d) a (in_place xs n d lt)
 
-pub not_found : (xs : List Block) (id n : ℕ) → Ascend xs → n ≤ length xs → Before xs n id → After xs n id → ((d : Block) → n < length xs → (get_or xs n d).id ≢ id) → block_with xs id ≡ None
+pub not_found : (xs : List Block) (id n : ℕ) → Ascend xs → n ≤ length xs → Before xs n id → After xs n id → ((d : Block) → n < length xs → (get_or xs n d).id ≢ id)
+    → block_with xs id ≡ None
 not_found [] id n a le before after other = refl
 not_found (c ∷ xs) id zero a le before after other =
     let ge = after c (inl refl) in let ne = other c (omega arith) in
     with_none (c ∷ xs) id (ne, all_from (λ d. d.id ≢ id) xs (λ d i e. let lt : id < d.id = all_in (λ d. id < d.id) xs d (first_above c xs id a ge) i in omega arith))
 not_found (c ∷ xs) id (suc n) a le before after other =
     let lt = before c (inl refl) in
-    cond-false (c.id == id) (Some c) (block_with xs id) (other_id c.id id (λ e. absurd (omega arith))) ∙ not_found xs id n a.1 (omega arith) (λ d i. before d (inr i)) (λ d i. after d i) (λ d m. other d (omega arith))
+    cond-false (c.id == id) (Some c) (block_with xs id) (other_id c.id id (λ e. absurd (omega arith)))
+    ∙ not_found xs id n a.1 (omega arith) (λ d i. before d (inr i)) (λ d i. after d i) (λ d m. other d (omega arith))
 
 -- ascending ids are distinct
 pub ids_distinct : (xs : List Block) → Ascend xs → AreDistinct (map (λ b. b.id) xs)

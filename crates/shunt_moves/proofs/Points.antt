@@ -67,7 +67,8 @@ module _ (times : List ℕ) (total bare twice u x : ℕ) (h : IsCounted times to
       omega arith
 
   -- the count that is kept, with the flags of the new number and of the old one
-  kept : (p : ℕ → Bool) (count new old : ℕ) → count ≡ count_below total (λ v. p (at times v)) → new ≡ bool_byte (p x) → old ≡ bool_byte (p (at times u)) → Change count new old (count_below total (λ v. p (at (set times u x) v)))
+  kept : (p : ℕ → Bool) (count new old : ℕ) → count ≡ count_below total (λ v. p (at times v)) → new ≡ bool_byte (p x) → old ≡ bool_byte (p (at times u))
+      → Change count new old (count_below total (λ v. p (at (set times u x) v)))
   kept p count new old is a b =
       let c = counts p in let f : new ≡ flag (p x) = a ∙ byte_is (p x) in let g : old ≡ flag (p (at times u)) = b ∙ byte_is (p (at times u)) in
       let most = count_most total (λ v. p (at times v)) in let one = flag_most (p x) in let few = h.few in
@@ -76,7 +77,8 @@ module _ (times : List ℕ) (total bare twice u x : ℕ) (h : IsCounted times to
   pub put_bare : (new old : ℕ) → new ≡ bool_byte (x == 0) → old ≡ bool_byte (at times u == 0) → Change bare new old (count_below total (λ v. at (set times u x) v == 0))
   put_bare new old a b = kept (λ y. y == 0) bare new old h.bare_are a b
 
-  pub put_twice : (new old : ℕ) → new ≡ bool_byte (nat_le 2 x) → old ≡ bool_byte (nat_le 2 (at times u)) → Change twice new old (count_below total (λ v. nat_le 2 (at (set times u x) v)))
+  pub put_twice : (new old : ℕ) → new ≡ bool_byte (nat_le 2 x) → old ≡ bool_byte (nat_le 2 (at times u))
+      → Change twice new old (count_below total (λ v. nat_le 2 (at (set times u x) v)))
   put_twice new old a b = kept (λ y. nat_le 2 y) twice new old h.twice_are a b
 
 pub none_counted : (total : ℕ) (times : List ℕ) → ((u : ℕ) → at times u ≡ 0) → count_below total (λ u. at times u == 0) ≡ total
@@ -101,14 +103,16 @@ within_last : (from k u : ℕ) → u ≡ from + k → (is_within from (k + 1) u 
 within_last from k u e = (grind (arith, nat_tests), grind (arith, nat_tests))
 
 module _ (was now new : List ℕ) (from k total : ℕ) (other : (v : ℕ) → v ≢ from + k → at new v ≡ at now v) where
-  pub raise_next : ((u : ℕ) → u < total → at now u ≡ at was u + flag (is_within from k u)) → at new (from + k) ≡ at now (from + k) + 1 → (u : ℕ) → u < total → at new u ≡ at was u + flag (is_within from (k + 1) u)
+  pub raise_next : ((u : ℕ) → u < total → at now u ≡ at was u + flag (is_within from k u)) → at new (from + k) ≡ at now (from + k) + 1 → (u : ℕ) → u < total
+      → at new u ≡ at was u + flag (is_within from (k + 1) u)
   raise_next each here u lt = ⊎_elim
       (λ e. let w = within_last from k u e in let a : flag (is_within from (k + 1) u) ≡ 1 = ap flag w.0 in let b : flag (is_within from k u) ≡ 0 = ap flag w.1 in
       let p : at new u ≡ at new (from + k) = ap (at new) e in let q : at now u ≡ at now (from + k) = ap (at now) e in let h = each u lt in omega arith)
       (λ ne. let a : flag (is_within from (k + 1) u) ≡ flag (is_within from k u) = ap flag (within_next from k u ne) in let h = each u lt in let o = other u ne in omega arith)
       (cases_eq u (from + k))
 
-  pub lower_next : ((u : ℕ) → u < total → at now u + flag (is_within from k u) ≡ at was u) → at new (from + k) + 1 ≡ at now (from + k) → (u : ℕ) → u < total → at new u + flag (is_within from (k + 1) u) ≡ at was u
+  pub lower_next : ((u : ℕ) → u < total → at now u + flag (is_within from k u) ≡ at was u) → at new (from + k) + 1 ≡ at now (from + k) → (u : ℕ) → u < total
+      → at new u + flag (is_within from (k + 1) u) ≡ at was u
   lower_next each here u lt = ⊎_elim
       (λ e. let w = within_last from k u e in let a : flag (is_within from (k + 1) u) ≡ 1 = ap flag w.0 in let b : flag (is_within from k u) ≡ 0 = ap flag w.1 in
       let p : at new u ≡ at new (from + k) = ap (at new) e in let q : at now u ≡ at now (from + k) = ap (at now) e in let h = each u lt in omega arith)
@@ -116,7 +120,8 @@ module _ (was now new : List ℕ) (from k total : ℕ) (other : (v : ℕ) → v 
       (cases_eq u (from + k))
 
 -- who is to be lowered next is in some block still
-pub some_now : (was now : List ℕ) (from k n total : ℕ) → ((u : ℕ) → u < total → at now u + flag (is_within from k u) ≡ at was u) → ((u : ℕ) → IsTrue (is_within from n u) → 1 ≤ at was u) → from + n ≤ total → k < n → 1 ≤ at now (from + k)
+pub some_now : (was now : List ℕ) (from k n total : ℕ) → ((u : ℕ) → u < total → at now u + flag (is_within from k u) ≡ at was u)
+    → ((u : ℕ) → IsTrue (is_within from n u) → 1 ≤ at was u) → from + n ≤ total → k < n → 1 ≤ at now (from + k)
 some_now was now from k n total each some within lt =
     let w = within_last from k (from + k) refl in let b : flag (is_within from k (from + k)) ≡ 0 = ap flag w.1 in
     let old = some (from + k) (grind (arith, nat_tests)) in let h = each (from + k) (omega arith) in omega arith

@@ -45,7 +45,8 @@ module _ (night : Night) (blocks : List Block) (held : Holding) (units places : 
       omega (arith, ap (λ (l : List ℕ). length l) k.lengths))
 
   pub is_new : (b : Block) → IsNew b.id blocks → IfSome (stay_of night b) (λ s. All (λ t. t.id ≢ s.id) held.stays)
-  is_new b new = if_some (λ s. All (λ t. t.id ≢ s.id) held.stays) (stay_of night b) (λ s e. subst (λ (n : ℕ). All (λ t. t.id ≢ n) held.stays) (sym (stay_id night b s e)) (new_held night blocks held.stays b.id k.stays new))
+  is_new b new = if_some (λ s. All (λ t. t.id ≢ s.id) held.stays) (stay_of night b)
+      (λ s e. subst (λ (n : ℕ). All (λ t. t.id ≢ n) held.stays) (sym (stay_id night b s e)) (new_held night blocks held.stays b.id k.stays new))
 
   pub few_stays : length blocks < 400 → length held.stays < 400
   few_stays few = omega (arith, few_held night blocks held.stays k.stays)
@@ -57,16 +58,19 @@ module _ (night : Night) (blocks : List Block) (held : Holding) (units places : 
   few_units u lt = let e = k.each_unit u (subst (λ n. u < n) k.unit_count lt) in let few = k.few in omega (arith, count_by-le-length (λ b. has_unit night (shape_of b) u) blocks)
 
   pub few_places : (v : ℕ) → v < places.total → at places.times v ≤ 400
-  few_places v lt = let e = k.each_place v (subst (λ n. v < n) k.place_count lt) in let few = k.few in omega (arith, count_by-le-length (λ b. has_position night (shape_of b) v) blocks)
+  few_places v lt = let e = k.each_place v (subst (λ n. v < n) k.place_count lt) in let few = k.few in omega
+      (arith, count_by-le-length (λ b. has_position night (shape_of b) v) blocks)
 
   member : (b : Block) → In b blocks → blocks ≡ insert_by_id b (without_block b.id blocks)
   member b i = sym (put_again b blocks k.ascend i)
 
-  pub some_units : (b : Block) → In b blocks → unit_from night (shape_of b) + b.n ≤ unit_total night → (u : ℕ) → IsTrue (is_within (unit_from night (shape_of b)) b.n u) → 1 ≤ at units.times u
+  pub some_units : (b : Block) → In b blocks → unit_from night (shape_of b) + b.n ≤ unit_total night → (u : ℕ) → IsTrue (is_within (unit_from night (shape_of b)) b.n u)
+      → 1 ≤ at units.times u
   some_units b i within u t =
       let lt : u < unit_total night = below (unit_from night (shape_of b)) b.n u (unit_total night) within t in
       let e = k.each_unit u lt in
-      let c : count_by (λ c. has_unit night (shape_of c) u) blocks ≡ flag (has_unit night (shape_of b) u) + count_by (λ c. has_unit night (shape_of c) u) (without_block b.id blocks) =
+      let c : count_by (λ c. has_unit night (shape_of c) u) blocks ≡ flag (has_unit night (shape_of b) u) + count_by (λ c. has_unit night (shape_of c) u)
+      (without_block b.id blocks) =
       ap (count_by (λ c. has_unit night (shape_of c) u)) (member b i) ∙ count_insert (λ c. has_unit night (shape_of c) u) b (without_block b.id blocks) in
       let one : flag (has_unit night (shape_of b) u) ≡ 1 = is_one (has_unit night (shape_of b) u) t in omega arith
     where
@@ -77,11 +81,13 @@ module _ (night : Night) (blocks : List Block) (held : Holding) (units places : 
       is_one true t = refl
       is_one false t = absurd (cc)
 
-  pub some_places : (b : Block) → In b blocks → position_from night (shape_of b) + b.n ≤ position_total night → (v : ℕ) → IsTrue (is_within (position_from night (shape_of b)) b.n v) → 1 ≤ at places.times v
+  pub some_places : (b : Block) → In b blocks → position_from night (shape_of b) + b.n ≤ position_total night → (v : ℕ)
+      → IsTrue (is_within (position_from night (shape_of b)) b.n v) → 1 ≤ at places.times v
   some_places b i within v t =
       let lt : v < position_total night = below (position_from night (shape_of b)) b.n v (position_total night) within t in
       let e = k.each_place v lt in
-      let c : count_by (λ c. has_position night (shape_of c) v) blocks ≡ flag (has_position night (shape_of b) v) + count_by (λ c. has_position night (shape_of c) v) (without_block b.id blocks) =
+      let c : count_by (λ c. has_position night (shape_of c) v) blocks ≡ flag (has_position night (shape_of b) v) + count_by (λ c. has_position night (shape_of c) v)
+      (without_block b.id blocks) =
       ap (count_by (λ c. has_position night (shape_of c) v)) (member b i) ∙ count_insert (λ c. has_position night (shape_of c) v) b (without_block b.id blocks) in
       let one : flag (has_position night (shape_of b) v) ≡ 1 = is_one (has_position night (shape_of b) v) t in omega arith
     where

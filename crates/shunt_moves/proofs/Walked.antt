@@ -36,7 +36,8 @@ module _ (night : Night) (s : State) (x : Exchange) (to : List Exchange) (h : Le
   put_trail = ap (trail (exchanged x s)) (reverse_last to (flipped x s.next)) ∙ back_trail night x s (exchanged x s) (reverse to) h
 
 -- the last one of a list
-pub last_lead : (night : Night) (s : State) (from rest : List Exchange) (x : Exchange) → from ≡ rest ++ x ∷ [] → AllLead night s (reverse from) → Leads night x s (exchanged x s) × AllLead night (exchanged x s) (reverse rest)
+pub last_lead : (night : Night) (s : State) (from rest : List Exchange) (x : Exchange) → from ≡ rest ++ x ∷ [] → AllLead night s (reverse from)
+    → Leads night x s (exchanged x s) × AllLead night (exchanged x s) (reverse rest)
 last_lead night s from rest x e all = subst (AllLead night s) (ap reverse e ∙ reverse_last rest x) all
 
 pub last_trail : (s : State) (from rest : List Exchange) (x : Exchange) → from ≡ rest ++ x ∷ [] → trail s (reverse from) ≡ exchanged x s ∷ trail (exchanged x s) (reverse rest)
@@ -44,7 +45,8 @@ last_trail s from rest x e = ap (trail s) (ap reverse e ∙ reverse_last rest x)
 
 -- ---- undo and redo
 
-module _ (p q : Standing) (from rest to more : List Exchange) (x y : Exchange) (is_from : from ≡ rest ++ x ∷ []) (is_more : more ≡ to ++ y ∷ []) (is_y : y ≡ flipped x p.state.next) (night : q.night ≡ p.night) (state : q.state ≡ exchanged x p.state) (leads : AllLead p.night p.state (reverse from)) where
+module _ (p q : Standing) (from rest to more : List Exchange) (x y : Exchange) (is_from : from ≡ rest ++ x ∷ []) (is_more : more ≡ to ++ y ∷ []) (is_y : y ≡ flipped x p.state.next)
+    (night : q.night ≡ p.night) (state : q.state ≡ exchanged x p.state) (leads : AllLead p.night p.state (reverse from)) where
   now : q ≡ stands p.night (exchanged x p.state)
   now = same_standing q p.night (exchanged x p.state) night state
 
@@ -79,15 +81,18 @@ module _ (p q : Standing) (from rest to more : List Exchange) (x y : Exchange) (
 
   pub more_leads : AllLead p.night p.state (reverse to) → AllLead q.night q.state (reverse more)
   more_leads all = subst (λ (r : Standing). AllLead r.night r.state (reverse more)) (sym now)
-      (subst (λ (l : List Exchange). AllLead p.night (exchanged x p.state) (reverse l)) (sym behind) (put_lead p.night p.state x to (last_lead p.night p.state from rest x is_from leads).0 all))
+      (subst (λ (l : List Exchange). AllLead p.night (exchanged x p.state) (reverse l)) (sym behind)
+      (put_lead p.night p.state x to (last_lead p.night p.state from rest x is_from leads).0 all))
 
   pub lengths_same : length rest + length more ≡ length from + length to
-  lengths_same = let a : length from ≡ length rest + 1 = ap length is_from ∙ last_length rest x in let b : length more ≡ length to + 1 = ap length is_more ∙ last_length to y in omega arith
+  lengths_same = let a : length from ≡ length rest + 1 = ap length is_from ∙ last_length rest x in let b : length more ≡ length to + 1 = ap length is_more
+      ∙ last_length to y in omega arith
 
 -- ---- an edit
 
 -- where the exchange of an edit is there, it leads to what the edit makes, and the edit isn't refused
-pub planned_leads : (night : Night) (s : State) (e : Edit) (x : Exchange) → IsState night s → planned night s e ≡ Ok x → Leads night x s (exchanged x s) × (edit night s e ≡ Ok (exchanged x s))
+pub planned_leads : (night : Night) (s : State) (e : Edit) (x : Exchange) → IsState night s → planned night s e ≡ Ok x
+    → Leads night x s (exchanged x s) × (edit night s e ≡ Ok (exchanged x s))
 planned_leads night s e x h is = go (refusal night s e) (planned night s e) (agrees night s h e) refl is
   where
     to_leads : (r : Option MoveError) → Agrees night s (made s e) r (Ok x) → refusal night s e ≡ r → Leads night x s (exchanged x s) × (edit night s e ≡ Ok (exchanged x s))
@@ -95,7 +100,8 @@ planned_leads night s e x h is = go (refusal night s e) (planned night s e) (agr
         (subst (Leads night x s) (sym to) a, ap (λ (o : Option MoveError). edited o (made s e)) f ∙ ap (λ (u : State). edited None u) (sym to))
     to_leads (Some error) a f = absurd a
 
-    go : (r : Option MoveError) (o : Result Exchange MoveError) → Agrees night s (made s e) r o → refusal night s e ≡ r → o ≡ Ok x → Leads night x s (exchanged x s) × (edit night s e ≡ Ok (exchanged x s))
+    go : (r : Option MoveError) (o : Result Exchange MoveError) → Agrees night s (made s e) r o → refusal night s e ≡ r → o ≡ Ok x
+        → Leads night x s (exchanged x s) × (edit night s e ≡ Ok (exchanged x s))
     go r o a f g = to_leads r (subst (Agrees night s (made s e) r) g a) f
 
 -- where there is none, the edit is refused for its reason
@@ -109,7 +115,8 @@ planned_refused night s e error h is = go (refusal night s e) (planned night s e
     go : (r : Option MoveError) (o : Result Exchange MoveError) → Agrees night s (made s e) r o → refusal night s e ≡ r → o ≡ Err error → edit night s e ≡ Err error
     go r o a f g = to_refused r (subst (Agrees night s (made s e) r) g a) f
 
-module _ (p q : Standing) (past more undone : List Exchange) (x y : Exchange) (e : Edit) (h : IsState p.night p.state) (is : planned p.night p.state e ≡ Ok x) (is_more : more ≡ past ++ y ∷ []) (is_y : y ≡ flipped x p.state.next) (night : q.night ≡ p.night) (state : q.state ≡ exchanged x p.state) where
+module _ (p q : Standing) (past more undone : List Exchange) (x y : Exchange) (e : Edit) (h : IsState p.night p.state) (is : planned p.night p.state e ≡ Ok x)
+    (is_more : more ≡ past ++ y ∷ []) (is_y : y ≡ flipped x p.state.next) (night : q.night ≡ p.night) (state : q.state ≡ exchanged x p.state) where
   now_edited : q ≡ stands p.night (exchanged x p.state)
   now_edited = same_standing q p.night (exchanged x p.state) night state
 
@@ -132,7 +139,8 @@ module _ (p q : Standing) (past more undone : List Exchange) (x y : Exchange) (e
 
   pub past_leads : AllLead p.night p.state (reverse past) → AllLead q.night q.state (reverse more)
   past_leads all = subst (λ (r : Standing). AllLead r.night r.state (reverse more)) (sym now_edited)
-      (subst (λ (l : List Exchange). AllLead p.night (exchanged x p.state) (reverse l)) (sym behind_edit) (put_lead p.night p.state x past (planned_leads p.night p.state e x h is).0 all))
+      (subst (λ (l : List Exchange). AllLead p.night (exchanged x p.state) (reverse l)) (sym behind_edit)
+      (put_lead p.night p.state x past (planned_leads p.night p.state e x h is).0 all))
 
   pub length_edited : length more ≡ length past + 1
   length_edited = ap length is_more ∙ last_length past y

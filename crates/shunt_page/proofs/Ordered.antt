@@ -70,7 +70,8 @@ stood : (night : Night) (blocks : List Block) (s : Stay) → In s (stays_of nigh
 stood night [] s there = absurd there
 stood night (b ∷ blocks) s there = cons_stay (λ stays. In s stays → (c : Block) × In c (b ∷ blocks) × HasId c.id s) (stay_of night b) (stays_of night blocks)
     (λ e here. let more = stood night blocks s here in (more.0, inr more.1, more.2))
-    (λ t e here. ⊎_elim (λ same. (b, inl refl, stay_id night b b.park s (e ∙ ap Some (sym same)))) (λ later. let more = stood night blocks s later in (more.0, inr more.1, more.2)) here)
+    (λ t e here. ⊎_elim (λ same. (b, inl refl, stay_id night b b.park s (e ∙ ap Some (sym same))))
+    (λ later. let more = stood night blocks s later in (more.0, inr more.1, more.2)) here)
     there
 
 event_id : (m : Move) (s : Stay) (id : ℕ) → IsEventOf m s → HasId id s → m.key.id ≡ id
@@ -115,14 +116,16 @@ in_found {X} test (y ∷ xs) x e = at (test y) (in_found test xs x) e
 
 -- so it is within its trains
 pub found_within : (night : Night) (blocks : List Block) (id : ℕ) (b : Block) → All (IsInRange night) blocks → find (by_id id) blocks ≡ Some b → IsWithinTrains night b
-found_within night blocks id b each e = all_in (IsWithinTrains night) blocks b (by_places (IsInRange night) (IsWithinTrains night) blocks (λ c r. r.within) each) (in_found (by_id id) blocks b e)
+found_within night blocks id b each e = all_in (IsWithinTrains night) blocks b (by_places (IsInRange night) (IsWithinTrains night) blocks (λ c r. r.within) each)
+    (in_found (by_id id) blocks b e)
 
 -- the row of an order whose block is found
 one_row : (night : Night) (stood : List Stood) (o : Order) (f : Option Block) (b : Block) → f ≡ Some b → map (λ (r : OrderRow). r.order) (row_with night stood o f) ≡ o ∷ []
 one_row night stood o None b e = absurd (none-some _ e)
 one_row night stood o (Some c) b e = refl
 
-each_row : (night : Night) (blocks : List Block) (stood : List Stood) (orders : List Order) → ((o : Order) → In o orders → (b : Block) × (find (by_id o.id) blocks ≡ Some b)) → map (λ (r : OrderRow). r.order) (rows_from night blocks stood orders) ≡ orders
+each_row : (night : Night) (blocks : List Block) (stood : List Stood) (orders : List Order) → ((o : Order) → In o orders → (b : Block) × (find (by_id o.id) blocks ≡ Some b))
+    → map (λ (r : OrderRow). r.order) (rows_from night blocks stood orders) ≡ orders
 each_row night blocks stood [] some = refl
 each_row night blocks stood (o ∷ orders) some =
     let b = some o (inl refl) in

@@ -24,4 +24,6 @@ rows_more night blocks orders i d stood later rows more lt is push =
 
 -- the track of an order is the station's
 pub ordered : (s : Station) (orders : List Order) (i : ℕ) (o : Order) → AreOrders s orders → i < length orders → o ≡ get_or orders i o → o.track.0 < length s.tracks
-ordered s orders i o h lt is = subst (λ (p : Order). p.track.0 < length s.tracks) (sym is) (h.each (take i orders) (get_or orders i o) (drop (i + 1) orders) (sym (take-append-drop i orders) ∙ ap (λ (l : List Order). take i orders ++ l) (drop_more orders i o lt))).track
+ordered s orders i o h lt is = subst (λ (p : Order). p.track.0 < length s.tracks) (sym is)
+    (h.each (take i orders) (get_or orders i o) (drop (i + 1) orders) (sym (take-append-drop i orders)
+    ∙ ap (λ (l : List Order). take i orders ++ l) (drop_more orders i o lt))).track

@@ -14,7 +14,8 @@ use Rattle.shunt_page.specs.declared.records.Parts.{Parts}
 use Rattle.shunt_page.specs.defs.Parts.{unparked_cost, block_parts, added, with_block, nothing, parts_of, parts_sum}
 
 -- those of an option
-option_parts : (night : Night) (b : Block) (o : Option Park) → unwrap_or (option_way_in night b.arr o) 0 + unwrap_or (option_way_out night b.dep o) 0 + unparked_cost night o ≡ option_cost night (shape_of b) o
+option_parts : (night : Night) (b : Block) (o : Option Park) → unwrap_or (option_way_in night b.arr o) 0 + unwrap_or (option_way_out night b.dep o) 0 + unparked_cost night o
+    ≡ option_cost night (shape_of b) o
 option_parts night b None = omega arith
 option_parts night b (Some k) = omega arith
 
@@ -26,7 +27,8 @@ added_sum p q = omega arith
 
 sum_from : (night : Night) (p : Parts) (blocks : List Block) → parts_sum (fold (with_block night) p blocks) ≡ parts_sum p + sum_by (block_cost night) blocks
 sum_from night p [] = omega arith
-sum_from night p (b ∷ blocks) = sum_from night (with_block night p b) blocks ∙ omega (arith, added_sum p (block_parts night b), block_sum night b, sum_by-cons (block_cost night) b blocks)
+sum_from night p (b ∷ blocks) = sum_from night (with_block night p b) blocks ∙ omega
+    (arith, added_sum p (block_parts night b), block_sum night b, sum_by-cons (block_cost night) b blocks)
 
 pub parts_are : (night : Night) (blocks : List Block) → parts_sum (parts_of night blocks) ≡ total_cost night blocks
 parts_are night blocks = let h = sum_from night nothing blocks in omega (arith, h)

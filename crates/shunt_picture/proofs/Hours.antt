@@ -11,7 +11,8 @@ use Rattle.shunt_instance.specs.defs.Instance.{Night, IsInstance}
 use Rattle.shunt_picture.specs.defs.Pictures.{earlier, first_move, last_minute, shown_from, first_hour, last_hour, IsWithin, IsWithinHours}
 
 -- one more train
-pub moves_more : (trains : List Train) (k : ℕ) (first more : ℕ) → k < length trains → first ≡ first_move (take k trains) → more ≡ earlier first (train_at trains k) → more ≡ first_move (take (k + 1) trains)
+pub moves_more : (trains : List Train) (k : ℕ) (first more : ℕ) → k < length trains → first ≡ first_move (take k trains) → more ≡ earlier first (train_at trains k)
+    → more ≡ first_move (take (k + 1) trains)
 moves_more trains k first more lt done is = is ∙ ap (λ m. earlier m (train_at trains k)) done ∙ sym (fold_more earlier 2820 trains k _ lt)
 
 lesser : (b : Bool) (m n : ℕ) → cond b m (min m n) ≤ m

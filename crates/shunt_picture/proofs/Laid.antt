@@ -14,7 +14,8 @@ put_below [] top bottom l same is = (is ∙ sym same, ap (λ n. n + lane_high l)
 put_below (m ∷ lanes) top bottom l stacked is = (stacked.0, put_below lanes (top + lane_high m) bottom l stacked.1 is)
 
 -- one more lane below these
-pub stacked_more : (lanes more : List Lane) (top bottom low : ℕ) (l : Lane) → AreStacked top lanes bottom → l.top ≡ bottom → more ≡ lanes ++ l ∷ [] → low ≡ bottom + lane_high l → AreStacked top more low
+pub stacked_more : (lanes more : List Lane) (top bottom low : ℕ) (l : Lane) → AreStacked top lanes bottom → l.top ≡ bottom → more ≡ lanes ++ l ∷ [] → low ≡ bottom + lane_high l
+    → AreStacked top more low
 stacked_more lanes more top bottom low l stacked is push sum =
     subst (λ (ls : List Lane). AreStacked top ls low) (sym push) (subst (AreStacked top (lanes ++ l ∷ [])) (sym sum) (put_below lanes top bottom l stacked is))
 
@@ -40,7 +41,8 @@ rowed_none from = record {
 }
 
 module _ (from : ℕ) (trains : List TrainMark) (rows ends : List ℕ) (h : AreRowed from trains rows ends) (t : TrainMark) (row : ℕ) (later : List ℕ)
-    (free : row < length ends → slice_index ends row ≤ x_of from t.minute) (inside : row < length later) (longer : length ends ≤ length later) (few : length later ≤ length ends + 1)
+    (free : row < length ends → slice_index ends row ≤ x_of from t.minute) (inside : row < length later) (longer : length ends ≤ length later)
+    (few : length later ≤ length ends + 1)
     (here : slice_index later row ≡ end_of from t) (others : (k : ℕ) → k < length ends → k ≢ row → slice_index later k ≡ slice_index ends k) where
   row_within : (k : ℕ) → k < length trains → slice_index rows k < length ends
   row_within k lt = let count = h.count in h.within k 0 (omega (arith, lt, count))
@@ -83,7 +85,8 @@ module _ (from : ℕ) (trains : List TrainMark) (rows ends : List ℕ) (h : AreR
       (subst (EndsBy from t later) (sym (get_or_push rows row 0 k (omega (arith, last, count)))) here_ends))
       (cases_lt k (length trains))
 
-  apart_all : (i j : ℕ) (d : TrainMark) → i < j → j < length (trains ++ t ∷ []) → slice_index (rows ++ row ∷ []) i ≡ slice_index (rows ++ row ∷ []) j → IsLeftOf from (get_or (trains ++ t ∷ []) i d) (get_or (trains ++ t ∷ []) j d)
+  apart_all : (i j : ℕ) (d : TrainMark) → i < j → j < length (trains ++ t ∷ []) → slice_index (rows ++ row ∷ []) i ≡ slice_index (rows ++ row ∷ []) j
+      → IsLeftOf from (get_or (trains ++ t ∷ []) i d) (get_or (trains ++ t ∷ []) j d)
   apart_all i j d before_j lt same =
       let count = h.count in
       let total = length_push trains t in
@@ -115,14 +118,16 @@ module _ (from : ℕ) (trains : List TrainMark) (rows ends : List ℕ) (h : AreR
       }
 
 -- one more train
-pub rowed_more : (from : ℕ) (trains : List TrainMark) (i : ℕ) (rows more ends later : List ℕ) (t : TrainMark) (row : ℕ) → AreRowed from (take i trains) rows ends → i < length trains → t ≡ get_or trains i t
+pub rowed_more : (from : ℕ) (trains : List TrainMark) (i : ℕ) (rows more ends later : List ℕ) (t : TrainMark) (row : ℕ) → AreRowed from (take i trains) rows ends
+    → i < length trains → t ≡ get_or trains i t
     → (row < length ends → slice_index ends row ≤ x_of from t.minute) → row < length later → length ends ≤ length later → length later ≤ length ends + 1
     → slice_index later row ≡ end_of from t → ((k : ℕ) → k < length ends → k ≢ row → slice_index later k ≡ slice_index ends k) → more ≡ rows ++ row ∷ []
     → AreRowed from (take (i + 1) trains) more later
 rowed_more from trains i rows more ends later t row h lt at free inside longer few here others push =
     let all : take (i + 1) trains ≡ take i trains ++ t ∷ [] = take_more trains i t lt ∙ ap (λ (u : TrainMark). take i trains ++ u ∷ []) (sym at) in
     subst (λ (ts : List TrainMark). AreRowed from ts more later) (sym all)
-    (subst (λ (rs : List ℕ). AreRowed from (take i trains ++ t ∷ []) rs later) (sym push) (rowed_push from (take i trains) rows ends h t row later free inside longer few here others))
+    (subst (λ (rs : List ℕ). AreRowed from (take i trains ++ t ∷ []) rs later) (sym push)
+    (rowed_push from (take i trains) rows ends h t row later free inside longer few here others))
 
 -- no more trains
 pub rowed_all : (from : ℕ) (trains : List TrainMark) (i : ℕ) (rows ends : List ℕ) → AreRowed from (take i trains) rows ends → length trains ≤ i → AreTrainRows from trains rows

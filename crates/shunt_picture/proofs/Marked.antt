@@ -49,7 +49,8 @@ six =
 -- the marks of a bar take 140 pixels at most
 marks_short : (findings : List Finding) (id : ℕ) → marks_end (faults_of findings id) ≤ 140
 marks_short findings id =
-    let most : length (faults_words (faults_of findings id)) ≤ length (faults_words (5 ∷ 6 ∷ 7 ∷ 8 ∷ 9 ∷ 10 ∷ [])) = shorter (is_marked findings id) (5 ∷ 6 ∷ 7 ∷ 8 ∷ 9 ∷ 10 ∷ []) in
+    let most : length (faults_words (faults_of findings id)) ≤ length (faults_words (5 ∷ 6 ∷ 7 ∷ 8 ∷ 9 ∷ 10 ∷ [])) = shorter (is_marked findings id)
+    (5 ∷ 6 ∷ 7 ∷ 8 ∷ 9 ∷ 10 ∷ []) in
     let all = six in
     let end = ended (faults_of findings id) in
     omega (arith, most, all, end)
@@ -61,7 +62,8 @@ some_findings n = grind (arith, nat_tests)
 marks_none : (id : ℕ) → marks_end (faults_of [] id) ≡ 0
 marks_none id = refl
 
-pub marks_of : (night : Night) (from : ℕ) (findings : List Finding) (s t : Seat) (o : Bool) → o ≡ (length findings == 0) → HaveRoom from o s t → AreMarksApart from (bar_of night findings s) (bar_of night findings t)
+pub marks_of : (night : Night) (from : ℕ) (findings : List Finding) (s t : Seat) (o : Bool) → o ≡ (length findings == 0) → HaveRoom from o s t
+    → AreMarksApart from (bar_of night findings s) (bar_of night findings t)
 marks_of night from [] s t o is room = λ same.
     let first = room.first same in
     let none = marks_none s.standing.block.id in

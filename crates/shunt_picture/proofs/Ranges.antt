@@ -16,7 +16,8 @@ range_more a (suc n) j e =
     ap (range_with_len a) same ∙ ap (λ (l : List ℕ). a ∷ l) (range_more (a + 1) n j (omega (arith, e)))
 
 -- and of texts
-pub texts_more : (f : ℕ → List ℕ) (a n m j : ℕ) (old text more : List ℕ) → a + n ≡ j → m ≡ n + 1 → text ≡ old ++ flat_map f (range_with_len a n) → more ≡ text ++ f j → more ≡ old ++ flat_map f (range_with_len a m)
+pub texts_more : (f : ℕ → List ℕ) (a n m j : ℕ) (old text more : List ℕ) → a + n ≡ j → m ≡ n + 1 → text ≡ old ++ flat_map f (range_with_len a n) → more ≡ text ++ f j
+    → more ≡ old ++ flat_map f (range_with_len a m)
 texts_more f a n m j old text more e s done push =
     push ∙ ap (λ (t : List ℕ). t ++ f j) done ∙ append_assoc old (flat_map f (range_with_len a n)) (f j)
     ∙ ap (λ (t : List ℕ). old ++ t)
@@ -30,14 +31,16 @@ map_cond : {X : Type 0} (f : ℕ → X) (b : Bool) (j : ℕ) → map f (cond b (
 map_cond f true j = refl
 map_cond f false j = refl
 
-pub noted_more : (p : ℕ → Bool) (a n m j : ℕ) (xs more : List ℕ) → a + n ≡ j → m ≡ n + 1 → xs ≡ filter p (range_with_len a n) → more ≡ xs ++ cond (p j) (j ∷ []) [] → more ≡ filter p (range_with_len a m)
+pub noted_more : (p : ℕ → Bool) (a n m j : ℕ) (xs more : List ℕ) → a + n ≡ j → m ≡ n + 1 → xs ≡ filter p (range_with_len a n) → more ≡ xs ++ cond (p j) (j ∷ []) []
+    → more ≡ filter p (range_with_len a m)
 noted_more p a n m j xs more e s done push =
     push ∙ ap (λ (l : List ℕ). l ++ cond (p j) (j ∷ []) []) done
     ∙ sym (filter-append p (range_with_len a n) (j ∷ []))
     ∙ ap (filter p) (sym (range_more a n j e))
     ∙ ap (λ k. filter p (range_with_len a k)) (sym s)
 
-pub mapped_noted : {X : Type 0} (f : ℕ → X) (p : ℕ → Bool) (a n m j : ℕ) (xs more : List X) → a + n ≡ j → m ≡ n + 1 → xs ≡ map f (filter p (range_with_len a n)) → more ≡ xs ++ cond (p j) (f j ∷ []) [] → more ≡ map f (filter p (range_with_len a m))
+pub mapped_noted : {X : Type 0} (f : ℕ → X) (p : ℕ → Bool) (a n m j : ℕ) (xs more : List X) → a + n ≡ j → m ≡ n + 1 → xs ≡ map f (filter p (range_with_len a n))
+    → more ≡ xs ++ cond (p j) (f j ∷ []) [] → more ≡ map f (filter p (range_with_len a m))
 mapped_noted {X} f p a n m j xs more e s done push =
     push ∙ ap (λ (l : List X). l ++ cond (p j) (f j ∷ []) []) done
     ∙ ap (λ (l : List X). map f (filter p (range_with_len a n)) ++ l) (sym (map_cond f (p j) j))
@@ -45,7 +48,8 @@ mapped_noted {X} f p a n m j xs more e s done push =
     ∙ ap (map f) (noted_more p a n m j (filter p (range_with_len a n)) (filter p (range_with_len a n) ++ cond (p j) (j ∷ []) []) e s refl refl)
 
 -- one more lane
-pub tracks_more : (lanes more : List Lane) (lane : Lane) (k : ℕ) → map (λ l. l.track.0) lanes ≡ range_with_len 0 k → lane.track ≡ record { 0 = k } → more ≡ lanes ++ lane ∷ [] → map (λ l. l.track.0) more ≡ range_with_len 0 (k + 1)
+pub tracks_more : (lanes more : List Lane) (lane : Lane) (k : ℕ) → map (λ l. l.track.0) lanes ≡ range_with_len 0 k → lane.track ≡ record { 0 = k } → more ≡ lanes ++ lane ∷ []
+    → map (λ l. l.track.0) more ≡ range_with_len 0 (k + 1)
 tracks_more lanes more lane k done is push =
     ap (map (λ (l : Lane). l.track.0)) push
     ∙ map-append (λ (l : Lane). l.track.0) lanes (lane ∷ [])
@@ -54,7 +58,8 @@ tracks_more lanes more lane k done is push =
     ∙ sym (range_more 0 k k (omega arith))
 
 -- one more of those that are made of the numbers in turn
-pub pushed_next : {X : Type 0} (f : ℕ → X) (k : ℕ) (xs more : List X) (x : X) → x ≡ f k → xs ≡ map f (range_with_len 0 k) → more ≡ xs ++ x ∷ [] → more ≡ map f (range_with_len 0 (k + 1))
+pub pushed_next : {X : Type 0} (f : ℕ → X) (k : ℕ) (xs more : List X) (x : X) → x ≡ f k → xs ≡ map f (range_with_len 0 k) → more ≡ xs ++ x ∷ []
+    → more ≡ map f (range_with_len 0 (k + 1))
 pushed_next {X} f k xs more x is done push =
     push ∙ ap (λ (l : List X). l ++ x ∷ []) done
     ∙ ap (λ (y : X). map f (range_with_len 0 k) ++ y ∷ []) is

@@ -13,7 +13,8 @@ use Rattle.shunt_picture.specs.defs.Rows.{AreApart, HaveRoom, ShowsOrder, IsBeyo
 
 -- with one more seat there are more rows
 pub among_more : (n m : ℕ) (seats : List Seat) → n ≤ m → All (λ s. IsRowAmong n s.row) seats → All (λ s. IsRowAmong m s.row) seats
-among_more n m seats le = All-weaker (λ s. IsRowAmong n s.row) (λ s. IsRowAmong m s.row) (λ s h. record { from = let a = h.from in omega (arith, a, le); to = let b = h.to in omega (arith, b, le) }) seats
+among_more n m seats le = All-weaker (λ s. IsRowAmong n s.row) (λ s. IsRowAmong m s.row)
+    (λ s h. record { from = let a = h.from in omega (arith, a, le); to = let b = h.to in omega (arith, b, le) }) seats
 
 -- ---- lists of one thing made of another
 
@@ -72,12 +73,14 @@ IsFree x row seats = All (λ s. x.stay.enter.minute < s.until → s.row ≢ row)
 abbrev AreBehind : Standing → ℕ → List Seat → Type 0
 AreBehind x row seats = All (λ s. x.stay.enter.minute < s.until → IsBeyond x.stay.side_in row s.row) seats
 
-apart_more : (from : ℕ) (o : Bool) (seats : List Seat) (y : Seat) → AllPairs AreApart seats → AreLate from o seats → IsFree y.standing y.row seats → AllPairs AreApart (seats ++ y ∷ [])
+apart_more : (from : ℕ) (o : Bool) (seats : List Seat) (y : Seat) → AllPairs AreApart seats → AreLate from o seats → IsFree y.standing y.row seats
+    → AllPairs AreApart (seats ++ y ∷ [])
 apart_more from o seats y pairs late free = all_pairs_push AreApart seats y pairs (λ k d lt is.
     let behind = (late k d lt).leave in
     ⊎_elim (λ before. absurd (free k d lt before is)) (λ le. omega (arith, behind, le)) (cases_lt y.standing.stay.enter.minute (get_or seats k d).until))
 
-room_more : (from : ℕ) (o : Bool) (seats : List Seat) (y : Seat) → AllPairs (HaveRoom from o) seats → AreLate from o seats → IsFree y.standing y.row seats → AllPairs (HaveRoom from o) (seats ++ y ∷ [])
+room_more : (from : ℕ) (o : Bool) (seats : List Seat) (y : Seat) → AllPairs (HaveRoom from o) seats → AreLate from o seats → IsFree y.standing y.row seats
+    → AllPairs (HaveRoom from o) (seats ++ y ∷ [])
 room_more from o seats y pairs late free = all_pairs_push (HaveRoom from o) seats y pairs (λ k d lt. record {
   first = λ is.
       let behind = (late k d lt).enter in
@@ -87,23 +90,29 @@ room_more from o seats y pairs late free = all_pairs_push (HaveRoom from o) seat
       ⊎_elim (λ before. absurd (free k d lt before is)) (λ le. omega (arith, behind, le)) (cases_lt y.standing.stay.enter.minute (get_or seats k d).until);
 })
 
-order_more : (from : ℕ) (o : Bool) (seats : List Seat) (y : Seat) → AllPairs ShowsOrder seats → AreLate from o seats → AreBehind y.standing y.row seats → AllPairs ShowsOrder (seats ++ y ∷ [])
+order_more : (from : ℕ) (o : Bool) (seats : List Seat) (y : Seat) → AllPairs ShowsOrder seats → AreLate from o seats → AreBehind y.standing y.row seats
+    → AllPairs ShowsOrder (seats ++ y ∷ [])
 order_more from o seats y pairs late beyond = all_pairs_push ShowsOrder seats y pairs (λ k d lt stands.
     let behind = (late k d lt).leave in
     beyond k d lt (omega (arith, behind, stands)))
 
-among_push : (seats : List Seat) (y : Seat) → All (λ s. IsRowAmong (length seats) s.row) seats → IsRowAmong (length seats + 1) y.row → All (λ s. IsRowAmong (length (seats ++ y ∷ [])) s.row) (seats ++ y ∷ [])
+among_push : (seats : List Seat) (y : Seat) → All (λ s. IsRowAmong (length seats) s.row) seats → IsRowAmong (length seats + 1) y.row
+    → All (λ s. IsRowAmong (length (seats ++ y ∷ [])) s.row) (seats ++ y ∷ [])
 among_push seats y among here =
     let longer : length (seats ++ y ∷ []) ≡ length seats + 1 = length_push seats y in
-    All-push (λ s. IsRowAmong (length (seats ++ y ∷ [])) s.row) seats y (among_more (length seats) (length (seats ++ y ∷ [])) seats (omega (arith, longer)) among) (subst (λ n. IsRowAmong n y.row) (sym longer) here)
+    All-push (λ s. IsRowAmong (length (seats ++ y ∷ [])) s.row) seats y (among_more (length seats) (length (seats ++ y ∷ [])) seats (omega (arith, longer)) among)
+    (subst (λ n. IsRowAmong n y.row) (sym longer) here)
 
 pushed : (standings : List Standing) (from : ℕ) (is_ordered : Bool) (i : ℕ) (d : Standing) (seats : List Seat) (y : Seat) → i < length standings
-    → length seats ≡ i → map (λ s. s.standing) seats ≡ take i standings → AllPairs AreApart seats → AllPairs (HaveRoom from is_ordered) seats → (IsTrue is_ordered → AllPairs ShowsOrder seats) → AreLate from is_ordered seats → All (λ s. IsRowAmong (length seats) s.row) seats
-    → y.standing ≡ get_or standings i d → IsLate from is_ordered y → IsFree y.standing y.row seats → (IsTrue is_ordered → AreBehind y.standing y.row seats) → IsRowAmong (length seats + 1) y.row
+    → length seats ≡ i → map (λ s. s.standing) seats ≡ take i standings → AllPairs AreApart seats → AllPairs (HaveRoom from is_ordered) seats
+    → (IsTrue is_ordered → AllPairs ShowsOrder seats) → AreLate from is_ordered seats → All (λ s. IsRowAmong (length seats) s.row) seats
+    → y.standing ≡ get_or standings i d → IsLate from is_ordered y → IsFree y.standing y.row seats → (IsTrue is_ordered → AreBehind y.standing y.row seats)
+    → IsRowAmong (length seats + 1) y.row
     → AreSeats standings from is_ordered (i + 1) (seats ++ y ∷ [])
 pushed standings from is_ordered i d seats y lt count same apart room order late among of until free beyond row = record {
   count = omega (arith, count, length_push seats y);
-  same = map-append (λ (s : Seat). s.standing) seats (y ∷ []) ∙ ap (λ (l : List Standing). l ++ y.standing ∷ []) same ∙ ap (λ (s : Standing). take i standings ++ s ∷ []) of ∙ sym (take_more standings i d lt);
+  same = map-append (λ (s : Seat). s.standing) seats (y ∷ []) ∙ ap (λ (l : List Standing). l ++ y.standing ∷ []) same ∙ ap (λ (s : Standing). take i standings ++ s ∷ []) of
+      ∙ sym (take_more standings i d lt);
   apart = apart_more from is_ordered seats y apart late free;
   room = room_more from is_ordered seats y room late free;
   order = λ t. order_more from is_ordered seats y (order t) late (beyond t);
@@ -112,7 +121,8 @@ pushed standings from is_ordered i d seats y lt count same apart room order late
 }
 
 pub seats_more : (standings : List Standing) (from : ℕ) (is_ordered : Bool) (i : ℕ) (d : Standing) (seats seen more : List Seat) (y : Seat) → i < length standings
-    → length seats ≡ i → map (λ s. s.standing) seats ≡ take i standings → AllPairs AreApart seats → AllPairs (HaveRoom from is_ordered) seats → (IsTrue is_ordered → AllPairs ShowsOrder seats) → AreLate from is_ordered seats → All (λ s. IsRowAmong (length seats) s.row) seats
+    → length seats ≡ i → map (λ s. s.standing) seats ≡ take i standings → AllPairs AreApart seats → AllPairs (HaveRoom from is_ordered) seats
+    → (IsTrue is_ordered → AllPairs ShowsOrder seats) → AreLate from is_ordered seats → All (λ s. IsRowAmong (length seats) s.row) seats
     → seen ≡ seats → y.standing ≡ get_or standings i d → (get_or standings i d).stay.leave.minute ≤ y.until → (get_or standings i d).stay.enter.minute ≤ y.until
     → (is_ordered ≡ false → max (get_or standings i d).stay.enter.minute from + 70 ≤ y.until)
     → IsFree (get_or standings i d) y.row seen → (IsTrue is_ordered → AreBehind (get_or standings i d) y.row seen) → IsRowAmong (length seen + 1) y.row → more ≡ seats ++ y ∷ []

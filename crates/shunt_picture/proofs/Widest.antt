@@ -7,10 +7,12 @@ use Rattle.shunt_picture.specs.defs.Svg.{wide}
 use Rattle.shunt_picture.specs.defs.PictureTexts.{title_words}
 
 -- one more of them
-pub widest_noted : {X : Type 0} (w : X → ℕ) (xs : List X) (i : ℕ) (x : X) (far more : ℕ) → i < length xs → x ≡ get_or xs i x → All (λ y. w y ≤ far) (take i xs) → more ≡ max (w x) far → All (λ y. w y ≤ more) (take (i + 1) xs)
+pub widest_noted : {X : Type 0} (w : X → ℕ) (xs : List X) (i : ℕ) (x : X) (far more : ℕ) → i < length xs → x ≡ get_or xs i x → All (λ y. w y ≤ far) (take i xs)
+    → more ≡ max (w x) far → All (λ y. w y ≤ more) (take (i + 1) xs)
 widest_noted {X} w xs i x far more lt at all is =
     let enough : w x ≤ more = omega (arith, is) in
-    All-more (λ (y : X). w y ≤ more) xs i x lt (All-weaker (λ (y : X). w y ≤ far) (λ (y : X). w y ≤ more) (λ y le. omega (arith, le, is)) (take i xs) all) (subst (λ (y : X). w y ≤ more) at enough)
+    All-more (λ (y : X). w y ≤ more) xs i x lt (All-weaker (λ (y : X). w y ≤ far) (λ (y : X). w y ≤ more) (λ y le. omega (arith, le, is)) (take i xs) all)
+    (subst (λ (y : X). w y ≤ more) at enough)
 
 -- no more of them
 pub widest_all : {X : Type 0} (w : X → ℕ) (xs : List X) (i far : ℕ) → All (λ y. w y ≤ far) (take i xs) → length xs ≤ i → All (λ y. w y ≤ far) xs

@@ -67,7 +67,8 @@ pub track_held : (s : Station) (row : List (List ℕ)) (k : ℕ) → AllHold (tr
 track_held s row k h = track_within s (at row k) (track_in s row k).value (there (record { 0 = 0 }) (track_number s (at row k)) h.0)
 
 -- what is true of both records is true of the one that is chosen
-pub chosen : {A : Type 0} (b : Bool) (m k : Judged A) (P : A → Type 0) → (AllHold m.checks → P m.value) → (AllHold k.checks → P k.value) → AllHold (if b then m else k).checks → P (if b then m else k).value
+pub chosen : {A : Type 0} (b : Bool) (m k : Judged A) (P : A → Type 0) → (AllHold m.checks → P m.value) → (AllHold k.checks → P k.value) → AllHold (if b then m else k).checks
+    → P (if b then m else k).value
 chosen true m k P f g h = f h
 chosen false m k P f g h = g h
 
@@ -137,7 +138,8 @@ one_more night blocks b are more = record {
   ids = distinct_push (λ (c : Block). c.id) (λ c. c.id == b.id) blocks b (λ c same. eq-eqb c.id b.id same) are.ids more.new;
 }
 
-blocks_hold : (night : Night) (blocks : List Block) (row : List (List ℕ)) → AreInRange night blocks → AllHold (blocks_of night blocks row).checks → AreInRange night (blocks_of night blocks row).value
+blocks_hold : (night : Night) (blocks : List Block) (row : List (List ℕ)) → AreInRange night blocks → AllHold (blocks_of night blocks row).checks
+    → AreInRange night (blocks_of night blocks row).value
 unfolding blocks_of
 blocks_hold night blocks row are h =
     let one = block_of night blocks row in
@@ -177,13 +179,15 @@ draft_later n night d t row is =
     (in_either n (is_word row (codes "cost")) _ _ t (IsDraft night t) (λ word. draft_cost n night d t row is) (λ e. absurd cc)))
 
 pub plan_formed : (night : Night) (rows : List (List (List ℕ))) (p : Plan) → reading (plan_format night) rows ≡ Ok p → IsPlanInRange night p
-plan_formed night = formed (plan_format night) (IsDraft night) (IsPlanInRange night) (draft_first night) (λ n d t row. draft_later n night d t row) (λ d is. record { blocks = is.blocks; cost = is.cost })
+plan_formed night = formed (plan_format night) (IsDraft night) (IsPlanInRange night) (draft_first night) (λ n d t row. draft_later n night d t row)
+    (λ d is. record { blocks = is.blocks; cost = is.cost })
 
 pins_start : (night : Night) (pins : List Block) (row : List (List ℕ)) → answer 1 (pins_first row) ≡ Ok pins → AreInRange night pins
 unfolding pins_first
 pins_start night pins row e = subst (AreInRange night) (says 1 (pins_first row) pins e).1 (none_in_range night)
 
-pins_step : (n : ℕ) (night : Night) (pins more : List Block) (row : List (List ℕ)) → AreInRange night pins → answer n (in_state (pins_format night) pins row) ≡ Ok more → AreInRange night more
+pins_step : (n : ℕ) (night : Night) (pins more : List Block) (row : List (List ℕ)) → AreInRange night pins → answer n (in_state (pins_format night) pins row) ≡ Ok more
+    → AreInRange night more
 unfolding pins_later
 pins_step n night pins more row are =
     in_either n (is_word row (codes "block")) _ _ more (AreInRange night more)
@@ -242,7 +246,8 @@ turn_formed night before row =
     room : nat_lt before 10000 ≡ true → before < 10000
     room e = ltb-true before 10000 e
 
-later_formed : (n : ℕ) (night : Night) (before after : List Turn) (row : List (List ℕ)) → AreTurns night before → answer n (edits_later night before row) ≡ Ok after → AreTurns night after
+later_formed : (n : ℕ) (night : Night) (before after : List Turn) (row : List (List ℕ)) → AreTurns night before → answer n (edits_later night before row) ≡ Ok after
+    → AreTurns night after
 unfolding edits_later
 later_formed n night before after row are e =
     let m = turn_of night (length before) row in

@@ -30,10 +30,12 @@ use Rattle.shunt_plan.specs.declared.edits.Turn.TheVariants as turns
 one_text : (row : List (List ℕ)) → text_of_rows (row ∷ []) ≡ text_of_row row
 one_text row = flat_map-cons text_of_row row [] ∙ append-nil (text_of_row row)
 
-pub whole_text : (night : Night) (plan : Plan) → text_of_rows (rows_of night plan) ≡ text_of_row head_row ++ (text_of_rows (map (block_row night) plan.blocks) ++ text_of_row (cost_row plan.cost))
+pub whole_text : (night : Night) (plan : Plan) → text_of_rows (rows_of night plan) ≡ text_of_row head_row
+    ++ (text_of_rows (map (block_row night) plan.blocks) ++ text_of_row (cost_row plan.cost))
 whole_text night plan =
     flat_map-cons text_of_row head_row (map (block_row night) plan.blocks ++ cost_row plan.cost ∷ [])
-    ∙ ap (λ t. text_of_row head_row ++ t) (flat_map-append text_of_row (map (block_row night) plan.blocks) (cost_row plan.cost ∷ []) ∙ ap (λ t. text_of_rows (map (block_row night) plan.blocks) ++ t) (one_text (cost_row plan.cost)))
+    ∙ ap (λ t. text_of_row head_row ++ t) (flat_map-append text_of_row (map (block_row night) plan.blocks) (cost_row plan.cost ∷ [])
+    ∙ ap (λ t. text_of_rows (map (block_row night) plan.blocks) ++ t) (one_text (cost_row plan.cost)))
 
 pub plan_written : (night : Night) (plan : Plan) (blocks : List Block) (w a b c : Written)
     → blocks ≡ plan.blocks
@@ -100,12 +102,22 @@ plan_short night plan i is =
     let head = head_short in
     let cost = cost_short plan.cost is.cost in
     let whole = ap length (whole_text night plan) in
-    omega (arith, few, all, head, cost, whole, length-append (text_of_row head_row) (blocks ++ text_of_row (cost_row plan.cost)), length-append blocks (text_of_row (cost_row plan.cost)))
+    omega (
+      arith,
+      few,
+      all,
+      head,
+      cost,
+      whole,
+      length-append (text_of_row head_row) (blocks ++ text_of_row (cost_row plan.cost)),
+      length-append blocks (text_of_row (cost_row plan.cost)),
+    )
 
 id_short : (id : ℕ) → IsId id → length (decimal id) ≤ 7
 id_short id is = let le = is.1 in length-decimal-le 7 id (omega arith) (omega arith) (omega arith)
 
-add_short : (night : Night) → IsOrderedNight night → (s : Shape) (park : Option Park) → AreRunsStated night s → IsOnTrack night.station park → length (text_of_row (turn_row night (turns.Edit (edits.Add s.arr s.p s.n s.dep s.q park)))) ≤ 70
+add_short : (night : Night) → IsOrderedNight night → (s : Shape) (park : Option Park) → AreRunsStated night s → IsOnTrack night.station park
+    → length (text_of_row (turn_row night (turns.Edit (edits.Add s.arr s.p s.n s.dep s.q park)))) ≤ 70
 add_short night f s park r on =
     let turn = turns.Edit (edits.Add s.arr s.p s.n s.dep s.q park) in
     let w = row_width (turn_row night turn) (turn_plain night f turn (r, on)) in
@@ -142,7 +154,16 @@ edits_short night is all are =
     let rest = rows_width (IsTurn night) (turn_row night) 70 all (turn_short night f) are.each in
     let head = row_width edits_head head_plain in
     let one = place_short 1 (omega arith) in
-    omega (arith, few, rest, head, one, ap length (flat_map-cons text_of_row edits_head (map (turn_row night) all)), length-append (text_of_row edits_head) (text_of_rows (map (turn_row night) all)))
+    omega (
+      arith,
+      few,
+      rest,
+      head,
+      one,
+      ap length (flat_map-cons text_of_row edits_head (map (turn_row night) all)),
+      length-append (text_of_row edits_head) (text_of_rows (map (turn_row night) all)),
+    )
 
-pub short_from : (night : Night) → IsInstance night → (all : List Turn) → AreTurns night all → (text bytes : List ℕ) → text ≡ text_of_rows (rows_of_edits night all) → bytes ≡ text → length bytes ≤ 700008
+pub short_from : (night : Night) → IsInstance night → (all : List Turn) → AreTurns night all → (text bytes : List ℕ) → text ≡ text_of_rows (rows_of_edits night all) → bytes ≡ text
+    → length bytes ≤ 700008
 short_from night is all are text bytes e same = subst (λ (t : List ℕ). length t ≤ 700008) (sym (same ∙ e)) (edits_short night is all are)

@@ -93,7 +93,8 @@ plain_cost stated le = (omega arith, (plain_word (codes "cost") refl refl, (plai
 pub plan_plain : (night : Night) (plan : Plan) → IsOrderedNight night → IsPlanInRange night plan → ArePlain (rows_of night plan)
 plan_plain night plan h is = (
   plain_head,
-  plain_more (map (block_row night) plan.blocks) _ (plain_map (IsInRange night) (block_row night) plan.blocks (plain_block night h) is.blocks.each) (plain_cost plan.cost is.cost, tt),
+  plain_more (map (block_row night) plan.blocks) _ (plain_map (IsInRange night) (block_row night) plan.blocks (plain_block night h) is.blocks.each)
+      (plain_cost plan.cost is.cost, tt),
 )
 
 plain_id : (id : ℕ) → IsId id → IsPlainField (decimal id)
@@ -107,8 +108,16 @@ park_plain s f park lt = (plain_name _ (track_named s park.track f lt), (plain_s
 
 pub turn_plain : (night : Night) → IsOrderedNight night → (t : Turn) → IsTurn night t → IsPlainRow (turn_row night t)
 turn_plain night f (turns.Edit (edits.Add arr p n dep q park)) is =
-    let r = is.0 in
-    (omega arith, (plain_word (codes "add") refl refl, (plain_name _ (arr_named night arr f r.arr), (plain_count p r.p, (plain_count n r.n, (plain_name _ (dep_named night dep f r.dep), (plain_count q r.q, plain_option night.station park f.station is.1)))))))
+    let r = is.0 in (
+      omega arith,
+      (
+        plain_word (codes "add") refl refl,
+        (
+          plain_name _ (arr_named night arr f r.arr),
+          (plain_count p r.p, (plain_count n r.n, (plain_name _ (dep_named night dep f r.dep), (plain_count q r.q, plain_option night.station park f.station is.1)))),
+        ),
+      ),
+    )
 turn_plain night f (turns.Edit (edits.Drop id)) is = (omega arith, (plain_word (codes "drop") refl refl, (plain_id id is, tt)))
 turn_plain night f (turns.Edit (edits.Park id park)) is = (omega arith, (plain_word (codes "park") refl refl, (plain_id id is.0, park_plain night.station f.station park is.1)))
 turn_plain night f (turns.Edit (edits.Unpark id)) is = (omega arith, (plain_word (codes "unpark") refl refl, (plain_id id is, tt)))

@@ -99,7 +99,8 @@ parked_by k track entry leave = do
   b ← found A leave (k + 3) kinds.Kind
   says (Some record { track = t; side_in = a; side_out = b })
 
-pub option_read : (n : ℕ) (s : Station) (a b c d e f g : List ℕ) (park : Option Park) → IsStation s → IsOnTrack s park → answer n (option_in s (a ∷ b ∷ c ∷ d ∷ e ∷ f ∷ g ∷ option_fields s park) 8) ≡ Ok park
+pub option_read : (n : ℕ) (s : Station) (a b c d e f g : List ℕ) (park : Option Park) → IsStation s → IsOnTrack s park
+    → answer n (option_in s (a ∷ b ∷ c ∷ d ∷ e ∷ f ∷ g ∷ option_fields s park) 8) ≡ Ok park
 unfolding option_in unparked_in parked_in
 option_read n s a b c d e f g None is on = refl
 option_read n s a b c d e f g (Some k) is on =
@@ -108,7 +109,8 @@ option_read n s a b c d e f g (Some k) is on =
     ∙ ap (λ o. answer n (parked_by 8 (Some k.track) (Some k.side_in) o)) (side_read k.side_out)
 
 -- a record of a block has 8 or 11 fields
-fields_fit : (s : Station) (a b c d e f g : List ℕ) (park : Option Park) → (length (a ∷ b ∷ c ∷ d ∷ e ∷ f ∷ g ∷ option_fields s park) == 8 || length (a ∷ b ∷ c ∷ d ∷ e ∷ f ∷ g ∷ option_fields s park) == 11) ≡ true
+fields_fit : (s : Station) (a b c d e f g : List ℕ) (park : Option Park) → (length (a ∷ b ∷ c ∷ d ∷ e ∷ f ∷ g ∷ option_fields s park) == 8 || length
+    (a ∷ b ∷ c ∷ d ∷ e ∷ f ∷ g ∷ option_fields s park) == 11) ≡ true
 fields_fit s a b c d e f g None = refl
 fields_fit s a b c d e f g (Some k) = refl
 
@@ -154,7 +156,16 @@ runs_hold k night xs y room new is =
               in_range 1 1000000 y.id is.from is.to,
               (
                 refl,
-                (refl, (in_range 1 (arr_units night y.arr) y.p r.p units.0, (refl, (in_range 1 (arr_units night y.arr + 1 - y.p) y.n r.n units.1, (refl, (refl, (in_range 1 (dep_units night y.dep + 1 - y.n) y.q r.q places.1, tt))))))),
+                (
+                  refl,
+                  (
+                    in_range 1 (arr_units night y.arr) y.p r.p units.0,
+                    (
+                      refl,
+                      (in_range 1 (arr_units night y.arr + 1 - y.p) y.n r.n units.1, (refl, (refl, (in_range 1 (dep_units night y.dep + 1 - y.n) y.q r.q places.1, tt)))),
+                    ),
+                  ),
+                ),
               ),
             ),
           ),
@@ -162,7 +173,8 @@ runs_hold k night xs y room new is =
       ),
     )
 
-runs_read : (k : ℕ) (night : Night) (xs : List Block) (y : Block) → IsOrderedNight night → length xs < 400 → has_id xs y.id ≡ false → IsInRange night y → answer k (runs_of night xs (block_row night y)) ≡ Ok (record y { park = None })
+runs_read : (k : ℕ) (night : Night) (xs : List Block) (y : Block) → IsOrderedNight night → length xs < 400 → has_id xs y.id ≡ false → IsInRange night y
+    → answer k (runs_of night xs (block_row night y)) ≡ Ok (record y { park = None })
 unfolding runs_of
 runs_read k night xs y h room new is =
     let small = small_runs night y h is in
@@ -173,7 +185,8 @@ runs_read k night xs y h room new is =
     let n = decimal_of (decimal y.n) in
     let dep = dep_number night (dep_name night y.dep) in
     let q = decimal_of (decimal y.q) in
-    ap (λ o. answer k (by o id arr p n dep q)) (fields_fit night.station (codes "block") (decimal y.id) (arr_name night y.arr) (decimal y.p) (decimal y.n) (dep_name night y.dep) (decimal y.q) y.park)
+    ap (λ o. answer k (by o id arr p n dep q)) (fields_fit night.station (codes "block") (decimal y.id) (arr_name night y.arr) (decimal y.p) (decimal y.n) (dep_name night y.dep)
+    (decimal y.q) y.park)
     ∙ ap (λ o. answer k (by true o arr p n dep q)) (number_again y.id (let le = is.to in omega (arith, le)))
     ∙ ap (λ o. answer k (by true (Some y.id) o p n dep q)) (arr_there night y.arr h is.within.runs.arr)
     ∙ ap (λ o. answer k (by true (Some y.id) (Some y.arr) o n dep q)) (number_again y.p (let le = small.p in omega (arith, le)))
@@ -182,10 +195,12 @@ runs_read k night xs y h room new is =
     ∙ ap (λ o. answer k (by true (Some y.id) (Some y.arr) (Some y.p) (Some y.n) (Some y.dep) o)) (number_again y.q (let le = small.q in omega (arith, le)))
     ∙ runs_hold k night xs y room new is
 
-pub block_read : (k : ℕ) (night : Night) (xs : List Block) (y : Block) → IsOrderedNight night → length xs < 400 → has_id xs y.id ≡ false → IsInRange night y → answer k (block_of night xs (block_row night y)) ≡ Ok y
+pub block_read : (k : ℕ) (night : Night) (xs : List Block) (y : Block) → IsOrderedNight night → length xs < 400 → has_id xs y.id ≡ false → IsInRange night y
+    → answer k (block_of night xs (block_row night y)) ≡ Ok y
 block_read k night xs y h room new is =
     block_is k night xs (block_row night y) (record y { park = None }) y.park (runs_read k night xs y h room new is)
-    (option_read k night.station (codes "block") (decimal y.id) (arr_name night y.arr) (decimal y.p) (decimal y.n) (dep_name night y.dep) (decimal y.q) y.park h.station is.within.track)
+    (option_read k night.station (codes "block") (decimal y.id) (arr_name night y.arr) (decimal y.p) (decimal y.n) (dep_name night y.dep)
+    (decimal y.q) y.park h.station is.within.track)
 
 -- ---- the whole plan
 
@@ -254,13 +269,15 @@ pub records_back : (night : Night) (plan : Plan) → IsInstance night → IsPlan
 records_back night plan h is = plan_back night plan (opened night h) is
 
 -- the plan's text is read back
-pub back_from : (night : Night) (plan : Plan) → IsInstance night → IsPlanInRange night plan → (text bytes : List ℕ) → text ≡ text_of_rows (rows_of night plan) → ReadsBack text bytes → ReadsAsPlan night plan bytes
+pub back_from : (night : Night) (plan : Plan) → IsInstance night → IsPlanInRange night plan → (text bytes : List ℕ) → text ≡ text_of_rows (rows_of night plan)
+    → ReadsBack text bytes → ReadsAsPlan night plan bytes
 back_from night plan h is text bytes e back =
     let rows = back (rows_of night plan) (plan_plain night plan (opened night h) is) e in
     record { rows = rows; value = ap (reading (plan_format night)) rows ∙ records_back night plan h is }
 
 pub text_back : (night : Night) (plan : Plan) → IsInstance night → IsPlanInRange night plan → ReadsAsPlan night plan (text_of_rows (rows_of night plan))
-text_back night plan h is = back_from night plan h is (text_of_rows (rows_of night plan)) (text_of_rows (rows_of night plan)) refl (λ rows plain e. ap records_of e ∙ again rows plain)
+text_back night plan h is = back_from night plan h is (text_of_rows (rows_of night plan)) (text_of_rows (rows_of night plan)) refl
+    (λ rows plain e. ap records_of e ∙ again rows plain)
 
 id_read : (id : ℕ) → IsId id → IsRead 1 1000000 id
 id_read id is = number_read 1 1000000 id is.0 is.1 (omega arith)
@@ -273,7 +290,8 @@ park_from t a b = record { track = t; side_in = a; side_out = b }
 
 -- what is read of a track and two sides
 park_same : (s : Station) → IsStation s → (park : Park) → park.track.0 < length s.tracks
-    → park_from (unwrap_or (track_number s (track_name s park.track)) (track_id 0)) (unwrap_or (side_of (side_text park.side_in)) sides.A) (unwrap_or (side_of (side_text park.side_out)) sides.A) ≡ park
+    → park_from (unwrap_or (track_number s (track_name s park.track)) (track_id 0)) (unwrap_or (side_of (side_text park.side_in)) sides.A)
+    (unwrap_or (side_of (side_text park.side_out)) sides.A) ≡ park
 park_same s f park lt =
     let a = unwrap_or (side_of (side_text park.side_in)) sides.A in
     let b = unwrap_or (side_of (side_text park.side_out)) sides.A in
@@ -284,7 +302,9 @@ park_same s f park lt =
 abbrev shape_from : ArrId → ℕ → ℕ → DepId → ℕ → Shape
 shape_from a p n d q = record { arr = a; p = p; n = n; dep = d; q = q }
 
-edit_runs_read : (night : Night) → IsOrderedNight night → (n before : ℕ) → before < 10000 → (s : Shape) → AreRunsStated night s → (word : List ℕ) (option : List (List ℕ)) → (length (word ∷ arr_name night s.arr ∷ decimal s.p ∷ decimal s.n ∷ dep_name night s.dep ∷ decimal s.q ∷ option) == 7 || length (word ∷ arr_name night s.arr ∷ decimal s.p ∷ decimal s.n ∷ dep_name night s.dep ∷ decimal s.q ∷ option) == 10) ≡ true
+edit_runs_read : (night : Night) → IsOrderedNight night → (n before : ℕ) → before < 10000 → (s : Shape) → AreRunsStated night s → (word : List ℕ) (option : List (List ℕ))
+    → (length (word ∷ arr_name night s.arr ∷ decimal s.p ∷ decimal s.n ∷ dep_name night s.dep ∷ decimal s.q ∷ option) == 7 || length
+    (word ∷ arr_name night s.arr ∷ decimal s.p ∷ decimal s.n ∷ dep_name night s.dep ∷ decimal s.q ∷ option) == 10) ≡ true
     → answer n (runs_in night before (word ∷ arr_name night s.arr ∷ decimal s.p ∷ decimal s.n ∷ dep_name night s.dep ∷ decimal s.q ∷ option)) ≡ Ok s
 unfolding runs_in
 edit_runs_read night f n before room s is word option size =
@@ -330,17 +350,20 @@ add_read night f n before room s None is on =
     (sym (unparked_read n night.station (codes "add") (arr_name night s.arr) (decimal s.p) (decimal s.n) (dep_name night s.dep) (decimal s.q))))
 add_read night f n before room s (Some park) is on =
     sym (add_is n night before (turn_row night (added s (Some park))) s (Some park)
-    (sym (edit_runs_read night f n before room s is (codes "add") (codes "park" ∷ track_name night.station park.track ∷ side_text park.side_in ∷ side_text park.side_out ∷ []) refl))
+    (sym (edit_runs_read night f n before room s is (codes "add") (codes "park" ∷ track_name night.station park.track ∷ side_text park.side_in ∷ side_text park.side_out ∷
+    []) refl))
     (sym (parked_read n night.station f.station park on (codes "add") (arr_name night s.arr) (decimal s.p) (decimal s.n) (dep_name night s.dep) (decimal s.q))))
 
-drop_read : (night : Night) (n before : ℕ) → before < 10000 → (id : ℕ) → IsId id → answer n (turn_of night before (edit_row night (edits.Drop id))) ≡ Ok (turns.Edit (edits.Drop id))
+drop_read : (night : Night) (n before : ℕ) → before < 10000 → (id : ℕ) → IsId id → answer n (turn_of night before (edit_row night (edits.Drop id)))
+    ≡ Ok (turns.Edit (edits.Drop id))
 unfolding turn_of drop_of is_within
 drop_read night n before room id is =
     let i = id_read id is in
     let m = drop_of before (edit_row night (edits.Drop id)) in
     holding n m.checks m.value (refl, (lt-ltb before 10000 room, (i.there, (i.range, tt)))) ∙ ap (λ x. Ok (turns.Edit (edits.Drop x))) i.value
 
-unpark_read : (night : Night) (n before : ℕ) → before < 10000 → (id : ℕ) → IsId id → answer n (turn_of night before (edit_row night (edits.Unpark id))) ≡ Ok (turns.Edit (edits.Unpark id))
+unpark_read : (night : Night) (n before : ℕ) → before < 10000 → (id : ℕ) → IsId id
+    → answer n (turn_of night before (edit_row night (edits.Unpark id))) ≡ Ok (turns.Edit (edits.Unpark id))
 unfolding turn_of unpark_of is_within
 unpark_read night n before room id is =
     let i = id_read id is in
@@ -354,11 +377,25 @@ park_read night f n before room id park is lt =
     let s = night.station in
     let i = id_read id is in
     let m = park_of night before (edit_row night (edits.Park id park)) in
-    let read = park_from (unwrap_or (track_number s (track_name s park.track)) (track_id 0)) (unwrap_or (side_of (side_text park.side_in)) sides.A) (unwrap_or (side_of (side_text park.side_out)) sides.A) in
-    holding n m.checks m.value (refl, (lt-ltb before 10000 room, (i.there, (i.range, (ap is_some (track_there s park.track f.station lt), (ap is_some (side_read park.side_in), (ap is_some (side_read park.side_out), tt)))))))
+    let read = park_from (unwrap_or (track_number s (track_name s park.track)) (track_id 0)) (unwrap_or (side_of (side_text park.side_in)) sides.A)
+    (unwrap_or (side_of (side_text park.side_out)) sides.A) in
+    holding n m.checks m.value (
+      refl,
+      (
+        lt-ltb before 10000 room,
+        (
+          i.there,
+          (
+            i.range,
+            (ap is_some (track_there s park.track f.station lt), (ap is_some (side_read park.side_in), (ap is_some (side_read park.side_out), tt))),
+          ),
+        ),
+      ),
+    )
     ∙ ap (λ x. Ok (turns.Edit (edits.Park x read))) i.value ∙ ap (λ x. Ok (turns.Edit (edits.Park id x))) (park_same s f.station park lt)
 
-cut_read : (night : Night) (n before : ℕ) → before < 10000 → (id k : ℕ) → IsId id → k ≤ 8 → answer n (turn_of night before (edit_row night (edits.Cut id k))) ≡ Ok (turns.Edit (edits.Cut id k))
+cut_read : (night : Night) (n before : ℕ) → before < 10000 → (id k : ℕ) → IsId id → k ≤ 8
+    → answer n (turn_of night before (edit_row night (edits.Cut id k))) ≡ Ok (turns.Edit (edits.Cut id k))
 unfolding turn_of cut_of is_within
 cut_read night n before room id k is le =
     let i = id_read id is in
@@ -367,7 +404,8 @@ cut_read night n before room id k is le =
     holding n m.checks m.value (refl, (lt-ltb before 10000 room, (i.there, (i.range, (j.there, (j.range, tt))))))
     ∙ ap (λ x. Ok (turns.Edit (edits.Cut x (unwrap_or (decimal_of (decimal k)) 0)))) i.value ∙ ap (λ x. Ok (turns.Edit (edits.Cut id x))) j.value
 
-join_read : (night : Night) (n before : ℕ) → before < 10000 → (a b : ℕ) → IsId a → IsId b → answer n (turn_of night before (edit_row night (edits.Join a b))) ≡ Ok (turns.Edit (edits.Join a b))
+join_read : (night : Night) (n before : ℕ) → before < 10000 → (a b : ℕ) → IsId a → IsId b
+    → answer n (turn_of night before (edit_row night (edits.Join a b))) ≡ Ok (turns.Edit (edits.Join a b))
 unfolding turn_of join_of is_within
 join_read night n before room a b is js =
     let i = id_read a is in
@@ -400,7 +438,8 @@ turns_read : (night : Night) → IsOrderedNight night → (all : List Turn) → 
 turns_read night f all are n before t coming e =
     let few = are.few in
     let room : length before < 10000 = omega (arith, few, ap length e, length-append before (t ∷ coming)) in
-    one_turn n night before (before ++ t ∷ []) (length before) (turn_row night t) t refl (sym (turn_read night f n (length before) room t (of_middle (IsTurn night) all before coming t are.each e))) refl
+    one_turn n night before (before ++ t ∷ []) (length before) (turn_row night t) t refl
+    (sym (turn_read night f n (length before) room t (of_middle (IsTurn night) all before coming t are.each e))) refl
 
 edits_head_read : answer 1 (edits_first edits_head) ≡ Ok []
 unfolding edits_first is_within
@@ -418,11 +457,13 @@ turns_again night f all are =
 pub edits_again : (night : Night) → IsInstance night → (all : List Turn) → AreTurns night all → reading (edits_format night) (rows_of_edits night all) ≡ Ok all
 edits_again night is all are = turns_again night (opened night is) all are
 
-pub edits_back_from : (night : Night) → IsInstance night → (all : List Turn) → AreTurns night all → (text bytes : List ℕ) → text ≡ text_of_rows (rows_of_edits night all) → ReadsBack text bytes → ReadsAsEdits night all bytes
+pub edits_back_from : (night : Night) → IsInstance night → (all : List Turn) → AreTurns night all → (text bytes : List ℕ) → text ≡ text_of_rows (rows_of_edits night all)
+    → ReadsBack text bytes → ReadsAsEdits night all bytes
 edits_back_from night is all are text bytes e back =
     let f = opened night is in
     let rows = back (rows_of_edits night all) (edits_plain night f all are) e in
     record { rows = rows; value = ap (reading (edits_format night)) rows ∙ turns_again night f all are }
 
 pub edits_text_back : (night : Night) → IsInstance night → (all : List Turn) → AreTurns night all → ReadsAsEdits night all (text_of_rows (rows_of_edits night all))
-edits_text_back night is all are = edits_back_from night is all are (text_of_rows (rows_of_edits night all)) (text_of_rows (rows_of_edits night all)) refl (λ rows plain e. ap records_of e ∙ again rows plain)
+edits_text_back night is all are = edits_back_from night is all are (text_of_rows (rows_of_edits night all)) (text_of_rows (rows_of_edits night all)) refl
+    (λ rows plain e. ap records_of e ∙ again rows plain)

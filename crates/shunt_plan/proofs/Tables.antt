@@ -91,7 +91,10 @@ turn_up night before row =
 -- behind the checks of a turn there are no more
 edits_later_up : (night : Night) (before : List Turn) (row : List (List ℕ)) → HasChecksInOrder (edits_later night before row)
 unfolding edits_later
-edits_later_up night before row = record { up = (subst (Ascends 13) (sym (append-nil (turn_of night (length before) row).checks)) (record { up = (turn_up night (length before) row).up })).up }
+edits_later_up night before row = record {
+  up = (subst (Ascends 13) (sym (append-nil (turn_of night (length before) row).checks))
+      (record { up = (turn_up night (length before) row).up })).up;
+}
 
 pub edits_tell : (night : Night) (rows : List (List (List ℕ))) → Tells (edits_format night) rows
 edits_tell night rows = tells (edits_format night) (record { first = edits_first_up; later = edits_later_up night }) rows

@@ -17,4 +17,5 @@ finished_text s cost bound nodes stage tells =
     let found = nodes_of_sound s end.sound in
     let same : found.0 ≡ nodes = subst (λ o. IfSome o (λ now. now ≡ nodes)) found.1 tells in
     let text = told_so s.version s.night (Some (cost, bound)) s.nodes s.cases (text_of s.place) found.0 (sym (told_finished s cost bound end.doing) ∙ found.1) in
-    text.text ∙ sym (ended s.version s.night found.0 (cost, bound)) ∙ ap (λ (l : List Node). certificate_file s.night (record { version = s.version; nodes = l; cost = cost; bound = bound })) same
+    text.text ∙ sym (ended s.version s.night found.0 (cost, bound)) ∙ ap (λ (l : List Node). certificate_file s.night
+    (record { version = s.version; nodes = l; cost = cost; bound = bound })) same

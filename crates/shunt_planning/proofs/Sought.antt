@@ -43,7 +43,8 @@ use Rattle.shunt_planning.proofs.Certified.{finished_text}
 
 -- ---- what a recorder leaves
 
-pub stream_found : (night : Night) (pins : List Block) (most : ℕ) (name : List ℕ) (s t : Streamed) (solved : Solved) → s.version ≡ Prices → s.night ≡ night → s.name ≡ name → Keeps s t → stage_of t ≡ Finished solved.cost solved.bound → solved.cost ≡ solved.plan.cost
+pub stream_found : (night : Night) (pins : List Block) (most : ℕ) (name : List ℕ) (s t : Streamed) (solved : Solved) → s.version ≡ Prices → s.night ≡ night → s.name ≡ name
+    → Keeps s t → stage_of t ≡ Finished solved.cost solved.bound → solved.cost ≡ solved.plan.cost
     → IsShown night pins most solved.plan solved.bound solved.nodes (told_of t) → IsFound night pins most name t.place solved
 stream_found night pins most name s t solved of_version of_night called keeps stage cost shown = record {
   nodes = shown.nodes;
@@ -83,7 +84,8 @@ module _ (pins : List Block) (most : ℕ) (p k : List ℕ) (night : Night) (plac
   its_write = (k, certificate_file night its) ∷ []
 
   -- the certificate is closed, and then the rest is left
-  pub found_leads : (fits : ℕ → Type 0) → fits s.cost → IsPlanInRange night s.plan → s.cost ≡ s.plan.cost → (r : Reply) → r ≡ rest s.cost s.nodes → (old mid new : Known) → Stays old mid → BothTold mid.files new.files (λ a b. b ≡ files_after place a)
+  pub found_leads : (fits : ℕ → Type 0) → fits s.cost → IsPlanInRange night s.plan → s.cost ≡ s.plan.cost → (r : Reply) → r ≡ rest s.cost s.nodes → (old mid new : Known)
+      → Stays old mid → BothTold mid.files new.files (λ a b. b ≡ files_after place a)
       → BothTold mid.stored new.stored (λ a b. b ≡ stored_after place a) → HasFirst (IsPlannedAt fits pins most p k night) old new r
   found_leads fits fit in_range cost r is old mid new same closed noted = record {
     first = its_write;
@@ -98,8 +100,10 @@ module _ (pins : List Block) (most : ℕ) (p k : List ℕ) (night : Night) (plac
       };
       cost = subst fits cost fit;
     };
-    files = subst (λ f. BothTold f new.files (λ a b. b ≡ written its_write a)) same.0 (both_map (λ a b. b ≡ files_after place a) (λ a b. b ≡ written its_write a) mid.files new.files closed (λ a b e. e ∙ ap (λ st. files_after st a) h.written));
-    stored = subst (λ f. BothTold f new.stored (λ a b. b ≡ a ++ its_write)) same.1 (both_map (λ a b. b ≡ stored_after place a) (λ a b. b ≡ a ++ its_write) mid.stored new.stored noted (λ a b e. e ∙ ap (λ st. stored_after st a) h.written));
+    files = subst (λ f. BothTold f new.files (λ a b. b ≡ written its_write a)) same.0
+        (both_map (λ a b. b ≡ files_after place a) (λ a b. b ≡ written its_write a) mid.files new.files closed (λ a b e. e ∙ ap (λ st. files_after st a) h.written));
+    stored = subst (λ f. BothTold f new.stored (λ a b. b ≡ a ++ its_write)) same.1
+        (both_map (λ a b. b ≡ stored_after place a) (λ a b. b ≡ a ++ its_write) mid.stored new.stored noted (λ a b e. e ∙ ap (λ st. stored_after st a) h.written));
   }
 
 -- ---- the rest
@@ -112,23 +116,29 @@ module _ (f g : ℕ → ℕ) (same : (i : ℕ) → f i ≡ g i) where
 
 -- the same pins in another order leave the same
 pub units_alike : (night : Night) (pins blocks : List Block) (n : ℕ) → IsPermutation pins blocks → AreAlikeBelow n (units_taken night blocks) (units_taken night pins)
-units_alike night pins blocks n same = λ k lt. mask_alike (times_unit night blocks) (times_unit night pins) (λ u. sum_by-IsPermutation _ pins blocks same) (range_with_len 0 (unit_total night)) k
+units_alike night pins blocks n same = λ k lt. mask_alike (times_unit night blocks) (times_unit night pins) (λ u. sum_by-IsPermutation _ pins blocks same)
+    (range_with_len 0 (unit_total night)) k
 
 pub positions_alike : (night : Night) (pins blocks : List Block) (n : ℕ) → IsPermutation pins blocks → AreAlikeBelow n (positions_taken night blocks) (positions_taken night pins)
-positions_alike night pins blocks n same = λ k lt. mask_alike (times_position night blocks) (times_position night pins) (λ v. sum_by-IsPermutation _ pins blocks same) (range_with_len 0 (position_total night)) k
+positions_alike night pins blocks n same = λ k lt. mask_alike (times_position night blocks) (times_position night pins) (λ v. sum_by-IsPermutation _ pins blocks same)
+    (range_with_len 0 (position_total night)) k
 
 -- what a shortage or none says
-pub lacks_where : (night : Night) (us vs um vm : List Bool) (o : Option Shortage) → um ≡ us → vm ≡ vs → IfNone o (HasMatching night um vm) → IfSome o (λ s. HasNoMatching night um vm) → IfSome o (IsShortageOf night um vm) → IfSome o (HasItsType night) → Lacks night us vs o
+pub lacks_where : (night : Night) (us vs um vm : List Bool) (o : Option Shortage) → um ≡ us → vm ≡ vs → IfNone o (HasMatching night um vm)
+    → IfSome o (λ s. HasNoMatching night um vm) → IfSome o (IsShortageOf night um vm) → IfSome o (HasItsType night) → Lacks night us vs o
 lacks_where night us vs um vm o units places some none exact known = subst (λ x. Lacks night x vs o) units (subst (λ y. Lacks night um y o) places (at o some none exact known))
   where
-    at : (o : Option Shortage) → IfNone o (HasMatching night um vm) → IfSome o (λ s. HasNoMatching night um vm) → IfSome o (IsShortageOf night um vm) → IfSome o (HasItsType night) → Lacks night um vm o
+    at : (o : Option Shortage) → IfNone o (HasMatching night um vm) → IfSome o (λ s. HasNoMatching night um vm) → IfSome o (IsShortageOf night um vm) → IfSome o (HasItsType night)
+        → Lacks night um vm o
     at None some none exact known = some
     at (Some s) some none exact known = (none, exact, known)
 
 -- that masks that leave out the same have the same matchings and shortages
 pub record MaskLaws : Type 0 where
-  pub matchings : (us vs : List Entry) (um vm un vn : List Bool) (place : List ℕ) → AreAlikeBelow (length us) um un → AreAlikeBelow (length vs) vm vn → IsMatchingOfRest us vs um vm place → IsMatchingOfRest us vs un vn place
-  pub shortages : (us vs : List Entry) (um vm un vn : List Bool) (s : Shortage) → AreAlikeBelow (length us) um un → AreAlikeBelow (length vs) vm vn → IsFirstShortage us vs um vm s → IsFirstShortage us vs un vn s
+  pub matchings : (us vs : List Entry) (um vm un vn : List Bool) (place : List ℕ) → AreAlikeBelow (length us) um un → AreAlikeBelow (length vs) vm vn
+      → IsMatchingOfRest us vs um vm place → IsMatchingOfRest us vs un vn place
+  pub shortages : (us vs : List Entry) (um vm un vn : List Bool) (s : Shortage) → AreAlikeBelow (length us) um un → AreAlikeBelow (length vs) vm vn → IsFirstShortage us vs um vm s
+      → IsFirstShortage us vs un vn s
 
 abbrev pub AreAlike : Night → List Bool → List Bool → List Bool → List Bool → Type 0
 AreAlike night um vm un vn = AreAlikeBelow (length (unit_entries night)) um un × AreAlikeBelow (length (position_entries night)) vm vn
@@ -156,7 +166,8 @@ module _ (laws : MaskLaws) (night : Night) (um vm un vn : List Bool) (to : AreAl
 
 -- ---- the answer over what the files hold
 
-module _ {X : Type 0} (view : Option Files) (old : Known) (ns ms : List (List ℕ)) (stated : List (List ℕ) → Result X (List ℕ)) (P : X → Reply → Type 0) (names : AreNames (ns ++ ms)) where
+module _ {X : Type 0} (view : Option Files) (old : Known) (ns ms : List (List ℕ)) (stated : List (List ℕ) → Result X (List ℕ)) (P : X → Reply → Type 0)
+    (names : AreNames (ns ++ ms)) where
   abbrev in_files : Files → Result X (List ℕ)
   in_files files = stated (map (content files) ns)
 
@@ -164,11 +175,13 @@ module _ {X : Type 0} (view : Option Files) (old : Known) (ns ms : List (List �
   over : (Q : List (List ℕ) → Type 0) → HoldingTexts view ns Q → (files : Files) × Agrees view files × Q (map (content files) ns)
   over Q h = seen_texts view ns Q (front_names ns ms names) h
 
-  pub refused_over : (new : Known) (r : Result Answer Halt) (e : Halt) → FailsWith r e → Stays old new → HoldingTexts view ns (λ bs. Loads {X = X} (Err e) (stated bs)) → Leads (IsOver view in_files P) old new r
+  pub refused_over : (new : Known) (r : Result Answer Halt) (e : Halt) → FailsWith r e → Stays old new → HoldingTexts view ns (λ bs. Loads {X = X} (Err e) (stated bs))
+      → Leads (IsOver view in_files P) old new r
   refused_over new r e is same h = subst (Leads (IsOver view in_files P) old new) (sym (fails r e is)) (at e (over (λ bs. Loads {X = X} (Err e) (stated bs)) h))
     where
       at : (e : Halt) → (files : Files) × Agrees view files × Loads {X = X} (Err e) (in_files files) → Leads (IsOver view in_files P) old new (Err e)
-      at (halt.Input text) g = none_first (IsOver view in_files P) old new (refusal text.items) same (g.0, g.1, subst (λ (s : Result X (List ℕ)). Decided s P (refusal text.items)) (sym g.2) refl)
+      at (halt.Input text) g = none_first (IsOver view in_files P) old new (refusal text.items) same
+          (g.0, g.1, subst (λ (s : Result X (List ℕ)). Decided s P (refusal text.items)) (sym g.2) refl)
       at halt.Fault g = same
       at halt.Memory g = same
 

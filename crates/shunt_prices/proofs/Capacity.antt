@@ -30,7 +30,8 @@ use Rattle.shunt_prices.proofs.Moments.{CanStay, moment, moment_key, stand_toget
 -- what the laws of the crates below say
 pub record RunLaws : Type 0 where
   pub opened : (night : Night) → IsInstance night → IsOrderedNight night
-  pub together : (lengths : List ℕ) (stays : List Stay) (track : ℕ) (moment : EventKey) → AreStays stays → AreOnTracks lengths stays → IsKey moment → GoesThrough lengths stays → load_at stays track moment ≤ slice_index lengths track
+  pub together : (lengths : List ℕ) (stays : List Stay) (track : ℕ) (moment : EventKey) → AreStays stays → AreOnTracks lengths stays → IsKey moment → GoesThrough lengths stays
+      → load_at stays track moment ≤ slice_index lengths track
   pub stays : (night : Night) (blocks : List Block) → IsInstance night → CanStand night blocks → AreStays (stays_of night blocks)
   pub tracks : (night : Night) (blocks : List Block) → CanStand night blocks → AreOnTracks (track_lengths night.station) (stays_of night blocks)
   pub stand : (night : Night) (blocks : List Block) → IsInstance night → All (IsWithinTrains night) blocks → ShareNothing night blocks → CanStand night (placed blocks)
@@ -38,7 +39,8 @@ pub record RunLaws : Type 0 where
 
 -- ---- both kinds of price
 
-by_kind : {X : Type 0} (k : PriceKind) (room : ℕ) (test : X → Bool) (long : X → ℕ) (xs : List X) → 1 ≤ room → sum_by (λ x. cond (test x) (long x) 0) xs ≤ room → sum_by (λ x. cond (test x) (count_of k room (long x)) 0) xs ≤ most_of k room
+by_kind : {X : Type 0} (k : PriceKind) (room : ℕ) (test : X → Bool) (long : X → ℕ) (xs : List X) → 1 ≤ room → sum_by (λ x. cond (test x) (long x) 0) xs ≤ room
+    → sum_by (λ x. cond (test x) (count_of k room (long x)) 0) xs ≤ most_of k room
 by_kind kind.Length room test long xs some fits = fits
 by_kind (kind.Parts r) room test long xs some fits = parts_fit r room some test long xs fits
 
@@ -54,18 +56,22 @@ room_some night track h lt = let t : IsTrack (get_or night.station.tracks track 
 stay_here : (laws : RunLaws) (night : Night) (blocks : List Block) → CanStand night blocks → All (λ b. is_too_soon night (shape_of b) ≡ false) blocks → All (CanStay night) blocks
 stay_here laws night blocks stand soon k d lt = record { within = stand.within k d lt; small = stand.small k d lt; in_time = soon k d lt }
 
-pub counts_fit : (laws : RunLaws) (night : Night) (blocks : List Block) (price : Price) → IsInstance night → CanStand night blocks → All (λ b. is_too_soon night (shape_of b) ≡ false) blocks → RunsThrough night blocks → IsPrice night price → sum_by (counted night price) blocks ≤ most night price
+pub counts_fit : (laws : RunLaws) (night : Night) (blocks : List Block) (price : Price) → IsInstance night → CanStand night blocks
+    → All (λ b. is_too_soon night (shape_of b) ≡ false) blocks → RunsThrough night blocks → IsPrice night price → sum_by (counted night price) blocks ≤ most night price
 counts_fit laws night blocks price i stand soon go p =
     let h = laws.opened night i in
-    let fits = laws.together (track_lengths night.station) (stays_of night blocks) price.track.0 (moment night price) (laws.stays night blocks i stand) (laws.tracks night blocks stand) (moment_key night price h p) go in
-    by_kind price.kind (track_length night price.track.0) (stands_at night price) (block_length night) blocks (room_some night price.track.0 h p.track) (omega (arith, fits, stand_together night price h p blocks (stay_here laws night blocks stand soon)))
+    let fits = laws.together (track_lengths night.station) (stays_of night blocks) price.track.0 (moment night price) (laws.stays night blocks i stand)
+    (laws.tracks night blocks stand) (moment_key night price h p) go in
+    by_kind price.kind (track_length night price.track.0) (stands_at night price) (block_length night) blocks (room_some night price.track.0 h p.track)
+    (omega (arith, fits, stand_together night price h p blocks (stay_here laws night blocks stand soon)))
 
 pub all_in_time : (laws : RunLaws) (night : Night) (blocks : List Block) → All (IsBlockButId night) blocks → All (λ b. is_too_soon night (shape_of b) ≡ false) blocks
 all_in_time laws night blocks all k d lt = laws.in_time night _ (all k d lt).shape
 
 -- ---- with their places as ids
 
-soon_placed : (night : Night) (k : ℕ) (blocks : List Block) → All (λ b. is_too_soon night (shape_of b) ≡ false) blocks → All (λ b. is_too_soon night (shape_of b) ≡ false) (placed_from k blocks)
+soon_placed : (night : Night) (k : ℕ) (blocks : List Block) → All (λ b. is_too_soon night (shape_of b) ≡ false) blocks
+    → All (λ b. is_too_soon night (shape_of b) ≡ false) (placed_from k blocks)
 soon_placed night k [] all = All-nil (λ (b : Block). is_too_soon night (shape_of b) ≡ false)
 soon_placed night k (b ∷ blocks) all =
     let P : Block → Type 0 = λ c. is_too_soon night (shape_of c) ≡ false in
@@ -73,9 +79,15 @@ soon_placed night k (b ∷ blocks) all =
 
 counted_placed : (night : Night) (price : Price) (k : ℕ) (blocks : List Block) → sum_by (counted night price) (placed_from k blocks) ≡ sum_by (counted night price) blocks
 counted_placed night price k [] = refl
-counted_placed night price k (b ∷ blocks) = omega (arith, sum_by-cons (counted night price) (record b { id = k }) (placed_from (k + 1) blocks), sum_by-cons (counted night price) b blocks, counted_placed night price (k + 1) blocks)
+counted_placed night price k (b ∷ blocks) = omega (
+  arith,
+  sum_by-cons (counted night price) (record b { id = k }) (placed_from (k + 1) blocks),
+  sum_by-cons (counted night price) b blocks,
+  counted_placed night price (k + 1) blocks,
+)
 
-pub placed_fit : (laws : RunLaws) (night : Night) (blocks : List Block) (price : Price) → IsInstance night → All (IsBlockButId night) blocks → ShareNothing night blocks → RunsThrough night (placed blocks) → IsPrice night price → sum_by (counted night price) blocks ≤ most night price
+pub placed_fit : (laws : RunLaws) (night : Night) (blocks : List Block) (price : Price) → IsInstance night → All (IsBlockButId night) blocks → ShareNothing night blocks
+    → RunsThrough night (placed blocks) → IsPrice night price → sum_by (counted night price) blocks ≤ most night price
 placed_fit laws night blocks price i all apart go p =
     let soon = soon_placed night 1 blocks (all_in_time laws night blocks all) in
     let fits = counts_fit laws night (placed blocks) price i (laws.stand night blocks i (all_within night blocks all) apart) soon go p in

@@ -35,7 +35,8 @@ kept_blocks night plan path all keeps k d lt = kept_block night plan (get_or pat
 
 -- ---- a path that covers all units covers all positions too
 
-module _ (places : PlaceLaws) (night : Night) (plan path : List Block) (all : All (IsBlockButId night) plan) (covers : Covers night plan) (keeps : Keeps plan path) (apart : ShareNothing night path)
+module _ (places : PlaceLaws) (night : Night) (plan path : List Block) (all : All (IsBlockButId night) plan) (covers : Covers night plan) (keeps : Keeps plan path)
+    (apart : ShareNothing night path)
     (full : (u : ℕ) → u < unit_total night → 1 ≤ times_unit night path u) where
   -- the plan's block is one of the path's
   twin : (b : Block) → In b plan → (p : Block) × In p path × (without_id b ≡ without_id p)
@@ -65,7 +66,12 @@ module _ (places : PlaceLaws) (night : Night) (plan path : List Block) (all : Al
 
 cost_without : (night : Night) (blocks : List Block) → sum_by (block_cost night) (map without_id blocks) ≡ total_cost night blocks
 cost_without night [] = refl
-cost_without night (b ∷ blocks) = omega (arith, sum_by-cons (block_cost night) (without_id b) (map without_id blocks), sum_by-cons (block_cost night) b blocks, cost_without night blocks)
+cost_without night (b ∷ blocks) = omega (
+  arith,
+  sum_by-cons (block_cost night) (without_id b) (map without_id blocks),
+  sum_by-cons (block_cost night) b blocks,
+  cost_without night blocks,
+)
 
 apart_tail : (night : Night) (b : Block) (blocks : List Block) → ShareNothing night (b ∷ blocks) → ShareNothing night blocks
 apart_tail night b blocks apart = record {
@@ -78,7 +84,10 @@ flag b = cond b 1 0
 
 distinct : (night : Night) (blocks : List Block) → All (IsBlockButId night) blocks → ShareNothing night blocks → Distinct (map without_id blocks)
 distinct night [] all apart = tt
-distinct night (b ∷ blocks) all apart = (λ h. twice (of_map without_id blocks (without_id b) h), distinct night blocks (All-tail (IsBlockButId night) b blocks all) (apart_tail night b blocks apart))
+distinct night (b ∷ blocks) all apart = (
+  λ h. twice (of_map without_id blocks (without_id b) h),
+  distinct night blocks (All-tail (IsBlockButId night) b blocks all) (apart_tail night b blocks apart),
+)
   where
     twice : ((c : Block) × In c blocks × (without_id b ≡ without_id c)) → ⊥
     twice c =
@@ -86,20 +95,28 @@ distinct night (b ∷ blocks) all apart = (λ h. twice (of_map without_id blocks
         let own = begins_itself night b (all 0 b (omega arith)).shape.within.n in
         let other : has_unit night (shape_of c.0) u ≡ true = subst (λ s. has_unit night s u ≡ true) (ap shape_of c.2) own in
         let one = ap flag own in
-        absurd (omega (arith, apart.units u, sum_by-cons (λ x. cond (has_unit night (shape_of x) u) 1 0) b blocks, held (λ x. has_unit night (shape_of x) u) blocks c.0 c.1 other, one))
+        absurd (omega (
+          arith,
+          apart.units u,
+          sum_by-cons (λ x. cond (has_unit night (shape_of x) u) 1 0) b blocks,
+          held (λ x. has_unit night (shape_of x) u) blocks c.0 c.1 other,
+          one,
+        ))
 
 all_counted : {X : Type 0} (f : X → ℕ) (xs : List X) → sum_by (some_of f (λ x. true)) xs ≡ sum_by f xs
 all_counted f [] = refl
 all_counted f (x ∷ xs) = omega (arith, sum_by-cons (some_of f (λ y. true)) x xs, sum_by-cons f x xs, all_counted f xs)
 
-pub costs_less : (night : Night) (plan path : List Block) → All (IsBlockButId night) path → ShareNothing night path → Keeps plan path → total_cost night path ≤ total_cost night plan
+pub costs_less : (night : Night) (plan path : List Block) → All (IsBlockButId night) path → ShareNothing night path → Keeps plan path
+    → total_cost night path ≤ total_cost night plan
 costs_less night plan path all apart keeps =
     omega (
       arith,
       cost_without night path,
       cost_without night plan,
       all_counted (block_cost night) (map without_id path),
-      sum_within (block_cost night) (λ x. true) (map without_id path) (map without_id plan) (distinct night path all apart) (λ x there t. inside x (of_map without_id path x there)),
+      sum_within (block_cost night) (λ x. true) (map without_id path) (map without_id plan) (distinct night path all apart)
+          (λ x there t. inside x (of_map without_id path x there)),
     )
   where
     inside : (x : Block) → ((p : Block) × In p path × (x ≡ without_id p)) → In x (map without_id plan)

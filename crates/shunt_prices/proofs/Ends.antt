@@ -36,7 +36,8 @@ use Rattle.shunt_prices.proofs.Dual.{kept_blocks, path_covers, costs_less}
 
 -- what more the laws of the crates below say
 abbrev pub PartLaw : Type 0
-PartLaw = (night : Night) (blocks others : List Block) → IsInstance night → All (IsWithinTrains night) blocks → ShareNothing night blocks → All (IsWithinTrains night) others → ShareNothing night others
+PartLaw = (night : Night) (blocks others : List Block) → IsInstance night → All (IsWithinTrains night) blocks → ShareNothing night blocks → All (IsWithinTrains night) others
+    → ShareNothing night others
     → ((c : Block) → In c others → (b : Block) × In b blocks × (without_id b ≡ without_id c)) → RunsThrough night (placed blocks) → RunsThrough night (placed others)
 
 pub record PlanLaws : Type 0 where
@@ -49,7 +50,8 @@ pub record PlanLaws : Type 0 where
   pub part : PartLaw
   pub apart : (night : Night) (blocks : List Block) → IsFeasible night blocks → ShareNothing night blocks
   pub renumbered : (night : Night) (blocks : List Block) → IsInstance night → IsFeasible night blocks → IsFeasible night (placed blocks)
-  pub held : (night : Night) (plan path : List Block) (u : ℕ) → IsInstance night → IsFeasible night plan → ShareNothing night path → Keeps plan path → next_of (masks_of night path) ≡ Some u
+  pub held : (night : Night) (plan path : List Block) (u : ℕ) → IsInstance night → IsFeasible night plan → ShareNothing night path → Keeps plan path
+      → next_of (masks_of night path) ≡ Some u
       → (c : Choice) × IsChoiceAt night path c × Keeps plan (longer_by path c) × RunsThrough night (placed (longer_by path c))
 
 none_passes : {X : Type 0} (p : X → Bool) (xs : List X) (k : ℕ) (d : X) → position p xs ≡ None → k < length xs → p (get_or xs k d) ≡ false
@@ -70,12 +72,14 @@ module _ (laws : PlanLaws) (night : Night) (i : IsInstance night) (plan : List B
   within path keeps = all_within night path (kept_blocks night plan path (but_ids night plan h.each) keeps)
 
   all_taken : (path : List Block) → next_of (masks_of night path) ≡ None → (u : ℕ) → u < unit_total night → 1 ≤ times_unit night path u
-  all_taken path e u lt = some (times_unit night path u) (ap not (sym (unit_mask laws.places night path u lt)) ∙ none_passes (λ c. not c) (masks_of night path).units u true e (omega (arith, lt, length_units night path)))
+  all_taken path e u lt = some (times_unit night path u) (ap not (sym (unit_mask laws.places night path u lt))
+      ∙ none_passes (λ c. not c) (masks_of night path).units u true e (omega (arith, lt, length_units night path)))
     where
       some : (n : ℕ) → not (not (n == 0)) ≡ false → 1 ≤ n
       some n t = grind (arith, nat_tests)
 
-  module _ (path : List Block) (apart : ShareNothing night path) (keeps : Keeps plan path) (hold : CasesHold night path cases) (u : ℕ) (c : Choice) (at : IsChoice night (masks_of night path) u c) (through : RunsThrough night (placed (longer_by path c))) where
+  module _ (path : List Block) (apart : ShareNothing night path) (keeps : Keeps plan path) (hold : CasesHold night path cases) (u : ℕ) (c : Choice)
+      (at : IsChoice night (masks_of night path) u c) (through : RunsThrough night (placed (longer_by path c))) where
     abbrev last : Block
     last = chosen (length path + 1) c
 
@@ -101,20 +105,25 @@ module _ (laws : PlanLaws) (night : Night) (i : IsInstance night) (plan : List B
   full_length path u apart keeps e = let next = next_is night path u e in laws.fewer night path u (within path keeps) apart next.there next.free
 
   further : (path : List Block) (u : ℕ) → ShareNothing night path → Keeps plan path → CasesHold night path cases → next_of (masks_of night path) ≡ Some u
-      → ((longer : List Block) → length longer ≡ length path + 1 → ShareNothing night longer → Keeps plan longer → CasesHold night longer cases → (end : List Block) × IsEnd longer end)
+      → ((longer : List Block) → length longer ≡ length path + 1 → ShareNothing night longer → Keeps plan longer → CasesHold night longer cases
+      → (end : List Block) × IsEnd longer end)
       → (end : List Block) × IsEnd path end
   further path u apart keeps hold e known =
       let x = laws.held night plan path u i h apart keeps e in
       let at = next_unit night path x.0 x.1 in
-      let rest = known (longer_by path x.0) (length-append path (last path apart keeps hold at.0 x.0 at.2 x.3 ∷ [])) (longer_apart path apart keeps hold at.0 x.0 at.2 x.3) x.2 (cases_stay laws.places night path (chosen (length path + 1) x.0) cases hold) in
+      let rest = known (longer_by path x.0) (length-append path (last path apart keeps hold at.0 x.0 at.2 x.3 ∷ [])) (longer_apart path apart keeps hold at.0 x.0 at.2 x.3) x.2
+      (cases_stay laws.places night path (chosen (length path + 1) x.0) cases hold) in
       (rest.0, extended path apart keeps hold at.0 x.0 at.2 x.3 rest.0 rest.1)
 
-  next : (o : Option ℕ) (path : List Block) → next_of (masks_of night path) ≡ o → (next_of (masks_of night path) ≡ None → (end : List Block) × IsEnd path end) → ((u : ℕ) → next_of (masks_of night path) ≡ Some u → (end : List Block) × IsEnd path end) → (end : List Block) × IsEnd path end
+  next : (o : Option ℕ) (path : List Block) → next_of (masks_of night path) ≡ o → (next_of (masks_of night path) ≡ None → (end : List Block) × IsEnd path end)
+      → ((u : ℕ) → next_of (masks_of night path) ≡ Some u → (end : List Block) × IsEnd path end) → (end : List Block) × IsEnd path end
   next None path e none some = none e
   next (Some u) path e none some = some u e
 
-  pub ends : (n : ℕ) (path : List Block) → unit_total night ≤ length path + n → ShareNothing night path → Keeps plan path → CasesHold night path cases → (end : List Block) × IsEnd path end
-  ends zero path le apart keeps hold = next (next_of (masks_of night path)) path refl (λ e. here path apart keeps e) (λ u e. absurd (omega (arith, le, full_length path u apart keeps e)))
+  pub ends : (n : ℕ) (path : List Block) → unit_total night ≤ length path + n → ShareNothing night path → Keeps plan path → CasesHold night path cases
+      → (end : List Block) × IsEnd path end
+  ends zero path le apart keeps hold = next (next_of (masks_of night path)) path refl (λ e. here path apart keeps e)
+      (λ u e. absurd (omega (arith, le, full_length path u apart keeps e)))
   ends (suc n) path le apart keeps hold = next (next_of (masks_of night path)) path refl (λ e. here path apart keeps e)
       (λ u e. further path u apart keeps hold e (λ longer more apart_too keeps_too hold_too. ends n longer (omega (arith, le, more)) apart_too keeps_too hold_too))
 
@@ -127,7 +136,16 @@ module _ (laws : PlanLaws) (night : Night) (i : IsInstance night) (plan : List B
 
   case_of : (n : ℕ) → AreCases night cases → n ≤ 160 → (k : ℕ) × IsOfCase n k
   case_of n are few = ⊎_elim
-      (λ more. ⊎_elim (λ one. absurd (omega (arith, more, few, at_last 1 one))) (λ other. let two : length cases ≡ 2 = omega (arith, are.some, are.few, one_or_more other) in (1, record { there = omega (arith, two); from = omega (arith, more); to = omega (arith, few, at_last 2 two) })) (cases_eq (length cases) 1))
+      (λ more. ⊎_elim (λ one. absurd (omega (arith, more, few, at_last 1 one))) (λ other. let two : length cases
+      ≡ 2 = omega (arith, are.some, are.few, one_or_more other) in (
+        1,
+        record {
+          there = omega (arith, two);
+          from = omega (arith, more);
+          to = omega
+              (arith, few, at_last 2 two);
+        },
+      )) (cases_eq (length cases) 1))
       (λ le. (0, record { there = omega (arith, are.some); from = omega arith; to = le }))
       (cases_lt (case_at cases 0).to n)
     where
@@ -159,12 +177,17 @@ module _ (laws : PlanLaws) (night : Night) (i : IsInstance night) (plan : List B
 
   -- ---- the bound
 
-  pub bound_below : (path : List Block) (bound : ℤ) → ShareNothing night path → Keeps plan path → AreCases night cases → CasesHold night path cases → IsCasesBound night path cases bound → bound ≤ℤ pos (total_cost night plan)
+  pub bound_below : (path : List Block) (bound : ℤ) → ShareNothing night path → Keeps plan path → AreCases night cases → CasesHold night path cases
+      → IsCasesBound night path cases bound → bound ≤ℤ pos (total_cost night plan)
   bound_below path bound apart keeps are hold is =
       let e = ends (unit_total night) path (omega arith) apart keeps hold in
       let k = case_of (unparked_in e.0) are (few_unparked e.0 e.1.apart e.1.keeps e.1.full) in
       let own = round_up (case_sum night path cases k.0) in
-      let opens : IsOpenAt cases e.0 k.0 = record { there = k.1.there; opens = or_right (k.0 + 1 == length cases) (nat_le (unparked_in e.0) (case_at cases k.0).to) (passes (unparked_in e.0) (case_at cases k.0).to k.1.to) } in
+      let opens : IsOpenAt cases e.0 k.0 = record {
+        there = k.1.there;
+        opens = or_right (k.0 + 1 == length cases) (nat_le (unparked_in e.0) (case_at cases k.0).to)
+            (passes (unparked_in e.0) (case_at cases k.0).to k.1.to);
+      } in
       omega (arith, ints, is.least k.0 own.0 (e.1.opens k.0 opens) own.1, own.1.least, e.1.sums k.0 k.1.there, end_sum e.0 e.1.apart e.1.keeps e.1.full k.0 are k.1)
     where
       passes : (m n : ℕ) → m ≤ n → nat_le m n ≡ true
@@ -175,7 +198,8 @@ pub one_case : (night : Night) (d : Duals) → AreDuals night d → AreCases nig
 one_case night d are = record {
   some = omega arith;
   few = omega arith;
-  each = all_one (IsCase night) (record { to = 160; multiplier = pos 0; duals = d }) (record { to = omega arith; multiplier = record { low = omega (arith, ints); high = omega (arith, ints) }; duals = are });
+  each = all_one (IsCase night) (record { to = 160; multiplier = pos 0; duals = d })
+      (record { to = omega arith; multiplier = record { low = omega (arith, ints); high = omega (arith, ints) }; duals = are });
   rise = λ i j e lt within. absurd (omega (arith, lt, within));
   last = refl;
 }

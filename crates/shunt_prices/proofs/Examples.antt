@@ -105,7 +105,8 @@ eight_parts = refl
 -- ---- two cases: no unparked block, and one or more
 
 abbrev two : ℤ → ℤ → List Case
-two first second = record { to = 0; multiplier = first; duals = duals (pos 192500) (price kind.Length 373 ∷ []) } ∷ record { to = 160; multiplier = second; duals = duals (pos 6000) [] } ∷ []
+two first second = record { to = 0; multiplier = first; duals = duals (pos 192500) (price kind.Length 373 ∷ []) } ∷
+    record { to = 160; multiplier = second; duals = duals (pos 6000) [] } ∷ []
 
 abbrev both_cases : List Case
 both_cases = two (pos 92500) (neg_ℤ (pos 94000))

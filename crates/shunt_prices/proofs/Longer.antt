@@ -66,32 +66,47 @@ module _ (places : PlaceLaws) (night : Night) where
     shape = h.shape;
     first = h.first;
     units = λ w has. let lt = places.unit_in night s w h.shape.within has in
-        left_free (times_unit night path) (unit_total night) w true lt (omega (arith, unit_more night path b w, not_taken (times_unit night (path ++ b ∷ [])) (unit_total night) w true lt (h.units w has)));
+        left_free (times_unit night path) (unit_total night) w true lt (omega (
+          arith,
+          unit_more night path b w,
+          not_taken (times_unit night (path ++ b ∷ [])) (unit_total night) w true lt (h.units w has),
+        ));
     positions = λ v has. let lt = places.position_in night s v h.shape.within has in
-        left_free (times_position night path) (position_total night) v true lt (omega (arith, position_more night path b v, not_taken (times_position night (path ++ b ∷ [])) (position_total night) v true lt (h.positions v has)));
+        left_free (times_position night path) (position_total night) v true lt (omega
+        (arith, position_more night path b v, not_taken (times_position night (path ++ b ∷ [])) (position_total night) v true lt (h.positions v has)));
   }
 
   pub cases_stay : (path : List Block) (b : Block) (cases : List Case) → CasesHold night path cases → CasesHold night (path ++ b ∷ []) cases
-  cases_stay path b cases all k d lt = record { holds = λ s park free room. (all k d lt).holds s park (record { shape = still_free path b (unit_from night s) s free.shape; option = free.option }) room }
+  cases_stay path b cases all k d lt = record {
+    holds = λ s park free room. (all k d lt).holds s park
+        (record { shape = still_free path b (unit_from night s) s free.shape; option = free.option }) room;
+  }
 
   -- ---- the sum of a case
 
   module _ (path : List Block) (b : Block) (free : IsFreeBlock night (masks_of night path) (shape_of b) b.park) where
-    fewer_alphas : (c : Case) → uncovered_alphas night (masks_of night path) c.duals ≡ uncovered_alphas night (masks_of night (path ++ b ∷ [])) c.duals +ℤ sum_z_below b.n (λ k. alpha_at c.duals (unit_from night (shape_of b) + k))
-    fewer_alphas c = less_uncovered (unit_total night) (unit_from night (shape_of b)) b.n (λ u. get_or (masks_of night path).units u true) (λ u. get_or (masks_of night (path ++ b ∷ [])).units u true) (alpha_at c.duals)
+    fewer_alphas : (c : Case) → uncovered_alphas night (masks_of night path) c.duals
+        ≡ uncovered_alphas night (masks_of night (path ++ b ∷ [])) c.duals +ℤ sum_z_below b.n (λ k. alpha_at c.duals (unit_from night (shape_of b) + k))
+    fewer_alphas c = less_uncovered (unit_total night) (unit_from night (shape_of b)) b.n (λ u. get_or (masks_of night path).units u true)
+        (λ u. get_or (masks_of night (path ++ b ∷ [])).units u true) (alpha_at c.duals)
         (unit_end (shape_of b) free.shape.shape.within)
-        (λ u lt. unit_mask (path ++ b ∷ []) u lt ∙ covered_more (has_unit night (shape_of b) u) (times_unit night path u) (times_unit night (path ++ b ∷ []) u) (unit_more night path b u) ∙ ap (λ t. t || has_unit night (shape_of b) u) (sym (unit_mask path u lt)))
+        (λ u lt. unit_mask (path ++ b ∷ []) u lt ∙ covered_more (has_unit night (shape_of b) u) (times_unit night path u) (times_unit night (path ++ b ∷ []) u)
+        (unit_more night path b u) ∙ ap (λ t. t || has_unit night (shape_of b) u) (sym (unit_mask path u lt)))
         (λ u lt has. free.shape.units u (has_from night b u has))
 
-    fewer_betas : (c : Case) → uncovered_betas night (masks_of night path) c.duals ≡ uncovered_betas night (masks_of night (path ++ b ∷ [])) c.duals +ℤ sum_z_below b.n (λ k. beta_at c.duals (position_from night (shape_of b) + k))
-    fewer_betas c = less_uncovered (position_total night) (position_from night (shape_of b)) b.n (λ v. get_or (masks_of night path).places v true) (λ v. get_or (masks_of night (path ++ b ∷ [])).places v true) (beta_at c.duals)
+    fewer_betas : (c : Case) → uncovered_betas night (masks_of night path) c.duals
+        ≡ uncovered_betas night (masks_of night (path ++ b ∷ [])) c.duals +ℤ sum_z_below b.n (λ k. beta_at c.duals (position_from night (shape_of b) + k))
+    fewer_betas c = less_uncovered (position_total night) (position_from night (shape_of b)) b.n (λ v. get_or (masks_of night path).places v true)
+        (λ v. get_or (masks_of night (path ++ b ∷ [])).places v true) (beta_at c.duals)
         (position_end (shape_of b) free.shape.shape.within)
-        (λ v lt. place_mask (path ++ b ∷ []) v lt ∙ covered_more (has_position night (shape_of b) v) (times_position night path v) (times_position night (path ++ b ∷ []) v) (position_more night path b v) ∙ ap (λ t. t || has_position night (shape_of b) v) (sym (place_mask path v lt)))
+        (λ v lt. place_mask (path ++ b ∷ []) v lt ∙ covered_more (has_position night (shape_of b) v) (times_position night path v) (times_position night (path ++ b ∷ []) v)
+        (position_more night path b v) ∙ ap (λ t. t || has_position night (shape_of b) v) (sym (place_mask path v lt)))
         (λ v lt has. free.shape.positions v (has_position_from night b v has))
 
     -- the sum grows by what the block weighs more than its duals
     pub sum_step : (from : ℕ) (c : Case) → sum_at night (path ++ b ∷ []) from c ≡ sum_at night path from c +ℤ (weight night c b -ℤ duals_over night c.duals (shape_of b))
     sum_step from c = omega (arith, ints, sum_z_push (weight night c) path b, fewer_alphas c, fewer_betas c)
 
-    pub sum_rises : (from : ℕ) (c : Case) → HasRoom night (shape_of b) b.park → HoldsInCase night (masks_of night path) c → sum_at night path from c ≤ℤ sum_at night (path ++ b ∷ []) from c
+    pub sum_rises : (from : ℕ) (c : Case) → HasRoom night (shape_of b) b.park → HoldsInCase night (masks_of night path) c
+        → sum_at night path from c ≤ℤ sum_at night (path ++ b ∷ []) from c
     sum_rises from c room h = omega (arith, ints, sum_step from c, h.holds (shape_of b) b.park free room)

@@ -36,7 +36,8 @@ flag_le false y n h = omega arith
 
 -- ---- the order of keys
 
-entered : (m n a j p i : ℕ) → m ≤ n → (m ≡ n → a ≤ j) → p ≤ 255 → i ≤ 4294967295 → is_le (ordering_then (nat_cmp m n) (ordering_then (bool_cmp true true) (ordering_then (nat_cmp a j) (ordering_then (nat_cmp p 255) (nat_cmp i 4294967295))))) ≡ true
+entered : (m n a j p i : ℕ) → m ≤ n → (m ≡ n → a ≤ j) → p ≤ 255 → i ≤ 4294967295 → is_le
+    (ordering_then (nat_cmp m n) (ordering_then (bool_cmp true true) (ordering_then (nat_cmp a j) (ordering_then (nat_cmp p 255) (nat_cmp i 4294967295))))) ≡ true
 entered m n a j p i le early small few = grind (arith, nat_tests)
 
 later : (n m : ℕ) (rest : Ordering) → n < m → is_lt (ordering_then (nat_cmp n m) rest) ≡ true
@@ -71,13 +72,15 @@ pub record CanStay (night : Night) (b : Block) : Type 0 where
 module _ (night : Night) (price : Price) (h : IsOrderedNight night) (p : IsPrice night price) where
   comes : (b : Block) → CanStay night b → b.arr.0 ≤ price.train.0 → is_le (key_cmp (enter_key night b) (moment night price)) ≡ true
   comes b c early = let a = arrival night b.arr.0 h c.within.runs.arr in
-      entered (train_at night.arrive b.arr.0).minute (train_at night.arrive price.train.0).minute b.arr.0 price.train.0 b.p b.id (minutes_rise night b.arr.0 price.train.0 h early p.train) (λ e. early)
+      entered (train_at night.arrive b.arr.0).minute (train_at night.arrive price.train.0).minute b.arr.0 price.train.0 b.p b.id
+      (minutes_rise night b.arr.0 price.train.0 h early p.train) (λ e. early)
       (omega (arith, c.within.runs.units, c.within.runs.n, a.few)) (omega (arith, c.small))
 
   goes : (b : Block) → (train_at night.arrive price.train.0).minute < leave_minute night (shape_of b) → key_before (moment night price) (leave_key night b) ≡ true
   goes b lt = later _ _ _ lt
 
-  there : (b : Block) → CanStay night b → is_there night price (shape_of b) ≡ true → (is_le (key_cmp (enter_key night b) (moment night price)) && key_before (moment night price) (leave_key night b)) ≡ true
+  there : (b : Block) → CanStay night b → is_there night price (shape_of b) ≡ true
+      → (is_le (key_cmp (enter_key night b) (moment night price)) && key_before (moment night price) (leave_key night b)) ≡ true
   there b c t = let e = is_there_says t in both (comes b c e.0) (goes b e.1)
     where
       is_there_says : is_there night price (shape_of b) ≡ true → (b.arr.0 ≤ price.train.0) × ((train_at night.arrive price.train.0).minute < leave_minute night (shape_of b))
@@ -94,8 +97,10 @@ module _ (night : Night) (price : Price) (h : IsOrderedNight night) (p : IsPrice
   one_with : (b : Block) (o : Option Park) → CanStay night b → cond (stands_with night price (shape_of b) o) (block_length night b) 0 ≤ part (stay_with night b o)
   one_with b None c = omega arith
   one_with b (Some k) c =
-      let shown : part (cond (is_too_soon night (shape_of b)) None (Some (parked_stay night b k))) ≡ part (Some (parked_stay night b k)) = ap (λ soon. part (cond soon None (Some (parked_stay night b k)))) c.in_time in
-      let le = flag_le (stands_with night price (shape_of b) (Some k)) (stands_then price.track.0 (moment night price) (parked_stay night b k)) (block_length night b) (λ t. let e = and_parts (k.track.0 == price.track.0) (is_there night price (shape_of b)) t in both e.0 (there b c e.1)) in
+      let shown : part (cond (is_too_soon night (shape_of b)) None (Some (parked_stay night b k)))
+      ≡ part (Some (parked_stay night b k)) = ap (λ soon. part (cond soon None (Some (parked_stay night b k)))) c.in_time in
+      let le = flag_le (stands_with night price (shape_of b) (Some k)) (stands_then price.track.0 (moment night price) (parked_stay night b k)) (block_length night b)
+      (λ t. let e = and_parts (k.track.0 == price.track.0) (is_there night price (shape_of b)) t in both e.0 (there b c e.1)) in
       omega (arith, shown, le)
 
   one : (b : Block) → CanStay night b → standing b ≤ part (stay_of night b)
@@ -107,4 +112,10 @@ module _ (night : Night) (price : Price) (h : IsOrderedNight night) (p : IsPrice
 
   pub stand_together : (blocks : List Block) → All (CanStay night) blocks → sum_by standing blocks ≤ load_at (stays_of night blocks) price.track.0 (moment night price)
   stand_together [] all = omega arith
-  stand_together (b ∷ blocks) all = omega (arith, sum_by-cons standing b blocks, one b (all 0 b (omega arith)), more (stay_of night b) (stays_of night blocks), stand_together blocks (All-tail (CanStay night) b blocks all))
+  stand_together (b ∷ blocks) all = omega (
+    arith,
+    sum_by-cons standing b blocks,
+    one b (all 0 b (omega arith)),
+    more (stay_of night b) (stays_of night blocks),
+    stand_together blocks (All-tail (CanStay night) b blocks all),
+  )

@@ -42,7 +42,8 @@ module _ (night : Night) (path : List Block) (cases : List Case) where
       number = f.1.number;
       opens = f.1.opens;
       is = f.1.is;
-      least = λ k other lt o b. ⊎_elim (λ less. f.1.least k other less o b) (λ ge. let e : k ≡ n = omega (arith, lt, ge) in absurd (closed (subst (IsOpenAt cases path) e o))) (cases_lt k n);
+      least = λ k other lt o b. ⊎_elim (λ less. f.1.least k other less o b) (λ ge. let e : k ≡ n = omega (arith, lt, ge) in absurd (closed (subst (IsOpenAt cases path) e o)))
+          (cases_lt k n);
     },
   )
 
@@ -53,7 +54,8 @@ module _ (night : Night) (path : List Block) (cases : List Case) where
       number = n;
       opens = o;
       is = (own n).1;
-      least = λ k other lt p b. ⊎_elim (λ less. absurd (none k less p)) (λ ge. let e : k ≡ n = omega (arith, lt, ge) in same_case n other (subst (λ j. IsBoundOf (case_sum night path cases j) other) e b)) (cases_lt k n);
+      least = λ k other lt p b. ⊎_elim (λ less. absurd (none k less p)) (λ ge. let e : k
+          ≡ n = omega (arith, lt, ge) in same_case n other (subst (λ j. IsBoundOf (case_sum night path cases j) other) e b)) (cases_lt k n);
     },
   )
   opened n o (inr f) = ⊎_elim
@@ -63,7 +65,8 @@ module _ (night : Night) (path : List Block) (cases : List Case) where
           number = f.1.number;
           opens = f.1.opens;
           is = f.1.is;
-          least = λ k other lt p b. ⊎_elim (λ less. f.1.least k other less p b) (λ ge. let e : k ≡ n = omega (arith, lt, ge) in omega (arith, ints, le, same_case n other (subst (λ j. IsBoundOf (case_sum night path cases j) other) e b))) (cases_lt k n);
+          least = λ k other lt p b. ⊎_elim (λ less. f.1.least k other less p b) (λ ge. let e : k
+              ≡ n = omega (arith, lt, ge) in omega (arith, ints, le, same_case n other (subst (λ j. IsBoundOf (case_sum night path cases j) other) e b))) (cases_lt k n);
         },
       ))
       (λ le. (
@@ -72,7 +75,8 @@ module _ (night : Night) (path : List Block) (cases : List Case) where
           number = n;
           opens = o;
           is = (own n).1;
-          least = λ k other lt p b. ⊎_elim (λ less. omega (arith, ints, le, f.1.least k other less p b)) (λ ge. let e : k ≡ n = omega (arith, lt, ge) in same_case n other (subst (λ j. IsBoundOf (case_sum night path cases j) other) e b)) (cases_lt k n);
+          least = λ k other lt p b. ⊎_elim (λ less. omega (arith, ints, le, f.1.least k other less p b))
+              (λ ge. let e : k ≡ n = omega (arith, lt, ge) in same_case n other (subst (λ j. IsBoundOf (case_sum night path cases j) other) e b)) (cases_lt k n);
         },
       ))
       (one_or_other f.0 (own n).0)
@@ -87,7 +91,11 @@ module _ (night : Night) (path : List Block) (cases : List Case) where
       ⊎_elim (λ e. inr (opened n (record { there = omega (arith, le); opens = e }) rest)) (λ e. shut n (λ o. false≢true (sym e ∙ o.opens)) rest) (cases_Bool (is_open cases path n))
 
   last_open : (n : ℕ) → length cases ≡ suc n → IsOpenAt cases path n
-  last_open n e = record { there = omega (arith, e); opens = or_left (n + 1 == length cases) (nat_le (unparked_in path) (case_at cases n).to) (eq-eqb (n + 1) (length cases) (omega (arith, e))) }
+  last_open n e = record {
+    there = omega (arith, e);
+    opens = or_left (n + 1 == length cases) (nat_le (unparked_in path) (case_at cases n).to)
+        (eq-eqb (n + 1) (length cases) (omega (arith, e)));
+  }
 
   pub has_bound : 1 ≤ length cases → (bound : ℤ) × IsCasesBound night path cases bound
   has_bound some =

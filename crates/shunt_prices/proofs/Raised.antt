@@ -62,7 +62,8 @@ module _ (night : Night) (t j : ℕ) where
   one_more v n = omega (arith, add-mul v 1 n, one-mul n)
 
   -- sums over prices of their values times what each has
-  module _ (has : Price → ℕ) (own : ℕ) (same : (price : Price) → IsOf t j price → has price ≡ own) (alike : (price : Price) (v : ℕ) → has (record price { value = v }) ≡ has price) where
+  module _ (has : Price → ℕ) (own : ℕ) (same : (price : Price) → IsOf t j price → has price ≡ own) (alike : (price : Price) (v : ℕ)
+      → has (record price { value = v }) ≡ has price) where
     abbrev each : Price → ℕ
     each price = price.value * has price
 
@@ -86,15 +87,20 @@ module _ (night : Night) (t j : ℕ) where
         other : sum_by each (raised t j prices) ≡ sum_by each prices + own → sum_by each (price ∷ raised t j prices) ≡ sum_by each (price ∷ prices) + own
         other rest = omega (arith, sum_by-cons each price (raised t j prices), sum_by-cons each price prices, rest)
 
-  pub part_rises : (prices : List Price) (s : Shape) (park : Option Park) → price_part_with night (raised t j prices) s park ≡ price_part_with night prices s park + counted_with night (length_price t j) s park
-  part_rises prices s park = rises (λ price. counted_with night price s park) (counted_with night (length_price t j) s park) (λ price is. same_count price s park is) (λ price v. refl) prices
+  pub part_rises : (prices : List Price) (s : Shape) (park : Option Park) → price_part_with night (raised t j prices) s park
+      ≡ price_part_with night prices s park + counted_with night (length_price t j) s park
+  part_rises prices s park = rises (λ price. counted_with night price s park) (counted_with night (length_price t j) s park) (λ price is. same_count price s park is)
+      (λ price v. refl) prices
 
   pub paid_rises : (prices : List Price) → paid_at_most night (raised t j prices) ≡ paid_at_most night prices + track_length night t
   paid_rises prices = rises (most night) (track_length night t) same_most (λ price v. refl) prices
 
   -- duals still hold
   pub still_hold : (path : List Block) (d : Duals) → DualsHold night path d → DualsHold night path (record d { prices = raised t j d.prices })
-  still_hold path d all = all_one (HoldsInCase night (masks_of night path)) _ (record { holds = λ s park free room. let h = (all 0 (case_at (plain d) 0) (omega arith)).holds s park free room in omega (arith, ints, h, part_rises d.prices s park) })
+  still_hold path d all = all_one (HoldsInCase night (masks_of night path)) _ (record {
+    holds = λ s park free room.
+        let h = (all 0 (case_at (plain d) 0) (omega arith)).holds s park free room in omega (arith, ints, h, part_rises d.prices s park);
+  })
 
 -- ---- no two alike
 
@@ -102,16 +108,19 @@ abbrev Differ : PlaceOfPrice → PlaceOfPrice → Type 0
 Differ x y = x ≢ y
 
 -- a raised list has the same places, and at most that one more
-raised_places : (t j : ℕ) (prices : List Price) (P : PlaceOfPrice → Type 0) → All P (map place_of_price prices) → P (place_of_price (length_price t j)) → All P (map place_of_price (raised t j prices))
+raised_places : (t j : ℕ) (prices : List Price) (P : PlaceOfPrice → Type 0) → All P (map place_of_price prices) → P (place_of_price (length_price t j))
+    → All P (map place_of_price (raised t j prices))
 raised_places t j [] P all own = all_one P (place_of_price (length_price t j)) own
 raised_places t j (price ∷ prices) P all own = ⊎_elim
     (λ e. subst (λ (b : Bool). All P (map place_of_price (cond b (record price { value = price.value + 1 } ∷ prices) (price ∷ raised t j prices)))) (sym e) all)
     (λ e. subst (λ (b : Bool). All P (map place_of_price (cond b (record price { value = price.value + 1 } ∷ prices) (price ∷ raised t j prices)))) (sym e)
-    (All-cons P (place_of_price price) (map place_of_price (raised t j prices)) (all 0 (place_of_price price) (omega arith)) (raised_places t j prices P (All-tail P (place_of_price price) (map place_of_price prices) all) own)))
+    (All-cons P (place_of_price price) (map place_of_price (raised t j prices)) (all 0 (place_of_price price) (omega arith))
+    (raised_places t j prices P (All-tail P (place_of_price price) (map place_of_price prices) all) own)))
     (cases_Bool (is_length_price t j price))
 
 own_place : (t j : ℕ) (price : Price) → place_of_price price ≡ place_of_price (length_price t j) → is_length_price t j price ≡ true
-own_place t j price e = all_three (ap is_by_length (ap (λ (x : PlaceOfPrice). x.0) e)) (eq-eqb price.track.0 t (ap (λ (x : PlaceOfPrice). x.1.0.0) e)) (eq-eqb price.train.0 j (ap (λ (x : PlaceOfPrice). x.1.1.0) e))
+own_place t j price e = all_three (ap is_by_length (ap (λ (x : PlaceOfPrice). x.0) e)) (eq-eqb price.track.0 t (ap (λ (x : PlaceOfPrice). x.1.0.0) e))
+    (eq-eqb price.train.0 j (ap (λ (x : PlaceOfPrice). x.1.1.0) e))
   where
     all_three : {x y z : Bool} → x ≡ true → y ≡ true → z ≡ true → (x && y && z) ≡ true
     all_three {x} {y} {z} e f g = cc
@@ -125,7 +134,8 @@ still_apart t j (price ∷ prices) apart = ⊎_elim
     (λ e. subst (λ (b : Bool). AreApart (cond b (record price { value = price.value + 1 } ∷ prices) (price ∷ raised t j prices))) (sym e) apart)
     (λ e. subst (λ (b : Bool). AreApart (cond b (record price { value = price.value + 1 } ∷ prices) (price ∷ raised t j prices))) (sym e)
     (AllPairs-cons Differ (place_of_price price) (map place_of_price (raised t j prices))
-    (raised_places t j prices (Differ (place_of_price price)) (λ k d lt. apart 0 (suc k) d (omega arith) (omega (arith, lt))) (λ same. false≢true (sym e ∙ own_place t j price same)))
+    (raised_places t j prices (Differ (place_of_price price)) (λ k d lt. apart 0 (suc k) d (omega arith) (omega (arith, lt)))
+    (λ same. false≢true (sym e ∙ own_place t j price same)))
     (still_apart t j prices (λ i k d before within. apart (suc i) (suc k) d (omega (arith, before)) (omega (arith, within))))))
     (cases_Bool (is_length_price t j price))
 
@@ -144,11 +154,19 @@ module _ (night : Night) (path : List Block) where
     hold : DualsHold night path d
 
   refit : (u : ℕ) (old new : Duals) → IsStage old → IsRefit night path u old new → IsStage new
-  refit u old new is r = ⊎_elim (λ e. subst IsStage (sym (r.covered e)) is) (λ e. let x = r.refit e in subst IsStage (sym x.2) (with_greatest x.0 x.1)) (cases_Bool (get_or (masks_of night path).units u true))
+  refit u old new is r = ⊎_elim (λ e. subst IsStage (sym (r.covered e)) is) (λ e. let x = r.refit e in subst IsStage (sym x.2) (with_greatest x.0 x.1))
+      (cases_Bool (get_or (masks_of night path).units u true))
     where
       with_greatest : (z : ℤ) → IsGreatest night path old u z → IsStage (with_alpha u z old)
       with_greatest z g = record {
-        are = record { alphas = length-set old.alpha u z ∙ is.are.alphas; betas = is.are.betas; alphas_in = set_in old.alpha u z is.are.alphas_in g.value; betas_in = is.are.betas_in; prices = is.are.prices };
+        are = record {
+          alphas = length-set old.alpha u z ∙ is.are.alphas;
+          betas = is.are.betas;
+          alphas_in = set_in old.alpha u z is.are.alphas_in g.value;
+          betas_in =
+              is.are.betas_in;
+          prices = is.are.prices;
+        };
         hold = g.holds;
       }
 

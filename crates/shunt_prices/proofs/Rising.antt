@@ -32,7 +32,8 @@ still_open false few more to le e = grind (arith, nat_tests)
 pub was_open : (cases : List Case) (path : List Block) (b : Block) (k : ℕ) → IsOpenAt cases (path ++ b ∷ []) k → IsOpenAt cases path k
 was_open cases path b k h = record {
   there = h.there;
-  opens = still_open (k + 1 == length cases) (unparked_in path) (unparked_in (path ++ b ∷ [])) (case_at cases k).to (omega (arith, sum_by-append (λ (c : Block). cond (is_none c.park) 1 0) path (b ∷ []))) h.opens;
+  opens = still_open (k + 1 == length cases) (unparked_in path) (unparked_in (path ++ b ∷ [])) (case_at cases k).to
+      (omega (arith, sum_by-append (λ (c : Block). cond (is_none c.park) 1 0) path (b ∷ []))) h.opens;
 }
 
 pub one_bound : (night : Night) (path : List Block) (cases : List Case) (x y : ℤ) → IsCasesBound night path cases x → IsCasesBound night path cases y → x ≡ y
@@ -49,7 +50,8 @@ module _ (laws : RunLaws) (places : PlaceLaws) (to : StayLaw) (night : Night) (i
     longer_apart : ShareNothing night (path ++ b ∷ [])
     longer_apart = grown_apart night path b apart (record {
       units = λ w has. not_taken (times_unit night path) (unit_total night) w true (places.unit_in night (shape_of b) w free.shape.shape.within has) (free.shape.units w has);
-      positions = λ v has. not_taken (times_position night path) (position_total night) v true (places.position_in night (shape_of b) v free.shape.shape.within has) (free.shape.positions v has);
+      positions = λ v has. not_taken (times_position night path) (position_total night) v true (places.position_in night (shape_of b) v free.shape.shape.within has)
+          (free.shape.positions v has);
     })
 
     room : HasRoom night (shape_of b) b.park

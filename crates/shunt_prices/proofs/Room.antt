@@ -22,7 +22,8 @@ use Rattle.shunt_prices.proofs.Capacity.{RunLaws}
 
 -- ---- a stay stands on its track when it enters
 
-itself : (m a p i : ℕ) (e : Bool) → is_le (ordering_then (nat_cmp m m) (ordering_then (bool_cmp e e) (ordering_then (nat_cmp a a) (ordering_then (nat_cmp p p) (nat_cmp i i))))) ≡ true
+itself : (m a p i : ℕ) (e : Bool) → is_le (ordering_then (nat_cmp m m) (ordering_then (bool_cmp e e)
+    (ordering_then (nat_cmp a a) (ordering_then (nat_cmp p p) (nat_cmp i i))))) ≡ true
 itself m a p i true = grind (arith, nat_tests)
 itself m a p i false = grind (arith, nat_tests)
 
@@ -50,19 +51,23 @@ abbrev pub StayLaw : Type 0
 StayLaw = (night : Night) (blocks : List Block) (b : Block) (s : Stay) → In b blocks → stay_of night b ≡ Some s → In s (stays_of night blocks)
 
 module _ (laws : RunLaws) (to : StayLaw) (night : Night) (i : IsInstance night) where
-  parked_room : (blocks : List Block) (b : Block) (k : Park) → CanStand night blocks → RunsThrough night blocks → In b blocks → stay_of night b ≡ Some (parked_stay night b k) → shape_length night (shape_of b) ≤ track_length night k.track.0
+  parked_room : (blocks : List Block) (b : Block) (k : Park) → CanStand night blocks → RunsThrough night blocks → In b blocks → stay_of night b ≡ Some (parked_stay night b k)
+      → shape_length night (shape_of b) ≤ track_length night k.track.0
   parked_room blocks b k stand go there e =
       let s = parked_stay night b k in
       let in_run = to night blocks b s there e in
       let w = formed (stays_of night blocks) s (laws.stays night blocks i stand) in_run in
-      let fits = laws.together (track_lengths night.station) (stays_of night blocks) k.track.0 s.enter (laws.stays night blocks i stand) (laws.tracks night blocks stand) w.enter_in go in
+      let fits = laws.together (track_lengths night.station) (stays_of night blocks) k.track.0 s.enter (laws.stays night blocks i stand)
+      (laws.tracks night blocks stand) w.enter_in go in
       omega (arith, fits, at_least (stays_of night blocks) s k.track.0 s.enter in_run (stands_itself s w))
 
-  room_with : (blocks : List Block) (b : Block) (o : Option Park) → CanStand night blocks → RunsThrough night blocks → In b blocks → is_too_soon night (shape_of b) ≡ false → stay_of night b ≡ stay_with night b o → HasRoom night (shape_of b) o
+  room_with : (blocks : List Block) (b : Block) (o : Option Park) → CanStand night blocks → RunsThrough night blocks → In b blocks → is_too_soon night (shape_of b) ≡ false
+      → stay_of night b ≡ stay_with night b o → HasRoom night (shape_of b) o
   room_with blocks b None stand go there soon e = tt
   room_with blocks b (Some k) stand go there soon e = parked_room blocks b k stand go there (e ∙ ap (λ t. cond t None (Some (parked_stay night b k))) soon)
 
-  pub has_room : (blocks : List Block) (b : Block) → CanStand night blocks → RunsThrough night blocks → In b blocks → is_too_soon night (shape_of b) ≡ false → HasRoom night (shape_of b) b.park
+  pub has_room : (blocks : List Block) (b : Block) → CanStand night blocks → RunsThrough night blocks → In b blocks → is_too_soon night (shape_of b) ≡ false
+      → HasRoom night (shape_of b) b.park
   has_room blocks b stand go there soon = room_with blocks b b.park stand go there soon refl
 
   -- with places as ids
@@ -71,5 +76,7 @@ module _ (laws : RunLaws) (to : StayLaw) (night : Night) (i : IsInstance night) 
   placed_in k (c ∷ blocks) b (inl e) = (k, inl (ap (λ (d : Block). record d { id = k }) e))
   placed_in k (c ∷ blocks) b (inr there) = let h = placed_in (k + 1) blocks b there in (h.0, inr h.1)
 
-  pub placed_room : (blocks : List Block) (b : Block) → All (IsWithinTrains night) blocks → ShareNothing night blocks → RunsThrough night (placed blocks) → In b blocks → is_too_soon night (shape_of b) ≡ false → HasRoom night (shape_of b) b.park
-  placed_room blocks b within apart go there soon = let h = placed_in 1 blocks b there in has_room (placed blocks) (record b { id = h.0 }) (laws.stand night blocks i within apart) go h.1 soon
+  pub placed_room : (blocks : List Block) (b : Block) → All (IsWithinTrains night) blocks → ShareNothing night blocks → RunsThrough night (placed blocks) → In b blocks
+      → is_too_soon night (shape_of b) ≡ false → HasRoom night (shape_of b) b.park
+  placed_room blocks b within apart go there soon = let h = placed_in 1 blocks b there in has_room (placed blocks) (record b { id = h.0 })
+      (laws.stand night blocks i within apart) go h.1 soon

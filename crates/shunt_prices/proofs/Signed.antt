@@ -83,8 +83,22 @@ window n from (suc m) f le =
 -- ---- bounds
 
 pub round_up : (sum : ℤ) → (bound : ℤ) × IsBoundOf sum bound
-round_up (pos n) = (pos ((n + 999) / 1000), record { enough = omega (arith, ints, lt-div-mul-add {a = n + 999} {b = 1000} (omega arith)); least = omega (arith, ints, mul-div-le (n + 999) 1000) })
-round_up (negsuc n) = (neg_ℤ (pos ((n + 1) / 1000)), record { enough = omega (arith, ints, mul-div-le (n + 1) 1000); least = omega (arith, ints, lt-div-mul-add {a = n + 1} {b = 1000} (omega arith)) })
+round_up (pos n) = (
+  pos ((n + 999) / 1000),
+  record {
+    enough = omega (arith, ints, lt-div-mul-add {a = n + 999} {b = 1000} (omega arith));
+    least = omega
+        (arith, ints, mul-div-le (n + 999) 1000);
+  },
+)
+round_up (negsuc n) = (
+  neg_ℤ (pos ((n + 1) / 1000)),
+  record {
+    enough = omega (arith, ints, mul-div-le (n + 1) 1000);
+    least = omega
+        (arith, ints, lt-div-mul-add {a = n + 1} {b = 1000} (omega arith));
+  },
+)
 
 -- a greater sum has no lesser bound
 pub bound_rises : (sum more bound other : ℤ) → sum ≤ℤ more → IsBoundOf sum bound → IsBoundOf more other → bound ≤ℤ other

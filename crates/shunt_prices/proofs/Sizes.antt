@@ -59,12 +59,14 @@ pub sum_z-within : {X : Type 0} (value : X → ℤ) (m : ℕ) (xs : List X) → 
 sum_z-within value m [] all = nothing_within (0 * m)
 sum_z-within {X} value m (x ∷ xs) all =
     let P : X → Type 0 = λ y. IsWithin m (value y) in
-    wider (m + length xs * m) (suc (length xs) * m) _ (omega (arith, one_more (length xs) m)) (both_within m (length xs * m) (value x) (sum_z value xs) (all 0 x (omega arith)) (sum_z-within value m xs (All-tail P x xs all)))
+    wider (m + length xs * m) (suc (length xs) * m) _ (omega (arith, one_more (length xs) m))
+    (both_within m (length xs * m) (value x) (sum_z value xs) (all 0 x (omega arith)) (sum_z-within value m xs (All-tail P x xs all)))
 
 pub sum_z_below-within : (n m : ℕ) (value : ℕ → ℤ) → ((i : ℕ) → i < n → IsWithin m (value i)) → IsWithin (n * m) (sum_z_below n value)
 sum_z_below-within zero m value h = nothing_within (0 * m)
 sum_z_below-within (suc n) m value h =
-    wider (n * m + m) (suc n * m) _ (omega (arith, one_more n m)) (both_within (n * m) m (sum_z_below n value) (value n) (sum_z_below-within n m value (λ i lt. h i (omega arith))) (h n (omega arith)))
+    wider (n * m + m) (suc n * m) _ (omega (arith, one_more n m)) (both_within (n * m) m (sum_z_below n value) (value n) (sum_z_below-within n m value (λ i lt. h i (omega arith)))
+    (h n (omega arith)))
 
 pub times_within : (m n : ℕ) (z : ℤ) → IsWithin m z → IsWithin (m * n) (z *ℤ pos n)
 times_within m n (pos a) w =
@@ -123,7 +125,12 @@ module _ (night : Night) (h : IsOrderedNight night) where
   few_units s r = let a = arrival night s.arr.0 h r.arr in omega (arith, r.units, r.p, a.few)
 
   shape_small : (s : Shape) → AreRunsWithin night s → shape_length night s ≤ 40000
-  shape_small s r = omega (arith, few_units s r, sum_below-small s.n 5000 (λ k. length_of night.station (unit_at night (unit_from night s + k)).kind) (λ k. length_small night.station (unit_at night (unit_from night s + k)).kind h.station))
+  shape_small s r = omega (
+    arith,
+    few_units s r,
+    sum_below-small s.n 5000 (λ k. length_of night.station (unit_at night (unit_from night s + k)).kind)
+        (λ k. length_small night.station (unit_at night (unit_from night s + k)).kind h.station),
+  )
 
   kind_small : (k : PriceKind) (room long : ℕ) → IsKind k → long ≤ 40000 → count_of k room long ≤ 359999
   kind_small kind.Length room long is le = omega arith
@@ -150,12 +157,14 @@ module _ (night : Night) (h : IsOrderedNight night) where
 
   pub part_small : (prices : List Price) (s : Shape) (park : Option Park) → ArePrices night prices → AreRunsWithin night s → price_part_with night prices s park ≤ 23039936000000000
   part_small prices s park p r =
-      let each : All (λ (price : Price). price.value * counted_with night price s park ≤ 359999000000000) prices = λ k d lt. let q = p.each k d lt in omega (arith, mul-le-mul q.value (counted_small (get_or prices k d) s park q r)) in
+      let each : All (λ (price : Price). price.value * counted_with night price s park ≤ 359999000000000) prices = λ k d lt. let q = p.each k d lt in omega
+      (arith, mul-le-mul q.value (counted_small (get_or prices k d) s park q r)) in
       omega (arith, sum_by-le (λ (price : Price). price.value * counted_with night price s park) 359999000000000 prices each, mul-le-mul_right 359999000000000 p.few)
 
   pub paid_small : (prices : List Price) → ArePrices night prices → paid_at_most night prices ≤ 3200000000000000
   paid_small prices p =
-      let each : All (λ (price : Price). price.value * most night price ≤ 50000000000000) prices = λ k d lt. let q = p.each k d lt in omega (arith, mul-le-mul q.value (most_small (get_or prices k d) q)) in
+      let each : All (λ (price : Price). price.value * most night price ≤ 50000000000000) prices = λ k d lt. let q = p.each k d lt in omega
+      (arith, mul-le-mul q.value (most_small (get_or prices k d) q)) in
       omega (arith, sum_by-le (λ (price : Price). price.value * most night price) 50000000000000 prices each, mul-le-mul_right 50000000000000 p.few)
 
   -- ---- costs and weights
@@ -179,7 +188,11 @@ module _ (night : Night) (h : IsOrderedNight night) where
 
   option_small : (s : Shape) (park : Option Park) → option_cost night s park ≤ 2000000
   option_small s None = omega (arith, h.station.unparked)
-  option_small s (Some k) = omega (arith, way_in_small (train_at night.arrive s.arr.0).origin k.track k.side_in, way_out_small (train_at night.depart s.dep.0).origin k.track k.side_out)
+  option_small s (Some k) = omega (
+    arith,
+    way_in_small (train_at night.arrive s.arr.0).origin k.track k.side_in,
+    way_out_small (train_at night.depart s.dep.0).origin k.track k.side_out,
+  )
 
   unless : (b : Bool) (n : ℕ) → n ≤ 1000000 → cond b 0 n ≤ 1000000
   unless true n le = omega arith
@@ -215,9 +228,11 @@ module _ (night : Night) (h : IsOrderedNight night) where
       (sum_z_below-within s.n 999999999999 (λ k. alpha_at d (unit_from night s + k)) (λ i lt. at_within d.alpha (unit_from night s + i) is.alphas_in))
       (sum_z_below-within s.n 999999999999 (λ k. beta_at d (position_from night s + k)) (λ i lt. at_within d.beta (position_from night s + i) is.betas_in)))
 
-  left_within : (n : ℕ) (covered : ℕ → Bool) (zs : List ℤ) → n ≤ 160 → All IsValue zs → IsWithin 159999999999840 (sum_z_below n (λ i. cond (covered i) (pos 0) (get_or zs i (pos 0))))
+  left_within : (n : ℕ) (covered : ℕ → Bool) (zs : List ℤ) → n ≤ 160 → All IsValue zs
+      → IsWithin 159999999999840 (sum_z_below n (λ i. cond (covered i) (pos 0) (get_or zs i (pos 0))))
   left_within n covered zs few all =
-      wider (n * 999999999999) 159999999999840 _ (omega (arith, few)) (sum_z_below-within n 999999999999 (λ i. cond (covered i) (pos 0) (get_or zs i (pos 0))) (λ i lt. either (covered i) (get_or zs i (pos 0)) (at_within zs i all)))
+      wider (n * 999999999999) 159999999999840 _ (omega (arith, few)) (sum_z_below-within n 999999999999 (λ i. cond (covered i) (pos 0) (get_or zs i (pos 0)))
+      (λ i lt. either (covered i) (get_or zs i (pos 0)) (at_within zs i all)))
     where
       either : (b : Bool) (z : ℤ) → IsWithin 999999999999 z → IsWithin 999999999999 (cond b (pos 0) z)
       either true z w = nothing_within 999999999999
@@ -231,11 +246,14 @@ module _ (night : Night) (h : IsOrderedNight night) where
 
   -- ---- sums
 
-  weights_within : (c : Case) (path : List Block) → IsCase night c → All (IsWithinTrains night) path → length path ≤ 160 → IsWithin 3686550399999999840 (sum_z (weight night c) path)
+  weights_within : (c : Case) (path : List Block) → IsCase night c → All (IsWithinTrains night) path → length path ≤ 160
+      → IsWithin 3686550399999999840 (sum_z (weight night c) path)
   weights_within c path is within few =
-      wider (length path * 23040939999999999) 3686550399999999840 _ (omega (arith, few)) (sum_z-within (weight night c) 23040939999999999 path (λ k d lt. weight_within c (shape_of (get_or path k d)) (get_or path k d).park is (within k d lt).runs))
+      wider (length path * 23040939999999999) 3686550399999999840 _ (omega (arith, few))
+      (sum_z-within (weight night c) 23040939999999999 path (λ k d lt. weight_within c (shape_of (get_or path k d)) (get_or path k d).park is (within k d lt).runs))
 
-  pub sum_within : (c : Case) (path : List Block) (from : ℕ) → IsCase night c → All (IsWithinTrains night) path → length path ≤ 160 → from ≤ 160 → IsWithin 4000000000000000000 (sum_at night path from c)
+  pub sum_within : (c : Case) (path : List Block) (from : ℕ) → IsCase night c → All (IsWithinTrains night) path → length path ≤ 160 → from ≤ 160
+      → IsWithin 4000000000000000000 (sum_at night path from c)
   sum_within c path from is within few small =
       let w = weights_within c path is within few in
       let a = alphas_within (masks_of night path) c.duals is.duals in

@@ -19,16 +19,26 @@ use Rattle.shunt_prices.proofs.Signed.{sum_z_below-same, sum_z_below-add, sum_z_
 use Rattle.shunt_prices.proofs.Whole.{weights_are, sum_by-add, sum_by-same}
 use Rattle.shunt_prices.proofs.Raised.{part_rises, paid_rises}
 
-pub raised_sum : (night : Night) (path : List Block) (t j : ℕ) (d : Duals) → duals_sum night path (record d { prices = raised t j d.prices }) ≡ duals_sum night path d +ℤ pos (sum_by (counted night (length_price t j)) path) -ℤ pos (track_length night t)
+pub raised_sum : (night : Night) (path : List Block) (t j : ℕ) (d : Duals) → duals_sum night path (record d { prices = raised t j d.prices })
+    ≡ duals_sum night path d +ℤ pos (sum_by (counted night (length_price t j)) path) -ℤ pos (track_length night t)
 raised_sum night path t j d =
     let parts : sum_by (price_part night (raised t j d.prices)) path ≡ sum_by (price_part night d.prices) path + sum_by (counted night (length_price t j)) path =
-    sum_by-same (price_part night (raised t j d.prices)) (λ b. price_part night d.prices b + counted night (length_price t j) b) path (λ b. part_rises night t j d.prices (shape_of b) b.park)
+    sum_by-same (price_part night (raised t j d.prices)) (λ b. price_part night d.prices b + counted night (length_price t j) b) path
+    (λ b. part_rises night t j d.prices (shape_of b) b.park)
     ∙ sum_by-add (price_part night d.prices) (counted night (length_price t j)) path in
-    omega (arith, ints, weights_are night (case_at (plain d) 0) path, weights_are night (case_at (plain (record d { prices = raised t j d.prices })) 0) path, parts, paid_rises night t j d.prices)
+    omega (
+      arith,
+      ints,
+      weights_are night (case_at (plain d) 0) path,
+      weights_are night (case_at (plain (record d { prices = raised t j d.prices })) 0) path,
+      parts,
+      paid_rises night t j d.prices,
+    )
 
 -- one value of a list that isn't left out
 other_value : (n : ℕ) (covered : ℕ → Bool) (zs : List ℤ) (u : ℕ) (z : ℤ) → u < n → u < length zs → covered u ≡ false
-    → sum_z_below n (λ i. cond (covered i) (pos 0) (get_or (set zs u z) i (pos 0))) ≡ sum_z_below n (λ i. cond (covered i) (pos 0) (get_or zs i (pos 0))) +ℤ (z -ℤ get_or zs u (pos 0))
+    → sum_z_below n (λ i. cond (covered i) (pos 0) (get_or (set zs u z) i (pos 0)))
+    ≡ sum_z_below n (λ i. cond (covered i) (pos 0) (get_or zs i (pos 0))) +ℤ (z -ℤ get_or zs u (pos 0))
 other_value n covered zs u z lt there free =
     sum_z_below-same n _ _ (λ i below. each i)
     ∙ sum_z_below-add n (λ i. cond (covered i) (pos 0) (get_or zs i (pos 0))) (λ i. cond (i == u) more (pos 0))
@@ -58,6 +68,12 @@ other_value n covered zs u z lt there free =
         ))
         (cases_eq i u)
 
-pub other_alpha : (night : Night) (path : List Block) (d : Duals) (u : ℕ) (z : ℤ) → u < unit_total night → length d.alpha ≡ unit_total night → get_or (masks_of night path).units u true ≡ false
+pub other_alpha : (night : Night) (path : List Block) (d : Duals) (u : ℕ) (z : ℤ) → u < unit_total night → length d.alpha ≡ unit_total night
+    → get_or (masks_of night path).units u true ≡ false
     → duals_sum night path (with_alpha u z d) ≡ duals_sum night path d +ℤ z -ℤ alpha_at d u
-other_alpha night path d u z lt size free = omega (arith, ints, other_value (unit_total night) (λ i. get_or (masks_of night path).units i true) d.alpha u z lt (omega (arith, lt, size)) free)
+other_alpha night path d u z lt size free = omega (
+  arith,
+  ints,
+  other_value (unit_total night) (λ i. get_or (masks_of night path).units i true) d.alpha u z lt
+      (omega (arith, lt, size)) free,
+)

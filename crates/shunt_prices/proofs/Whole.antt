@@ -41,12 +41,22 @@ surcharge_is m None = sym (times_one m)
 surcharge_is m (Some k) = sym (times_none m)
 
 -- what the weights add up to: 1000 times the cost, the price parts, and the multiplier for each unparked block
-pub weights_are : (night : Night) (c : Case) (path : List Block) → sum_z (weight night c) path ≡ pos (1000 * total_cost night path + sum_by (price_part night c.duals.prices) path) +ℤ (c.multiplier *ℤ pos (unparked_in path))
+pub weights_are : (night : Night) (c : Case) (path : List Block) → sum_z (weight night c) path
+    ≡ pos (1000 * total_cost night path + sum_by (price_part night c.duals.prices) path) +ℤ (c.multiplier *ℤ pos (unparked_in path))
 weights_are night c [] = omega (arith, ints, times_none c.multiplier)
 weights_are night c (b ∷ path) =
     let count = sum_by-cons (λ (x : Block). cond (is_none x.park) 1 0) b path in
-    let more : (c.multiplier *ℤ pos (unparked_in (b ∷ path))) ≡ (c.multiplier *ℤ pos (cond (is_none b.park) 1 0)) +ℤ (c.multiplier *ℤ pos (unparked_in path)) = ap (λ n. c.multiplier *ℤ pos n) count ∙ times_more c.multiplier (cond (is_none b.park) 1 0) (unparked_in path) in
-    omega (arith, ints, weights_are night c path, sum_by-cons (block_cost night) b path, sum_by-cons (price_part night c.duals.prices) b path, more, surcharge_is c.multiplier b.park)
+    let more : (c.multiplier *ℤ pos (unparked_in (b ∷ path))) ≡ (c.multiplier *ℤ pos (cond (is_none b.park) 1 0)) +ℤ (c.multiplier *ℤ pos (unparked_in path)) = ap
+    (λ n. c.multiplier *ℤ pos n) count ∙ times_more c.multiplier (cond (is_none b.park) 1 0) (unparked_in path) in
+    omega (
+      arith,
+      ints,
+      weights_are night c path,
+      sum_by-cons (block_cost night) b path,
+      sum_by-cons (price_part night c.duals.prices) b path,
+      more,
+      surcharge_is c.multiplier b.park,
+    )
 
 -- ---- price parts
 
@@ -67,13 +77,15 @@ sum_by-same f g [] h = refl
 sum_by-same f g (x ∷ xs) h = omega (arith, sum_by-cons f x xs, sum_by-cons g x xs, h x, sum_by-same f g xs h)
 
 -- where what each price counts adds up to at most its most, the price parts add up to at most what the prices take
-pub parts_paid : (night : Night) (prices : List Price) (blocks : List Block) → All (λ price. sum_by (counted night price) blocks ≤ most night price) prices → sum_by (price_part night prices) blocks ≤ paid_at_most night prices
+pub parts_paid : (night : Night) (prices : List Price) (blocks : List Block) → All (λ price. sum_by (counted night price) blocks ≤ most night price) prices
+    → sum_by (price_part night prices) blocks ≤ paid_at_most night prices
 parts_paid night [] blocks all = omega (arith, sum_by-none blocks)
 parts_paid night (price ∷ prices) blocks all =
     let P : Price → Type 0 = λ p. sum_by (counted night p) blocks ≤ most night p in
     omega (
       arith,
-      sum_by-same (price_part night (price ∷ prices)) (λ b. price.value * counted night price b + price_part night prices b) blocks (λ b. sum_by-cons (λ (p : Price). p.value * counted night p b) price prices),
+      sum_by-same (price_part night (price ∷ prices)) (λ b. price.value * counted night price b + price_part night prices b) blocks
+          (λ b. sum_by-cons (λ (p : Price). p.value * counted night p b) price prices),
       sum_by-add (λ b. price.value * counted night price b) (price_part night prices) blocks,
       sum_by-times price.value (counted night price) blocks,
       mul-le-mul_left price.value (all 0 price (omega arith)),
@@ -97,11 +109,22 @@ module _ (places : PlaceLaws) (night : Night) (plan : List Block) (covers : Cove
   once n e = grind (arith, nat_tests)
 
   no_alphas : (c : Case) → uncovered_alphas night (masks_of night plan) c.duals ≡ pos 0
-  no_alphas c = sum_z_below-zero (unit_total night) (λ u. cond (get_or (masks_of night plan).units u true) (pos 0) (alpha_at c.duals u)) (λ u lt. hidden _ (alpha_at c.duals u) (unit_mask places night plan u lt ∙ once _ (covers.units u lt)))
+  no_alphas c = sum_z_below-zero (unit_total night) (λ u. cond (get_or (masks_of night plan).units u true) (pos 0) (alpha_at c.duals u))
+      (λ u lt. hidden _ (alpha_at c.duals u) (unit_mask places night plan u lt ∙ once _ (covers.units u lt)))
 
   no_betas : (c : Case) → uncovered_betas night (masks_of night plan) c.duals ≡ pos 0
-  no_betas c = sum_z_below-zero (position_total night) (λ v. cond (get_or (masks_of night plan).places v true) (pos 0) (beta_at c.duals v)) (λ v lt. hidden _ (beta_at c.duals v) (place_mask places night plan v lt ∙ once _ (covers.positions v lt)))
+  no_betas c = sum_z_below-zero (position_total night) (λ v. cond (get_or (masks_of night plan).places v true) (pos 0) (beta_at c.duals v))
+      (λ v lt. hidden _ (beta_at c.duals v) (place_mask places night plan v lt ∙ once _ (covers.positions v lt)))
 
   -- the sum of a case that speaks of the plan is at most 1000 times its cost
-  pub whole_sum : (from : ℕ) (c : Case) → All (λ price. sum_by (counted night price) plan ≤ most night price) c.duals.prices → from ≤ unparked_in plan → unparked_in plan ≤ c.to → sum_at night plan from c ≤ℤ pos (1000 * total_cost night plan)
-  whole_sum from c fits low high = omega (arith, ints, weights_are night c plan, parts_paid night c.duals.prices plan fits, within_most c.multiplier from (unparked_in plan) c.to low high, no_alphas c, no_betas c)
+  pub whole_sum : (from : ℕ) (c : Case) → All (λ price. sum_by (counted night price) plan ≤ most night price) c.duals.prices → from ≤ unparked_in plan → unparked_in plan ≤ c.to
+      → sum_at night plan from c ≤ℤ pos (1000 * total_cost night plan)
+  whole_sum from c fits low high = omega (
+    arith,
+    ints,
+    weights_are night c plan,
+    parts_paid night c.duals.prices plan fits,
+    within_most c.multiplier from (unparked_in plan) c.to low high,
+    no_alphas c,
+    no_betas c,
+  )

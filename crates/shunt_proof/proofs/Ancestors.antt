@@ -54,7 +54,12 @@ module _ (night : Night) (nodes : List Node) (h : AreNodes night nodes) where
         let some = not_root k depth lt e in
         let f = parent_found night nodes h k some lt in
         let c = child_choice night nodes h k some lt in
-        omega (arith, ap length (child_path night nodes h start k some lt), length_with night (path (parent nodes k)) (node_at nodes k).choice c.0 c.1, size_down depth (parent nodes k) (omega (arith, f.before, lt)) (omega (arith, f.depth, e)))
+        omega (
+          arith,
+          ap length (child_path night nodes h start k some lt),
+          length_with night (path (parent nodes k)) (node_at nodes k).choice c.0 c.1,
+          size_down depth (parent nodes k) (omega (arith, f.before, lt)) (omega (arith, f.depth, e)),
+        )
 
     -- a path is as much longer than the start as its node is deep
     pub path_size : (k : ℕ) → k < length nodes → length (path k) ≡ length start + depth_at nodes k
@@ -76,7 +81,9 @@ module _ (night : Night) (nodes : List Node) (h : AreNodes night nodes) where
         let up = front_down m d (parent nodes k) (omega (arith, f.before, lt)) (omega (arith, f.depth, e)) in
         ap path (nearest_before nodes d k (λ same. absurd (omega (arith, same, e))) ∙ chain d (depth_at nodes k - 1) k (omega (arith, e)) lt (omega (arith, e)))
         ∙ up
-        ∙ sym (ap (take (length start + d)) (child_path night nodes h start k some lt) ∙ front_of_child (length start + d) (path (parent nodes k)) (node_at nodes k).choice (omega (arith, path_size (parent nodes k) (omega (arith, f.before, lt)), f.depth, e)))
+        ∙ sym (ap (take (length start + d)) (child_path night nodes h start k some lt)
+        ∙ front_of_child (length start + d) (path (parent nodes k)) (node_at nodes k).choice
+        (omega (arith, path_size (parent nodes k) (omega (arith, f.before, lt)), f.depth, e)))
 
     -- the path of the last node of a depth, up to a node that is as deep or deeper, is a front of that node's path
     pub front_path : (d k : ℕ) → k < length nodes → d ≤ depth_at nodes k → path (nearest nodes d (suc k)) ≡ take (length start + d) (path k)

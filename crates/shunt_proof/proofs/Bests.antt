@@ -35,12 +35,23 @@ module _ (night : Night) (start : List Block) (nodes : List Node) where
       with_none n = omega arith
   best_falls k (suc m) =
       let at : k + suc m ≡ suc (k + m) = omega arith in
-      omega (arith, ap (best_before night start nodes) at, no_more (node_at nodes (k + m)).kind (total_cost night (path_at night start nodes (k + m))) (best_before night start nodes (k + m)), best_falls k m)
+      omega (
+        arith,
+        ap (best_before night start nodes) at,
+        no_more (node_at nodes (k + m)).kind (total_cost night (path_at night start nodes (k + m)))
+            (best_before night start nodes (k + m)),
+        best_falls k m,
+      )
 
   pub best_at_whole : (j k : ℕ) → j < k → (node_at nodes j).kind ≡ Whole → best_before night start nodes k ≤ total_cost night (path_at night start nodes j)
   best_at_whole j k lt e =
       let at : suc j + (k - suc j) ≡ k = omega (arith, lt) in
-      omega (arith, ap (best_before night start nodes) at, best_falls (suc j) (k - suc j), at_whole (node_at nodes j).kind (total_cost night (path_at night start nodes j)) (best_before night start nodes j) e)
+      omega (
+        arith,
+        ap (best_before night start nodes) at,
+        best_falls (suc j) (k - suc j),
+        at_whole (node_at nodes j).kind (total_cost night (path_at night start nodes j)) (best_before night start nodes j) e,
+      )
 
   -- a whole node before it whose path has this cost
   abbrev pub IsBestOf : ℕ → ℕ → Type 0

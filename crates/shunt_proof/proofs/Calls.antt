@@ -41,20 +41,24 @@ pub record Starts (s : Streamed) : Type 0 where
   pub told : told_of s ≡ Some []
   pub sound : is_sound s ≡ true
 
-pub started : (s : Streamed) → IsInstance s.night → CanBeRead s.version → s.doing ≡ doing.Open → s.nodes ≡ 0 → s.cases ≡ 0 → s.place ≡ store.Writing s.name (text_of_row (head_row s.version)) → Starts s
+pub started : (s : Streamed) → IsInstance s.night → CanBeRead s.version → s.doing ≡ doing.Open → s.nodes ≡ 0 → s.cases ≡ 0
+    → s.place ≡ store.Writing s.name (text_of_row (head_row s.version)) → Starts s
 started s h can d x y p =
     let text = ap store.text_of p in
     let now = so_told s.version s.night None 0 0 (store.text_of s.place) [] h tt (told_first s.version s.night (store.text_of s.place) can text) in
     let told = told_open s d ∙ told_moved s s None (store.text_of s.place) 0 0 [] (record { version = refl; night = refl; name = refl }) x y refl now in
     record { told = told; sound = sound_some s [] told }
 
-pub starts_open : (s : Streamed) → IsInstance s.night → CanBeRead s.version → s.doing ≡ doing.Open → s.nodes ≡ 0 → s.cases ≡ 0 → s.place ≡ store.Writing s.name (text_of_row (head_row s.version)) → stage_of s ≡ Open
+pub starts_open : (s : Streamed) → IsInstance s.night → CanBeRead s.version → s.doing ≡ doing.Open → s.nodes ≡ 0 → s.cases ≡ 0
+    → s.place ≡ store.Writing s.name (text_of_row (head_row s.version)) → stage_of s ≡ Open
 starts_open s h can d x y p = open_is s (text_of_row (head_row s.version)) d p (started s h can d x y p).sound
 
 -- ---- a node is noted
 
-module _ (s t : Streamed) (node : Node) (e : stage_of s ≡ Open) (g : Goes s t) (p : t.place ≡ store.Writing (store.name_of s.place) (store.text_of s.place ++ text_of_rows (node_rows s.night node))) (d : t.doing ≡ s.doing) where
-  pub note_done : IsInstance s.night → s.nodes < 5000 → s.cases + own_cases node.duals ≤ 8000 → FitsNode s.night node → IfSome (told_of s) (λ nodes. CanFollow nodes node) → t.nodes ≡ s.nodes + 1 → t.cases ≡ s.cases + own_cases node.duals
+module _ (s t : Streamed) (node : Node) (e : stage_of s ≡ Open) (g : Goes s t) (p : t.place
+    ≡ store.Writing (store.name_of s.place) (store.text_of s.place ++ text_of_rows (node_rows s.night node))) (d : t.doing ≡ s.doing) where
+  pub note_done : IsInstance s.night → s.nodes < 5000 → s.cases + own_cases node.duals ≤ 8000 → FitsNode s.night node → IfSome (told_of s) (λ nodes. CanFollow nodes node)
+      → t.nodes ≡ s.nodes + 1 → t.cases ≡ s.cases + own_cases node.duals
       → Tells s t (λ old new. new ≡ old ++ node ∷ [])
   note_done h few less fits can x y = let o = opened s e in note_step s t node h o g few less fits can (d ∙ o.doing) x y (ap store.text_of p)
 
@@ -66,7 +70,8 @@ module _ (s t : Streamed) (node : Node) (e : stage_of s ≡ Open) (g : Goes s t)
 
 -- ---- the end is written
 
-module _ (s t : Streamed) (cost bound : ℕ) (e : stage_of s ≡ Open) (g : Goes s t) (p : t.place ≡ store.Writing (store.name_of s.place) (store.text_of s.place ++ text_of_row (end_row cost bound s.nodes))) (d : t.doing ≡ doing.Finished cost bound) where
+module _ (s t : Streamed) (cost bound : ℕ) (e : stage_of s ≡ Open) (g : Goes s t)
+    (p : t.place ≡ store.Writing (store.name_of s.place) (store.text_of s.place ++ text_of_row (end_row cost bound s.nodes))) (d : t.doing ≡ doing.Finished cost bound) where
   pub finish_done : IsInstance s.night → 0 < s.nodes → cost ≤ 1000000000000 → bound ≤ 1000000000000 → t.nodes ≡ s.nodes → t.cases ≡ s.cases → Tells s t (λ old new. new ≡ old)
   finish_done h some low high x y = finish_step s t cost bound h (opened s e) g some low high d x y (ap store.text_of p)
 
@@ -93,7 +98,8 @@ module _ (s t : Streamed) (e : stage_of s ≡ Open) (g : Goes s t) (p : t.place 
   restart_done h x y = let o = opened s e in restart_step s t h o g (d ∙ o.doing) x y (ap store.text_of p)
 
   pub restart_open : Tells s t (λ old new. new ≡ []) → stage_of t ≡ Open
-  restart_open tells = open_is t (text_of_row (head_row s.version)) (d ∙ (opened s e).doing) (p ∙ ap (λ n. store.Writing n (text_of_row (head_row s.version))) (sym g.name)) tells.sound
+  restart_open tells = open_is t (text_of_row (head_row s.version)) (d ∙ (opened s e).doing)
+      (p ∙ ap (λ n. store.Writing n (text_of_row (head_row s.version))) (sym g.name)) tells.sound
 
   pub restart_keeps : Keeps s t
   restart_keeps = keeps_by s t g (rests_open t _ _ (d ∙ (opened s e).doing) p)

@@ -33,7 +33,8 @@ signed z is = let low = is.low in let high = is.high in (omega (arith, ints, low
 
 pub value_holds : (z : ℤ) → IsValue z → is_value z ≡ true
 unfolding is_value
-value_holds z is = let low = is.low in let high = is.high in and_from (not (int_lt z (neg_ℤ (pos 999999999999)))) (not (int_lt (pos 999999999999) z)) (grind (arith, ints, low)) (grind (arith, ints, high))
+value_holds z is = let low = is.low in let high = is.high in and_from (not (int_lt z (neg_ℤ (pos 999999999999)))) (not (int_lt (pos 999999999999) z)) (grind (arith, ints, low))
+    (grind (arith, ints, high))
 
 -- what a field says, by what is found of it
 abbrev value_by : ℕ → Option ℤ → Judged ℤ
@@ -66,7 +67,8 @@ values_back n front (z ∷ zs) all =
     let place : length longer + 1 ≡ length front + 1 + 1 = omega (arith, length-append front (signed_decimal z ∷ [])) in
     read_one n row (length front + 1) (length zs) z (value_back n row (length front + 1) z (all 0 z (omega arith)) (behind_front front (signed_decimal z) (map signed_decimal zs)))
     ∙ ap (λ r. each_ok (λ ys. z ∷ ys) r)
-    (ap (λ k. answer n (values_in row k (length zs))) (sym place) ∙ ap (λ l. answer n (values_in l (length longer + 1) (length zs))) (sym same) ∙ values_back n longer zs (λ k d lt. all (suc k) d (omega arith)))
+    (ap (λ k. answer n (values_in row k (length zs))) (sym place) ∙ ap (λ l. answer n (values_in l (length longer + 1) (length zs))) (sym same)
+    ∙ values_back n longer zs (λ k d lt. all (suc k) d (omega arith)))
 
 -- the fields of a record behind its word are as many as the values
 size_fits : (word : List ℕ) (zs : List ℤ) → is_within (length zs + 1) (length zs + 1) (length (word ∷ map signed_decimal zs)) ≡ true
@@ -81,7 +83,8 @@ sized room row count = do
   _ ← room
   values_in row 2 count
 
-sized_back : (n : ℕ) (room : Judged (Unit {0})) (word : List ℕ) (zs : List ℤ) → answer n room ≡ Ok tt → All IsValue zs → answer n (sized room (word ∷ map signed_decimal zs) (length zs)) ≡ Ok zs
+sized_back : (n : ℕ) (room : Judged (Unit {0})) (word : List ℕ) (zs : List ℤ) → answer n room ≡ Ok tt → All IsValue zs
+    → answer n (sized room (word ∷ map signed_decimal zs) (length zs)) ≡ Ok zs
 sized_back n room word zs free all =
     let row = word ∷ map signed_decimal zs in
     let fields = fields_in row (length zs + 1) (length zs + 1) in
@@ -97,11 +100,13 @@ pub beta_back : (n : ℕ) (night : Night) (zs : List ℤ) → length zs ≡ posi
 unfolding beta_in
 beta_back n night zs many all = subst (λ k. answer n (sized (says tt) (codes "beta" ∷ map signed_decimal zs) k) ≡ Ok zs) many (sized_back n (says tt) (codes "beta") zs refl all)
 
-pub lone_alpha_back : (n : ℕ) (night : Night) (cases : ℕ) (zs : List ℤ) → cases < 8000 → length zs ≡ unit_total night → All IsValue zs → answer n (lone_alpha_in night cases (codes "alpha" ∷ map signed_decimal zs)) ≡ Ok zs
+pub lone_alpha_back : (n : ℕ) (night : Night) (cases : ℕ) (zs : List ℤ) → cases < 8000 → length zs ≡ unit_total night → All IsValue zs
+    → answer n (lone_alpha_in night cases (codes "alpha" ∷ map signed_decimal zs)) ≡ Ok zs
 unfolding lone_alpha_in
 lone_alpha_back n night cases zs room many all =
     let free = must (nat_lt cases 8000) 1 kinds.Limit in
-    subst (λ k. answer n (sized free (codes "alpha" ∷ map signed_decimal zs) k) ≡ Ok zs) many (sized_back n free (codes "alpha") zs (holding n free.checks tt (lt-ltb cases 8000 room, tt)) all)
+    subst (λ k. answer n (sized free (codes "alpha" ∷ map signed_decimal zs) k) ≡ Ok zs) many
+    (sized_back n free (codes "alpha") zs (holding n free.checks tt (lt-ltb cases 8000 room, tt)) all)
 
 -- ---- limits
 
@@ -119,12 +124,16 @@ first_by cases to multiplier = do
   _ ← must (not (is_lone (limits t z))) 3 kinds.Limit
   says (limits t z)
 
-pub first_limits_back : (n cases to : ℕ) (z : ℤ) → cases < 8000 → to ≤ 160 → IsValue z → is_lone (limits to z) ≡ false → answer n (first_limits_in cases (codes "case" ∷ decimal to ∷ signed_decimal z ∷ [])) ≡ Ok (limits to z)
+pub first_limits_back : (n cases to : ℕ) (z : ℤ) → cases < 8000 → to ≤ 160 → IsValue z → is_lone (limits to z) ≡ false
+    → answer n (first_limits_in cases (codes "case" ∷ decimal to ∷ signed_decimal z ∷ [])) ≡ Ok (limits to z)
 unfolding first_limits_in is_within
 first_limits_back n cases to z room le is other =
     ap (λ o. answer n (first_by cases o (signed_of (signed_decimal z)))) (number_again to (omega (arith, le)))
     ∙ ap (λ o. answer n (first_by cases (Some to) o)) (signed_again z (signed z is))
-    ∙ (let m = first_by cases (Some to) (Some z) in holding n m.checks m.value (refl, (lt-ltb cases 8000 room, (refl, (in_range 0 160 to (omega arith) le, (refl, (value_holds z is, (ap not other, tt))))))))
+    ∙ (let m = first_by cases (Some to) (Some z) in holding n m.checks m.value (
+      refl,
+      (lt-ltb cases 8000 room, (refl, (in_range 0 160 to (omega arith) le, (refl, (value_holds z is, (ap not other, tt)))))),
+    ))
 
 abbrev second_by : ℕ → Option ℕ → Option ℤ → Judged Limits
 second_by cases to multiplier = do
@@ -136,12 +145,16 @@ second_by cases to multiplier = do
   _ ← must (is_value z) 3 kinds.Limit
   says (limits t z)
 
-pub second_limits_back : (n cases to : ℕ) (z : ℤ) → cases < 8000 → to ≡ 160 → IsValue z → answer n (second_limits_in cases (codes "case" ∷ decimal to ∷ signed_decimal z ∷ [])) ≡ Ok (limits to z)
+pub second_limits_back : (n cases to : ℕ) (z : ℤ) → cases < 8000 → to ≡ 160 → IsValue z
+    → answer n (second_limits_in cases (codes "case" ∷ decimal to ∷ signed_decimal z ∷ [])) ≡ Ok (limits to z)
 unfolding second_limits_in is_within
 second_limits_back n cases to z room last is =
     ap (λ o. answer n (second_by cases o (signed_of (signed_decimal z)))) (number_again to (omega (arith, last)))
     ∙ ap (λ o. answer n (second_by cases (Some to) o)) (signed_again z (signed z is))
-    ∙ (let m = second_by cases (Some to) (Some z) in holding n m.checks m.value (refl, (lt-ltb cases 8000 room, (refl, (in_range 160 160 to (omega (arith, last)) (omega (arith, last)), (refl, (value_holds z is, tt)))))))
+    ∙ (let m = second_by cases (Some to) (Some z) in holding n m.checks m.value (
+      refl,
+      (lt-ltb cases 8000 room, (refl, (in_range 160 160 to (omega (arith, last)) (omega (arith, last)), (refl, (value_holds z is, tt))))),
+    ))
 
 -- ---- prices
 
@@ -171,7 +184,8 @@ part_by prices track train parts value = do
 
 pub price_back : (n : ℕ) (night : Night) → IsOrderedNight night → (prices : List Price) (t : TrackId) (a : ArrId) (v : ℕ)
     → length prices < 64 → has_price prices counts.Length t a ≡ false → t.0 < length night.station.tracks → a.0 < length night.arrive → v ≤ 1000000000
-    → answer n (price_in night prices (codes "price" ∷ track_name night.station t ∷ arr_name night a ∷ decimal v ∷ [])) ≡ Ok (record { kind = counts.Length; track = t; train = a; value = v })
+    → answer n (price_in night prices (codes "price" ∷ track_name night.station t ∷ arr_name night a ∷ decimal v ∷ []))
+    ≡ Ok (record { kind = counts.Length; track = t; train = a; value = v })
 unfolding price_in is_within
 price_back n night h prices t a v room new track train worth =
     let by = price_by prices in
@@ -180,11 +194,15 @@ price_back n night h prices t a v room new track train worth =
     ap (λ o. answer n (by o ao vo)) (track_there night.station t h.station track)
     ∙ ap (λ o. answer n (by (Some t) o vo)) (arr_there night a h train)
     ∙ ap (λ o. answer n (by (Some t) (Some a) o)) (number_again v (omega (arith, worth)))
-    ∙ (let m = by (Some t) (Some a) (Some v) in holding n m.checks m.value (refl, (lt-ltb (length prices) 64 room, (refl, (refl, (ap not new, (refl, (in_range 0 1000000000 v (omega arith) worth, tt))))))))
+    ∙ (let m = by (Some t) (Some a) (Some v) in holding n m.checks m.value (
+      refl,
+      (lt-ltb (length prices) 64 room, (refl, (refl, (ap not new, (refl, (in_range 0 1000000000 v (omega arith) worth, tt)))))),
+    ))
 
 pub part_back : (n : ℕ) (night : Night) → IsOrderedNight night → (prices : List Price) (t : TrackId) (a : ArrId) (r v : ℕ)
     → length prices < 64 → has_price prices (counts.Parts r) t a ≡ false → t.0 < length night.station.tracks → a.0 < length night.arrive → 1 ≤ r → r ≤ 8 → v ≤ 1000000000
-    → answer n (part_in night prices (codes "part" ∷ track_name night.station t ∷ arr_name night a ∷ decimal r ∷ decimal v ∷ [])) ≡ Ok (record { kind = counts.Parts r; track = t; train = a; value = v })
+    → answer n (part_in night prices (codes "part" ∷ track_name night.station t ∷ arr_name night a ∷ decimal r ∷ decimal v ∷ []))
+    ≡ Ok (record { kind = counts.Parts r; track = t; train = a; value = v })
 unfolding part_in is_within
 part_back n night h prices t a r v room new track train some few worth =
     let by = part_by prices in
@@ -196,4 +214,16 @@ part_back n night h prices t a r v room new track train some few worth =
     ∙ ap (λ o. answer n (by (Some t) (Some a) o vo)) (number_again r (omega (arith, few)))
     ∙ ap (λ o. answer n (by (Some t) (Some a) (Some r) o)) (number_again v (omega (arith, worth)))
     ∙ (let m = by (Some t) (Some a) (Some r) (Some v) in
-    holding n m.checks m.value (refl, (lt-ltb (length prices) 64 room, (refl, (refl, (refl, (ap not new, (in_range 1 8 r some few, (refl, (in_range 0 1000000000 v (omega arith) worth, tt))))))))))
+    holding n m.checks m.value (
+      refl,
+      (
+        lt-ltb (length prices) 64 room,
+        (
+          refl,
+          (
+            refl,
+            (refl, (ap not new, (in_range 1 8 r some few, (refl, (in_range 0 1000000000 v (omega arith) worth, tt))))),
+          ),
+        ),
+      ),
+    ))

@@ -19,7 +19,8 @@ nearest_is nodes depth k (suc j) lt e none = ⊎_elim
     (cases_eq k j)
 
 -- between the last node of a depth and a deeper one all are deeper than that
-pub deeper_between : (night : Night) (nodes : List Node) → AreNodes night nodes → (depth j i : ℕ) → j < length nodes → depth < depth_at nodes j → nearest nodes depth j < i → i < j → depth < depth_at nodes i
+pub deeper_between : (night : Night) (nodes : List Node) → AreNodes night nodes → (depth j i : ℕ) → j < length nodes → depth < depth_at nodes j → nearest nodes depth j < i → i < j
+    → depth < depth_at nodes i
 deeper_between night nodes h depth zero i lt low after before = absurd (omega (arith, before))
 deeper_between night nodes h depth (suc j) i lt low after before =
     let f = follows night nodes h j lt in
@@ -29,12 +30,14 @@ deeper_between night nodes h depth (suc j) i lt low after before =
     let less : depth < depth_at nodes j = lt_of_le-ne (omega (arith, f.most, low)) (λ e. other (sym e)) in
     ⊎_elim
     (λ same. subst (λ (k : ℕ). depth < depth_at nodes k) (sym same) less)
-    (λ differ. deeper_between night nodes h depth j i (omega (arith, lt)) less (omega (arith, after, nearest_before nodes depth j other)) (lt_of_le-ne (omega (arith, before)) differ))
+    (λ differ. deeper_between night nodes h depth j i (omega (arith, lt)) less (omega (arith, after, nearest_before nodes depth j other))
+    (lt_of_le-ne (omega (arith, before)) differ))
     (cases_eq i j))
     (cases_eq (depth_at nodes j) depth)
 
 module _ (night : Night) (nodes : List Node) (h : AreNodes night nodes) where
-  pub is_child : (k j : ℕ) → k < j → j < length nodes → depth_at nodes j ≡ depth_at nodes k + 1 → ((i : ℕ) → k < i → i < j → depth_at nodes k < depth_at nodes i) → IsChildOf nodes k j
+  pub is_child : (k j : ℕ) → k < j → j < length nodes → depth_at nodes j ≡ depth_at nodes k + 1 → ((i : ℕ) → k < i → i < j → depth_at nodes k < depth_at nodes i)
+      → IsChildOf nodes k j
   is_child k j lt there depth deeper = record {
     there = there;
     depth = depth;

@@ -70,7 +70,8 @@ module _ (night : Night) (nodes : List Node) (h : AreNodes night nodes) where
   found (suc k) lt depth low =
       let f = follows k lt in
       ⊎_elim
-      (λ e. subst (IsFound nodes depth (suc k)) (sym (nearest_here nodes depth k e)) (record { before = omega arith; depth = e; branch = f.branch (omega (arith, f.most, low, e)) }))
+      (λ e. subst (IsFound nodes depth (suc k)) (sym (nearest_here nodes depth k e))
+      (record { before = omega arith; depth = e; branch = f.branch (omega (arith, f.most, low, e)) }))
       (λ other. let up = found k (omega (arith, lt)) depth (lt_of_le-ne (omega (arith, f.most, low)) (λ e. other (sym e))) in
       subst (IsFound nodes depth (suc k)) (sym (nearest_before nodes depth k other)) (record { before = omega (arith, up.before); depth = up.depth; branch = up.branch }))
       (cases_eq (depth_at nodes k) depth)
@@ -99,10 +100,12 @@ module _ (night : Night) (nodes : List Node) (h : AreNodes night nodes) where
   child_later k j c = let f = found j c.there (depth_at nodes j - 1) (omega (arith, c.depth)) in omega (arith, f.before, c.parent)
 
   module _ (start : List Block) where
-    path_from : (k e : ℕ) → k < length nodes → depth_at nodes k ≡ suc e → path_at night start nodes k ≡ longer_with night (path_at night start nodes (parent nodes k)) (node_at nodes k).choice
+    path_from : (k e : ℕ) → k < length nodes → depth_at nodes k ≡ suc e → path_at night start nodes k
+        ≡ longer_with night (path_at night start nodes (parent nodes k)) (node_at nodes k).choice
     path_from k e lt is =
         let f = found k lt e (omega (arith, is)) in
-        let up : path_at night start nodes (parent nodes k) ≡ path_down night start nodes e (nearest nodes e k) = ap (path_at night start nodes) (parent_is k e is) ∙ ap (λ (d : ℕ). path_down night start nodes d (nearest nodes e k)) f.depth in
+        let up : path_at night start nodes (parent nodes k) ≡ path_down night start nodes e (nearest nodes e k) = ap (path_at night start nodes) (parent_is k e is)
+        ∙ ap (λ (d : ℕ). path_down night start nodes d (nearest nodes e k)) f.depth in
         let down : path_at night start nodes k ≡ path_down night start nodes (suc e) k = ap (λ (d : ℕ). path_down night start nodes d k) is in
         down ∙ ap (λ (p : List Block). longer_with night p (node_at nodes k).choice) (sym up)
 
@@ -116,7 +119,8 @@ module _ (night : Night) (nodes : List Node) (h : AreNodes night nodes) where
   duals_from : (k e : ℕ) → k < length nodes → depth_at nodes k ≡ suc e → duals_at nodes k ≡ cases_or (node_at nodes k).duals (duals_at nodes (parent nodes k))
   duals_from k e lt is =
       let f = found k lt e (omega (arith, is)) in
-      let up : duals_at nodes (parent nodes k) ≡ duals_down nodes e (nearest nodes e k) = ap (duals_at nodes) (parent_is k e is) ∙ ap (λ (d : ℕ). duals_down nodes d (nearest nodes e k)) f.depth in
+      let up : duals_at nodes (parent nodes k) ≡ duals_down nodes e (nearest nodes e k) = ap (duals_at nodes) (parent_is k e is)
+      ∙ ap (λ (d : ℕ). duals_down nodes d (nearest nodes e k)) f.depth in
       let down : duals_at nodes k ≡ duals_down nodes (suc e) k = ap (λ (d : ℕ). duals_down nodes d k) is in
       down ∙ ap (λ (cs : List Case). cases_or (node_at nodes k).duals cs) (sym up)
 
@@ -129,7 +133,8 @@ module _ (night : Night) (nodes : List Node) (h : AreNodes night nodes) where
 
   -- ---- and they are cases
 
-  own_cases : (depth : ℕ) (kind : NodeKind) (duals : NodeDuals) (cases : List Case) → FitDuals night depth kind duals → kind ≢ Whole → (1 ≤ depth → AreCases night cases) → AreCases night (cases_or duals cases)
+  own_cases : (depth : ℕ) (kind : NodeKind) (duals : NodeDuals) (cases : List Case) → FitDuals night depth kind duals → kind ≢ Whole → (1 ≤ depth → AreCases night cases)
+      → AreCases night (cases_or duals cases)
   own_cases depth kind Same cases f other up = up f.1
   own_cases depth kind (New own) cases f other up = f.1.within
   own_cases depth kind Bare cases f other up = absurd (other f)

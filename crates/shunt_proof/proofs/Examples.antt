@@ -27,7 +27,8 @@ abbrev node : ℕ → Option Choice → NodeKind → NodeDuals → Node
 node depth choice kind duals = record { depth = depth; choice = choice; kind = kind; duals = duals }
 
 abbrev tree : List Node
-tree = node 0 None Branch (New (cases 0)) ∷ node 1 (single 1) Branch Same ∷ node 2 (single 2) Whole Bare ∷ node 2 (single 3) Leaf Same ∷ node 1 (single 4) Branch (New (cases 4)) ∷ node 2 (single 5) Leaf Same ∷ []
+tree = node 0 None Branch (New (cases 0)) ∷ node 1 (single 1) Branch Same ∷ node 2 (single 2) Whole Bare ∷ node 2 (single 3) Leaf Same ∷ node 1 (single 4) Branch
+    (New (cases 4)) ∷ node 2 (single 5) Leaf Same ∷ []
 
 first_child : parent tree 1 ≡ 0
 first_child = refl

@@ -62,8 +62,10 @@ unfolding plans_from
 counted zero night blocks = refl
 counted (suc more) night blocks =
     let sum = length-flat_map (λ c. if runs_placed night (longer_by blocks c) then plans more night (longer_by blocks c) else []) (choices_at night blocks) in
-    let same = same_sum (λ c. length (if runs_placed night (longer_by blocks c) then plans more night (longer_by blocks c) else [])) (λ c. if runs_placed night (longer_by blocks c) then plans_from more night (longer_by blocks c) else 0) (choices_at night blocks)
-    (λ c. some_length (runs_placed night (longer_by blocks c)) (plans more night (longer_by blocks c)) (plans_from more night (longer_by blocks c)) (counted more night (longer_by blocks c))) in
+    let same = same_sum (λ c. length (if runs_placed night (longer_by blocks c) then plans more night (longer_by blocks c) else []))
+    (λ c. if runs_placed night (longer_by blocks c) then plans_from more night (longer_by blocks c) else 0) (choices_at night blocks)
+    (λ c. some_length (runs_placed night (longer_by blocks c)) (plans more night (longer_by blocks c)) (plans_from more night (longer_by blocks c))
+    (counted more night (longer_by blocks c))) in
     omega (arith, sum, same)
 
 pub length_longer : (blocks : List Block) (c : PathChoice) → length (longer_by blocks c) ≡ length blocks + 1
@@ -82,21 +84,25 @@ from_true true ps p e i = i
 from_true false ps p e i = absurd (grind (arith, e))
 
 -- a choice at one of them gives one, where one more may be added
-goes_on : (more : ℕ) (night : Night) (from path : List Block) (c : PathChoice) → In path (plans more night from) → length path < length from + more → In c (choices_at night path) → runs_placed night (longer_by path c) ≡ true
+goes_on : (more : ℕ) (night : Night) (from path : List Block) (c : PathChoice) → In path (plans more night from) → length path < length from + more → In c (choices_at night path)
+    → runs_placed night (longer_by path c) ≡ true
     → In (longer_by path c) (plans more night from)
 goes_on zero night from path c (inl e) lt i go = absurd (omega (arith, lt, ap length e))
 goes_on zero night from path c (inr none) lt i go = absurd none
 goes_on (suc more) night from path c (inl e) lt i go =
     let at : In c (choices_at night from) = subst (λ (p : List Block). In c (choices_at night p)) e i in
     let goes : runs_placed night (longer_by from c) ≡ true = ap (λ (p : List Block). runs_placed night (longer_by p c)) (sym e) ∙ go in
-    let here : In (longer_by from c) (if runs_placed night (longer_by from c) then plans more night (longer_by from c) else []) = from_true (runs_placed night (longer_by from c)) (plans more night (longer_by from c)) (longer_by from c) goes (starts more night (longer_by from c)) in
-    inr (subst (λ (p : List Block). In (longer_by p c) (flat_map (λ d. if runs_placed night (longer_by from d) then plans more night (longer_by from d) else []) (choices_at night from))) (sym e)
+    let here : In (longer_by from c) (if runs_placed night (longer_by from c) then plans more night (longer_by from c) else []) = from_true (runs_placed night (longer_by from c))
+    (plans more night (longer_by from c)) (longer_by from c) goes (starts more night (longer_by from c)) in
+    inr (subst (λ (p : List Block). In (longer_by p c) (flat_map (λ d. if runs_placed night (longer_by from d) then plans more night (longer_by from d) else [])
+    (choices_at night from))) (sym e)
     (in_flat (λ d. if runs_placed night (longer_by from d) then plans more night (longer_by from d) else []) (choices_at night from) c (longer_by from c) at here))
 goes_on (suc more) night from path c (inr j) lt i go =
     let k = of_flat (λ d. if runs_placed night (longer_by from d) then plans more night (longer_by from d) else []) (choices_at night from) path j in
     let down = when_true (runs_placed night (longer_by from k.0)) (plans more night (longer_by from k.0)) path k.2 in
     let next = goes_on more night (longer_by from k.0) path c down.1 (omega (arith, lt, length_longer from k.0)) i go in
-    inr (in_flat (λ d. if runs_placed night (longer_by from d) then plans more night (longer_by from d) else []) (choices_at night from) k.0 (longer_by path c) k.1 (from_true (runs_placed night (longer_by from k.0)) (plans more night (longer_by from k.0)) (longer_by path c) down.0 next))
+    inr (in_flat (λ d. if runs_placed night (longer_by from d) then plans more night (longer_by from d) else []) (choices_at night from) k.0 (longer_by path c) k.1
+    (from_true (runs_placed night (longer_by from k.0)) (plans more night (longer_by from k.0)) (longer_by path c) down.0 next))
 
 -- ---- the paths of a tree
 
@@ -104,14 +110,17 @@ goes_on (suc more) night from path c (inr j) lt i go =
 pub record CountLaws : Type 0 where
   pub most : (night : Night) (blocks : List Block) → All (IsWithinTrains night) blocks → ShareNothing night blocks → length blocks ≤ unit_total night
   pub at_path : (night : Night) (blocks : List Block) (c : PathChoice) → IsInstance night → In c (choices_at night blocks) ↔ IsChoiceAt night blocks c
-  pub grows : (night : Night) (pins blocks : List Block) (c : PathChoice) → IsPartialPlan night pins blocks → IsChoiceAt night blocks c → IsPartialPlan night pins (longer_by blocks c) ↔ RunsThrough night (placed (longer_by blocks c))
-  pub once : (front other : List Block) (c d : PathChoice) → map without_id (longer_by front c) ≡ map without_id (longer_by other d) → (map without_id front ≡ map without_id other) × (c ≡ d)
+  pub grows : (night : Night) (pins blocks : List Block) (c : PathChoice) → IsPartialPlan night pins blocks → IsChoiceAt night blocks c
+      → IsPartialPlan night pins (longer_by blocks c) ↔ RunsThrough night (placed (longer_by blocks c))
+  pub once : (front other : List Block) (c d : PathChoice) → map without_id (longer_by front c) ≡ map without_id (longer_by other d)
+      → (map without_id front ≡ map without_id other) × (c ≡ d)
 
 -- what a node's choice states is that choice
 abbrev said : PathChoice → Choice
 said c = record { n = c.shape.n; dep = c.shape.dep; q = c.shape.q; park = c.option }
 
-module _ (laws : CountLaws) (night : Night) (i : IsInstance night) (start : List Block) (nodes : List Node) (h : AreNodes night nodes) (all : (k : ℕ) → 1 ≤ k → k < length nodes → IsPlaced night start nodes k) where
+module _ (laws : CountLaws) (night : Night) (i : IsInstance night) (start : List Block) (nodes : List Node) (h : AreNodes night nodes) (all : (k : ℕ) → 1 ≤ k → k < length nodes
+    → IsPlaced night start nodes k) where
   abbrev pub path : ℕ → List Block
   path k = path_at night start nodes k
 
@@ -127,8 +136,10 @@ module _ (laws : CountLaws) (night : Night) (i : IsInstance night) (start : List
   module _ (depth : ℕ) (j k : ℕ) (lj : j < length nodes) (lk : k < length nodes) (some : 1 ≤ j) (more : 1 ≤ k)
       (above : map without_id (path (parent nodes j)) ≡ map without_id (path (parent nodes k)) → parent nodes j ≡ parent nodes k)
       (same : map without_id (path j) ≡ map without_id (path k)) where
-    both : (map without_id (path (parent nodes j)) ≡ map without_id (path (parent nodes k))) × (choice_from night (path (parent nodes j)) (all j some lj).choice ≡ choice_from night (path (parent nodes k)) (all k more lk).choice)
-    both = laws.once (path (parent nodes j)) (path (parent nodes k)) (choice_from night (path (parent nodes j)) (all j some lj).choice) (choice_from night (path (parent nodes k)) (all k more lk).choice)
+    both : (map without_id (path (parent nodes j)) ≡ map without_id (path (parent nodes k)))
+        × (choice_from night (path (parent nodes j)) (all j some lj).choice ≡ choice_from night (path (parent nodes k)) (all k more lk).choice)
+    both = laws.once (path (parent nodes j)) (path (parent nodes k)) (choice_from night (path (parent nodes j)) (all j some lj).choice)
+        (choice_from night (path (parent nodes k)) (all k more lk).choice)
         (ap (map without_id) (sym (longer j some lj)) ∙ same ∙ ap (map without_id) (longer k more lk))
 
     up : parent nodes j ≡ parent nodes k
@@ -141,7 +152,8 @@ module _ (laws : CountLaws) (night : Night) (i : IsInstance night) (start : List
     one_node = ⊎_elim
         (λ less. absurd ((all k more lk).once j less (subst (λ (p : ℕ). IsChildOf nodes p j) up (its_child night nodes h j some lj)) ((all j some lj).is ∙ ap Some alike)))
         (λ ge. ⊎_elim
-        (λ later. absurd ((all j some lj).once k later (subst (λ (p : ℕ). IsChildOf nodes p k) (sym up) (its_child night nodes h k more lk)) ((all k more lk).is ∙ ap Some (sym alike))))
+        (λ later. absurd ((all j some lj).once k later (subst (λ (p : ℕ). IsChildOf nodes p k) (sym up) (its_child night nodes h k more lk))
+        ((all k more lk).is ∙ ap Some (sym alike))))
         (λ le. omega (arith, ge, le))
         (cases_lt k j))
         (cases_lt j k)
@@ -153,7 +165,8 @@ module _ (laws : CountLaws) (night : Night) (i : IsInstance night) (start : List
       let more = not_root night nodes h k depth lk dk in
       let fj = parent_found night nodes h j some lj in
       let fk = parent_found night nodes h k more lk in
-      one_node depth j k lj lk some more (λ e. one_at depth (parent nodes j) (parent nodes k) (omega (arith, fj.before, lj)) (omega (arith, fk.before, lk)) (omega (arith, fj.depth, dj)) (omega (arith, fk.depth, dk)) e) same
+      one_node depth j k lj lk some more (λ e. one_at depth (parent nodes j) (parent nodes k) (omega (arith, fj.before, lj)) (omega (arith, fk.before, lk))
+      (omega (arith, fj.depth, dj)) (omega (arith, fk.depth, dk)) e) same
 
   -- two nodes whose paths are the same but for ids are one
   pub one_path : (j k : ℕ) → j < length nodes → k < length nodes → map without_id (path j) ≡ map without_id (path k) → j ≡ k
@@ -173,7 +186,8 @@ module _ (laws : CountLaws) (night : Night) (i : IsInstance night) (start : List
         let f = parent_found night nodes h k some lt in
         let up = partial_down depth (parent nodes k) (omega (arith, f.before, lt)) (omega (arith, f.depth, e)) in
         let p = all k some lt in
-        subst (IsPartialPlan night pins) (sym (longer k some lt)) ((laws.grows night pins (path (parent nodes k)) (choice_from night (path (parent nodes k)) p.choice) up p.there).1 (subst (λ (b : List Block). RunsThrough night (placed b)) (longer k some lt) p.through))
+        subst (IsPartialPlan night pins) (sym (longer k some lt)) ((laws.grows night pins (path (parent nodes k)) (choice_from night (path (parent nodes k)) p.choice) up p.there).1
+        (subst (λ (b : List Block). RunsThrough night (placed b)) (longer k some lt) p.through))
 
     pub is_partial : (k : ℕ) → k < length nodes → IsPartialPlan night pins (path k)
     is_partial k lt = partial_down (depth_at nodes k) k lt refl
@@ -182,7 +196,8 @@ module _ (laws : CountLaws) (night : Night) (i : IsInstance night) (start : List
     short k lt = let p = is_partial k lt in laws.most night (path k) (all_within night (path k) p.each) p.apart
 
     listed_down : (depth k : ℕ) → k < length nodes → depth_at nodes k ≡ depth → In (path k) (plans (unit_total night) night start)
-    listed_down zero k lt e = subst (λ (p : List Block). In p (plans (unit_total night) night start)) (sym (ap path (root_only night nodes h k lt e) ∙ root_path night nodes h start (omega (arith, lt)))) (starts (unit_total night) night start)
+    listed_down zero k lt e = subst (λ (p : List Block). In p (plans (unit_total night) night start))
+        (sym (ap path (root_only night nodes h k lt e) ∙ root_path night nodes h start (omega (arith, lt)))) (starts (unit_total night) night start)
     listed_down (suc depth) k lt e =
         let some = not_root night nodes h k depth lt e in
         let f = parent_found night nodes h k some lt in
@@ -190,13 +205,16 @@ module _ (laws : CountLaws) (night : Night) (i : IsInstance night) (start : List
         let p = all k some lt in
         let c = choice_from night (path (parent nodes k)) p.choice in
         let go : RunsThrough night (placed (longer_by (path (parent nodes k)) c)) = subst (λ (b : List Block). RunsThrough night (placed b)) (longer k some lt) p.through in
-        let size : length (path (parent nodes k)) < length start + unit_total night = omega (arith, short k lt, ap length (longer k some lt), length_longer (path (parent nodes k)) c) in
-        subst (λ (b : List Block). In b (plans (unit_total night) night start)) (sym (longer k some lt)) (goes_on (unit_total night) night start (path (parent nodes k)) c up size ((laws.at_path night (path (parent nodes k)) c i).1 p.there) go)
+        let size : length (path (parent nodes k)) < length start + unit_total night = omega
+        (arith, short k lt, ap length (longer k some lt), length_longer (path (parent nodes k)) c) in
+        subst (λ (b : List Block). In b (plans (unit_total night) night start)) (sym (longer k some lt))
+        (goes_on (unit_total night) night start (path (parent nodes k)) c up size ((laws.at_path night (path (parent nodes k)) c i).1 p.there) go)
 
     -- so they are at most as many as the partial plans that begin with the start
     pub at_most : length nodes ≤ partial_plans night start
     at_most = omega (
       arith,
       counted (unit_total night) night start,
-      few (length nodes) path (plans (unit_total night) night start) (λ k lt. listed_down (depth_at nodes k) k lt refl) (λ j k lt low e. let one = one_path j k (omega (arith, lt, low)) low (ap (map without_id) e) in omega (arith, lt, one)),
+      few (length nodes) path (plans (unit_total night) night start) (λ k lt. listed_down (depth_at nodes k) k lt refl)
+          (λ j k lt low e. let one = one_path j k (omega (arith, lt, low)) low (ap (map without_id) e) in omega (arith, lt, one)),
     )

@@ -64,9 +64,11 @@ record IsHead (night : Night) (nodes : List Node) (h : Head) : Type 0 where
   place : CanFollow nodes (node_of h duals.Bare)
 
 -- with duals that fit it is a node that can stand there
-head_node : (night : Night) (nodes : List Node) (h : Head) (own : NodeDuals) → IsHead night nodes h → FitDuals night h.depth h.kind own → AreNodes night nodes → AreNodes night (nodes ++ node_of h own ∷ [])
+head_node : (night : Night) (nodes : List Node) (h : Head) (own : NodeDuals) → IsHead night nodes h → FitDuals night h.depth h.kind own → AreNodes night nodes
+    → AreNodes night (nodes ++ node_of h own ∷ [])
 head_node night nodes h own is fits are =
-    one_more night nodes (node_of h own) are (record { depth = is.depth; choice = is.choice; duals = fits }) (stands_same (slice_get nodes (length nodes - 1)) (node_of h duals.Bare) (node_of h own) refl is.place)
+    one_more night nodes (node_of h own) are (record { depth = is.depth; choice = is.choice; duals = fits })
+    (stands_same (slice_get nodes (length nodes - 1)) (node_of h duals.Bare) (node_of h own) refl is.place)
 
 -- the word of a node's duals goes with its kind and depth
 abbrev FitsWord : NodeKind → ℕ → HeadDuals → Type 0
@@ -151,7 +153,8 @@ IsDraft night d = InPlace night d d.place
 -- ---- a node is added
 
 total_more : (nodes : List Node) (x : Node) → case_total (nodes ++ x ∷ []) ≡ case_total nodes + own_cases x.duals
-total_more nodes x = sum_by-append (λ (y : Node). own_cases y.duals) nodes (x ∷ []) ∙ ap (λ k. case_total nodes + k) (sum_by-cons (λ (y : Node). own_cases y.duals) x [] ∙ (let e : own_cases x.duals + 0 ≡ own_cases x.duals = omega arith in e))
+total_more nodes x = sum_by-append (λ (y : Node). own_cases y.duals) nodes (x ∷ [])
+    ∙ ap (λ k. case_total nodes + k) (sum_by-cons (λ (y : Node). own_cases y.duals) x [] ∙ (let e : own_cases x.duals + 0 ≡ own_cases x.duals = omega arith in e))
 
 -- nodes that are whole, before one more
 record IsSettled (night : Night) (s : Draft) : Type 0 where
@@ -162,7 +165,8 @@ record IsSettled (night : Night) (s : Draft) : Type 0 where
   room : s.cases ≤ 8000
   before : s.before ≡ None
 
-head_added : (night : Night) (s : Draft) (h : Head) (w : HeadDuals) → IsSettled night s → s.begun < 5000 → IsHead night s.nodes h → FitsWord h.kind h.depth w → IsDraft night (with_head s h w)
+head_added : (night : Night) (s : Draft) (h : Head) (w : HeadDuals) → IsSettled night s → s.begun < 5000 → IsHead night s.nodes h → FitsWord h.kind h.depth w
+    → IsDraft night (with_head s h w)
 head_added night s h words.New is room head fits = record {
   version = is.version;
   nodes = is.nodes;
@@ -248,7 +252,15 @@ record IsBehind (night : Night) (s : Draft) (h : Head) : Type 0 where
 
 behind_node : (night : Night) (d : Draft) → d.place ≡ places.Node → InPlace night d places.Node → IsBehind night (settled d) d.head
 behind_node night d e is = subst (λ s. IsBehind night s d.head) (sym (settled_as d places.Node e)) record {
-  settled = record { version = is.version; nodes = is.nodes; many = (let m = is.many in omega (arith, m)); cases = (let c = is.cases in omega (arith, c)); room = is.room; before = is.here.1 };
+  settled = record {
+    version = is.version;
+    nodes = is.nodes;
+    many = (let m = is.many in omega (arith, m));
+    cases = (let c = is.cases in omega (arith, c));
+    room = is.room;
+    before =
+        is.here.1;
+  };
   last = is.here.0;
 }
 
@@ -298,7 +310,8 @@ whole_word : (b : Bool) (w : HeadDuals) → (if b then Some words.Bare else None
 whole_word true w e = cc
 whole_word false w e = absurd cc
 
-other_word : (a root b : Bool) (w : HeadDuals) → (if a then Some words.New else if not root && b then Some words.Same else None) ≡ Some w → (w ≡ words.New) ⊎ ((w ≡ words.Same) × (root ≡ false))
+other_word : (a root b : Bool) (w : HeadDuals) → (if a then Some words.New else if not root && b then Some words.Same else None) ≡ Some w
+    → (w ≡ words.New) ⊎ ((w ≡ words.Same) × (root ≡ false))
 other_word true root b w e = inl cc
 other_word false false true w e = inr (cc, refl)
 other_word false false false w e = absurd cc
@@ -321,7 +334,8 @@ word_fits shows.Leaf depth text w e = ⊎_elim
 
 -- ---- records of nodes
 
-root_holds : (n : ℕ) (night : Night) (d t : Draft) (row : List (List ℕ)) → d.place ≡ places.Start → InPlace night d places.Start → answer n (format.root_of d row) ≡ Ok t → IsDraft night t
+root_holds : (n : ℕ) (night : Night) (d t : Draft) (row : List (List ℕ)) → d.place ≡ places.Start → InPlace night d places.Start → answer n (format.root_of d row) ≡ Ok t
+    → IsDraft night t
 unfolding format.root_of format.root_in with_node
 root_holds n night d t row e is a =
     let s = says n (format.root_of d row) t a in
@@ -336,12 +350,23 @@ root_holds n night d t row e is a =
     let made : Head = record { depth = head; choice = None; kind = kind; duals = own } in
     let fits = word_fits kind head (at row 4) own (there words.Bare (duals_of kind head (at row 4)) h.1.1.1.1.1.0) in
     let same = settled_as d places.Start e in
-    let settled_now : IsSettled night (settled d) = subst (IsSettled night) (sym same) record { version = is.version; nodes = is.nodes; many = (let m = is.many in omega (arith, m)); cases = (let c = is.cases in omega (arith, c)); room = is.room; before = is.here.1 } in
-    let stands : CanFollow (settled d).nodes (node_of made duals.Bare) = subst (λ (x : Draft). CanFollow x.nodes (node_of made duals.Bare)) (sym same) (subst (λ l. CanFollow l (node_of made duals.Bare)) (sym is.here.0) root) in
+    let settled_now : IsSettled night (settled d) = subst (IsSettled night) (sym same)
+    record {
+      version = is.version;
+      nodes = is.nodes;
+      many = (let m = is.many in omega (arith, m));
+      cases = (let c = is.cases in omega (arith, c));
+      room = is.room;
+      before =
+          is.here.1;
+    } in
+    let stands : CanFollow (settled d).nodes (node_of made duals.Bare) = subst (λ (x : Draft). CanFollow x.nodes (node_of made duals.Bare)) (sym same)
+    (subst (λ l. CanFollow l (node_of made duals.Bare)) (sym is.here.0) root) in
     let small : (settled d).begun < 5000 = subst (λ (x : Draft). x.begun < 5000) (sym same) (ltb-true d.begun 5000 room) in
     subst (IsDraft night) s.1 (head_added night (settled d) made own settled_now small (record { depth = omega (arith, root); choice = root; place = stands }) fits)
 
-child_holds : (n : ℕ) (night : Night) (d t : Draft) (row : List (List ℕ)) → IsBehind night (settled d) d.head → (settled d).begun ≡ d.begun → answer n (format.child_of night d row) ≡ Ok t → IsDraft night t
+child_holds : (n : ℕ) (night : Night) (d t : Draft) (row : List (List ℕ)) → IsBehind night (settled d) d.head → (settled d).begun ≡ d.begun
+    → answer n (format.child_of night d row) ≡ Ok t → IsDraft night t
 unfolding format.child_of format.child_in format.later_in with_node
 child_holds n night d t row is same a =
     let s = says n (format.child_of night d row) t a in
@@ -358,7 +383,13 @@ child_holds n night d t row is same a =
     let units = h.1.1.1.1.1.1.1 in
     let dep = units.1.1 in
     let place = dep.1 in
-    let c : Choice = record { n = unwrap_or (decimal_of (at row 5)) 0; dep = unwrap_or (dep_number night (at row 6)) (record { 0 = 0 }); q = unwrap_or (decimal_of (at row 7)) 0; park = option.value } in
+    let c : Choice = record {
+      n = unwrap_or (decimal_of (at row 5)) 0;
+      dep = unwrap_or (dep_number night (at row 6)) (record { 0 = 0 });
+      q = unwrap_or
+          (decimal_of (at row 7)) 0;
+      park = option.value;
+    } in
     let made : Head = record { depth = head; choice = Some c; kind = kind; duals = own } in
     let few = within 1 8 c.n units.1.0 in
     let from = within 1 8 c.q place.1.0 in
@@ -399,10 +430,14 @@ first_case_holds n night d t row is a =
       few = is.few;
       cases = (let c = is.cases in omega (arith, c, ap both none));
       room = omega (arith, room);
-      here = (record { head = record { depth = is.here.0.head.depth; choice = is.here.0.head.choice; place = is.here.0.head.place }; kind = is.here.0.kind }, (record { to = to.1; multiplier = value; before = subst (FitsBefore night (unwrap_or (decimal_of (at row 2)) 0)) (sym none) tt }, refl));
+      here = (
+        record { head = record { depth = is.here.0.head.depth; choice = is.here.0.head.choice; place = is.here.0.head.place }; kind = is.here.0.kind },
+        (record { to = to.1; multiplier = value; before = subst (FitsBefore night (unwrap_or (decimal_of (at row 2)) 0)) (sym none) tt }, refl),
+      );
     }
 
-second_case_holds : (n : ℕ) (night : Night) (d t : Draft) (row : List (List ℕ)) → InPlace night d places.Beta → d.before ≡ None → d.now.to ≢ 160 → answer n (format.second_case_of d row) ≡ Ok t → IsDraft night t
+second_case_holds : (n : ℕ) (night : Night) (d t : Draft) (row : List (List ℕ)) → InPlace night d places.Beta → d.before ≡ None → d.now.to ≢ 160
+    → answer n (format.second_case_of d row) ≡ Ok t → IsDraft night t
 unfolding format.second_case_of format.second_limits_in
 second_case_holds n night d t row is none early a =
     let s = says n (format.second_case_of d row) t a in
@@ -420,7 +455,10 @@ second_case_holds n night d t row is none early a =
       few = is.few;
       cases = (let c = is.cases in omega (arith, c, ap both none));
       room = omega (arith, room);
-      here = (record { head = record { depth = is.here.0.head.depth; choice = is.here.0.head.choice; place = is.here.0.head.place }; kind = is.here.0.kind }, (record { to = to.1; multiplier = value; before = (now.0, (now.1, (below low early, last))) }, refl));
+      here = (
+        record { head = record { depth = is.here.0.head.depth; choice = is.here.0.head.choice; place = is.here.0.head.place }; kind = is.here.0.kind },
+        (record { to = to.1; multiplier = value; before = (now.0, (now.1, (below low early, last))) }, refl),
+      );
     }
   where
     below : d.now.to ≤ 160 → d.now.to ≢ 160 → d.now.to < 160
@@ -466,7 +504,10 @@ alpha_holds n night d t row is a =
       few = is.few;
       cases = is.cases;
       room = is.room;
-      here = (opened_as night d (format.with_alpha d read.value) refl refl is.here.0, (record { to = limits.to; multiplier = limits.multiplier; before = limits.before }, (record { many = v.0; each = v.1 }, is.here.1.1)));
+      here = (
+        opened_as night d (format.with_alpha d read.value) refl refl is.here.0,
+        (record { to = limits.to; multiplier = limits.multiplier; before = limits.before }, (record { many = v.0; each = v.1 }, is.here.1.1)),
+      );
     }
 
 lone_alpha_holds : (n : ℕ) (night : Night) (d t : Draft) (row : List (List ℕ)) → InPlace night d places.New → answer n (format.lone_alpha_of night d row) ≡ Ok t → IsDraft night t
@@ -486,7 +527,10 @@ lone_alpha_holds n night d t row is a =
       room = omega (arith, room);
       here = (
         opened_as night d (format.with_lone d read.value) refl refl is.here.0,
-        (record { to = omega arith; multiplier = record { low = omega (arith, ints); high = omega (arith, ints) }; before = subst (FitsBefore night 160) (sym none) tt }, (record { many = v.0; each = v.1 }, refl)),
+        (
+          record { to = omega arith; multiplier = record { low = omega (arith, ints); high = omega (arith, ints) }; before = subst (FitsBefore night 160) (sym none) tt },
+          (record { many = v.0; each = v.1 }, refl),
+        ),
       );
     }
 
@@ -540,11 +584,13 @@ price_same p y e =
     let track : p.track ≡ y.track = ap (λ x. x.1.0) e in
     let train : p.train ≡ y.train = ap (λ x. x.1.1) e in
     and_from (same_kind p.kind y.kind && p.track.0 == y.track.0) (p.train.0 == y.train.0)
-    (and_from (same_kind p.kind y.kind) (p.track.0 == y.track.0) (subst (λ k. same_kind p.kind k ≡ true) kind (kind_same p.kind)) (eq-eqb p.track.0 y.track.0 (ap (λ (x : TrackId). x.0) track)))
+    (and_from (same_kind p.kind y.kind) (p.track.0 == y.track.0) (subst (λ k. same_kind p.kind k ≡ true) kind (kind_same p.kind))
+    (eq-eqb p.track.0 y.track.0 (ap (λ (x : TrackId). x.0) track)))
     (eq-eqb p.train.0 y.train.0 (ap (λ (x : ArrId). x.0) train))
 
 -- one more price of a case
-price_added : (night : Night) (d : Draft) (price : Price) → InPlace night d places.Beta → length d.now.duals.prices < 64 → has_price d.now.duals.prices price.kind price.track price.train ≡ false → IsPrice night price
+price_added : (night : Night) (d : Draft) (price : Price) → InPlace night d places.Beta → length d.now.duals.prices < 64
+    → has_price d.now.duals.prices price.kind price.track price.train ≡ false → IsPrice night price
     → InPlace night (format.with_price d price) places.Beta
 unfolding has_price
 price_added night d price is room new in_range =
@@ -582,27 +628,31 @@ price_added night d price is room new in_range =
 placed_as : (night : Night) (d : Draft) → d.place ≡ places.Beta → InPlace night d places.Beta → IsDraft night d
 placed_as night d e is = subst (InPlace night d) (sym e) is
 
-price_holds : (n : ℕ) (night : Night) (d t : Draft) (row : List (List ℕ)) → d.place ≡ places.Beta → InPlace night d places.Beta → answer n (format.price_of night d row) ≡ Ok t → IsDraft night t
+price_holds : (n : ℕ) (night : Night) (d t : Draft) (row : List (List ℕ)) → d.place ≡ places.Beta → InPlace night d places.Beta → answer n (format.price_of night d row) ≡ Ok t
+    → IsDraft night t
 unfolding format.price_of format.price_in
 price_holds n night d t row e is a =
     let s = says n (format.price_of night d row) t a in
     let h = s.0 in
     let price = (format.price_in night d.now.duals.prices row).value in
-    subst (IsDraft night) s.1 (placed_as night (format.with_price d price) e (price_added night d price is (ltb-true (length d.now.duals.prices) 64 h.1.0) (not-true _ h.1.1.1.1.0) record {
+    subst (IsDraft night) s.1 (placed_as night (format.with_price d price) e (price_added night d price is (ltb-true (length d.now.duals.prices) 64 h.1.0) (not-true _ h.1.1.1.1.0)
+    record {
       kind = tt;
       track = track_within night.station (at row 2) price.track (there (record { 0 = 0 }) (track_number night.station (at row 2)) h.1.1.0);
       train = arr_within night (at row 3) price.train (there (record { 0 = 0 }) (arr_number night (at row 3)) h.1.1.1.0);
       value = (within 0 1000000000 price.value h.1.1.1.1.1.1.0).1;
     }))
 
-part_holds : (n : ℕ) (night : Night) (d t : Draft) (row : List (List ℕ)) → d.place ≡ places.Beta → InPlace night d places.Beta → answer n (format.part_of night d row) ≡ Ok t → IsDraft night t
+part_holds : (n : ℕ) (night : Night) (d t : Draft) (row : List (List ℕ)) → d.place ≡ places.Beta → InPlace night d places.Beta → answer n (format.part_of night d row) ≡ Ok t
+    → IsDraft night t
 unfolding format.part_of format.part_in
 part_holds n night d t row e is a =
     let s = says n (format.part_of night d row) t a in
     let h = s.0 in
     let price = (format.part_in night d.now.duals.prices row).value in
     let parts = unwrap_or (decimal_of (at row 4)) 0 in
-    subst (IsDraft night) s.1 (placed_as night (format.with_price d price) e (price_added night d price is (ltb-true (length d.now.duals.prices) 64 h.1.0) (not-true _ h.1.1.1.1.1.0) record {
+    subst (IsDraft night) s.1 (placed_as night (format.with_price d price) e (price_added night d price is (ltb-true (length d.now.duals.prices) 64 h.1.0)
+    (not-true _ h.1.1.1.1.1.0) record {
       kind = within 1 8 parts h.1.1.1.1.1.1.0;
       track = track_within night.station (at row 2) price.track (there (record { 0 = 0 }) (track_number night.station (at row 2)) h.1.1.0);
       train = arr_within night (at row 3) price.train (there (record { 0 = 0 }) (arr_number night (at row 3)) h.1.1.1.0);
@@ -614,7 +664,8 @@ part_holds n night d t row e is a =
 last_some : (nodes : List Node) (h : Head) → IsLast nodes h → 1 ≤ length nodes
 last_some nodes h last = omega (arith, ap length last.is, length-append last.front (last.last ∷ []))
 
-end_holds : (n : ℕ) (night : Night) (d t : Draft) (row : List (List ℕ)) → IsBehind night (settled d) d.head → (settled d).begun ≡ d.begun → d.begun ≤ 5000 → answer n (format.end_of d row) ≡ Ok t → IsDraft night t
+end_holds : (n : ℕ) (night : Night) (d t : Draft) (row : List (List ℕ)) → IsBehind night (settled d) d.head → (settled d).begun ≡ d.begun → d.begun ≤ 5000
+    → answer n (format.end_of d row) ≡ Ok t → IsDraft night t
 unfolding format.end_of format.end_in format.with_end
 end_holds n night d t row is same few a =
     let s = says n (format.end_of d row) t a in
@@ -634,7 +685,8 @@ end_holds n night d t row is same few a =
 -- ---- a later record
 
 -- a choice of two records
-in_or : {A : Type 0} (n : ℕ) (b : Bool) (m k : Judged A) (z : A) (P : Type 0) → (b ≡ true → answer n m ≡ Ok z → P) → (b ≡ false → answer n k ≡ Ok z → P) → answer n (if b then m else k) ≡ Ok z → P
+in_or : {A : Type 0} (n : ℕ) (b : Bool) (m k : Judged A) (z : A) (P : Type 0) → (b ≡ true → answer n m ≡ Ok z → P) → (b ≡ false → answer n k ≡ Ok z → P)
+    → answer n (if b then m else k) ≡ Ok z → P
 in_or n true m k z P f g e = f refl e
 in_or n false m k z P f g e = g refl e
 
@@ -649,13 +701,15 @@ settled_begun : (d : Draft) → (settled d).begun ≡ d.begun
 unfolding settled
 settled_begun d = kept_by (ends_node d.place) d _ (λ x. x.begun) refl
 
-after_node_holds : (n : ℕ) (night : Night) (d t : Draft) (row : List (List ℕ)) → IsBehind night (settled d) d.head → d.begun ≤ 5000 → answer n (format.after_node night d row) ≡ Ok t → IsDraft night t
+after_node_holds : (n : ℕ) (night : Night) (d t : Draft) (row : List (List ℕ)) → IsBehind night (settled d) d.head → d.begun ≤ 5000
+    → answer n (format.after_node night d row) ≡ Ok t → IsDraft night t
 unfolding format.after_node
 after_node_holds n night d t row is few =
     in_or n (is_word row (codes "node")) _ _ t (IsDraft night t) (λ word. child_holds n night d t row is (settled_begun d))
     (λ other. in_or n (is_word row (codes "end")) _ _ t (IsDraft night t) (λ word. end_holds n night d t row is (settled_begun d) few) (λ none. no_word_holds n d t))
 
-after_beta_holds : (n : ℕ) (night : Night) (d t : Draft) (row : List (List ℕ)) → d.place ≡ places.Beta → InPlace night d places.Beta → answer n (format.after_beta night d row) ≡ Ok t → IsDraft night t
+after_beta_holds : (n : ℕ) (night : Night) (d t : Draft) (row : List (List ℕ)) → d.place ≡ places.Beta → InPlace night d places.Beta
+    → answer n (format.after_beta night d row) ≡ Ok t → IsDraft night t
 unfolding format.after_beta format.after_case
 after_beta_holds n night d t row e is =
     in_or n (is_word row (codes "price")) _ _ t (IsDraft night t) (λ word. price_holds n night d t row e is)
@@ -663,7 +717,8 @@ after_beta_holds n night d t row e is =
     (λ neither. in_or n (d.now.to == 160) _ _ t (IsDraft night t)
     (λ whole. after_node_holds n night d t row (behind_beta night d e (eqb-true d.now.to 160 whole) is) is.few)
     (λ early. in_or n (is_word row (codes "case")) _ _ t (IsDraft night t)
-    (λ word. let ne : d.now.to ≢ 160 = (λ same. true≢false (sym (eq-eqb d.now.to 160 same) ∙ early)) in second_case_holds n night d t row is (no_before night d.now.to d.before is.here.1.0 ne) ne)
+    (λ word. let ne : d.now.to ≢ 160 = (λ same. true≢false (sym (eq-eqb d.now.to 160 same) ∙ early)) in second_case_holds n night d t row is
+    (no_before night d.now.to d.before is.here.1.0 ne) ne)
     (λ none. no_word_holds n d t))))
 
 after_new_holds : (n : ℕ) (night : Night) (d t : Draft) (row : List (List ℕ)) → InPlace night d places.New → answer n (format.after_new night d row) ≡ Ok t → IsDraft night t
@@ -672,7 +727,8 @@ after_new_holds n night d t row is =
     in_or n (is_word row (codes "case")) _ _ t (IsDraft night t) (λ word. first_case_holds n night d t row is)
     (λ other. in_or n (is_word row (codes "alpha")) _ _ t (IsDraft night t) (λ word. lone_alpha_holds n night d t row is) (λ none. no_word_holds n d t))
 
-place_holds : (n : ℕ) (night : Night) (d t : Draft) (row : List (List ℕ)) (p : Place) → d.place ≡ p → InPlace night d p → answer n (format.at_place night d p row) ≡ Ok t → IsDraft night t
+place_holds : (n : ℕ) (night : Night) (d t : Draft) (row : List (List ℕ)) (p : Place) → d.place ≡ p → InPlace night d p → answer n (format.at_place night d p row) ≡ Ok t
+    → IsDraft night t
 place_holds n night d t row places.Start e is = in_or n (is_word row (codes "node")) _ _ t (IsDraft night t) (λ word. root_holds n night d t row e is) (λ none. no_word_holds n d t)
 place_holds n night d t row places.Node e is = after_node_holds n night d t row (behind_node night d e is) is.few
 place_holds n night d t row places.New e is = after_new_holds n night d t row is

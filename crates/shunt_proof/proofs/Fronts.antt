@@ -55,7 +55,8 @@ module _ (nodes more : List Node) where
     pub best_front : (k : ℕ) → k ≤ length nodes → best_before night start (nodes ++ more) k ≡ best_before night start nodes k
     best_front zero le = refl
     best_front (suc k) le =
-        ap (λ (n : Node). best_with n.kind (total_cost night (path_at night start (nodes ++ more) k)) (best_before night start (nodes ++ more) k)) (node_front k (omega (arith, le)))
+        ap (λ (n : Node). best_with n.kind (total_cost night (path_at night start (nodes ++ more) k)) (best_before night start (nodes ++ more) k))
+        (node_front k (omega (arith, le)))
         ∙ ap (λ (p : List Block). best_with (node_at nodes k).kind (total_cost night p) (best_before night start (nodes ++ more) k)) (path_front k (omega (arith, le)))
         ∙ ap (λ (b : ℕ). best_with (node_at nodes k).kind (total_cost night (path_at night start nodes k)) b) (best_front k (omega (arith, le)))
 

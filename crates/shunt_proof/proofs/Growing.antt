@@ -98,13 +98,18 @@ module _ (nodes more : List Node) where
     right_more version k L lt r = record { placed = λ some. placed_to k lt (r.placed some); shows = shown }
       where
         wider : ShowsIn version night (path_at night start nodes k) (duals_at nodes k) (node_at nodes k).kind (IsListed night start (nodes ++ more) k) L
-        wider = shows_less version night (path_at night start nodes k) (duals_at nodes k) (node_at nodes k).kind (IsListed night start nodes k) (IsListed night start (nodes ++ more) k) L L (λ c l. listed_more k c lt l) (omega (arith, ints)) r.shows
+        wider = shows_less version night (path_at night start nodes k) (duals_at nodes k) (node_at nodes k).kind (IsListed night start nodes k)
+            (IsListed night start (nodes ++ more) k) L L (λ c l. listed_more k c lt l) (omega (arith, ints)) r.shows
 
-        shown : ShowsIn version night (path_at night start (nodes ++ more) k) (duals_at (nodes ++ more) k) (node_at (nodes ++ more) k).kind (IsListed night start (nodes ++ more) k) L
+        shown : ShowsIn version night (path_at night start (nodes ++ more) k) (duals_at (nodes ++ more) k) (node_at (nodes ++ more) k).kind
+            (IsListed night start (nodes ++ more) k) L
         shown =
-            subst (λ (p : List Block). ShowsIn version night p (duals_at (nodes ++ more) k) (node_at (nodes ++ more) k).kind (IsListed night start (nodes ++ more) k) L) (sym (path_front nodes more night start k lt))
-            (subst (λ (cs : List Case). ShowsIn version night (path_at night start nodes k) cs (node_at (nodes ++ more) k).kind (IsListed night start (nodes ++ more) k) L) (sym (duals_front nodes more k lt))
-            (subst (λ (n : Node). ShowsIn version night (path_at night start nodes k) (duals_at nodes k) n.kind (IsListed night start (nodes ++ more) k) L) (sym (node_front nodes more k lt)) wider))
+            subst (λ (p : List Block). ShowsIn version night p (duals_at (nodes ++ more) k) (node_at (nodes ++ more) k).kind (IsListed night start (nodes ++ more) k) L)
+            (sym (path_front nodes more night start k lt))
+            (subst (λ (cs : List Case). ShowsIn version night (path_at night start nodes k) cs (node_at (nodes ++ more) k).kind (IsListed night start (nodes ++ more) k) L)
+            (sym (duals_front nodes more k lt))
+            (subst (λ (n : Node). ShowsIn version night (path_at night start nodes k) (duals_at nodes k) n.kind (IsListed night start (nodes ++ more) k) L)
+            (sym (node_front nodes more k lt)) wider))
 
     same_duals : (k : ℕ) → k < length nodes → duals_at (nodes ++ more) (parent (nodes ++ more) k) ≡ duals_at nodes (parent nodes k)
     same_duals k lt = ap (duals_at (nodes ++ more)) (parent_front nodes more k lt) ∙ duals_front nodes more (parent nodes k) (parent_low k lt)
@@ -114,7 +119,8 @@ module _ (nodes more : List Node) where
 
     moved : (version : Version) (o u p q : List Block) (c d : List Case) (b e : ℕ) → o ≡ u → p ≡ q → c ≡ d → b ≡ e → Leans version o p c b → Leans version u q d e
     moved version o u p q c d b e w x y z l =
-        subst (λ (v : List Block). Leans version v q d e) w (subst (λ (v : List Block). Leans version o v d e) x (subst (λ (v : List Case). Leans version o p v e) y (subst (λ (v : ℕ). Leans version o p c v) z l)))
+        subst (λ (v : List Block). Leans version v q d e) w (subst (λ (v : List Block). Leans version o v d e) x
+        (subst (λ (v : List Case). Leans version o p v e) y (subst (λ (v : ℕ). Leans version o p c v) z l)))
 
     -- what is lean stays so, and was so before
     pub lean_more : (version : Version) (k : ℕ) → k < length nodes → IsLeanIn version night start nodes k ↔ IsLeanIn version night start (nodes ++ more) k
@@ -141,12 +147,14 @@ module _ (night : Night) (nodes : List Node) (n : Node) where
 
   pub can_follow : AreNodes night (nodes ++ n ∷ []) → CanFollow nodes n
   can_follow h = ⊎_elim
-      (λ none. subst (λ (o : Option Node). StandsAfter o n) (sym (slice_get_past nodes (length nodes - 1) (omega (arith, none)))) (subst (StandsAfter None) (last_is 0 (omega (arith, none))) (h.root (omega (arith, size)))))
+      (λ none. subst (λ (o : Option Node). StandsAfter o n) (sym (slice_get_past nodes (length nodes - 1) (omega (arith, none))))
+      (subst (StandsAfter None) (last_is 0 (omega (arith, none))) (h.root (omega (arith, size)))))
       (λ some.
       let k = length nodes - 1 in
       let at : node_at (nodes ++ n ∷ []) (k + 1) ≡ n = last_is (k + 1) (omega (arith, some)) in
       subst (λ (o : Option Node). StandsAfter o n) (sym (slice_get-get_or nodes k _ (omega (arith, some))))
-      (subst (λ (b : Node). Follows b n) (node_front nodes (n ∷ []) k (omega (arith, some))) (subst (λ (m : Node). Follows (node_at (nodes ++ n ∷ []) k) m) at (h.follow k (omega (arith, some, size))))))
+      (subst (λ (b : Node). Follows b n) (node_front nodes (n ∷ []) k (omega (arith, some)))
+      (subst (λ (m : Node). Follows (node_at (nodes ++ n ∷ []) k) m) at (h.follow k (omega (arith, some, size))))))
       (cases_lt (length nodes) 1)
 
   pub last_fits : AreNodes night (nodes ++ n ∷ []) → FitsNode night n
@@ -156,7 +164,8 @@ module _ (night : Night) (nodes : List Node) (n : Node) where
   one_more h fits can = record {
     each = All-push (FitsNode night) nodes n h.each fits;
     root = λ lt. ⊎_elim
-        (λ none. subst (StandsAfter None) (sym (last_is 0 (omega (arith, none)))) (subst (λ (o : Option Node). StandsAfter o n) (slice_get_past nodes (length nodes - 1) (omega (arith, none))) can))
+        (λ none. subst (StandsAfter None) (sym (last_is 0 (omega (arith, none))))
+        (subst (λ (o : Option Node). StandsAfter o n) (slice_get_past nodes (length nodes - 1) (omega (arith, none))) can))
         (λ some. subst (StandsAfter None) (sym (node_front nodes (n ∷ []) 0 some)) (h.root some))
         (cases_lt (length nodes) 1);
     follow = λ k lt. ⊎_elim
@@ -165,7 +174,8 @@ module _ (night : Night) (nodes : List Node) (n : Node) where
         (subst (λ (m : Node). Follows (node_at nodes k) m) (sym (node_front nodes (n ∷ []) (k + 1) less)) (h.follow k less)))
         (λ ge.
         let last : k ≡ length nodes - 1 = omega (arith, ge, lt, size) in
-        let own : Follows (node_at nodes (length nodes - 1)) n = subst (λ (o : Option Node). StandsAfter o n) (slice_get-get_or nodes (length nodes - 1) _ (omega (arith, ge, lt, size))) can in
+        let own : Follows (node_at nodes (length nodes - 1)) n = subst (λ (o : Option Node). StandsAfter o n)
+        (slice_get-get_or nodes (length nodes - 1) _ (omega (arith, ge, lt, size))) can in
         subst (λ (b : Node). Follows b (node_at (nodes ++ n ∷ []) (k + 1))) (sym (node_front nodes (n ∷ []) k (omega (arith, ge, lt, size))))
         (subst (λ (m : Node). Follows (node_at nodes k) m) (sym (last_is (k + 1) (omega (arith, ge, lt, size)))) (subst (λ (i : ℕ). Follows (node_at nodes i) n) (sym last) own)))
         (cases_lt (k + 1) (length nodes));
@@ -173,4 +183,5 @@ module _ (night : Night) (nodes : List Node) (n : Node) where
 
 -- the parent of the node that is appended
 pub last_parent : (nodes : List Node) (n : Node) → parent (nodes ++ n ∷ []) (length nodes) ≡ nearest nodes (n.depth - 1) (length nodes)
-last_parent nodes n = ap (λ (m : Node). nearest (nodes ++ n ∷ []) (m.depth - 1) (length nodes)) (node_last nodes n) ∙ nearest_front nodes (n ∷ []) (n.depth - 1) (length nodes) (omega arith)
+last_parent nodes n = ap (λ (m : Node). nearest (nodes ++ n ∷ []) (m.depth - 1) (length nodes)) (node_last nodes n)
+    ∙ nearest_front nodes (n ∷ []) (n.depth - 1) (length nodes) (omega arith)

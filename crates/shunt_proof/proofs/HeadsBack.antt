@@ -110,30 +110,46 @@ later_by begun last fits depth kind own units dep place = do
 
 later_own : (n begun : ℕ) (last : Head) (depth : ℕ) (kind : NodeKind) (own : NodeKind → ℕ → Option HeadDuals) (w : HeadDuals) (c : Choice) (night : Night)
     → begun < 5000 → 1 ≤ depth → depth ≤ 160 → depth ≤ deepest last → own kind depth ≡ Some w → FitsChoice night c
-    → answer n (later_by begun last true (Some depth) (Some kind) own (Some c.n) (Some c.dep) (Some c.q)) ≡ Ok (record { depth = depth; choice = None; kind = kind; duals = w }, record c { park = None })
+    → answer n (later_by begun last true (Some depth) (Some kind) own (Some c.n) (Some c.dep) (Some c.q))
+    ≡ Ok (record { depth = depth; choice = None; kind = kind; duals = w }, record c { park = None })
 later_own n begun last depth kind own w c night room some few deep is fits =
     ap (λ o. answer n (later_by begun last true (Some depth) (Some kind) (λ k d. o) (Some c.n) (Some c.dep) (Some c.q))) is
     ∙ (let m = later_by begun last true (Some depth) (Some kind) (λ k d. Some w) (Some c.n) (Some c.dep) (Some c.q) in
     holding n m.checks m.value (
       refl,
-      (lt-ltb begun 5000 room, (refl, (in_range 1 160 depth some few, (le-leb depth (deepest last) deep, (refl, (refl, (refl, (in_range 1 8 c.n fits.some fits.few, (refl, (refl, (in_range 1 8 c.q fits.from fits.to, tt))))))))))),
+      (
+        lt-ltb begun 5000 room,
+        (
+          refl,
+          (
+            in_range 1 160 depth some few,
+            (
+              le-leb depth (deepest last) deep,
+              (refl, (refl, (refl, (in_range 1 8 c.n fits.some fits.few, (refl, (refl, (in_range 1 8 c.q fits.from fits.to, tt))))))),
+            ),
+          ),
+        ),
+      ),
     ))
 
 -- a later record has 8 or 11 fields
-fields_fit : (s : Station) (a b c d e f g : List ℕ) (park : Option Park) → (length (a ∷ b ∷ c ∷ d ∷ e ∷ f ∷ g ∷ option_fields s park) == 8 || length (a ∷ b ∷ c ∷ d ∷ e ∷ f ∷ g ∷ option_fields s park) == 11) ≡ true
+fields_fit : (s : Station) (a b c d e f g : List ℕ) (park : Option Park) → (length (a ∷ b ∷ c ∷ d ∷ e ∷ f ∷ g ∷ option_fields s park) == 8 || length
+    (a ∷ b ∷ c ∷ d ∷ e ∷ f ∷ g ∷ option_fields s park) == 11) ≡ true
 fields_fit s a b c d e f g None = refl
 fields_fit s a b c d e f g (Some k) = refl
 
 -- the record of a node with a choice
 abbrev pub child_row : Night → ℕ → NodeKind → NodeDuals → Choice → List (List ℕ)
-child_row night depth kind own c = codes "node" ∷ decimal depth ∷ kind_text kind ∷ duals_text own ∷ decimal c.n ∷ dep_name night c.dep ∷ decimal c.q ∷ option_fields night.station c.park
+child_row night depth kind own c = codes "node" ∷ decimal depth ∷ kind_text kind ∷ duals_text own ∷ decimal c.n ∷ dep_name night c.dep ∷ decimal c.q ∷ option_fields
+    night.station c.park
 
 small : (k : ℕ) → k ≤ 160 → decimal_of (decimal k) ≡ Some k
 small k le = number_again k (omega (arith, le))
 
 later_back : (n : ℕ) (night : Night) → IsOrderedNight night → (begun : ℕ) (last : Head) (depth : ℕ) (kind : NodeKind) (own : NodeDuals) (c : Choice)
     → begun < 5000 → 1 ≤ depth → depth ≤ 160 → depth ≤ deepest last → FitDuals night depth kind own → FitsChoice night c
-    → answer n (later_in night begun last (child_row night depth kind own c)) ≡ Ok (record { depth = depth; choice = None; kind = kind; duals = word_of own }, record c { park = None })
+    → answer n (later_in night begun last (child_row night depth kind own c)) ≡ Ok
+    (record { depth = depth; choice = None; kind = kind; duals = word_of own }, record c { park = None })
 unfolding later_in
 later_back n night h begun last depth kind own c room some few deep is fits =
     let by = later_by begun last in
@@ -144,7 +160,8 @@ later_back n night h begun last depth kind own c room some few deep is fits =
     let p = decimal_of (decimal c.q) in
     let units : c.n ≤ 160 = (let le = fits.few in omega (arith, le)) in
     let place : c.q ≤ 160 = (let le = fits.to in omega (arith, le)) in
-    ap (λ b. answer n (by b (decimal_of (decimal depth)) k duals_by u t p)) (fields_fit night.station (codes "node") (decimal depth) (kind_text kind) (duals_text own) (decimal c.n) (dep_name night c.dep) (decimal c.q) c.park)
+    ap (λ b. answer n (by b (decimal_of (decimal depth)) k duals_by u t p)) (fields_fit night.station (codes "node") (decimal depth) (kind_text kind) (duals_text own) (decimal c.n)
+    (dep_name night c.dep) (decimal c.q) c.park)
     ∙ ap (λ o. answer n (by true o k duals_by u t p)) (small depth few)
     ∙ ap (λ o. answer n (by true (Some depth) o duals_by u t p)) (kind_back kind)
     ∙ ap (λ o. answer n (by true (Some depth) (Some kind) duals_by o t p)) (small c.n units)
@@ -159,6 +176,7 @@ unfolding child_in
 child_back n night h begun last depth kind own c room some few deep is fits =
     let row = child_row night depth kind own c in
     let made : Head × Choice = (record { depth = depth; choice = None; kind = kind; duals = word_of own }, record c { park = None }) in
-    part_ok n (later_in night begun last row) (λ node. option_in night.station row 8 >>= (λ park. says (with_choice node park))) made (later_back n night h begun last depth kind own c room some few deep is fits)
+    part_ok n (later_in night begun last row) (λ node. option_in night.station row 8 >>= (λ park. says (with_choice node park))) made
+    (later_back n night h begun last depth kind own c room some few deep is fits)
     ∙ part_ok n (option_in night.station row 8) (λ park. says (with_choice made park)) c.park
     (option_read n night.station (codes "node") (decimal depth) (kind_text kind) (duals_text own) (decimal c.n) (dep_name night c.dep) (decimal c.q) c.park h.station fits.track)

@@ -76,7 +76,8 @@ values_short (z ∷ zs) all =
     let rest = values_short zs (λ k d lt. all (suc k) d (omega arith)) in
     omega (arith, here, rest)
 
-priced_short : (track train : List ℕ) (value : ℕ) (kind : PriceKind) → length track ≤ 16 → length train ≤ 16 → value ≤ 1000000000 → IsKind kind → width (priced_row track train value kind) ≤ 52
+priced_short : (track train : List ℕ) (value : ℕ) (kind : PriceKind) → length track ≤ 16 → length train ≤ 16 → value ≤ 1000000000 → IsKind kind
+    → width (priced_row track train value kind) ≤ 52
 priced_short track train value counts.Length t a le kind =
     let v = length-decimal-le 10 value (omega arith) (omega (arith, le)) (omega (arith, le)) in
     omega (arith, t, a, v)
@@ -90,7 +91,8 @@ price_short night h p is =
     let s = priced_short _ _ p.value p.kind (track_named night.station p.track h.station is.track).1 (arr_named night p.train h is.train).1 is.value is.kind in
     omega (arith, w, s)
 
-duals_short : (night : Night) → IsOrderedNight night → unit_total night ≤ 160 → position_total night ≤ 160 → (d : Duals) → AreDuals night d → length (text_of_rows (duals_rows night d)) ≤ 7819
+duals_short : (night : Night) → IsOrderedNight night → unit_total night ≤ 160 → position_total night ≤ 160 → (d : Duals) → AreDuals night d
+    → length (text_of_rows (duals_rows night d)) ≤ 7819
 duals_short night h units places d are =
     let plain = plain_duals night h d are in
     let a = row_width (alpha_row d) plain.0 in
@@ -104,7 +106,8 @@ duals_short night h units places d are =
     let bm = are.betas in
     omega (arith, a, b, av, bv, p, few, am, bm, units, places, row_then (alpha_row d) (beta_row d ∷ prices), row_then (beta_row d) prices)
 
-case_short : (night : Night) → IsOrderedNight night → unit_total night ≤ 160 → position_total night ≤ 160 → (c : Case) → IsCase night c → length (text_of_rows (case_rows night c)) ≤ 7842
+case_short : (night : Night) → IsOrderedNight night → unit_total night ≤ 160 → position_total night ≤ 160 → (c : Case) → IsCase night c
+    → length (text_of_rows (case_rows night c)) ≤ 7842
 case_short night h units places c is =
     let w = row_width (case_row c) (plain_case night h c is).0 in
     let to = length-decimal-le 3 c.to (omega arith) (let le = is.to in omega (arith, le)) (let le = is.to in omega (arith, le)) in
@@ -112,7 +115,8 @@ case_short night h units places c is =
     let d = duals_short night h units places c.duals is.duals in
     omega (arith, w, to, m, d, row_then (case_row c) (duals_rows night c.duals))
 
-each_short : (night : Night) → IsOrderedNight night → unit_total night ≤ 160 → position_total night ≤ 160 → (cases : List Case) → All (IsCase night) cases → length (text_of_rows (flat_map (case_rows night) cases)) ≤ 7842 * length cases
+each_short : (night : Night) → IsOrderedNight night → unit_total night ≤ 160 → position_total night ≤ 160 → (cases : List Case) → All (IsCase night) cases
+    → length (text_of_rows (flat_map (case_rows night) cases)) ≤ 7842 * length cases
 each_short night h units places [] all = omega arith
 each_short night h units places (c ∷ cases) all =
     let here = case_short night h units places c (all 0 c (omega arith)) in
@@ -120,7 +124,8 @@ each_short night h units places (c ∷ cases) all =
     let join = ap length (texts_join (case_rows night c) (flat_map (case_rows night) cases)) in
     omega (arith, here, rest, join, length-append (text_of_rows (case_rows night c)) (text_of_rows (flat_map (case_rows night) cases)))
 
-cases_short : (night : Night) → IsOrderedNight night → unit_total night ≤ 160 → position_total night ≤ 160 → (cases : List Case) → All (IsCase night) cases → length (text_of_rows (cases_rows night cases)) ≤ 7842 * length cases
+cases_short : (night : Night) → IsOrderedNight night → unit_total night ≤ 160 → position_total night ≤ 160 → (cases : List Case) → All (IsCase night) cases
+    → length (text_of_rows (cases_rows night cases)) ≤ 7842 * length cases
 cases_short night h units places [] all = omega arith
 cases_short night h units places (c ∷ []) all = by (is_plain c)
   where
@@ -129,12 +134,14 @@ cases_short night h units places (c ∷ []) all = by (is_plain c)
     by false = let d = case_short night h units places c (all 0 c (omega arith)) in omega (arith, d)
 cases_short night h units places (b ∷ c ∷ cases) all = each_short night h units places (b ∷ c ∷ cases) all
 
-own_short : (night : Night) → IsOrderedNight night → unit_total night ≤ 160 → position_total night ≤ 160 → (depth : ℕ) (kind : NodeKind) (own : NodeDuals) → FitDuals night depth kind own → length (text_of_rows (own_rows night own)) ≤ 7842 * own_cases own
+own_short : (night : Night) → IsOrderedNight night → unit_total night ≤ 160 → position_total night ≤ 160 → (depth : ℕ) (kind : NodeKind) (own : NodeDuals)
+    → FitDuals night depth kind own → length (text_of_rows (own_rows night own)) ≤ 7842 * own_cases own
 own_short night h units places depth kind duals.Same is = omega arith
 own_short night h units places depth kind (duals.New cases) is = cases_short night h units places cases is.1.within.each
 own_short night h units places depth kind duals.Bare is = omega arith
 
-nodes_short : (night : Night) → IsOrderedNight night → unit_total night ≤ 160 → position_total night ≤ 160 → (nodes : List Node) → All (FitsNode night) nodes → length (text_of_rows (flat_map (node_rows night) nodes)) ≤ 68 * length nodes + 7842 * case_total nodes
+nodes_short : (night : Night) → IsOrderedNight night → unit_total night ≤ 160 → position_total night ≤ 160 → (nodes : List Node) → All (FitsNode night) nodes
+    → length (text_of_rows (flat_map (node_rows night) nodes)) ≤ 68 * length nodes + 7842 * case_total nodes
 nodes_short night h units places [] all = omega arith
 nodes_short night h units places (x ∷ xs) all =
     let fits = all 0 x (omega arith) in
@@ -147,7 +154,8 @@ nodes_short night h units places (x ∷ xs) all =
     omega (arith, row, own, rest, join, total, row_then (node_row night x) (own_rows night x.duals), length-append (text_of_rows (node_rows night x)) (text_of_rows more))
 
 -- the text of a certificate has at most 63,076,051 bytes
-certificate_short : (night : Night) → IsOrderedNight night → unit_total night ≤ 160 → position_total night ≤ 160 → (c : Certificate) → IsCertificate night c → length (text_of_rows (rows_of night c)) ≤ 63076051
+certificate_short : (night : Night) → IsOrderedNight night → unit_total night ≤ 160 → position_total night ≤ 160 → (c : Certificate) → IsCertificate night c
+    → length (text_of_rows (rows_of night c)) ≤ 63076051
 certificate_short night h units places c is =
     let rows = flat_map (node_rows night) c.nodes in
     let end = end_row c.cost c.bound (length c.nodes) in
@@ -161,10 +169,26 @@ certificate_short night h units places c is =
     let few = is.few in
     let cases = is.cases in
     let join = ap length (texts_join rows (end ∷ [])) in
-    omega (arith, head, version, last, cost, bound, count, all, few, cases, join, row_then (head_row c.version) (rows ++ end ∷ []), row_then end [], length-append (text_of_rows rows) (text_of_rows (end ∷ [])))
+    omega (
+      arith,
+      head,
+      version,
+      last,
+      cost,
+      bound,
+      count,
+      all,
+      few,
+      cases,
+      join,
+      row_then (head_row c.version) (rows ++ end ∷ []),
+      row_then end [],
+      length-append (text_of_rows rows) (text_of_rows (end ∷ [])),
+    )
 
 pub text_short : (night : Night) (c : Certificate) → IsInstance night → IsCertificate night c → length (text_of_rows (rows_of night c)) ≤ 63076051
 text_short night c i is = let h = opened night i in certificate_short night h (units_few night h) (positions_few night h) c is
 
-pub short_from : (night : Night) (c : Certificate) → IsInstance night → IsCertificate night c → (text bytes : List ℕ) → text ≡ text_of_rows (rows_of night c) → bytes ≡ text → length bytes ≤ 63076051
+pub short_from : (night : Night) (c : Certificate) → IsInstance night → IsCertificate night c → (text bytes : List ℕ) → text ≡ text_of_rows (rows_of night c) → bytes ≡ text
+    → length bytes ≤ 63076051
 short_from night c i is text bytes e same = subst (λ (t : List ℕ). length t ≤ 63076051) (sym (same ∙ e)) (text_short night c i is)

@@ -22,24 +22,29 @@ use Rattle.shunt_proof.proofs.Depths.{parent_found, deep, its_child, child_later
 lower : (version : Version) (night : Night) (path : List Block) (cases : List Case) (L M : ℤ) → M ≤ℤ L → ReachesIn version night path cases L → ReachesIn version night path cases M
 lower version night path cases L M le r = (r.0, r.1, omega (arith, ints, le, r.2))
 
-step_lower : (version : Version) (night : Night) (path longer : List Block) (cases : List Case) (L M : ℤ) → M ≤ℤ L → StepReachesIn version night path longer cases L → StepReachesIn version night path longer cases M
+step_lower : (version : Version) (night : Night) (path longer : List Block) (cases : List Case) (L M : ℤ) → M ≤ℤ L → StepReachesIn version night path longer cases L
+    → StepReachesIn version night path longer cases M
 step_lower version night path longer cases L M le r = (r.0, r.1, omega (arith, ints, le, r.2))
 
 -- a node shows what is less, and with more that is known
-pub shows_less : (version : Version) (night : Night) (path : List Block) (cases : List Case) (kind : NodeKind) (IsKnown IsKnownToo : PathChoice → Type 0) (L M : ℤ) → ((c : PathChoice) → IsKnown c → IsKnownToo c) → M ≤ℤ L
+pub shows_less : (version : Version) (night : Night) (path : List Block) (cases : List Case) (kind : NodeKind) (IsKnown IsKnownToo : PathChoice → Type 0) (L M : ℤ)
+    → ((c : PathChoice) → IsKnown c → IsKnownToo c) → M ≤ℤ L
     → ShowsIn version night path cases kind IsKnown L → ShowsIn version night path cases kind IsKnownToo M
 shows_less version night path cases Whole IsKnown IsKnownToo L M more le s = record { covers = s.covers; cost = omega (arith, ints, le, s.cost) }
-shows_less version night path cases Leaf IsKnown IsKnownToo L M more le s = record { unfinished = s.unfinished; holds = s.holds; bound = lower version night path cases L M le s.bound }
+shows_less version night path cases Leaf IsKnown IsKnownToo L M more le s = record
+    { unfinished = s.unfinished; holds = s.holds; bound = lower version night path cases L M le s.bound }
 shows_less version night path cases Branch IsKnown IsKnownToo L M more le s = record {
   unfinished = s.unfinished;
   holds = s.holds;
   each = λ c there through. ⊎_elim (λ r. inl (step_lower version night path _ cases L M le r)) (λ k. inr (more c k)) (s.each c there through);
 }
 
-pub right_less : (version : Version) (night : Night) (start : List Block) (nodes : List Node) (k : ℕ) (L M : ℤ) → M ≤ℤ L → IsRightIn version night start nodes k L → IsRightIn version night start nodes k M
+pub right_less : (version : Version) (night : Night) (start : List Block) (nodes : List Node) (k : ℕ) (L M : ℤ) → M ≤ℤ L → IsRightIn version night start nodes k L
+    → IsRightIn version night start nodes k M
 right_less version night start nodes k L M le r = record {
   placed = r.placed;
-  shows = shows_less version night (path_at night start nodes k) (duals_at nodes k) (node_at nodes k).kind (IsListed night start nodes k) (IsListed night start nodes k) L M (λ c i. i) le r.shows;
+  shows = shows_less version night (path_at night start nodes k) (duals_at nodes k) (node_at nodes k).kind (IsListed night start nodes k) (IsListed night start nodes k) L M
+      (λ c i. i) le r.shows;
 }
 
 -- ---- what a node proves
@@ -49,7 +54,8 @@ pub record IsOpened (version : Version) (night : Night) (start : List Block) (no
   pub placed : (j : ℕ) → IsChildOf nodes k j → IsPlaced night start nodes j
   pub below : (j : ℕ) → IsChildOf nodes k j → ProvesIn version night start nodes L j
 
-pub opened : (version : Version) (night : Night) (start : List Block) (nodes : List Node) (L : ℤ) (k : ℕ) → ProvesIn version night start nodes L k → IsOpened version night start nodes L k
+pub opened : (version : Version) (night : Night) (start : List Block) (nodes : List Node) (L : ℤ) (k : ℕ) → ProvesIn version night start nodes L k
+    → IsOpened version night start nodes L k
 opened version night start nodes L _ (by_tree k shows placed below) = record { shows = shows; placed = placed; below = below }
 
 module _ (version : Version) (night : Night) (start : List Block) (nodes : List Node) (h : AreNodes night nodes) (L : ℤ) where
@@ -81,7 +87,8 @@ module _ (version : Version) (night : Night) (start : List Block) (nodes : List 
       (cases_lt k 1)
   reached root (suc depth) k lt le = ⊎_elim
       (λ less. from_root k (omega (arith, less)) root)
-      (λ some. let f = parent_found night nodes h k some lt in from_parent k some lt (reached root depth (parent nodes k) (omega (arith, f.before, lt)) (omega (arith, f.depth, le))))
+      (λ some. let f = parent_found night nodes h k some lt in from_parent k some lt
+      (reached root depth (parent nodes k) (omega (arith, f.before, lt)) (omega (arith, f.depth, le))))
       (cases_lt k 1)
 
   pub root_right : ProvesIn version night start nodes L 0 → AreRightIn version night start nodes L

@@ -42,7 +42,8 @@ use Rattle.shunt_proof.proofs.CasesBack.{limits, alpha_back, lone_alpha_back, be
 
 -- ---- records at their place
 
-at_its_place : (n : ℕ) (night : Night) (d : Draft) (p : Place) (row : List (List ℕ)) (r : Result Draft RowFault) → d.place ≡ p → ended p ≡ false → answer n (at_place night d p row) ≡ r → answer n (in_state (certificate_format night) d row) ≡ r
+at_its_place : (n : ℕ) (night : Night) (d : Draft) (p : Place) (row : List (List ℕ)) (r : Result Draft RowFault) → d.place ≡ p → ended p ≡ false
+    → answer n (at_place night d p row) ≡ r → answer n (in_state (certificate_format night) d row) ≡ r
 unfolding later_of
 at_its_place n night d p row r is early e =
     ap (λ b. answer n (if b then after_last d else later_of night d row)) (ap ended is ∙ early) ∙ ap (λ q. answer n (at_place night d q row)) is ∙ e
@@ -80,7 +81,8 @@ priced d c ps = record d { place = places.Beta; now = record c { duals = record 
 
 one_price : (n : ℕ) (night : Night) → IsOrderedNight night → (d : Draft) (c : Case) (xs : List Price) (t : TrackId) (a : ArrId) (v : ℕ) (k : PriceKind)
     → length xs < 64 → has_price xs k t a ≡ false → IsKind k → t.0 < length night.station.tracks → a.0 < length night.arrive → v ≤ 1000000000
-    → answer n (in_state (certificate_format night) (priced d c xs) (priced_row (track_name night.station t) (arr_name night a) v k)) ≡ Ok (priced d c (xs ++ record { kind = k; track = t; train = a; value = v } ∷ []))
+    → answer n (in_state (certificate_format night) (priced d c xs) (priced_row (track_name night.station t) (arr_name night a) v k))
+    ≡ Ok (priced d c (xs ++ record { kind = k; track = t; train = a; value = v } ∷ []))
 unfolding later_of after_beta price_of part_of
 one_price n night h d c xs t a v counts.Length room new kind track train worth =
     then_ok n (price_in night xs (priced_row (track_name night.station t) (arr_name night a) v counts.Length)) (with_price (priced d c xs)) _ _
@@ -89,10 +91,12 @@ one_price n night h d c xs t a v (counts.Parts r) room new kind track train wort
     then_ok n (part_in night xs (priced_row (track_name night.station t) (arr_name night a) v (counts.Parts r))) (with_price (priced d c xs)) _ _
     (part_back n night h xs t a r v room new track train kind.0 kind.1 worth) refl
 
-prices_read : (night : Night) → IsOrderedNight night → (d : Draft) (c : Case) → ArePrices night c.duals.prices → AreApart c.duals.prices → IsReadByEach (certificate_format night) (price_row night) (priced d c) c.duals.prices
+prices_read : (night : Night) → IsOrderedNight night → (d : Draft) (c : Case) → ArePrices night c.duals.prices → AreApart c.duals.prices
+    → IsReadByEach (certificate_format night) (price_row night) (priced d c) c.duals.prices
 prices_read night h d c are apart n xs y zs e =
     let is = of_middle (IsPrice night) c.duals.prices xs zs y are.each e in
-    one_price n night h d c xs y.track y.train y.value y.kind (room xs zs y (subst (λ l. length l ≤ 64) e are.few)) (price_new xs zs y (subst AreApart e apart)) is.kind is.track is.train is.value
+    one_price n night h d c xs y.track y.train y.value y.kind (room xs zs y (subst (λ l. length l ≤ 64) e are.few))
+    (price_new xs zs y (subst AreApart e apart)) is.kind is.track is.train is.value
   where
     room : (xs zs : List Price) (y : Price) → length (xs ++ y ∷ zs) ≤ 64 → length xs < 64
     room xs zs y few = omega (arith, few, length-append xs (y ∷ zs))
@@ -111,7 +115,8 @@ cased d c = record d { place = places.Case; now = case_with c.to c.multiplier }
 abbrev pub done : Draft → Case → Draft
 done d c = record d { place = places.Beta; now = c }
 
-beta_read : (n : ℕ) (night : Night) (d : Draft) (c : Case) → AreDuals night c.duals → answer n (in_state (certificate_format night) (valued d c) (beta_row c.duals)) ≡ Ok (priced d c [])
+beta_read : (n : ℕ) (night : Night) (d : Draft) (c : Case) → AreDuals night c.duals
+    → answer n (in_state (certificate_format night) (valued d c) (beta_row c.duals)) ≡ Ok (priced d c [])
 unfolding later_of beta_of
 beta_read n night d c are =
     then_ok n (beta_in night (beta_row c.duals)) (with_beta (valued d c)) c.duals.beta (priced d c []) (beta_back n night c.duals.beta are.betas are.betas_in) refl
@@ -123,7 +128,8 @@ rest_read n night h d c are apart =
     ap (λ r. r >>= (λ t. reads f t (n + 1) (map (price_row night) c.duals.prices))) (beta_read n night d c are)
     ∙ section f (price_row night) (priced d c) c.duals.prices (prices_read night h d c are.prices apart) (n + 1) [] c.duals.prices refl
 
-alpha_read : (n : ℕ) (night : Night) (d : Draft) (c : Case) → AreDuals night c.duals → answer n (in_state (certificate_format night) (cased d c) (alpha_row c.duals)) ≡ Ok (valued d c)
+alpha_read : (n : ℕ) (night : Night) (d : Draft) (c : Case) → AreDuals night c.duals
+    → answer n (in_state (certificate_format night) (cased d c) (alpha_row c.duals)) ≡ Ok (valued d c)
 unfolding later_of alpha_of
 alpha_read n night d c are =
     then_ok n (alpha_in night (alpha_row c.duals)) (with_alpha (cased d c)) c.duals.alpha (valued d c) (alpha_back n night c.duals.alpha are.alphas are.alphas_in) refl
@@ -158,7 +164,8 @@ first_read : (n : ℕ) (night : Night) (d : Draft) (c : Case) → d.cases < 8000
     → answer n (in_state (certificate_format night) (fresh d) (case_row c)) ≡ Ok (cased (counted d) c)
 unfolding later_of after_new first_case_of
 first_read n night d c room to is other =
-    then_ok n (first_limits_in d.cases (case_row c)) (with_case (fresh d)) (limits c.to c.multiplier) (cased (counted d) c) (first_limits_back n d.cases c.to c.multiplier room to is other) refl
+    then_ok n (first_limits_in d.cases (case_row c)) (with_case (fresh d)) (limits c.to c.multiplier) (cased (counted d) c)
+    (first_limits_back n d.cases c.to c.multiplier room to is other) refl
 
 -- the case before the last one of a node
 abbrev pub followed : Draft → Case → Draft
@@ -169,7 +176,8 @@ second_read : (n : ℕ) (night : Night) (d : Draft) (b c : Case) → d.cases < 8
 unfolding later_of after_beta after_case second_case_of
 second_read n night d b c room early to is =
     ap (λ t. answer n (if t then after_node night (done d b) (case_row c) else second_case_of (done d b) (case_row c))) (ne_eqb b.to 160 early)
-    ∙ then_ok n (second_limits_in d.cases (case_row c)) (with_second (done d b)) (limits c.to c.multiplier) (cased (counted (followed d b)) c) (second_limits_back n d.cases c.to c.multiplier room to is) refl
+    ∙ then_ok n (second_limits_in d.cases (case_row c)) (with_second (done d b)) (limits c.to c.multiplier) (cased (counted (followed d b)) c)
+    (second_limits_back n d.cases c.to c.multiplier room to is) refl
 
 -- ---- the cases of a node
 
@@ -186,7 +194,8 @@ one_case n night h d c room is to apart = by (is_plain c) refl
         ap (λ r. r >>= (λ t. reads (certificate_format night) t (n + 1) (duals_rows night c.duals))) (first_read n night d c room is.to is.multiplier e)
         ∙ cased_read (n + 1) night h (counted d) c is.duals apart
 
-two_cases : (n : ℕ) (night : Night) → IsOrderedNight night → (d : Draft) (b c : Case) → d.cases + 2 ≤ 8000 → IsCase night b → IsCase night c → b.to ≢ 160 → c.to ≡ 160 → AreApart b.duals.prices → AreApart c.duals.prices
+two_cases : (n : ℕ) (night : Night) → IsOrderedNight night → (d : Draft) (b c : Case) → d.cases + 2 ≤ 8000 → IsCase night b → IsCase night c → b.to ≢ 160 → c.to ≡ 160
+    → AreApart b.duals.prices → AreApart c.duals.prices
     → reads (certificate_format night) (fresh d) n (cases_rows night (b ∷ c ∷ [])) ≡ Ok (done (counted (followed (counted d) b)) c)
 two_cases n night h d b c room first last early to apart also =
     let f = certificate_format night in
@@ -212,7 +221,8 @@ cases_read n night h d (c ∷ []) are room = one_case n night h d c (omega (arit
 cases_read n night h d (b ∷ c ∷ []) are room =
     let rise = are.within.rise 0 1 b (omega arith) (omega arith) in
     let last = are.within.last in
-    two_cases n night h d b c room (are.within.each 0 b (omega arith)) (are.within.each 1 b (omega arith)) (λ e. omega (arith, rise, last, e)) last (are.apart 0 b (omega arith)) (are.apart 1 b (omega arith))
+    two_cases n night h d b c room (are.within.each 0 b (omega arith)) (are.within.each 1 b (omega arith)) (λ e. omega (arith, rise, last, e)) last (are.apart 0 b (omega arith))
+    (are.apart 1 b (omega arith))
 cases_read n night h d (a ∷ b ∷ c ∷ cases) are room = absurd (let le = are.within.few in omega (arith, le))
 
 -- ---- a node
@@ -253,8 +263,10 @@ made_of depth choice kind own = record { depth = depth; choice = choice; kind = 
 abbrev headed : Draft → Node → Draft
 headed d x = record (settled d) { begun = (settled d).begun + 1; head = head_of x }
 
-own_rest : (night : Night) → IsOrderedNight night → (d : Draft) (n depth : ℕ) (choice : Option Choice) (kind : NodeKind) (cases : List Case) → AreStatable night cases → (settled d).before ≡ None → (settled d).cases + length cases ≤ 8000
-    → answer n (in_state (certificate_format night) d (node_row night (made_of depth choice kind (duals.New cases)))) ≡ Ok (with_node d (head_of (made_of depth choice kind (duals.New cases)))) → Reads night d n (made_of depth choice kind (duals.New cases))
+own_rest : (night : Night) → IsOrderedNight night → (d : Draft) (n depth : ℕ) (choice : Option Choice) (kind : NodeKind) (cases : List Case) → AreStatable night cases
+    → (settled d).before ≡ None → (settled d).cases + length cases ≤ 8000
+    → answer n (in_state (certificate_format night) d (node_row night (made_of depth choice kind (duals.New cases))))
+    ≡ Ok (with_node d (head_of (made_of depth choice kind (duals.New cases)))) → Reads night d n (made_of depth choice kind (duals.New cases))
 unfolding with_node settled
 own_rest night h d n depth choice kind [] are none room e = absurd (let le = are.within.some in omega (arith, le))
 own_rest night h d n depth choice kind (c ∷ []) are none room e =
@@ -285,8 +297,10 @@ own_rest night h d n depth choice kind (b ∷ c ∷ []) are none room e =
     }
 own_rest night h d n depth choice kind (a ∷ b ∷ c ∷ cases) are none room e = absurd (let le = are.within.few in omega (arith, le))
 
-node_rest : (night : Night) → IsOrderedNight night → (d : Draft) (n depth : ℕ) (choice : Option Choice) (kind : NodeKind) (own : NodeDuals) → FitDuals night depth kind own → (settled d).before ≡ None → d.cases + own_cases own ≤ 8000
-    → answer n (in_state (certificate_format night) d (node_row night (made_of depth choice kind own))) ≡ Ok (with_node d (head_of (made_of depth choice kind own))) → Reads night d n (made_of depth choice kind own)
+node_rest : (night : Night) → IsOrderedNight night → (d : Draft) (n depth : ℕ) (choice : Option Choice) (kind : NodeKind) (own : NodeDuals) → FitDuals night depth kind own
+    → (settled d).before ≡ None → d.cases + own_cases own ≤ 8000
+    → answer n (in_state (certificate_format night) d (node_row night (made_of depth choice kind own))) ≡ Ok (with_node d (head_of (made_of depth choice kind own)))
+    → Reads night d n (made_of depth choice kind own)
 unfolding with_node settled
 node_rest night h d n depth choice kind duals.Same is none room e = record {
   state = with_node d (head_of (made_of depth choice kind duals.Same));
@@ -308,7 +322,8 @@ node_rest night h d n depth choice kind duals.Bare is none room e = record {
   cases = settled_cases d ∙ (let z : d.cases ≡ d.cases + 0 = omega arith in z);
   stands = record { place = inl refl; head = refl };
 }
-node_rest night h d n depth choice kind (duals.New cases) is none room e = own_rest night h d n depth choice kind cases is.1 none (let same = settled_cases d in omega (arith, room, same)) e
+node_rest night h d n depth choice kind (duals.New cases) is none room e = own_rest night h d n depth choice kind cases is.1 none
+    (let same = settled_cases d in omega (arith, room, same)) e
 
 root_read : (night : Night) (d : Draft) (n : ℕ) (kind : NodeKind) (own : NodeDuals) → FitDuals night 0 kind own → d.place ≡ places.Start → d.begun < 5000
     → answer n (in_state (certificate_format night) d (node_row night (made_of 0 None kind own))) ≡ Ok (with_node d (head_of (made_of 0 None kind own)))
@@ -318,7 +333,8 @@ root_read night d n kind own is start room =
     (then_ok n (root_in d.begun (node_row night (made_of 0 None kind own))) (with_node d) (head_of (made_of 0 None kind own)) _ (root_back n night d.begun kind own room is) refl)
 
 -- the first node
-first_node : (night : Night) → IsOrderedNight night → (d : Draft) (n : ℕ) (x : Node) → FitsNode night x → x.depth ≡ 0 → d.place ≡ places.Start → d.begun < 5000 → (settled d).before ≡ None → d.cases + own_cases x.duals ≤ 8000 → Reads night d n x
+first_node : (night : Night) → IsOrderedNight night → (d : Draft) (n : ℕ) (x : Node) → FitsNode night x → x.depth ≡ 0 → d.place ≡ places.Start → d.begun < 5000
+    → (settled d).before ≡ None → d.cases + own_cases x.duals ≤ 8000 → Reads night d n x
 first_node night h d n x fits root start room none cases = by x.choice refl
   where
     by : (choice : Option Choice) → x.choice ≡ choice → Reads night d n x
@@ -329,7 +345,8 @@ first_node night h d n x fits root start room none cases = by x.choice refl
     by (Some c) e = absurd (let some = (subst (FitsDepth night x.depth) e fits.choice).0 in omega (arith, some, root))
 
 -- what is read behind a node, by a word that isn't a price's or a case's
-pub behind_node : (n : ℕ) (night : Night) (d : Draft) (last : Node) (row : List (List ℕ)) (r : Result Draft RowFault) → IsReadLast d last → is_word row (codes "price") ≡ false → is_word row (codes "part") ≡ false
+pub behind_node : (n : ℕ) (night : Night) (d : Draft) (last : Node) (row : List (List ℕ)) (r : Result Draft RowFault) → IsReadLast d last → is_word row (codes "price") ≡ false
+    → is_word row (codes "part") ≡ false
     → answer n (after_node night d row) ≡ r → answer n (in_state (certificate_format night) d row) ≡ r
 unfolding after_beta after_case
 behind_node n night d last row r stands no_price no_part e = ⊎_elim
@@ -353,16 +370,19 @@ follows_deepest last x follows = by last.kind refl
     by shows.Leaf e = no_deeper x.depth last.depth follows.most (λ same. absurd (let k = sym e ∙ follows.branch same in cc))
     by shows.Whole e = no_deeper x.depth last.depth follows.most (λ same. absurd (let k = sym e ∙ follows.branch same in cc))
 
-child_read : (night : Night) → IsOrderedNight night → (d : Draft) (n depth : ℕ) (last : Node) (c : Choice) (kind : NodeKind) (own : NodeDuals) → FitDuals night depth kind own → FitsChoice night c → 1 ≤ depth → depth ≤ 160 → depth ≤ deepest d.head → IsReadLast d last → d.begun < 5000
+child_read : (night : Night) → IsOrderedNight night → (d : Draft) (n depth : ℕ) (last : Node) (c : Choice) (kind : NodeKind) (own : NodeDuals) → FitDuals night depth kind own
+    → FitsChoice night c → 1 ≤ depth → depth ≤ 160 → depth ≤ deepest d.head → IsReadLast d last → d.begun < 5000
     → answer n (in_state (certificate_format night) d (node_row night (made_of depth (Some c) kind own))) ≡ Ok (with_node d (head_of (made_of depth (Some c) kind own)))
 unfolding after_node child_of
 child_read night h d n depth last c kind own is fits some few deep stands room =
     let row = node_row night (made_of depth (Some c) kind own) in
     behind_node n night d last row _ stands refl refl
-    (then_ok n (child_in night d.begun d.head row) (with_node d) (head_of (made_of depth (Some c) kind own)) _ (child_back n night h d.begun d.head depth kind own c room some few deep is fits) refl)
+    (then_ok n (child_in night d.begun d.head row) (with_node d) (head_of (made_of depth (Some c) kind own)) _
+    (child_back n night h d.begun d.head depth kind own c room some few deep is fits) refl)
 
 -- a later node
-later_node : (night : Night) → IsOrderedNight night → (d : Draft) (n : ℕ) (last x : Node) → FitsNode night x → Follows last x → IsReadLast d last → d.begun < 5000 → (settled d).before ≡ None → d.cases + own_cases x.duals ≤ 8000 → Reads night d n x
+later_node : (night : Night) → IsOrderedNight night → (d : Draft) (n : ℕ) (last x : Node) → FitsNode night x → Follows last x → IsReadLast d last → d.begun < 5000
+    → (settled d).before ≡ None → d.cases + own_cases x.duals ≤ 8000 → Reads night d n x
 later_node night h d n last x fits follows stands room none cases = by x.choice refl
   where
     by : (choice : Option Choice) → x.choice ≡ choice → Reads night d n x
@@ -391,7 +411,8 @@ pub record ReadsAll (night : Night) (d : Draft) (n : ℕ) (xs : List Node) : Typ
   pub stands : IsReadLast state last
 
 -- one node and then the others
-join_reads : (night : Night) (d : Draft) (n : ℕ) (x : Node) (xs : List Node) → (r : Reads night d n x) → ReadsAll night r.state (n + length (node_rows night x)) xs → ReadsAll night d n (x ∷ xs)
+join_reads : (night : Night) (d : Draft) (n : ℕ) (x : Node) (xs : List Node) → (r : Reads night d n x) → ReadsAll night r.state (n + length (node_rows night x)) xs
+    → ReadsAll night d n (x ∷ xs)
 join_reads night d n x xs r more =
     let f = certificate_format night in
     record {
@@ -407,7 +428,8 @@ join_reads night d n x xs r more =
       stands = more.stands;
     }
 
-later_nodes : (night : Night) → IsOrderedNight night → (d : Draft) (n : ℕ) (last : Node) (xs : List Node) → Chain night last xs → IsReadLast d last → d.begun + length xs ≤ 5000 → (settled d).before ≡ None → d.cases + case_total xs ≤ 8000 → ReadsAll night d n xs
+later_nodes : (night : Night) → IsOrderedNight night → (d : Draft) (n : ℕ) (last : Node) (xs : List Node) → Chain night last xs → IsReadLast d last → d.begun + length xs ≤ 5000
+    → (settled d).before ≡ None → d.cases + case_total xs ≤ 8000 → ReadsAll night d n xs
 later_nodes night h d n last [] chain stands room none cases = record {
   state = d;
   read = refl;
@@ -422,9 +444,11 @@ later_nodes night h d n last (x ∷ xs) chain stands room none cases =
     let r = later_node night h d n last x chain.0 chain.1.0 stands (omega (arith, room)) none (omega (arith, cases, sum)) in
     let begun = r.begun in
     let count = r.cases in
-    join_reads night d n x xs r (later_nodes night h r.state (n + length (node_rows night x)) x xs chain.1.1 r.stands (omega (arith, room, begun)) r.before (omega (arith, cases, sum, count)))
+    join_reads night d n x xs r (later_nodes night h r.state (n + length (node_rows night x)) x xs chain.1.1 r.stands (omega (arith, room, begun)) r.before
+    (omega (arith, cases, sum, count)))
 
-chain_of : (night : Night) (x : Node) (xs : List Node) → All (FitsNode night) (x ∷ xs) → ((k : ℕ) → k + 1 < length (x ∷ xs) → Follows (node_at (x ∷ xs) k) (node_at (x ∷ xs) (k + 1))) → Chain night x xs
+chain_of : (night : Night) (x : Node) (xs : List Node) → All (FitsNode night) (x ∷ xs)
+    → ((k : ℕ) → k + 1 < length (x ∷ xs) → Follows (node_at (x ∷ xs) k) (node_at (x ∷ xs) (k + 1))) → Chain night x xs
 chain_of night x [] fits follow = tt
 chain_of night x (y ∷ ys) fits follow = (
   fits 1 y (omega arith),
@@ -435,7 +459,8 @@ chain_of night x (y ∷ ys) fits follow = (
     next k f = subst (λ j. Follows (node_at (x ∷ y ∷ ys) (suc k)) (node_at (x ∷ y ∷ ys) j)) (let e : suc k + 1 ≡ suc (k + 1) = omega arith in e) f
 
 -- the nodes of a certificate
-pub nodes_back : (night : Night) → IsOrderedNight night → (version : Version) (nodes : List Node) → AreNodes night nodes → 1 ≤ length nodes → length nodes ≤ 5000 → case_total nodes ≤ 8000 → (n : ℕ) → ReadsAll night (empty version) n nodes
+pub nodes_back : (night : Night) → IsOrderedNight night → (version : Version) (nodes : List Node) → AreNodes night nodes → 1 ≤ length nodes → length nodes ≤ 5000
+    → case_total nodes ≤ 8000 → (n : ℕ) → ReadsAll night (empty version) n nodes
 unfolding settled
 nodes_back night h version [] are some few cases n = absurd (omega (arith, some))
 nodes_back night h version (x ∷ xs) are some few cases n =
@@ -443,4 +468,5 @@ nodes_back night h version (x ∷ xs) are some few cases n =
     let r = first_node night h (empty version) n x (are.each 0 x (omega arith)) (are.root (omega arith)) refl (omega arith) refl (omega (arith, cases, sum)) in
     let begun = r.begun in
     let count = r.cases in
-    join_reads night (empty version) n x xs r (later_nodes night h r.state (n + length (node_rows night x)) x xs (chain_of night x xs are.each are.follow) r.stands (omega (arith, few, begun)) r.before (omega (arith, cases, sum, count)))
+    join_reads night (empty version) n x xs r (later_nodes night h r.state (n + length (node_rows night x)) x xs (chain_of night x xs are.each are.follow) r.stands
+    (omega (arith, few, begun)) r.before (omega (arith, cases, sum, count)))

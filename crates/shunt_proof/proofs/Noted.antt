@@ -71,14 +71,19 @@ module _ (night : Night) (nodes : List Node) (n : Node) (h : AreNodes night (nod
       ∙ ap (λ (cs : List Case). cases_or n.duals cs) (duals_front nodes (n ∷ []) (nearest nodes (n.depth - 1) (length nodes)) parent_in)
 
 -- the best cost after it
-pub last_best : (night : Night) (start : List Block) (nodes : List Node) (n : Node) → best_before night start (nodes ++ n ∷ []) (suc (length nodes)) ≡ best_with n.kind (total_cost night (path_at night start (nodes ++ n ∷ []) (length nodes))) (best_before night start nodes (length nodes))
+pub last_best : (night : Night) (start : List Block) (nodes : List Node) (n : Node)
+    → best_before night start (nodes ++ n ∷ []) (suc (length nodes)) ≡ best_with n.kind (total_cost night (path_at night start (nodes ++ n ∷ []) (length nodes)))
+    (best_before night start nodes (length nodes))
 last_best night start nodes n =
-    ap (λ (m : Node). best_with m.kind (total_cost night (path_at night start (nodes ++ n ∷ []) (length nodes))) (best_before night start (nodes ++ n ∷ []) (length nodes))) (node_last nodes n)
-    ∙ ap (λ (b : ℕ). best_with n.kind (total_cost night (path_at night start (nodes ++ n ∷ []) (length nodes))) b) (best_front nodes (n ∷ []) night start (length nodes) (omega arith))
+    ap (λ (m : Node). best_with m.kind (total_cost night (path_at night start (nodes ++ n ∷ []) (length nodes))) (best_before night start (nodes ++ n ∷ []) (length nodes)))
+    (node_last nodes n)
+    ∙ ap (λ (b : ℕ). best_with n.kind (total_cost night (path_at night start (nodes ++ n ∷ []) (length nodes))) b)
+    (best_front nodes (n ∷ []) night start (length nodes) (omega arith))
 
 -- it is lean where the bound of its path by its parent's duals is below the best cost before it
 pub last_leans : (version : Version) (night : Night) (start : List Block) (nodes : List Node) (n : Node) (bound : ℤ) → AreNodes night (nodes ++ n ∷ []) → 1 ≤ length nodes
-    → IsStepBoundIn version night (take (length start + (n.depth - 1)) (path_at night start nodes (length nodes - 1))) (path_at night start (nodes ++ n ∷ []) (length nodes)) (duals_at nodes (nearest nodes (n.depth - 1) (length nodes))) bound
+    → IsStepBoundIn version night (take (length start + (n.depth - 1)) (path_at night start nodes (length nodes - 1))) (path_at night start (nodes ++ n ∷ []) (length nodes))
+    (duals_at nodes (nearest nodes (n.depth - 1) (length nodes))) bound
     → bound <ℤ pos (best_before night start nodes (length nodes)) → IsLeanIn version night start (nodes ++ n ∷ []) (length nodes)
 last_leans version night start nodes n bound h some is below =
     let own = path_at night start (nodes ++ n ∷ []) (length nodes) in
@@ -87,13 +92,15 @@ last_leans version night start nodes n bound h some is below =
     record {
       bound = bound;
       is =
-          subst (λ (p : List Block). IsStepBoundIn version night p own (duals_at (nodes ++ n ∷ []) (parent (nodes ++ n ∷ []) (length nodes))) bound) (sym (parent_path night nodes n h some start))
+          subst (λ (p : List Block). IsStepBoundIn version night p own (duals_at (nodes ++ n ∷ []) (parent (nodes ++ n ∷ []) (length nodes))) bound)
+          (sym (parent_path night nodes n h some start))
           (subst (λ (cs : List Case). IsStepBoundIn version night (above_last night nodes n h some start) own cs bound) (sym same) is);
       below = subst (λ (b : ℕ). bound <ℤ pos b) (sym (best_front nodes (n ∷ []) night start (length nodes) (omega arith))) below;
     }
 
 pub last_lean : (night : Night) (start : List Block) (nodes : List Node) (n : Node) (bound : ℤ) → AreNodes night (nodes ++ n ∷ []) → 1 ≤ length nodes
-    → IsCasesBound night (path_at night start (nodes ++ n ∷ []) (length nodes)) (duals_at nodes (nearest nodes (n.depth - 1) (length nodes))) bound → bound <ℤ pos (best_before night start nodes (length nodes))
+    → IsCasesBound night (path_at night start (nodes ++ n ∷ []) (length nodes)) (duals_at nodes (nearest nodes (n.depth - 1) (length nodes))) bound
+    → bound <ℤ pos (best_before night start nodes (length nodes))
     → IsLeanAt night start (nodes ++ n ∷ []) (length nodes)
 last_lean night start nodes n bound h some is below = last_leans Prices night start nodes n bound h some is below
 
@@ -101,7 +108,8 @@ last_lean night start nodes n bound h some is below = last_leans Prices night st
 
 -- a node is placed where no earlier one has its path
 pub new_path : (night : Night) (start : List Block) (nodes : List Node) (k : ℕ) (c : Choice) → AreNodes night nodes → 1 ≤ k → k < length nodes → (node_at nodes k).choice ≡ Some c
-    → IsChoiceAt night (path_at night start nodes (parent nodes k)) (choice_from night (path_at night start nodes (parent nodes k)) c) → RunsThrough night (placed (path_at night start nodes k))
+    → IsChoiceAt night (path_at night start nodes (parent nodes k)) (choice_from night (path_at night start nodes (parent nodes k)) c)
+    → RunsThrough night (placed (path_at night start nodes k))
     → ((j : ℕ) → j < k → path_at night start nodes j ≢ path_at night start nodes k) → IsPlaced night start nodes k
 new_path night start nodes k c h some lt is there through new = record {
   choice = c;
@@ -118,8 +126,10 @@ new_path night start nodes k c h some lt is there through new = record {
 }
 
 -- the node that is appended is placed where no node before it has its path
-pub last_placed : (night : Night) (start : List Block) (nodes : List Node) (n : Node) (c : Choice) (path : List Block) → AreNodes night (nodes ++ n ∷ []) → 1 ≤ length nodes → n.choice ≡ Some c
-    → path ≡ take (length start + (n.depth - 1)) (path_at night start nodes (length nodes - 1)) → IsChoiceAt night path (choice_from night path c) → RunsThrough night (placed (longer_by path (choice_from night path c)))
+pub last_placed : (night : Night) (start : List Block) (nodes : List Node) (n : Node) (c : Choice) (path : List Block) → AreNodes night (nodes ++ n ∷ []) → 1 ≤ length nodes
+    → n.choice ≡ Some c
+    → path ≡ take (length start + (n.depth - 1)) (path_at night start nodes (length nodes - 1)) → IsChoiceAt night path (choice_from night path c)
+    → RunsThrough night (placed (longer_by path (choice_from night path c)))
     → ((j : ℕ) → j < length nodes → path_at night start nodes j ≢ longer_by path (choice_from night path c)) → IsPlaced night start (nodes ++ n ∷ []) (length nodes)
 last_placed night start nodes n c path h some is up at through new =
     let here : path ≡ path_at night start (nodes ++ n ∷ []) (parent (nodes ++ n ∷ []) (length nodes)) = up ∙ sym (parent_path night nodes n h some start) in
@@ -131,10 +141,17 @@ last_placed night start nodes n c path h some is up at through new =
     (λ j less same. new j less (sym (path_front nodes (n ∷ []) night start j less) ∙ same ∙ own))
 
 -- a choice is listed where a node has the path with it
-pub known_listed : (laws : CountLaws) (night : Night) (i : IsInstance night) (start : List Block) (nodes : List Node) (h : AreNodes night nodes) (all : (k : ℕ) → 1 ≤ k → k < length nodes → IsPlaced night start nodes k)
+pub known_listed : (laws : CountLaws) (night : Night) (i : IsInstance night) (start : List Block) (nodes : List Node) (h : AreNodes night nodes) (all : (k : ℕ) → 1 ≤ k
+    → k < length nodes → IsPlaced night start nodes k)
     (k j : ℕ) (c : PathChoice) → k < length nodes → j < length nodes → path_at night start nodes j ≡ longer_by (path_at night start nodes k) c → IsListed night start nodes k c
 known_listed laws night i start nodes h all k j c lk lj same =
-    let size : 1 ≤ depth_at nodes j = omega (arith, path_size night nodes h start j lj, path_size night nodes h start k lk, ap length same, length_longer (path_at night start nodes k) c) in
+    let size : 1 ≤ depth_at nodes j = omega (
+      arith,
+      path_size night nodes h start j lj,
+      path_size night nodes h start k lk,
+      ap length same,
+      length_longer (path_at night start nodes k) c,
+    ) in
     let some : 1 ≤ j = deeper size in
     let p = parent nodes j in
     let own = choice_from night (path_at night start nodes p) (all j some lj).choice in

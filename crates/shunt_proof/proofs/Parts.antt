@@ -26,13 +26,15 @@ pub then_fails : {A B : Type 0} (n : ℕ) (m : Judged A) (f : A → B) (e : Read
 then_fails n m f e is = part_fails n m (λ y. says (f y)) e is
 
 -- the same of what a part says in one state, seen as another
-pub seen_ok : {K A B : Type 0} (n : ℕ) (k j : K) (m : K → Judged A) (f : A → B) (x : A) (e : B) → k ≡ j → Ok x ≡ answer n (m k) → e ≡ f x → answer n (m j >>= (λ y. says (f y))) ≡ Ok e
+pub seen_ok : {K A B : Type 0} (n : ℕ) (k j : K) (m : K → Judged A) (f : A → B) (x : A) (e : B) → k ≡ j → Ok x ≡ answer n (m k) → e ≡ f x
+    → answer n (m j >>= (λ y. says (f y))) ≡ Ok e
 seen_ok n k j m f x e seen is same = then_ok n (m j) f x e (ap (λ l. answer n (m l)) (sym seen) ∙ sym is) same
 
 pub seen_err : {K A B : Type 0} (n : ℕ) (k j : K) (m : K → Judged A) (f : A → B) (e : RowFault) → k ≡ j → Err e ≡ answer n (m k) → answer n (m j >>= (λ y. says (f y))) ≡ Err e
 seen_err n k j m f e seen is = then_err n (m j) f e (ap (λ l. answer n (m l)) (sym seen) ∙ sym is)
 
-pub seen_fails : {K A B : Type 0} (n : ℕ) (k j : K) (m : K → Judged A) (f : A → B) (e : ReadError) → k ≡ j → Fails e (answer n (m k)) → Fails e (answer n (m j >>= (λ y. says (f y))))
+pub seen_fails : {K A B : Type 0} (n : ℕ) (k j : K) (m : K → Judged A) (f : A → B) (e : ReadError) → k ≡ j → Fails e (answer n (m k))
+    → Fails e (answer n (m j >>= (λ y. says (f y))))
 seen_fails n k j m f e seen is = then_fails n (m j) f e (subst (λ l. Fails e (answer n (m l))) seen is)
 
 -- ---- the record of a node
@@ -40,17 +42,23 @@ seen_fails n k j m f e seen is = then_fails n (m j) f e (subst (λ l. Fails e (a
 abbrev with_option : Night → List (List ℕ) → Head × Choice → Judged Head
 with_option night row node = option_in night.station row 8 >>= (λ park. says (with_choice node park))
 
-pub head_fails : (n : ℕ) (night : Night) (begun : ℕ) (last : Head) (row : List (List ℕ)) (e : RowFault) → Err e ≡ answer n (later_in night begun last row) → Err e ≡ answer n (child_in night begun last row)
+pub head_fails : (n : ℕ) (night : Night) (begun : ℕ) (last : Head) (row : List (List ℕ)) (e : RowFault) → Err e ≡ answer n (later_in night begun last row)
+    → Err e ≡ answer n (child_in night begun last row)
 unfolding child_in
 head_fails n night begun last row e is = sym (part_err n (later_in night begun last row) (with_option night row) e (sym is))
 
-pub option_fails : (n : ℕ) (night : Night) (begun : ℕ) (last : Head) (row : List (List ℕ)) (node : Head × Choice) (e : RowFault) → Ok node ≡ answer n (later_in night begun last row) → Err e ≡ answer n (option_in night.station row 8) → Err e ≡ answer n (child_in night begun last row)
+pub option_fails : (n : ℕ) (night : Night) (begun : ℕ) (last : Head) (row : List (List ℕ)) (node : Head × Choice) (e : RowFault)
+    → Ok node ≡ answer n (later_in night begun last row) → Err e ≡ answer n (option_in night.station row 8) → Err e ≡ answer n (child_in night begun last row)
 unfolding child_in
-option_fails n night begun last row node e is fails = sym (part_ok n (later_in night begun last row) (with_option night row) node (sym is) ∙ part_err n (option_in night.station row 8) (λ park. says (with_choice node park)) e (sym fails))
+option_fails n night begun last row node e is fails = sym (part_ok n (later_in night begun last row) (with_option night row) node (sym is)
+    ∙ part_err n (option_in night.station row 8) (λ park. says (with_choice node park)) e (sym fails))
 
-pub child_is : (n : ℕ) (night : Night) (begun : ℕ) (last : Head) (row : List (List ℕ)) (node : Head × Choice) (park : Option Park) → Ok node ≡ answer n (later_in night begun last row) → Ok park ≡ answer n (option_in night.station row 8) → Ok (with_choice node park) ≡ answer n (child_in night begun last row)
+pub child_is : (n : ℕ) (night : Night) (begun : ℕ) (last : Head) (row : List (List ℕ)) (node : Head × Choice) (park : Option Park)
+    → Ok node ≡ answer n (later_in night begun last row) → Ok park ≡ answer n (option_in night.station row 8)
+    → Ok (with_choice node park) ≡ answer n (child_in night begun last row)
 unfolding child_in
-child_is n night begun last row node park is option = sym (part_ok n (later_in night begun last row) (with_option night row) node (sym is) ∙ part_ok n (option_in night.station row 8) (λ park. says (with_choice node park)) park (sym option))
+child_is n night begun last row node park is option = sym (part_ok n (later_in night begun last row) (with_option night row) node (sym is)
+    ∙ part_ok n (option_in night.station row 8) (λ park. says (with_choice node park)) park (sym option))
 
 -- ---- values
 
@@ -78,7 +86,8 @@ regroup : (front : List ℤ) (z : ℤ) (r : Result (List ℤ) RowFault) → behi
 regroup front z (Ok zs) = ap (λ l. Ok l) (sym (append_assoc front (z ∷ []) zs))
 regroup front z (Err e) = refl
 
-pub read_one : (n : ℕ) (row : List (List ℕ)) (k more : ℕ) (z : ℤ) → answer n (value_in row k) ≡ Ok z → answer n (values_in row k (suc more)) ≡ each_ok (λ zs. z ∷ zs) (answer n (values_in row (k + 1) more))
+pub read_one : (n : ℕ) (row : List (List ℕ)) (k more : ℕ) (z : ℤ) → answer n (value_in row k) ≡ Ok z
+    → answer n (values_in row k (suc more)) ≡ each_ok (λ zs. z ∷ zs) (answer n (values_in row (k + 1) more))
 unfolding values_in
 read_one n row k more z is = part_ok n (value_in row k) (λ z. values_in row (k + 1) more >>= (λ zs. says (z ∷ zs))) z is ∙ then_each n (values_in row (k + 1) more) (λ zs. z ∷ zs)
 

@@ -41,7 +41,8 @@ plain_own duals.Same = plain_word (codes "same") refl refl
 plain_own (duals.New cases) = plain_word (codes "new") refl refl
 plain_own duals.Bare = plain_word (codes "none") refl refl
 
-plain_choice : (night : Night) → IsOrderedNight night → (depth : ℕ) (choice : Option Choice) → FitsDepth night depth choice → AllByRecursion IsPlainField (choice_fields night choice)
+plain_choice : (night : Night) → IsOrderedNight night → (depth : ℕ) (choice : Option Choice) → FitsDepth night depth choice
+    → AllByRecursion IsPlainField (choice_fields night choice)
 plain_choice night h depth None is = tt
 plain_choice night h depth (Some c) is =
     let n = is.1.few in
@@ -50,19 +51,35 @@ plain_choice night h depth (Some c) is =
 
 pub plain_node : (night : Night) → IsOrderedNight night → (x : Node) → FitsNode night x → IsPlainRow (node_row night x)
 plain_node night h x fits =
-    let depth = fits.depth in
-    (omega arith, (plain_word (codes "node") refl refl, (small x.depth (omega (arith, depth)), (plain_kind x.kind, (plain_own x.duals, plain_choice night h x.depth x.choice fits.choice)))))
+    let depth = fits.depth in (
+      omega arith,
+      (
+        plain_word (codes "node") refl refl,
+        (
+          small x.depth (omega (arith, depth)),
+          (plain_kind x.kind, (plain_own x.duals, plain_choice night h x.depth x.choice fits.choice)),
+        ),
+      ),
+    )
 
 plain_values : (zs : List ℤ) → All IsValue zs → AllByRecursion IsPlainField (map signed_decimal zs)
 plain_values [] all = tt
 plain_values (z ∷ zs) all = (plain_signed z (signed z (all 0 z (omega arith))), plain_values zs (λ k d lt. all (suc k) d (omega arith)))
 
-plain_priced : (track train : List ℕ) (value : ℕ) (kind : PriceKind) → IsPlainField track → IsPlainField train → value ≤ 1000000000 → IsKind kind → IsPlainRow (priced_row track train value kind)
+plain_priced : (track train : List ℕ) (value : ℕ) (kind : PriceKind) → IsPlainField track → IsPlainField train → value ≤ 1000000000 → IsKind kind
+    → IsPlainRow (priced_row track train value kind)
 plain_priced track train value counts.Length t a le kind = (omega arith, (plain_word (codes "price") refl refl, (t, (a, (small value (omega (arith, le)), tt)))))
-plain_priced track train value (counts.Parts r) t a le kind = (omega arith, (plain_word (codes "part") refl refl, (t, (a, (small r (let few = kind.1 in omega (arith, few)), (small value (omega (arith, le)), tt))))))
+plain_priced track train value (counts.Parts r) t a le kind = (
+  omega arith,
+  (
+    plain_word (codes "part") refl refl,
+    (t, (a, (small r (let few = kind.1 in omega (arith, few)), (small value (omega (arith, le)), tt)))),
+  ),
+)
 
 pub plain_price : (night : Night) → IsOrderedNight night → (p : Price) → IsPrice night p → IsPlainRow (price_row night p)
-plain_price night h p is = plain_priced _ _ p.value p.kind (plain_name _ (track_named night.station p.track h.station is.track)) (plain_name _ (arr_named night p.train h is.train)) is.value is.kind
+plain_price night h p is = plain_priced _ _ p.value p.kind (plain_name _ (track_named night.station p.track h.station is.track))
+    (plain_name _ (arr_named night p.train h is.train)) is.value is.kind
 
 pub plain_duals : (night : Night) → IsOrderedNight night → (d : Duals) → AreDuals night d → ArePlain (duals_rows night d)
 plain_duals night h d are = (
@@ -114,5 +131,6 @@ plain_end cost bound nodes c b n = (omega arith, (plain_word (codes "end") refl 
 pub certificate_plain : (night : Night) → IsOrderedNight night → (c : Certificate) → IsCertificate night c → ArePlain (rows_of night c)
 certificate_plain night h c is = (
   plain_head c.version,
-  plain_more (flat_map (node_rows night) c.nodes) _ (plain_each (FitsNode night) (node_rows night) c.nodes (plain_nodes night h) is.nodes.each) (plain_end c.cost c.bound (length c.nodes) is.cost is.bound is.few, tt),
+  plain_more (flat_map (node_rows night) c.nodes) _ (plain_each (FitsNode night) (node_rows night) c.nodes (plain_nodes night h) is.nodes.each)
+      (plain_end c.cost c.bound (length c.nodes) is.cost is.bound is.few, tt),
 )

@@ -40,14 +40,18 @@ pub record BoundLaws : Type 0 where
   pub hold : (night : Night) (path : List Block) (b : Block) (cases : List Case) → CasesHold night path cases → CasesHold night (path ++ b ∷ []) cases
   pub stack_dual : (night : Night) (plan path : List Block) (cases : List Case) (bound : ℤ) → IsInstance night → IsFeasible night plan → ShareNothing night path → Keeps plan path
       → AreCases night cases → StackCasesHold night path cases → IsStackBound night path cases bound → bound ≤ℤ pos (total_cost night plan)
-  pub choice_dual : (night : Night) (plan path : List Block) (b : Block) (cases : List Case) (bound : ℤ) → IsInstance night → IsFeasible night plan → ShareNothing night (path ++ b ∷ []) → Keeps plan (path ++ b ∷ [])
+  pub choice_dual : (night : Night) (plan path : List Block) (b : Block) (cases : List Case) (bound : ℤ) → IsInstance night → IsFeasible night plan
+      → ShareNothing night (path ++ b ∷ []) → Keeps plan (path ++ b ∷ [])
       → AreCases night cases → StackCasesHold night path cases → IsChoiceBound night path b cases bound → bound ≤ℤ pos (total_cost night plan)
-  pub held : (night : Night) (plan path : List Block) (u : ℕ) → IsInstance night → IsFeasible night plan → ShareNothing night path → Keeps plan path → next_of (masks_of night path) ≡ Some u
+  pub held : (night : Night) (plan path : List Block) (u : ℕ) → IsInstance night → IsFeasible night plan → ShareNothing night path → Keeps plan path
+      → next_of (masks_of night path) ≡ Some u
       → (c : PathChoice) × IsChoiceAt night path c × Keeps plan (longer_by path c) × RunsThrough night (placed (longer_by path c))
-  pub cost : (night : Night) (plan path : List Block) → IsInstance night → IsFeasible night plan → ShareNothing night path → Keeps plan path → total_cost night path ≤ total_cost night plan
+  pub cost : (night : Night) (plan path : List Block) → IsInstance night → IsFeasible night plan → ShareNothing night path → Keeps plan path
+      → total_cost night path ≤ total_cost night plan
 
 -- a path with a choice that is stated there
-pub longer_stated : (night : Night) (path : List Block) (choice : Option Choice) (c : PathChoice) → stated_choice night path choice ≡ Some c → longer_with night path choice ≡ longer_by path c
+pub longer_stated : (night : Night) (path : List Block) (choice : Option Choice) (c : PathChoice) → stated_choice night path choice ≡ Some c
+    → longer_with night path choice ≡ longer_by path c
 longer_stated night path None c e = absurd (none-some c e)
 longer_stated night path (Some k) c e = ap (longer_by path) (one _ c e)
   where
@@ -58,16 +62,20 @@ some_unit : (o : Option ℕ) → IsSome o → (u : ℕ) × (o ≡ Some u)
 some_unit None h = absurd (true≢false (sym h))
 some_unit (Some u) h = (u, refl)
 
-module _ (laws : BoundLaws) (night : Night) (i : IsInstance night) (start : List Block) (nodes : List Node) (h : AreNodes night nodes) (plan : List Block) (f : IsFeasible night plan) where
+module _ (laws : BoundLaws) (night : Night) (i : IsInstance night) (start : List Block) (nodes : List Node) (h : AreNodes night nodes) (plan : List Block)
+    (f : IsFeasible night plan) where
   longer_apart : (path : List Block) (c : PathChoice) → ShareNothing night path → IsChoiceAt night path c → ShareNothing night (longer_by path c)
-  longer_apart path c apart there = let at = next_unit night path c there in grown_apart night path (chosen (length path + 1) c) apart (choice_free laws.places night path at.0 (length path + 1) c at.2)
+  longer_apart path c apart there = let at = next_unit night path c there in grown_apart night path (chosen (length path + 1) c) apart
+      (choice_free laws.places night path at.0 (length path + 1) c at.2)
 
-  bound_in : (version : Version) (path : List Block) (cases : List Case) (bound : ℤ) → ShareNothing night path → Keeps plan path → AreCases night cases → HoldIn version night path cases → IsBoundIn version night path cases bound → bound ≤ℤ pos (total_cost night plan)
+  bound_in : (version : Version) (path : List Block) (cases : List Case) (bound : ℤ) → ShareNothing night path → Keeps plan path → AreCases night cases
+      → HoldIn version night path cases → IsBoundIn version night path cases bound → bound ≤ℤ pos (total_cost night plan)
   bound_in Prices path cases bound apart keeps are hold is = laws.dual night plan path cases bound i f apart keeps are hold is
   bound_in Stacks path cases bound apart keeps are hold is = laws.stack_dual night plan path cases bound i f apart keeps are hold is
 
   -- of a plan that keeps one block more than the path where the cases hold
-  step_in : (version : Version) (path : List Block) (b : Block) (cases : List Case) (bound : ℤ) → ShareNothing night (path ++ b ∷ []) → Keeps plan (path ++ b ∷ []) → AreCases night cases → HoldIn version night path cases
+  step_in : (version : Version) (path : List Block) (b : Block) (cases : List Case) (bound : ℤ) → ShareNothing night (path ++ b ∷ []) → Keeps plan (path ++ b ∷ [])
+      → AreCases night cases → HoldIn version night path cases
       → IsStepBoundIn version night path (path ++ b ∷ []) cases bound → bound ≤ℤ pos (total_cost night plan)
   step_in Prices path b cases bound apart keeps are hold is = laws.dual night plan (path ++ b ∷ []) cases bound i f apart keeps are (laws.hold night path b cases hold) is
   step_in Stacks path b cases bound apart keeps are hold is = laws.choice_dual night plan path b cases bound i f apart keeps are hold (step_choice night path b cases bound is)
@@ -80,7 +88,8 @@ module _ (laws : BoundLaws) (night : Night) (i : IsInstance night) (start : List
 
   module _ (version : Version) where
     -- where each child that lists a choice bounds the plans that keep its path
-    by_choices : (path : List Block) (cases : List Case) (IsKnown : PathChoice → Type 0) (L : ℤ) → AreCases night cases → ShowsByChoicesIn version night path cases IsKnown L → ((c : PathChoice) → IsKnown c → Bounds L (longer_by path c)) → Bounds L path
+    by_choices : (path : List Block) (cases : List Case) (IsKnown : PathChoice → Type 0) (L : ℤ) → AreCases night cases → ShowsByChoicesIn version night path cases IsKnown L
+        → ((c : PathChoice) → IsKnown c → Bounds L (longer_by path c)) → Bounds L path
     by_choices path cases IsKnown L are s known apart keeps =
         let u = some_unit (next_of (masks_of night path)) s.unfinished in
         let c = laws.held night plan path u.0 i f apart keeps u.1 in
@@ -90,12 +99,14 @@ module _ (laws : BoundLaws) (night : Night) (i : IsInstance night) (start : List
         (λ k. known c.0 k more c.2)
         (s.each c.0 c.1 c.3)
 
-    by_kind : (path : List Block) (cases : List Case) (kind : NodeKind) (IsKnown : PathChoice → Type 0) (L : ℤ) → (kind ≢ Whole → AreCases night cases) → ShowsIn version night path cases kind IsKnown L → ((c : PathChoice) → IsKnown c → Bounds L (longer_by path c)) → Bounds L path
+    by_kind : (path : List Block) (cases : List Case) (kind : NodeKind) (IsKnown : PathChoice → Type 0) (L : ℤ) → (kind ≢ Whole → AreCases night cases)
+        → ShowsIn version night path cases kind IsKnown L → ((c : PathChoice) → IsKnown c → Bounds L (longer_by path c)) → Bounds L path
     by_kind path cases Whole IsKnown L are s known apart keeps = let low = laws.cost night plan path i f apart keeps in omega (arith, ints, s.cost, low)
     by_kind path cases Leaf IsKnown L are s known apart keeps = let r = s.bound in enough r.0 L (bound_in version path cases r.0 apart keeps (are leaf_goes) s.holds r.1) r.2
     by_kind path cases Branch IsKnown L are s known apart keeps = by_choices path cases IsKnown L (are (branch_goes Branch refl)) s known apart keeps
 
-    child_bounds : (L : ℤ) (k : ℕ) → ((j : ℕ) → IsChildOf nodes k j → Bounds L (path_at night start nodes j)) → (c : PathChoice) → IsListed night start nodes k c → Bounds L (longer_by (path_at night start nodes k) c)
+    child_bounds : (L : ℤ) (k : ℕ) → ((j : ℕ) → IsChildOf nodes k j → Bounds L (path_at night start nodes j)) → (c : PathChoice) → IsListed night start nodes k c
+        → Bounds L (longer_by (path_at night start nodes k) c)
     child_bounds L k below c l =
         let some : 1 ≤ l.child = omega (arith, child_later night nodes h k l.child l.below) in
         let at : path_at night start nodes l.child ≡ longer_by (path_at night start nodes k) c =

@@ -58,7 +58,8 @@ end_by begun cost bound nodes = do
   _ ← must (k == begun) 4 kinds.Limit
   says (c, b)
 
-pub end_back : (n begun cost bound nodes : ℕ) → cost ≤ 1000000000000 → bound ≤ 1000000000000 → nodes ≤ 5000 → nodes ≡ begun → answer n (end_in begun (end_row cost bound nodes)) ≡ Ok (cost, bound)
+pub end_back : (n begun cost bound nodes : ℕ) → cost ≤ 1000000000000 → bound ≤ 1000000000000 → nodes ≤ 5000 → nodes ≡ begun
+    → answer n (end_in begun (end_row cost bound nodes)) ≡ Ok (cost, bound)
 unfolding end_in is_within decimal_of
 end_back n begun cost bound nodes c b few many =
     let by = end_by begun in
@@ -66,9 +67,19 @@ end_back n begun cost bound nodes c b few many =
     ∙ ap (λ o. answer n (by (Some cost) o (decimal_of (decimal nodes)))) (number_again bound (omega (arith, b)))
     ∙ ap (λ o. answer n (by (Some cost) (Some bound) o)) (number_again nodes (omega (arith, few)))
     ∙ (let m = by (Some cost) (Some bound) (Some nodes) in
-    holding n m.checks m.value (refl, (refl, (in_range 0 1000000000000 cost (omega arith) c, (refl, (in_range 0 1000000000000 bound (omega arith) b, (refl, (eq-eqb nodes begun many, tt))))))))
+    holding n m.checks m.value (
+      refl,
+      (
+        refl,
+        (
+          in_range 0 1000000000000 cost (omega arith) c,
+          (refl, (in_range 0 1000000000000 bound (omega arith) b, (refl, (eq-eqb nodes begun many, tt)))),
+        ),
+      ),
+    ))
 
-end_read : (n : ℕ) (night : Night) (d : Draft) (last : Node) (cost bound nodes : ℕ) → IsReadLast d last → cost ≤ 1000000000000 → bound ≤ 1000000000000 → nodes ≤ 5000 → nodes ≡ d.begun
+end_read : (n : ℕ) (night : Night) (d : Draft) (last : Node) (cost bound nodes : ℕ) → IsReadLast d last → cost ≤ 1000000000000 → bound ≤ 1000000000000 → nodes ≤ 5000
+    → nodes ≡ d.begun
     → answer n (in_state (certificate_format night) d (end_row cost bound nodes)) ≡ Ok (with_end d (cost, bound))
 unfolding after_node end_of
 end_read n night d last cost bound nodes stands c b few many =
@@ -102,7 +113,8 @@ certificate_back night h c is =
     let many : length c.nodes ≡ r.state.begun = (let b = r.begun in omega (arith, b)) in
     all_read f (head_row c.version) (flat_map (node_rows night) c.nodes ++ end_row c.cost c.bound (length c.nodes) ∷ []) (empty c.version) t (head_read c.version is.version)
     (then_reads f (empty c.version) r.state t 2 (flat_map (node_rows night) c.nodes) (end_row c.cost c.bound (length c.nodes) ∷ []) r.read
-    (λ k. one_reads f r.state t k (end_row c.cost c.bound (length c.nodes)) (end_read k night r.state r.last c.cost c.bound (length c.nodes) r.stands is.cost is.bound is.few many)))
+    (λ k. one_reads f r.state t k (end_row c.cost c.bound (length c.nodes)) (end_read k night r.state r.last c.cost c.bound
+    (length c.nodes) r.stands is.cost is.bound is.few many)))
     (ended_whole night r.state (c.cost, c.bound))
     ∙ ap (λ (x : Certificate). Ok x) (ended_value night r.state c (its_version c.version r.state r.version) (from_empty c.version r.state c.nodes r.nodes))
 
@@ -110,7 +122,8 @@ pub records_back : (night : Night) (c : Certificate) → IsInstance night → Is
 records_back night c h is = certificate_back night (opened night h) c is
 
 -- the certificate's text is read back
-pub back_from : (night : Night) (c : Certificate) → IsInstance night → IsCertificate night c → (text bytes : List ℕ) → text ≡ text_of_rows (rows_of night c) → ReadsBack text bytes → ReadsAsCertificate night c bytes
+pub back_from : (night : Night) (c : Certificate) → IsInstance night → IsCertificate night c → (text bytes : List ℕ) → text ≡ text_of_rows (rows_of night c) → ReadsBack text bytes
+    → ReadsAsCertificate night c bytes
 back_from night c h is text bytes e back =
     let rows = back (rows_of night c) (certificate_plain night (opened night h) c is) e in
     record { rows = rows; value = ap (reading (certificate_format night)) rows ∙ records_back night c h is }

@@ -45,7 +45,8 @@ past : {X : Type 0} (xs ys : List X) (k : ℕ) → slice_get (xs ++ ys) (length 
 past [] ys k = ap (slice_get ys) (let e : 0 + k ≡ k = omega arith in e)
 past (x ∷ xs) ys k = ap (slice_get (x ∷ (xs ++ ys))) (let e : length (x ∷ xs) + k ≡ suc (length xs + k) = omega arith in e) ∙ past xs ys k
 
-node_found : (night : Night) (nodes : List Node) (k : ℕ) (rest : List (List (List ℕ))) → k < length nodes → slice_get (flat_map (node_rows night) nodes ++ rest) (sum_by row_count (take k nodes)) ≡ Some (node_row night (node_at nodes k))
+node_found : (night : Night) (nodes : List Node) (k : ℕ) (rest : List (List (List ℕ))) → k < length nodes
+    → slice_get (flat_map (node_rows night) nodes ++ rest) (sum_by row_count (take k nodes)) ≡ Some (node_row night (node_at nodes k))
 node_found night [] k rest lt = absurd (omega (arith, lt))
 node_found night (x ∷ xs) zero rest lt = refl
 node_found night (x ∷ xs) (suc k) rest lt =

@@ -34,20 +34,24 @@ use Rattle.shunt_proof.proofs.Whole.{PinLaws, some_nodes}
 -- what the laws of the crates below say
 pub record PriceLaws : Type 0 where
   pub hold : (night : Night) (path : List Block) (cases : List Case) → CasesHold night path cases → StackCasesHold night path cases
-  pub bound : (night : Night) (path : List Block) (cases : List Case) (bound : ℤ) → IsInstance night → All (IsWithinTrains night) path → ShareNothing night path → RunsThrough night (placed path)
+  pub bound : (night : Night) (path : List Block) (cases : List Case) (bound : ℤ) → IsInstance night → All (IsWithinTrains night) path → ShareNothing night path
+      → RunsThrough night (placed path)
       → CasesHold night path cases → IsCasesBound night path cases bound → IsStackBound night path cases bound
-  pub choice : (night : Night) (path : List Block) (b : Block) (cases : List Case) (bound : ℤ) → IsInstance night → All (IsWithinTrains night) path → ShareNothing night path → IsFreeBlock night (masks_of night path) (shape_of b) b.park
+  pub choice : (night : Night) (path : List Block) (b : Block) (cases : List Case) (bound : ℤ) → IsInstance night → All (IsWithinTrains night) path → ShareNothing night path
+      → IsFreeBlock night (masks_of night path) (shape_of b) b.park
       → RunsThrough night (placed (path ++ b ∷ [])) → CasesHold night path cases → IsCasesBound night (path ++ b ∷ []) cases bound → IsChoiceBound night path b cases bound
 
 free_choice : (night : Night) (covered : Masks) (u id : ℕ) (c : PathChoice) → IsChoice night covered u c → IsFreeBlock night covered (shape_of (chosen id c)) (chosen id c).park
 free_choice night covered u id c h = record { shape = record { shape = h.shape.shape; first = refl; units = h.shape.units; positions = h.shape.positions }; option = h.option }
 
 module _ (laws : PriceLaws) (night : Night) (i : IsInstance night) (pins path : List Block) (p : IsPartialPlan night pins path) (cases : List Case) where
-  step : (c : PathChoice) (bound : ℤ) → CasesHold night path cases → IsChoiceAt night path c → RunsThrough night (placed (longer_by path c)) → IsCasesBound night (longer_by path c) cases bound → IsStepBoundIn Stacks night path (longer_by path c) cases bound
+  step : (c : PathChoice) (bound : ℤ) → CasesHold night path cases → IsChoiceAt night path c → RunsThrough night (placed (longer_by path c))
+      → IsCasesBound night (longer_by path c) cases bound → IsStepBoundIn Stacks night path (longer_by path c) cases bound
   step c bound hold there through is =
       let b = chosen (length path + 1) c in
       let at = next_unit night path c there in
-      choice_step night path b cases bound (laws.choice night path b cases bound i (all_within night path p.each) p.apart (free_choice night (masks_of night path) at.0 (length path + 1) c at.2) through hold is)
+      choice_step night path b cases bound (laws.choice night path b cases bound i (all_within night path p.each) p.apart
+      (free_choice night (masks_of night path) at.0 (length path + 1) c at.2) through hold is)
 
   shows : (kind : NodeKind) (IsKnown : PathChoice → Type 0) (L : ℤ) → ShowsIn Prices night path cases kind IsKnown L → ShowsIn Stacks night path cases kind IsKnown L
   shows Whole IsKnown L s = s
@@ -62,12 +66,14 @@ module _ (laws : PriceLaws) (night : Night) (i : IsInstance night) (pins path : 
     each = λ c there through. ⊎_elim (λ r. inl (r.0, step c r.0 s.holds there through r.1, r.2)) (λ k. inr k) (s.each c there through);
   }
 
-holds_at : (night : Night) (path : List Block) (cases : List Case) (kind : NodeKind) (IsKnown : PathChoice → Type 0) (L : ℤ) → kind ≡ Branch → ShowsIn Prices night path cases kind IsKnown L → CasesHold night path cases
+holds_at : (night : Night) (path : List Block) (cases : List Case) (kind : NodeKind) (IsKnown : PathChoice → Type 0) (L : ℤ) → kind ≡ Branch
+    → ShowsIn Prices night path cases kind IsKnown L → CasesHold night path cases
 holds_at night path cases Whole IsKnown L e s = absurd (branch_goes Whole e refl)
 holds_at night path cases Leaf IsKnown L e s = s.holds
 holds_at night path cases Branch IsKnown L e s = s.holds
 
-module _ (laws : PriceLaws) (counts : CountLaws) (night : Night) (i : IsInstance night) (pins start : List Block) (first : IsPartialPlan night pins start) (nodes : List Node) (h : AreNodes night nodes)
+module _ (laws : PriceLaws) (counts : CountLaws) (night : Night) (i : IsInstance night) (pins start : List Block) (first : IsPartialPlan night pins start) (nodes : List Node)
+    (h : AreNodes night nodes)
     (all : (k : ℕ) → 1 ≤ k → k < length nodes → IsPlaced night start nodes k) where
   partial : (k : ℕ) → k < length nodes → IsPartialPlan night pins (path_at night start nodes k)
   partial k lt = is_partial counts night i start nodes h all pins first k lt
@@ -78,7 +84,8 @@ module _ (laws : PriceLaws) (counts : CountLaws) (night : Night) (i : IsInstance
     shows = shows laws night i pins (path_at night start nodes k) (partial k lt) (duals_at nodes k) (node_at nodes k).kind (IsListed night start nodes k) L r.shows;
   }
 
-  pub lean_with_stacks : (k : ℕ) (L : ℤ) → 1 ≤ k → k < length nodes → IsRightIn Prices night start nodes (parent nodes k) L → IsLeanIn Prices night start nodes k → IsLeanIn Stacks night start nodes k
+  pub lean_with_stacks : (k : ℕ) (L : ℤ) → 1 ≤ k → k < length nodes → IsRightIn Prices night start nodes (parent nodes k) L → IsLeanIn Prices night start nodes k
+      → IsLeanIn Stacks night start nodes k
   lean_with_stacks k L some lt r l =
       let f = parent_found night nodes h k some lt in
       let up = path_at night start nodes (parent nodes k) in
@@ -88,14 +95,16 @@ module _ (laws : PriceLaws) (counts : CountLaws) (night : Night) (i : IsInstance
       let hold : CasesHold night up cases = holds_at night up cases (node_at nodes (parent nodes k)).kind (IsListed night start nodes (parent nodes k)) L f.branch r.shows in
       record {
         bound = l.bound;
-        is = subst (λ (q : List Block). IsStepBoundIn Stacks night up q cases l.bound) (sym same) (step laws night i pins up (partial (parent nodes k) (omega (arith, f.before, lt))) cases (choice_from night up placed_there.choice) l.bound hold placed_there.there
+        is = subst (λ (q : List Block). IsStepBoundIn Stacks night up q cases l.bound) (sym same)
+            (step laws night i pins up (partial (parent nodes k) (omega (arith, f.before, lt))) cases (choice_from night up placed_there.choice) l.bound hold placed_there.there
             (subst (λ (q : List Block). RunsThrough night (placed q)) same placed_there.through) (subst (λ (q : List Block). IsCasesBound night q cases l.bound) same l.is));
         below = l.below;
       }
 
 -- ---- whole trees
 
-module _ (laws : PriceLaws) (counts : CountLaws) (night : Night) (i : IsInstance night) (pins start : List Block) (first : IsPartialPlan night pins start) (nodes : List Node) (h : AreNodes night nodes) (L : ℤ)
+module _ (laws : PriceLaws) (counts : CountLaws) (night : Night) (i : IsInstance night) (pins start : List Block) (first : IsPartialPlan night pins start) (nodes : List Node)
+    (h : AreNodes night nodes) (L : ℤ)
     (right : AreRightIn Prices night start nodes L) where
   set : (k : ℕ) → 1 ≤ k → k < length nodes → IsPlaced night start nodes k
   set k some lt = (right k lt).placed some
@@ -104,9 +113,11 @@ module _ (laws : PriceLaws) (counts : CountLaws) (night : Night) (i : IsInstance
   all_right k lt = right_with_stacks laws counts night i pins start first nodes h set k L lt (right k lt)
 
   pub all_lean : AreLeanIn Prices night start nodes → AreLeanIn Stacks night start nodes
-  all_lean lean k some lt = lean_with_stacks laws counts night i pins start first nodes h set k L some lt (right (parent nodes k) (omega (arith, (parent_found night nodes h k some lt).before, lt))) (lean k some lt)
+  all_lean lean k some lt = lean_with_stacks laws counts night i pins start first nodes h set k L some lt
+      (right (parent nodes k) (omega (arith, (parent_found night nodes h k some lt).before, lt))) (lean k some lt)
 
-pub accepted_with_stacks : (laws : PriceLaws) (counts : CountLaws) (pinned : PinLaws) (night : Night) (i : IsInstance night) (pins own : List Block) (stated : ℕ) (c : Certificate) → AreNodes night c.nodes → AreUsable night pins
+pub accepted_with_stacks : (laws : PriceLaws) (counts : CountLaws) (pinned : PinLaws) (night : Night) (i : IsInstance night) (pins own : List Block) (stated : ℕ) (c : Certificate)
+    → AreNodes night c.nodes → AreUsable night pins
     → IsAcceptedIn Prices night pins own stated c → IsAcceptedIn Stacks night pins own stated c
 accepted_with_stacks laws counts pinned night i pins own stated c h usable a =
     let first = pinned.alone night pins a.start i usable a.begins.same a.begins.rises in

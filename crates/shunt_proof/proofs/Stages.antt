@@ -24,10 +24,12 @@ pub writing_cases : (name : List ℕ) (p : store.Stage) (b : Bool) (stage : Stag
 writing_cases name store.Closed b stage = inl refl
 writing_cases name (store.Reading read) b stage = inl refl
 writing_cases name (store.Writing written text) b stage =
-    ⊎_elim inl (λ e. let a = and_parts (bytes_eq written name) b e in inr (record { place = ap (λ n. store.Writing n text) ((bytes_eq-Decides written name).0 a.0); holds = a.1 })) (if_cases (bytes_eq written name && b) stage)
+    ⊎_elim inl (λ e. let a = and_parts (bytes_eq written name) b e in inr (record { place = ap (λ n. store.Writing n text) ((bytes_eq-Decides written name).0 a.0); holds = a.1 }))
+    (if_cases (bytes_eq written name && b) stage)
 
 writing_is : (name text : List ℕ) (p : store.Stage) (b : Bool) (stage : Stage) → p ≡ store.Writing name text → b ≡ true → where_writing name p b stage ≡ stage
-writing_is name text p b stage e t = ap (λ q. where_writing name q b stage) e ∙ ap (λ (c : Bool). if c then stage else Failed) (and_from (bytes_eq name name) b ((bytes_eq-Decides name name).1 refl) t)
+writing_is name text p b stage e t = ap (λ q. where_writing name q b stage) e ∙ ap (λ (c : Bool). if c then stage else Failed)
+    (and_from (bytes_eq name name) b ((bytes_eq-Decides name name).1 refl) t)
 
 -- ---- an open recorder
 
@@ -49,7 +51,8 @@ open_in : (s : Streamed) (d : Doing) → s.doing ≡ d → stage_in s d ≡ Open
 open_in s doing.Open x e = ⊎_elim (λ f. failed_open (sym f ∙ e)) (λ w. record { doing = x; place = w.place; sound = w.holds }) (writing_cases s.name s.place (is_sound s) Open)
 open_in s doing.Stalled x e = stalled_open e
 open_in s (doing.Finished cost bound) x e =
-    ⊎_elim (λ f. failed_open (sym f ∙ e)) (λ w. finished_open cost bound (sym (writing_is s.name (store.text_of s.place) s.place (is_sound s) (Finished cost bound) w.place w.holds) ∙ e)) (writing_cases s.name s.place (is_sound s) (Finished cost bound))
+    ⊎_elim (λ f. failed_open (sym f ∙ e)) (λ w. finished_open cost bound (sym (writing_is s.name (store.text_of s.place) s.place (is_sound s) (Finished cost bound) w.place w.holds)
+    ∙ e)) (writing_cases s.name s.place (is_sound s) (Finished cost bound))
 open_in s doing.Failed x e = failed_open e
 
 pub opened : (s : Streamed) → stage_of s ≡ Open → IsOpen s
@@ -77,7 +80,8 @@ same_end x y cost bound e = cc
 
 finished_in : (s : Streamed) (d : Doing) (cost bound : ℕ) → s.doing ≡ d → stage_in s d ≡ Finished cost bound → IsFinished s cost bound
 finished_in s doing.Open cost bound x e =
-    ⊎_elim (λ f. failed_finished cost bound (sym f ∙ e)) (λ w. open_finished cost bound (sym (writing_is s.name (store.text_of s.place) s.place (is_sound s) Open w.place w.holds) ∙ e)) (writing_cases s.name s.place (is_sound s) Open)
+    ⊎_elim (λ f. failed_finished cost bound (sym f ∙ e)) (λ w. open_finished cost bound
+    (sym (writing_is s.name (store.text_of s.place) s.place (is_sound s) Open w.place w.holds) ∙ e)) (writing_cases s.name s.place (is_sound s) Open)
 finished_in s doing.Stalled cost bound x e = stalled_finished cost bound e
 finished_in s (doing.Finished c b) cost bound x e =
     ⊎_elim (λ f. failed_finished cost bound (sym f ∙ e)) (λ w. record {
@@ -97,7 +101,8 @@ pub open_is : (s : Streamed) (text : List ℕ) → s.doing ≡ doing.Open → s.
 unfolding stage_of
 open_is s text d p b = ap (stage_in s) d ∙ writing_is s.name text s.place (is_sound s) Open p b
 
-pub finished_is : (s : Streamed) (text : List ℕ) (cost bound : ℕ) → s.doing ≡ doing.Finished cost bound → s.place ≡ store.Writing s.name text → is_sound s ≡ true → stage_of s ≡ Finished cost bound
+pub finished_is : (s : Streamed) (text : List ℕ) (cost bound : ℕ) → s.doing ≡ doing.Finished cost bound → s.place ≡ store.Writing s.name text → is_sound s ≡ true
+    → stage_of s ≡ Finished cost bound
 unfolding stage_of
 finished_is s text cost bound d p b = ap (stage_in s) d ∙ writing_is s.name text s.place (is_sound s) (Finished cost bound) p b
 
@@ -115,7 +120,8 @@ pub told_open : (s : Streamed) → s.doing ≡ doing.Open → told_of s ≡ node
 unfolding told_of
 told_open s d = ap (told_in s) d
 
-pub told_finished : (s : Streamed) (cost bound : ℕ) → s.doing ≡ doing.Finished cost bound → told_of s ≡ nodes_told s.version s.night (Some (cost, bound)) s.nodes s.cases (store.text_of s.place)
+pub told_finished : (s : Streamed) (cost bound : ℕ) → s.doing ≡ doing.Finished cost bound
+    → told_of s ≡ nodes_told s.version s.night (Some (cost, bound)) s.nodes s.cases (store.text_of s.place)
 unfolding told_of
 told_finished s cost bound d = ap (told_in s) d
 

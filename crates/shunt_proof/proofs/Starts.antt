@@ -19,7 +19,8 @@ use Rattle.shunt_proof.specs.defs.Trees.{IsStart}
 ascends_from : (night : Night) (blocks : List Block) → AreInOrder night blocks → Ascends (begins_at night) blocks
 ascends_from night [] h = tt
 ascends_from night (b ∷ blocks) h = (
-  all_from (λ c. begins_at night b < begins_at night c) blocks (λ c there. let p = place blocks c there in subst (λ (x : Block). begins_at night b < begins_at night x) (p.2 b) (h 0 (suc p.0) b (omega arith) (omega (arith, p.1)))),
+  all_from (λ c. begins_at night b < begins_at night c) blocks (λ c there. let p = place blocks c there in subst (λ (x : Block). begins_at night b < begins_at night x) (p.2 b)
+      (h 0 (suc p.0) b (omega arith) (omega (arith, p.1)))),
   ascends_from night blocks (λ i j d less lt. h (suc i) (suc j) d (omega (arith, less)) (omega (arith, lt))),
 )
 
@@ -29,8 +30,12 @@ one_start night pins start other s t = unique (begins_at night) start other (asc
 
 pub one_opening : (night : Night) (pins others : List Block) → IsPermutation pins others → opening_cost night others ≡ opening_cost night pins
 one_opening night pins others same =
-    let units = sum_below-same (unit_total night) (λ u. cond (times_unit night others u == 0) (unit_price night u) 0) (λ u. cond (times_unit night pins u == 0) (unit_price night u) 0) (λ u lt. ap {B = ℕ} (λ n. cond (n == 0) (unit_price night u) 0) (sum_by-IsPermutation _ pins others same)) in
-    let positions = sum_below-same (position_total night) (λ v. cond (times_position night others v == 0) (position_price night v) 0) (λ v. cond (times_position night pins v == 0) (position_price night v) 0) (λ v lt. ap {B = ℕ} (λ n. cond (n == 0) (position_price night v) 0) (sum_by-IsPermutation _ pins others same)) in
+    let units = sum_below-same (unit_total night) (λ u. cond (times_unit night others u == 0) (unit_price night u) 0)
+    (λ u. cond (times_unit night pins u == 0) (unit_price night u) 0) (λ u lt. ap {B = ℕ} (λ n. cond (n == 0) (unit_price night u) 0)
+    (sum_by-IsPermutation _ pins others same)) in
+    let positions = sum_below-same (position_total night) (λ v. cond (times_position night others v == 0) (position_price night v) 0)
+    (λ v. cond (times_position night pins v == 0) (position_price night v) 0)
+    (λ v lt. ap {B = ℕ} (λ n. cond (n == 0) (position_price night v) 0) (sum_by-IsPermutation _ pins others same)) in
     omega (arith, sum_by-IsPermutation (block_cost night) pins others same, units, positions)
 
 pub still_keeps : (plan pins others : List Block) → IsPermutation pins others → Keeps plan pins → Keeps plan others

@@ -42,7 +42,8 @@ pub record Goes (s t : Streamed) : Type 0 where
   pub night : t.night ≡ s.night
   pub name : t.name ≡ s.name
 
-pub told_moved : (s t : Streamed) (end : Option (ℕ × ℕ)) (text : List ℕ) (n k : ℕ) (nodes : List Node) → Goes s t → t.nodes ≡ n → t.cases ≡ k → store.text_of t.place ≡ text → nodes_told s.version s.night end n k text ≡ Some nodes
+pub told_moved : (s t : Streamed) (end : Option (ℕ × ℕ)) (text : List ℕ) (n k : ℕ) (nodes : List Node) → Goes s t → t.nodes ≡ n → t.cases ≡ k → store.text_of t.place ≡ text
+    → nodes_told s.version s.night end n k text ≡ Some nodes
     → nodes_told t.version t.night end t.nodes t.cases (store.text_of t.place) ≡ Some nodes
 told_moved s t end text n k nodes g x y z e =
     ap (λ version. nodes_told version t.night end t.nodes t.cases (store.text_of t.place)) g.version
@@ -54,28 +55,34 @@ told_moved s t end text n k nodes g x y z e =
 
 -- ---- a node is noted
 
-pub note_step : (s t : Streamed) (node : Node) → IsInstance s.night → IsOpen s → Goes s t → s.nodes < 5000 → s.cases + own_cases node.duals ≤ 8000 → FitsNode s.night node → IfSome (told_of s) (λ nodes. CanFollow nodes node)
-    → t.doing ≡ doing.Open → t.nodes ≡ s.nodes + 1 → t.cases ≡ s.cases + own_cases node.duals → store.text_of t.place ≡ store.text_of s.place ++ text_of_rows (node_rows s.night node) → Tells s t (λ old new. new ≡ old ++ node ∷ [])
+pub note_step : (s t : Streamed) (node : Node) → IsInstance s.night → IsOpen s → Goes s t → s.nodes < 5000 → s.cases + own_cases node.duals ≤ 8000 → FitsNode s.night node
+    → IfSome (told_of s) (λ nodes. CanFollow nodes node)
+    → t.doing ≡ doing.Open → t.nodes ≡ s.nodes + 1 → t.cases ≡ s.cases + own_cases node.duals
+    → store.text_of t.place ≡ store.text_of s.place ++ text_of_rows (node_rows s.night node) → Tells s t (λ old new. new ≡ old ++ node ∷ [])
 note_step s t node h o g few less fits can d x y z =
     let at = open_at s o in
     let follows : CanFollow at.nodes node = subst (λ p. IfSome p (λ nodes. CanFollow nodes node)) at.told can in
     let more = told_more s.version s.night s.nodes s.cases (store.text_of s.place) (store.text_of t.place) at.nodes node few less fits follows at.is z in
     let now = so_told s.version s.night None (s.nodes + 1) (s.cases + own_cases node.duals) (store.text_of t.place) (at.nodes ++ node ∷ []) h tt more in
-    tells_some s t (λ old new. new ≡ old ++ node ∷ []) at.nodes (at.nodes ++ node ∷ []) at.told (told_open t d ∙ told_moved s t None (store.text_of t.place) (s.nodes + 1) (s.cases + own_cases node.duals) (at.nodes ++ node ∷ []) g x y refl now) refl
+    tells_some s t (λ old new. new ≡ old ++ node ∷ []) at.nodes (at.nodes ++ node ∷ []) at.told
+    (told_open t d ∙ told_moved s t None (store.text_of t.place) (s.nodes + 1) (s.cases + own_cases node.duals) (at.nodes ++ node ∷ []) g x y refl now) refl
 
 -- ---- the end is written
 
 pub finish_step : (s t : Streamed) (cost bound : ℕ) → IsInstance s.night → IsOpen s → Goes s t → 0 < s.nodes → cost ≤ 1000000000000 → bound ≤ 1000000000000
-    → t.doing ≡ doing.Finished cost bound → t.nodes ≡ s.nodes → t.cases ≡ s.cases → store.text_of t.place ≡ store.text_of s.place ++ text_of_row (end_row cost bound s.nodes) → Tells s t (λ old new. new ≡ old)
+    → t.doing ≡ doing.Finished cost bound → t.nodes ≡ s.nodes → t.cases ≡ s.cases → store.text_of t.place ≡ store.text_of s.place ++ text_of_row (end_row cost bound s.nodes)
+    → Tells s t (λ old new. new ≡ old)
 finish_step s t cost bound h o g some low high d x y z =
     let at = open_at s o in
     let more = told_end s.version s.night s.nodes s.cases (store.text_of s.place) (store.text_of t.place) at.nodes (cost, bound) at.is z in
     let now = so_told s.version s.night (Some (cost, bound)) s.nodes s.cases (store.text_of t.place) at.nodes h (some, (low, high)) more in
-    tells_some s t (λ old new. new ≡ old) at.nodes at.nodes at.told (told_finished t cost bound d ∙ told_moved s t (Some (cost, bound)) (store.text_of t.place) s.nodes s.cases at.nodes g x y refl now) refl
+    tells_some s t (λ old new. new ≡ old) at.nodes at.nodes at.told (told_finished t cost bound d
+    ∙ told_moved s t (Some (cost, bound)) (store.text_of t.place) s.nodes s.cases at.nodes g x y refl now) refl
 
 -- ---- it begins again
 
-pub restart_step : (s t : Streamed) → IsInstance s.night → IsOpen s → Goes s t → t.doing ≡ doing.Open → t.nodes ≡ 0 → t.cases ≡ 0 → store.text_of t.place ≡ text_of_row (head_row s.version) → Tells s t (λ old new. new ≡ [])
+pub restart_step : (s t : Streamed) → IsInstance s.night → IsOpen s → Goes s t → t.doing ≡ doing.Open → t.nodes ≡ 0 → t.cases ≡ 0
+    → store.text_of t.place ≡ text_of_row (head_row s.version) → Tells s t (λ old new. new ≡ [])
 restart_step s t h o g d x y z =
     let at = open_at s o in
     let now = so_told s.version s.night None 0 0 (store.text_of t.place) [] h tt (told_first s.version s.night (store.text_of t.place) at.is.can z) in

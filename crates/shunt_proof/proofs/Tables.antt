@@ -45,7 +45,8 @@ values_up : (row : List (List ℕ)) (k more : ℕ) → Ascends (12 * k + 4) (val
 unfolding values_in
 values_up row k zero = none_left
 values_up row k (suc more) =
-    one_before (omega arith) (one_before (omega arith) (from_before (12 * k + 8) (12 * (k + 1) + 4) ((values_in row (k + 1) more).checks ++ []) (omega arith) (whole_up (12 * (k + 1) + 4) (values_in row (k + 1) more).checks (values_up row (k + 1) more))))
+    one_before (omega arith) (one_before (omega arith) (from_before (12 * k + 8) (12 * (k + 1) + 4) ((values_in row (k + 1) more).checks ++ []) (omega arith)
+    (whole_up (12 * (k + 1) + 4) (values_in row (k + 1) more).checks (values_up row (k + 1) more))))
 
 -- values from field 2 on
 from_second : (least : ℕ) (row : List (List ℕ)) (more : ℕ) → least ≤ 28 → Ascends least ((values_in row 2 more).checks ++ [])

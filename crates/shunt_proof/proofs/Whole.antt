@@ -36,7 +36,8 @@ pub some_nodes : (version : Version) (night : Night) (start : List Block) (nodes
 some_nodes version night start [] L p = absurd (nothing_proved version night start L p)
 some_nodes version night start (n ∷ nodes) L p = omega arith
 
-pub accepted_bound : (laws : BoundLaws) (version : Version) (night : Night) → IsInstance night → (pins own : List Block) (stated : ℕ) (c : Certificate) → AreNodes night c.nodes → ShareNothing night pins → IsAcceptedIn version night pins own stated c
+pub accepted_bound : (laws : BoundLaws) (version : Version) (night : Night) → IsInstance night → (pins own : List Block) (stated : ℕ) (c : Certificate) → AreNodes night c.nodes
+    → ShareNothing night pins → IsAcceptedIn version night pins own stated c
     → (plan : List Block) → IsFeasible night plan → Keeps plan pins → c.bound ≤ total_cost night plan
 accepted_bound laws version night i pins own stated c h apart a plan f keeps =
     let some = some_nodes version night a.start c.nodes (pos c.bound) a.root in
@@ -48,16 +49,20 @@ accepted_bound laws version night i pins own stated c h apart a plan f keeps =
 
 -- what more the laws of the crates below say
 pub record PinLaws : Type 0 where
-  pub alone : (night : Night) (pins start : List Block) → IsInstance night → AreUsable night pins → IsPermutation pins start → AreInOrder night start → IsPartialPlan night pins start
-  pub any_order : (night : Night) (blocks others : List Block) → IsInstance night → All (IsWithinTrains night) blocks → ShareNothing night blocks → IsPermutation blocks others → partial_plans night blocks ≡ partial_plans night others
+  pub alone : (night : Night) (pins start : List Block) → IsInstance night → AreUsable night pins → IsPermutation pins start → AreInOrder night start
+      → IsPartialPlan night pins start
+  pub any_order : (night : Night) (blocks others : List Block) → IsInstance night → All (IsWithinTrains night) blocks → ShareNothing night blocks → IsPermutation blocks others
+      → partial_plans night blocks ≡ partial_plans night others
 
-pub few_nodes : (laws : CountLaws) (pinned : PinLaws) (night : Night) (i : IsInstance night) (pins start : List Block) (nodes : List Node) → AreNodes night nodes → AreUsable night pins → IsStart night pins start
+pub few_nodes : (laws : CountLaws) (pinned : PinLaws) (night : Night) (i : IsInstance night) (pins start : List Block) (nodes : List Node) → AreNodes night nodes
+    → AreUsable night pins → IsStart night pins start
     → ((k : ℕ) → 1 ≤ k → k < length nodes → IsPlaced night start nodes k) → length nodes ≤ partial_plans night pins
 few_nodes laws pinned night i pins start nodes h usable s all =
     let order = pinned.any_order night pins start i (λ k d lt. (usable.in_range.each k d lt).within) usable.apart s.same in
     omega (arith, order, at_most laws night i start nodes h all pins (pinned.alone night pins start i usable s.same s.rises))
 
-pub few_accepted : (laws : CountLaws) (pinned : PinLaws) (version : Version) (night : Night) (i : IsInstance night) (pins own : List Block) (stated : ℕ) (c : Certificate) → AreNodes night c.nodes → AreUsable night pins
+pub few_accepted : (laws : CountLaws) (pinned : PinLaws) (version : Version) (night : Night) (i : IsInstance night) (pins own : List Block) (stated : ℕ) (c : Certificate)
+    → AreNodes night c.nodes → AreUsable night pins
     → IsAcceptedIn version night pins own stated c → length c.nodes ≤ partial_plans night pins
 few_accepted laws pinned version night i pins own stated c h usable a =
     few_nodes laws pinned night i pins a.start c.nodes h usable a.begins (λ k some lt. (root_right version night a.start c.nodes h (pos c.bound) a.root k lt).placed some)

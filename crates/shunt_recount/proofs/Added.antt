@@ -26,7 +26,8 @@ use Rattle.shunt_recount.specs.defs.Offers.{stack_at}
 
 module _ (night : Night) (path : List Block) (b : Block) (free : IsFreeBlock night (masks_of night path) (shape_of b) b.park) where
   pub longer_each : All (IsBlockButId night) path → All (IsBlockButId night) (path ++ b ∷ [])
-  longer_each each = All-append (IsBlockButId night) path (b ∷ []) each (All-cons (IsBlockButId night) b [] (record { shape = free.shape.shape; option = free.option }) (All-nil (IsBlockButId night)))
+  longer_each each = All-append (IsBlockButId night) path (b ∷ []) each (All-cons (IsBlockButId night) b [] (record { shape = free.shape.shape; option = free.option })
+      (All-nil (IsBlockButId night)))
 
   chosen : IsChoice night (masks_of night path) (begins_at night b) (choice_of b)
   chosen = record { shape = free.shape; option = free.option }
@@ -39,12 +40,14 @@ module _ (night : Night) (path : List Block) (b : Block) (c : Case) where
   no_fall None not = refl
   no_fall (Some s) not = absurd (not s refl)
 
-  pub some_fall : (o : Option Stack) (s : Stack) (before after z : ℤ) → o ≡ Some s → IsStackGain night path c s before → IsStackGain night (path ++ b ∷ []) c s after → z ≡ before -ℤ after → IsFall night path b c o z
+  pub some_fall : (o : Option Stack) (s : Stack) (before after z : ℤ) → o ≡ Some s → IsStackGain night path c s before → IsStackGain night (path ++ b ∷ []) c s after
+      → z ≡ before -ℤ after → IsFall night path b c o z
   some_fall o s before after z e first later is = subst (λ (p : Option Stack). IsFall night path b c p z) (sym e) (before, after, first, later, is)
 
 pub not_yet : (counts : List StackCount) (i : ℕ) (d : StackCount) (park : Option Park) → i < length counts → is_of (stack_at (get_or counts i d).end) park ≡ false →
     ((k : StackCount) → In k (take i counts) → is_of (stack_at k.end) park ≡ false) → (k : StackCount) → In k (take (i + 1) counts) → is_of (stack_at k.end) park ≡ false
-not_yet counts i d park lt is before k there = ⊎_elim (λ early. before k early) (λ last. subst (λ (x : StackCount). is_of (stack_at x.end) park ≡ false) (sym (of_one (get_or counts i d) k last)) is)
+not_yet counts i d park lt is before k there = ⊎_elim (λ early. before k early) (λ last. subst (λ (x : StackCount). is_of (stack_at x.end) park ≡ false)
+    (sym (of_one (get_or counts i d) k last)) is)
     (in_cases (take i counts) (get_or counts i d ∷ []) k (subst (λ (l : List StackCount). In k l) (take_more counts i d lt) there))
 
 pub if_moved : {X E : Type 0} (P Q : X → Type 0) (r : Result X E) → ((x : X) → P x → Q x) → IfOk r P → IfOk r Q

@@ -11,7 +11,8 @@ pub moved_small : (fixed free xs ys : List Span) → xs ≡ fixed → ys ≡ fre
 moved_small fixed free xs ys e f small = subst (λ (zs : List Span). AreSmall zs ys) (sym e) (subst (AreSmall fixed) (sym f) small)
 
 pub tells : (P : ℤ → Type 0) (r room : ℕ) (fixed free xs ys : List Span) (g : Option ℤ) → r ≡ room → xs ≡ fixed → ys ≡ free →
-    ((n : ℕ) → 5760000 ≤ 0 + n → g ≡ best n xs ys 0 5760000 r) → ((most : ℤ) → (best 5760000 fixed free 0 5760000 room ≡ Some most) ↔ P most) → (most : ℤ) → (g ≡ Some most) ↔ P most
+    ((n : ℕ) → 5760000 ≤ 0 + n → g ≡ best n xs ys 0 5760000 r) → ((most : ℤ) → (best 5760000 fixed free 0 5760000 room ≡ Some most) ↔ P most) → (most : ℤ)
+    → (g ≡ Some most) ↔ P most
 tells P r room fixed free xs ys g a e f is law most =
     let first : g ≡ best 5760000 xs ys 0 5760000 r = is 5760000 (omega arith) in
     let same : g ≡ best 5760000 fixed free 0 5760000 room = subst (λ (m : ℕ). g ≡ best 5760000 fixed free 0 5760000 m) a

@@ -37,7 +37,8 @@ BeginsBelow night u s = unit_from night s < u
 abbrev made : ArrId → ℕ → ℕ → DepId → ℕ → Shape
 made arr p n dep q = record { arr = arr; p = p; n = n; dep = dep; q = q }
 
-pub from_place : (unit : TrainUnit) (n : ℕ) (dep : DepId) (q : ℕ) (s : Shape) → GoesWith unit n dep.0 s → s.q ≡ q → s ≡ record { arr = unit.train; p = unit.place; n = n; dep = dep; q = q }
+pub from_place : (unit : TrainUnit) (n : ℕ) (dep : DepId) (q : ℕ) (s : Shape) → GoesWith unit n dep.0 s → s.q ≡ q
+    → s ≡ record { arr = unit.train; p = unit.place; n = n; dep = dep; q = q }
 from_place unit n dep q s with at =
     ap (λ (w : ArrId). made w s.p s.n s.dep s.q) with.0.0.0 ∙ (ap (λ (w : ℕ). made unit.train w s.n s.dep s.q) with.0.0.1
     ∙ (ap (λ (w : ℕ). made unit.train unit.place w s.dep s.q) with.0.1 ∙ (ap (λ (w : ℕ). made unit.train unit.place n (record { 0 = w }) s.q) with.1
@@ -45,7 +46,8 @@ from_place unit n dep q s with at =
 
 -- the units of a shape are those of its train from its place on
 module _ (night : Night)
-    (unit_law : (s : Shape) (k : ℕ) → AreRunsWithin night s → k < s.n → unit_at night (unit_from night s + k) ≡ make_unit s.arr.0 (s.p + k) (kind_at (train_at night.arrive s.arr.0) (s.p + k)))
+    (unit_law : (s : Shape) (k : ℕ) → AreRunsWithin night s → k < s.n → unit_at night (unit_from night s + k)
+    ≡ make_unit s.arr.0 (s.p + k) (kind_at (train_at night.arrive s.arr.0) (s.p + k)))
     (u : ℕ) (s : Shape) (within : AreRunsWithin night s) (first : BeginsAt night u s) where
   unit_is : unit_at night u ≡ make_unit s.arr.0 s.p (kind_at (train_at night.arrive s.arr.0) s.p)
   unit_is =
@@ -78,7 +80,8 @@ module _ (night : Night) (covered : Masks) where
   pub with_shape : (s : Shape) (shapes : List Shape) → IsFree night covered s → GoesOn night covered (λ t. t ≡ s) shapes (shapes ++ s ∷ [])
   with_shape s shapes free = record {
     kept = λ t i. in_left shapes (s ∷ []) t i;
-    each = λ t i. ⊎_elim (λ (left : In t shapes). inl left) (λ (right : In t (s ∷ [])). inr (subst (IsFree night covered) (sym (of_one s t right)) free)) (in_cases shapes (s ∷ []) t i);
+    each = λ t i. ⊎_elim (λ (left : In t shapes). inl left) (λ (right : In t (s ∷ [])). inr (subst (IsFree night covered) (sym (of_one s t right)) free))
+        (in_cases shapes (s ∷ []) t i);
     all = λ t f e. in_right shapes (s ∷ []) t (inl e);
   }
 
@@ -88,7 +91,8 @@ module _ (night : Night) (covered : Masks) where
     pub one_more : (Next : Shape → Type 0) (new : List Shape) → ((s : Shape) → IsFree night covered s → Holds s → place s ≡ k → Next s) →
         GoesOn night covered Next between new → GoesOn night covered (Below Holds place (k + 1)) old new
     one_more Next new to next = joined (Below Holds place k) Next (Below Holds place (k + 1)) old between new h next
-        (λ s free is. let lt = is.1 in ⊎_elim (λ (early : place s < k). inl (is.0, early)) (λ (late : k ≤ place s). inr (to s free is.0 (omega (arith, lt, late)))) (cases_lt (place s) k))
+        (λ s free is. let lt = is.1 in ⊎_elim (λ (early : place s < k). inl (is.0, early)) (λ (late : k ≤ place s). inr (to s free is.0 (omega (arith, lt, late))))
+        (cases_lt (place s) k))
 
     pub all_there : ((s : Shape) → IsFree night covered s → Holds s → place s < k) → GoesOn night covered Holds old between
     all_there below = record { kept = h.kept; each = h.each; all = λ s free is. h.all s free (is, below s free is) }

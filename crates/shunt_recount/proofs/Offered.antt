@@ -67,7 +67,8 @@ module _ (night : Night) (c : Case) where
     pub no_offers : AreOffersFor night c stack [] []
     no_offers = record { each = λ o none. absurd none; all = λ k none. absurd none }
 
-    pub more_offers : (ks : List Candidate) (os : List Offer) (k : Candidate) (o : Offer) → IsOffer night c stack k.shape o → AreOffersFor night c stack ks os → AreOffersFor night c stack (ks ++ k ∷ []) (os ++ o ∷ [])
+    pub more_offers : (ks : List Candidate) (os : List Offer) (k : Candidate) (o : Offer) → IsOffer night c stack k.shape o → AreOffersFor night c stack ks os
+        → AreOffersFor night c stack (ks ++ k ∷ []) (os ++ o ∷ [])
     more_offers ks os k o is h = record {
       each = λ x i. ⊎_elim
           (λ (left : In x os). let p = h.each x left in (p.0, in_left ks (k ∷ []) p.0 p.1, p.2))
@@ -79,7 +80,8 @@ module _ (night : Night) (c : Case) where
           (in_cases ks (k ∷ []) x i);
     }
 
-    pub fewer_offers : (ks : List Candidate) (os : List Offer) (k : Candidate) → (Gains night c stack k.shape → ⊥) → AreOffersFor night c stack ks os → AreOffersFor night c stack (ks ++ k ∷ []) os
+    pub fewer_offers : (ks : List Candidate) (os : List Offer) (k : Candidate) → (Gains night c stack k.shape → ⊥) → AreOffersFor night c stack ks os
+        → AreOffersFor night c stack (ks ++ k ∷ []) os
     fewer_offers ks os k not h = record {
       each = λ x i. let p = h.each x i in (p.0, in_left ks (k ∷ []) p.0 p.1, p.2);
       all = λ x i gains. ⊎_elim

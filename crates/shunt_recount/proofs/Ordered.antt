@@ -85,7 +85,8 @@ module _ (visits : List Visit) (from to x : ℕ) (bound : from ≤ length visits
       let is : get_or visits (from + p.0) v ≡ v = sym (get_or-drop from visits p.0 v) ∙ p.3 in
       let low : x + 1 ≤ v.comes = subst (λ (w : Visit). x + 1 ≤ w.comes) is (behind_next (from + p.0) v (omega (arith, p.1, le)) (omega (arith, p.2, long))) in
       omega (arith, low))
-      ∙ ap (λ (l : List Visit). coming_at x (spans_of l)) (ap (λ (l : List Visit). take from visits ++ l) (take-append-drop (to - from) (drop from visits)) ∙ take-append-drop from visits)
+      ∙ ap (λ (l : List Visit). coming_at x (spans_of l)) (ap (λ (l : List Visit). take from visits ++ l) (take-append-drop (to - from) (drop from visits))
+      ∙ take-append-drop from visits)
 
 -- what comes at an event or behind it stands behind those that come before it
 pub where_it_stands : (visits : List Visit) (n start : ℕ) (s : Span) → AreBefore visits n start → In s (spans_of visits) → start ≤ s.from →

@@ -89,7 +89,8 @@ module _ (fixed free : List Span) (own : AreOwn fixed free) (small : AreSmall fi
 
   pub gain_small : (part : Part) (g : Option ℤ) → IsBest fixed free part g → IfSome g (IsWithin 2560000000000000)
   gain_small part g is = subst (λ (o : Option ℤ). IfSome o (IsWithin 2560000000000000)) (sym (is part.end (omega arith)))
-      (wider (most part.start part.end) 2560000000000000 (best part.end fixed free part.start part.end part.room) (let f = small.few part.end in omega (arith, f)) (best_small part.end part.start part.end part.room))
+      (wider (most part.start part.end) 2560000000000000 (best part.end fixed free part.start part.end part.room) (let f = small.few part.end in omega (arith, f))
+      (best_small part.end part.start part.end part.room))
 
 pub seen : (z : ℤ) → IsWithin 16000000000000 z → to_z w64 (of_z w64 z) ≡ z
 seen z h = omega (arith, ints, h.low, h.high)

@@ -25,23 +25,28 @@ use Rattle.shunt_recount.specs.defs.Visits.{spans_of, AreSmall, span_of as visit
 use Rattle.shunt_recount.specs.defs.Offers.{blocks_in, offer_span, offer_spans, AreOffersOf}
 use Rattle.shunt_recount.proofs.Offered.{from_members}
 
-pub one_more_visit : (night : Night) (offers : List Offer) (i : ℕ) (d : Offer) (old new : List Visit) (v : Visit) (g : ℤ) → i < length offers → new ≡ old ++ v ∷ [] → spans_of old ≡ offer_spans night (take i offers) →
-    g ≡ (get_or offers i d).gain → visit_span v ≡ span_of night (entry_number night) (leave_number night) (λ b. g) (get_or offers i d).block → spans_of new ≡ offer_spans night (take (i + 1) offers)
+pub one_more_visit : (night : Night) (offers : List Offer) (i : ℕ) (d : Offer) (old new : List Visit) (v : Visit) (g : ℤ) → i < length offers → new ≡ old ++ v ∷ []
+    → spans_of old ≡ offer_spans night (take i offers) →
+    g ≡ (get_or offers i d).gain → visit_span v ≡ span_of night (entry_number night) (leave_number night) (λ b. g) (get_or offers i d).block
+    → spans_of new ≡ offer_spans night (take (i + 1) offers)
 one_more_visit night offers i d old new v g lt e before own is =
     ap spans_of e
     ∙ (map-append visit_span old (v ∷ [])
     ∙ (ap (λ (l : List Span). l ++ visit_span v ∷ []) before
-    ∙ (ap (λ (s : Span). offer_spans night (take i offers) ++ s ∷ []) (is ∙ ap (λ (z : ℤ). span_of night (entry_number night) (leave_number night) (λ b. z) (get_or offers i d).block) own)
+    ∙ (ap (λ (s : Span). offer_spans night (take i offers) ++ s ∷ []) (is ∙ ap (λ (z : ℤ). span_of night (entry_number night) (leave_number night) (λ b. z)
+    (get_or offers i d).block) own)
     ∙ sym (ap (offer_spans night) (take_more offers i d lt) ∙ map-append (offer_span night) (take i offers) (get_or offers i d ∷ [])))))
 
 -- ---- offers as free blocks
 
 module _ (night : Night) (c : Case) where
-  pub same_spans : (offers : List Offer) → ((o : Offer) → In o offers → o.gain ≡ gain night c o.block) → offer_spans night offers ≡ free_spans night (entry_number night) (leave_number night) c (blocks_in offers)
+  pub same_spans : (offers : List Offer) → ((o : Offer) → In o offers → o.gain ≡ gain night c o.block)
+      → offer_spans night offers ≡ free_spans night (entry_number night) (leave_number night) c (blocks_in offers)
   same_spans [] each = refl
   same_spans (o ∷ offers) each =
       ap (λ (l : List Span). offer_span night o ∷ l) (same_spans offers (λ p i. each p (inr i)))
-      ∙ ap (λ (z : ℤ). span_of night (entry_number night) (leave_number night) (λ b. z) o.block ∷ free_spans night (entry_number night) (leave_number night) c (blocks_in offers)) (each o (inl refl))
+      ∙ ap (λ (z : ℤ). span_of night (entry_number night) (leave_number night) (λ b. z) o.block ∷ free_spans night (entry_number night) (leave_number night) c (blocks_in offers))
+      (each o (inl refl))
 
 module _ (night : Night) (path : List Block) (c : Case) (stack : Stack) (offers : List Offer) (of : AreOffersOf night path c stack offers) where
   offer_within : (o : Offer) → In o offers → IsWithinTrains night o.block
@@ -94,7 +99,8 @@ module _ (night : Night) (places : PlaceLaws) (numbers : IsNumbering night 57600
   abbrev pub units : ℕ → ℕ
   units x = units_before (unit_total night) (entry_number night) x
 
-  block_counts : (value : Block → ℤ) (b : Block) → IsWithinTrains night b → units (span_of night (entry_number night) (leave_number night) value b).from < units (span_of night (entry_number night) (leave_number night) value b).inside
+  block_counts : (value : Block → ℤ) (b : Block) → IsWithinTrains night b → units (span_of night (entry_number night) (leave_number night) value b).from < units
+      (span_of night (entry_number night) (leave_number night) value b).inside
   block_counts value b within =
       let u = unit_from night (shape_of b) in
       let some = within.runs.n in
@@ -115,7 +121,8 @@ module _ (night : Night) (places : PlaceLaws) (numbers : IsNumbering night 57600
     little s (inl i) =
         let h = of_map (span_of night (entry_number night) (leave_number night) (λ b. pos 0)) (blocks_of stack path) s i in
         subst (λ (t : Span). IsWithin 16000000000000 t.gain) (sym h.2) (record { low = omega (arith, ints); high = omega (arith, ints) })
-    little s (inr i) = let h = of_map (offer_span night) offers s i in subst (λ (t : Span). IsWithin 16000000000000 t.gain) (sym h.2) (each_one (λ o. IsWithin 16000000000000 o.gain) offers h.0 small h.1)
+    little s (inr i) = let h = of_map (offer_span night) offers s i in subst (λ (t : Span). IsWithin 16000000000000 t.gain) (sym h.2)
+        (each_one (λ o. IsWithin 16000000000000 o.gain) offers h.0 small h.1)
 
     counted : (s : Span) → In s fixed ⊎ In s (offer_spans night offers) → units s.from < units s.inside
     counted s (inl i) =
@@ -127,4 +134,11 @@ module _ (night : Night) (places : PlaceLaws) (numbers : IsNumbering night 57600
         subst (λ (t : Span). units t.from < units t.inside) (sym h.2) (block_counts (λ b. h.0.gain) h.0.block (each_one (λ o. IsWithinTrains night o.block) offers h.0 within h.1))
 
     pub all_small : AreSmall fixed (offer_spans night offers)
-    all_small = record { gains = little; count = units; rises = λ x y le. before_rises (unit_total night) (entry_number night) x y le; counts = counted; few = λ x. let r = before_few (unit_total night) (entry_number night) x in omega (arith, r, few) }
+    all_small = record {
+      gains = little;
+      count = units;
+      rises = λ x y le. before_rises (unit_total night) (entry_number night) x y le;
+      counts = counted;
+      few = λ x.
+          let r = before_few (unit_total night) (entry_number night) x in omega (arith, r, few);
+    }

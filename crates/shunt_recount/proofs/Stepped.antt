@@ -25,7 +25,8 @@ greater_apart (Some x) (Some y) (Some z) = ap Some (max_apart x y z)
 abbrev pub left_with : (Span → Option ℤ) → List Visit → ℕ → Option ℤ → Option ℤ
 left_with value vs i gain = greater gain (greatest_of (map value (spans_of (drop i vs))))
 
-pub turned : (value : Span → Option ℤ) (vs : List Visit) (i : ℕ) (d : Visit) (gain w all : Option ℤ) → i < length vs → w ≡ value (span_of (get_or vs i d)) → left_with value vs i gain ≡ all →
+pub turned : (value : Span → Option ℤ) (vs : List Visit) (i : ℕ) (d : Visit) (gain w all : Option ℤ) → i < length vs → w ≡ value (span_of (get_or vs i d))
+    → left_with value vs i gain ≡ all →
     left_with value vs (i + 1) (greater gain w) ≡ all
 turned value vs i d gain w all lt e h = greater_apart gain w (greatest_of (map value (spans_of (drop (i + 1) vs))))
     ∙ (ap (λ (o : Option ℤ). greater gain (greater o (greatest_of (map value (spans_of (drop (i + 1) vs)))))) e
@@ -43,7 +44,8 @@ not_there m n e = grind (arith, nat_tests)
 pub nothing : (fixed free : List Span) (n x y room : ℕ) → y ≤ x → Some (pos 0) ≡ best n fixed free x y room
 nothing fixed free zero x y room le = refl
 nothing fixed free (suc n) x y room le =
-    sym (ap (λ (t : Bool). cond t (Some (pos 0)) (best_at (coming_at x fixed) (coming_at x free) (best n fixed free (x + 1) y room) (best_with (best n fixed free) y room))) (gone x y le))
+    sym (ap (λ (t : Bool). cond t (Some (pos 0)) (best_at (coming_at x fixed) (coming_at x free) (best n fixed free (x + 1) y room) (best_with (best n fixed free) y room)))
+    (gone x y le))
 
 -- what the laws say of own spans, where none comes at an event, and where a fixed one does
 abbrev pub NoneLaw : List Span → List Span → Type 0
@@ -51,7 +53,8 @@ NoneLaw fixed free = (n x y room : ℕ) → ((s : Span) → In s fixed ⊎ In s 
 
 module _ (fixed free : List Span) (law : NoneLaw fixed free) (n y room : ℕ) where
   -- events at which nothing comes are passed over
-  pub passed : (k x : ℕ) → x + k ≤ y → y ≤ x + n → ((s : Span) → In s fixed ⊎ In s free → x ≤ s.from → x + k ≤ s.from) → best n fixed free x y room ≡ best n fixed free (x + k) y room
+  pub passed : (k x : ℕ) → x + k ≤ y → y ≤ x + n → ((s : Span) → In s fixed ⊎ In s free → x ≤ s.from → x + k ≤ s.from)
+      → best n fixed free x y room ≡ best n fixed free (x + k) y room
   passed zero x le enough none = ap (λ (z : ℕ). best n fixed free z y room) (omega arith)
   passed (suc k) x le enough none =
       law n x y room (λ s i e. let h = none s i (omega (arith, e)) in absurd (omega (arith, h, e))) (omega (arith, le)) enough
@@ -69,7 +72,8 @@ module _ (fixed free : List Span) (law : NoneLaw fixed free) (n y room : ℕ) wh
 pub part_passed : (fixed free : List Span) → NoneLaw fixed free → (start end room first : ℕ) (g : Option ℤ) → start ≤ first → first ≤ end →
     ((s : Span) → In s fixed ⊎ In s free → start ≤ s.from → first ≤ s.from) → IsBest fixed free (record { start = first; end = end; room = room }) g →
     IsBest fixed free (record { start = start; end = end; room = room }) g
-part_passed fixed free law start end room first g le to none is n enough = is n (omega (arith, enough, le)) ∙ sym (passed_to fixed free law n end room start first le to enough none)
+part_passed fixed free law start end room first g le to none is n enough = is n (omega (arith, enough, le))
+    ∙ sym (passed_to fixed free law n end room start first le to enough none)
 
 pub part_empty : (fixed free : List Span) → NoneLaw fixed free → (start end room first : ℕ) → start ≤ end → end ≤ first →
     ((s : Span) → In s fixed ⊎ In s free → start ≤ s.from → first ≤ s.from) → IsBest fixed free (record { start = start; end = end; room = room }) (Some (pos 0))
@@ -116,7 +120,8 @@ pub comes_there : (x : ℕ) (spans : List Span) (s : Span) → In s (coming_at x
 comes_there x spans s i = let h = filter_from (λ (t : Span). t.from == x) spans s i in (h.0, not_there s.from x h.1)
 
 -- one of the visits that come at an event, of those that are listed
-pub listed : (vs all items : List Visit) (i x : ℕ) (d : Visit) → i < length vs → spans_of vs ≡ coming_at x (spans_of all) → all ≡ items → In (span_of (get_or vs i d)) (spans_of items) × ((get_or vs i d).comes ≡ x)
+pub listed : (vs all items : List Visit) (i x : ℕ) (d : Visit) → i < length vs → spans_of vs ≡ coming_at x (spans_of all) → all ≡ items
+    → In (span_of (get_or vs i d)) (spans_of items) × ((get_or vs i d).comes ≡ x)
 listed vs all items i x d lt e f =
     let there = subst (λ (l : List Span). In (span_of (get_or vs i d)) l) e (in_map span_of vs (get_or vs i d) (in_place vs i d lt)) in
     let h = comes_there x (spans_of all) (span_of (get_or vs i d)) there in (
@@ -133,11 +138,13 @@ none_listed vs all items x none e f =
     subst (λ (l : List Visit). length (coming_at x (spans_of l)) ≡ 0) f (subst (λ (l : List Span). length l ≡ 0) e (same_length vs ∙ none))
 
 -- the same value over other lists with the same members
-pub moved_best : (fixed free others more : List Span) (part : Part) (g : Option ℤ) → ((n : ℕ) → part.end ≤ part.start + n → best n others more part.start part.end part.room ≡ best n fixed free part.start part.end part.room) →
+pub moved_best : (fixed free others more : List Span) (part : Part) (g : Option ℤ)
+    → ((n : ℕ) → part.end ≤ part.start + n → best n others more part.start part.end part.room ≡ best n fixed free part.start part.end part.room) →
     IsBest others more part g → IsBest fixed free part g
 moved_best fixed free others more part g same is n enough = is n enough ∙ same n enough
 
-pub agree_all : (fixed free others more : List Span) (x y : ℕ) → ((s : Span) → In s fixed ↔ In s others) → ((s : Span) → In s free ↔ In s more) → AgreeWithin fixed free others more x y
+pub agree_all : (fixed free others more : List Span) (x y : ℕ) → ((s : Span) → In s fixed ↔ In s others) → ((s : Span) → In s free ↔ In s more)
+    → AgreeWithin fixed free others more x y
 agree_all fixed free others more x y fixed_same free_same = record {
   members = λ s le lt. (⊎_elim (λ i. inl ((fixed_same s).0 i)) (λ i. inr ((free_same s).0 i)), ⊎_elim (λ i. inl ((fixed_same s).1 i)) (λ i. inr ((free_same s).1 i)));
   same = λ s le lt. fixed_same s;

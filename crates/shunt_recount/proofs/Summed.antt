@@ -19,13 +19,16 @@ one_more k f z e = subst (λ (m : ℕ). z ≡ sum_z_below m f) (sym (add-one k))
 pub within_more : (k : ℕ) (total value z : ℤ) → z ≡ total +ℤ value → IsValue value → IsWithin (k * 999999999999) total → IsWithin ((k + 1) * 999999999999) z
 within_more k total value z e v w = record { low = omega (arith, ints, v.low, w.low, e); high = omega (arith, ints, v.high, w.high, e) }
 
-pub over_is : (night : Night) (d : Duals) (s : Shape) (u v n : ℕ) (alpha beta : List ℤ) (a b : ℤ) → u ≡ unit_from night s → v ≡ position_from night s → alpha ≡ d.alpha → beta ≡ d.beta → n ≡ s.n
+pub over_is : (night : Night) (d : Duals) (s : Shape) (u v n : ℕ) (alpha beta : List ℤ) (a b : ℤ) → u ≡ unit_from night s → v ≡ position_from night s → alpha ≡ d.alpha
+    → beta ≡ d.beta → n ≡ s.n
     → a ≡ sum_z_below n (λ k. get_or alpha (u + k) (pos 0)) → b ≡ sum_z_below n (λ k. get_or beta (v + k) (pos 0)) → a +ℤ b ≡ duals_over night d s
 over_is night d s u v n alpha beta a b eu ev ea eb en ha hb =
     let A : ℕ → List ℤ → ℕ → Type 0 = λ w zs m. a ≡ sum_z_below m (λ k. get_or zs (w + k) (pos 0)) in
     let B : ℕ → List ℤ → ℕ → Type 0 = λ w zs m. b ≡ sum_z_below m (λ k. get_or zs (w + k) (pos 0)) in
-    let a_is : a ≡ sum_z_below s.n (λ k. get_or d.alpha (unit_from night s + k) (pos 0)) = subst (λ (w : ℕ). A w d.alpha s.n) eu (subst (λ (zs : List ℤ). A u zs s.n) ea (subst (λ (m : ℕ). A u alpha m) en ha)) in
-    let b_is : b ≡ sum_z_below s.n (λ k. get_or d.beta (position_from night s + k) (pos 0)) = subst (λ (w : ℕ). B w d.beta s.n) ev (subst (λ (zs : List ℤ). B v zs s.n) eb (subst (λ (m : ℕ). B v beta m) en hb)) in
+    let a_is : a ≡ sum_z_below s.n (λ k. get_or d.alpha (unit_from night s + k) (pos 0)) = subst (λ (w : ℕ). A w d.alpha s.n) eu
+    (subst (λ (zs : List ℤ). A u zs s.n) ea (subst (λ (m : ℕ). A u alpha m) en ha)) in
+    let b_is : b ≡ sum_z_below s.n (λ k. get_or d.beta (position_from night s + k) (pos 0)) = subst (λ (w : ℕ). B w d.beta s.n) ev
+    (subst (λ (zs : List ℤ). B v zs s.n) eb (subst (λ (m : ℕ). B v beta m) en hb)) in
     ap (λ (x : ℤ). x +ℤ b) a_is ∙ ap (λ (x : ℤ). sum_z_below s.n (λ k. get_or d.alpha (unit_from night s + k) (pos 0)) +ℤ x) b_is
 
 -- ---- along a list

@@ -39,7 +39,8 @@ park_on stack s None e = absurd (false≢true e)
 park_on stack s (Some k) e =
     let h = and_parts (k.track.0 == stack.track.0) (same_side k.side_in stack.side && same_side k.side_out stack.side) e in
     let sides = and_parts (same_side k.side_in stack.side) (same_side k.side_out stack.side) h.1 in
-    same_park k.track.0 stack.track.0 k.side_in k.side_out stack.side (eqb-true k.track.0 stack.track.0 h.0) (same_side_tells k.side_in stack.side sides.0) (same_side_tells k.side_out stack.side sides.1)
+    same_park k.track.0 stack.track.0 k.side_in k.side_out stack.side (eqb-true k.track.0 stack.track.0 h.0) (same_side_tells k.side_in stack.side sides.0)
+    (same_side_tells k.side_out stack.side sides.1)
 
 on_stack : (stack : Stack) (s : Shape) → is_of stack (block_on stack s).park ≡ true
 on_stack stack s = and_from (stack.track.0 == stack.track.0) (same_side stack.side stack.side && same_side stack.side stack.side) (eq-eqb stack.track.0 stack.track.0 refl)
@@ -73,7 +74,12 @@ module _ (night : Night) (c : Case) (stack : Stack) where
         let e = park_on stack (shape_of b) b.park there in
         let more : pos 0 <ℤ gain night c (block_on stack (shape_of b)) = subst (λ (z : ℤ). pos 0 <ℤ z) (same_gain b e) gains in
         let k = are.all (shape_of b) (free.all (shape_of b) is.shape) (worth_something night c stack (shape_of b) more) in
-        let brings : Gains night c stack (shape_of b) = record { option = subst (IsOption night (shape_of b)) e is.option; room = subst (HasRoom night (shape_of b)) e room; gains = more } in
+        let brings : Gains night c stack (shape_of b) = record {
+          option = subst (IsOption night (shape_of b)) e is.option;
+          room = subst
+              (HasRoom night (shape_of b)) e room;
+          gains = more;
+        } in
         let o = offers.all k.0 k.1 (subst (Gains night c stack) (sym k.2) brings) in (
           o.0.block,
           in_map (λ (p : Offer). p.block) os o.0 o.1,
@@ -94,16 +100,20 @@ module _ (night : Night) (c : Case) (stack : Stack) where
 -- ---- one more block
 
 module _ (night : Night) (b : Block) where
-  one_block : (o : Offer) (os : List Offer) (t : Bool) → not (shares night b o.block) ≡ t → blocks_in (filter (λ p. not (shares night b p.block)) os) ≡ apart_of night b (blocks_in os) →
+  one_block : (o : Offer) (os : List Offer) (t : Bool) → not (shares night b o.block) ≡ t
+      → blocks_in (filter (λ p. not (shares night b p.block)) os) ≡ apart_of night b (blocks_in os) →
       blocks_in (filter (λ p. not (shares night b p.block)) (o ∷ os)) ≡ apart_of night b (blocks_in (o ∷ os))
-  one_block o os true e h = ap blocks_in (filter_yes (λ (p : Offer). not (shares night b p.block)) o os e) ∙ (ap (λ (l : List Block). o.block ∷ l) h ∙ sym (filter_yes (λ (d : Block). not (shares night b d)) o.block (blocks_in os) e))
-  one_block o os false e h = ap blocks_in (filter_no (λ (p : Offer). not (shares night b p.block)) o os e) ∙ (h ∙ sym (filter_no (λ (d : Block). not (shares night b d)) o.block (blocks_in os) e))
+  one_block o os true e h = ap blocks_in (filter_yes (λ (p : Offer). not (shares night b p.block)) o os e)
+      ∙ (ap (λ (l : List Block). o.block ∷ l) h ∙ sym (filter_yes (λ (d : Block). not (shares night b d)) o.block (blocks_in os) e))
+  one_block o os false e h = ap blocks_in (filter_no (λ (p : Offer). not (shares night b p.block)) o os e)
+      ∙ (h ∙ sym (filter_no (λ (d : Block). not (shares night b d)) o.block (blocks_in os) e))
 
   apart_blocks : (os : List Offer) → blocks_in (filter (λ o. not (shares night b o.block)) os) ≡ apart_of night b (blocks_in os)
   apart_blocks [] = refl
   apart_blocks (o ∷ os) = one_block o os (not (shares night b o.block)) refl (apart_blocks os)
 
-  pub left : (path longer : List Block) (c : Case) (stack : Stack) (os : List Offer) → AreOffersOf night path c stack os → AreFreeOf night longer c stack (apart_of night b (blocks_in os)) →
+  pub left : (path longer : List Block) (c : Case) (stack : Stack) (os : List Offer) → AreOffersOf night path c stack os
+      → AreFreeOf night longer c stack (apart_of night b (blocks_in os)) →
       AreOffersOf night longer c stack (filter (λ o. not (shares night b o.block)) os)
   left path longer c stack os of free = record {
     free = subst (AreFreeOf night longer c stack) (sym (apart_blocks os)) free;

@@ -42,13 +42,16 @@ module _ (night : Night) (path : List Block) (c : Case) where
   pub one_of : (k : StackCount) (counts : List StackCount) → AreCountsOf night path c counts → In k counts → In (stack_at k.end) (stacks night.station)
   one_of k counts are i = subst (λ (ks : List Stack). In (stack_at k.end) ks) are.stacks (in_map (λ (x : StackCount). stack_at x.end) counts k i)
 
-  pub count_at : (stack : Stack) (counts : List StackCount) → AreCountsOf night path c counts → In stack (stacks night.station) → (k : StackCount) × In k counts × (stack ≡ stack_at k.end)
+  pub count_at : (stack : Stack) (counts : List StackCount) → AreCountsOf night path c counts → In stack (stacks night.station)
+      → (k : StackCount) × In k counts × (stack ≡ stack_at k.end)
   count_at stack counts are i = of_map (λ (x : StackCount). stack_at x.end) counts stack (subst (λ (ks : List Stack). In stack ks) (sym are.stacks) i)
 
-  pub more_each : (counts : List StackCount) (k : StackCount) → ((x : StackCount) → In x counts → IsCountOf night path c x) → IsCountOf night path c k → (x : StackCount) → In x (counts ++ k ∷ []) → IsCountOf night path c x
+  pub more_each : (counts : List StackCount) (k : StackCount) → ((x : StackCount) → In x counts → IsCountOf night path c x) → IsCountOf night path c k → (x : StackCount)
+      → In x (counts ++ k ∷ []) → IsCountOf night path c x
   more_each counts k each is x i = ⊎_elim (λ left. each x left) (λ right. subst (IsCountOf night path c) (sym (of_one k x right)) is) (in_cases counts (k ∷ []) x i)
 
-pub more_stacks : (ends : List TrackEnd) (i : ℕ) (d : TrackEnd) (counts new : List StackCount) (k : StackCount) → i < length ends → new ≡ counts ++ k ∷ [] → stacks_in counts ≡ stacks_at (take i ends) → k.end ≡ get_or ends i d →
+pub more_stacks : (ends : List TrackEnd) (i : ℕ) (d : TrackEnd) (counts new : List StackCount) (k : StackCount) → i < length ends → new ≡ counts ++ k ∷ []
+    → stacks_in counts ≡ stacks_at (take i ends) → k.end ≡ get_or ends i d →
     stacks_in new ≡ stacks_at (take (i + 1) ends)
 more_stacks ends i d counts new k lt e before end =
     ap stacks_in e

@@ -37,12 +37,14 @@ placed_there law night blocks u x h p = subst (IsPlacementOfNight night) (sym p.
     has : (unit_from night (shape_of p.block) ≤ u) × (u < unit_from night (shape_of p.block) + p.block.n)
     has = unit_of night (shape_of p.block) u p.has
 
-pub of_comparison : (law : PositionsIn) (night : Night) (was now : List Block) (c : Comparison) → IsFeasible night was → IsFeasible night now → IsComparison night was now c → IsComparisonOfNight night c
+pub of_comparison : (law : PositionsIn) (night : Night) (was now : List Block) (c : Comparison) → IsFeasible night was → IsFeasible night now → IsComparison night was now c
+    → IsComparisonOfNight night c
 of_comparison law night was now c before after h = record {
   changes = λ k d lt. let of = (h.changes.exactly (get_or c.changes k d)).0 (in_place c.changes k d lt) in record {
     unit = of.0;
     was = placed_there law night was _ _ before of.1.before;
     now = placed_there law night now _ _ after of.1.after;
   };
-  regrouped = λ k d lt. let of = (h.regrouped.exactly (get_or c.regrouped k d)).0 (in_place c.regrouped k d lt) in (is_block night now after (get_or c.regrouped k d) of.1.there).in_range.within;
+  regrouped = λ k d lt. let of = (h.regrouped.exactly (get_or c.regrouped k d)).0 (in_place c.regrouped k d lt) in
+      (is_block night now after (get_or c.regrouped k d) of.1.there).in_range.within;
 }

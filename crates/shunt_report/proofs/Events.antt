@@ -51,13 +51,16 @@ steps_are laws night blocks is range =
     omega (arith, on, length-map {B = List Standing} lengths (λ n. []), length-map night.station.tracks (λ t. t.length))) e).steps)
 
 -- those of what came of a run
-pub ran_steps : (laws : StayLaws) (night : Night) (blocks seen : List Block) (r : Ran) → IsInstance night → AreInRange night blocks → seen ≡ blocks → r ≡ answer (run_of (track_lengths night.station) (stays_of night seen)) → All (IsStepOf night) (steps_of r)
-ran_steps laws night blocks seen r is range same came = subst (All (IsStepOf night)) (sym (ap steps_of (came ∙ ap (λ l. answer (run_of (track_lengths night.station) (stays_of night l))) same))) (steps_are laws night blocks is range)
+pub ran_steps : (laws : StayLaws) (night : Night) (blocks seen : List Block) (r : Ran) → IsInstance night → AreInRange night blocks → seen ≡ blocks
+    → r ≡ answer (run_of (track_lengths night.station) (stays_of night seen)) → All (IsStepOf night) (steps_of r)
+ran_steps laws night blocks seen r is range same came = subst (All (IsStepOf night))
+    (sym (ap steps_of (came ∙ ap (λ l. answer (run_of (track_lengths night.station) (stays_of night l))) same))) (steps_are laws night blocks is range)
 
 -- ---- their values
 
 -- the value of one more event
-pub one_value : (night : Night) (steps : List Step) (i : ℕ) (d : Step) (values more : List Value) (v : Value) → i < length steps → view v ≡ event_value night (get_or steps i d) → more ≡ values ++ v ∷ []
+pub one_value : (night : Night) (steps : List Step) (i : ℕ) (d : Step) (values more : List Value) (v : Value) → i < length steps → view v ≡ event_value night (get_or steps i d)
+    → more ≡ values ++ v ∷ []
     → map view values ≡ map (event_value night) (take i steps) → map view more ≡ map (event_value night) (take (i + 1) steps)
 one_value night steps i d values more v lt is push done =
     ap (map view) push ∙ map-append view values (v ∷ []) ∙ ap (λ l. l ++ view v ∷ []) done ∙ ap (λ x. map (event_value night) (take i steps) ++ x ∷ []) is

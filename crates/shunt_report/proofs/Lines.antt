@@ -16,27 +16,32 @@ on_ok (Ok v) P Q p h = h p
 on_ok (Err e) P Q p h = tt
 
 -- the line of one more of these
-pub one_more : {X : Type 0} (line : X → List ℕ) (xs : List X) (i : ℕ) (d : X) (text more : List ℕ) → i < length xs → more ≡ text ++ line (get_or xs i d) → more ++ flat_map line (drop (i + 1) xs) ≡ text ++ flat_map line (drop i xs)
+pub one_more : {X : Type 0} (line : X → List ℕ) (xs : List X) (i : ℕ) (d : X) (text more : List ℕ) → i < length xs → more ≡ text ++ line (get_or xs i d)
+    → more ++ flat_map line (drop (i + 1) xs) ≡ text ++ flat_map line (drop i xs)
 one_more line xs i d text more lt push =
     let rest = flat_map line (drop (i + 1) xs) in
     ap (λ t. t ++ rest) push ∙ append_assoc text (line (get_or xs i d)) rest
     ∙ ap (λ t. text ++ t) (sym (ap (flat_map line) (drop_more xs i d lt) ∙ flat_map-cons line (get_or xs i d) (drop (i + 1) xs)))
 
 -- the line of one more zone
-pub one_zone : (names : List (List ℕ)) (loads : List ZoneLoad) (i : ℕ) (name d : List ℕ) (load l : ZoneLoad) (text more : List ℕ) → i < length names → i < length loads → name ≡ get_or names i d → load ≡ get_or loads i l
+pub one_zone : (names : List (List ℕ)) (loads : List ZoneLoad) (i : ℕ) (name d : List ℕ) (load l : ZoneLoad) (text more : List ℕ) → i < length names → i < length loads
+    → name ≡ get_or names i d → load ≡ get_or loads i l
     → more ≡ text ++ zone_line name load → more ++ zone_lines (drop (i + 1) names) (drop (i + 1) loads) ≡ text ++ zone_lines (drop i names) (drop i loads)
 one_zone names loads i name d load l text more lt within at on push =
     let rest = zone_lines (drop (i + 1) names) (drop (i + 1) loads) in
     ap (λ t. t ++ rest) (push ∙ ap (λ x. text ++ zone_line x load) at ∙ ap (λ x. text ++ zone_line (get_or names i d) x) on)
     ∙ append_assoc text (zone_line (get_or names i d) (get_or loads i l)) rest
-    ∙ ap (λ t. text ++ t) (sym (ap (λ x. zone_lines x (drop i loads)) (drop_more names i d lt) ∙ ap (λ x. zone_lines (get_or names i d ∷ drop (i + 1) names) x) (drop_more loads i l within)))
+    ∙ ap (λ t. text ++ t) (sym (ap (λ x. zone_lines x (drop i loads)) (drop_more names i d lt)
+    ∙ ap (λ x. zone_lines (get_or names i d ∷ drop (i + 1) names) x) (drop_more loads i l within)))
 
 -- the words where there is a minute
-pub busy_written : (text first more : List ℕ) (busy : Option ℕ) (minute : ℕ) → busy ≡ Some minute → first ≡ text ++ codes " busy " → more ≡ first ++ minute_text minute → more ≡ text ++ busy_words busy
+pub busy_written : (text first more : List ℕ) (busy : Option ℕ) (minute : ℕ) → busy ≡ Some minute → first ≡ text ++ codes " busy " → more ≡ first ++ minute_text minute
+    → more ≡ text ++ busy_words busy
 busy_written text first more busy minute is one two =
     two ∙ ap (λ t. t ++ minute_text minute) one ∙ append_assoc text (codes " busy ") (minute_text minute) ∙ ap (λ o. text ++ busy_words o) (sym is)
 
-pub busiest_written : (text first second third more : List ℕ) (busiest : Option ℕ) (minute most : ℕ) → busiest ≡ Some minute → first ≡ text ++ codes " busiest " → second ≡ first ++ minute_text minute → third ≡ second ++ codes " "
+pub busiest_written : (text first second third more : List ℕ) (busiest : Option ℕ) (minute most : ℕ) → busiest ≡ Some minute → first ≡ text ++ codes " busiest "
+    → second ≡ first ++ minute_text minute → third ≡ second ++ codes " "
     → more ≡ third ++ decimal most → more ≡ text ++ busiest_words busiest most
 busiest_written text first second third more busiest minute most is one two three four =
     four
@@ -51,7 +56,8 @@ pub later_is : (duties : List Duty) (k : ℕ) → take (length duties - k) (drop
 later_is duties k = take_all (length duties - k) (drop k duties) (omega (arith, length-drop k duties))
 
 -- one more duty is counted, where it is its driver's last
-pub one_duty : (duties later : List Duty) (i : ℕ) (e : Duty) (different one whole : ℕ) → i < length duties → later ≡ drop (i + 1) duties → one ≡ newly later (get_or duties i e).driver
+pub one_duty : (duties later : List Duty) (i : ℕ) (e : Duty) (different one whole : ℕ) → i < length duties → later ≡ drop (i + 1) duties
+    → one ≡ newly later (get_or duties i e).driver
     → different + different_drivers (drop i duties) ≡ whole → different + one + different_drivers (drop (i + 1) duties) ≡ whole
 one_duty duties later i e different one whole lt is new counted =
     let now : one ≡ newly (drop (i + 1) duties) (get_or duties i e).driver = new ∙ ap (λ l. newly l (get_or duties i e).driver) is in

@@ -46,7 +46,8 @@ stated night depth c o e h =
     record { dep = fits.1.dep; track = fits.1.track }
 
 -- a choice for the next unit of a path
-there_at : (night : Night) (path : List Block) (next : Option ℕ) (d : PathChoice) → IsSomeAnd next (λ u. IsChoice night (masks_of night path) u d) → (d.shape.dep.0 < length night.depart) × IsOnTrack night.station d.option
+there_at : (night : Night) (path : List Block) (next : Option ℕ) (d : PathChoice) → IsSomeAnd next (λ u. IsChoice night (masks_of night path) u d)
+    → (d.shape.dep.0 < length night.depart) × IsOnTrack night.station d.option
 there_at night path None d h = absurd h
 there_at night path (Some u) d h = (h.shape.shape.within.dep, on_track night d.shape d.option h.option)
 
@@ -73,11 +74,13 @@ module _ (night : Night) (start : List Block) (c : Certificate) (nodes : AreNode
   of_node LowWhole r h = subst (IsReasonOfNight night) (sym h.2) tt
   of_node (Missing d) r h = subst (IsReasonOfNight night) (sym h.5) (missed night (path_at night start c.nodes k) h.1 d h.2 h.4.there)
 
-of_reason : (night : Night) (start : List Block) (plan : Plan) (c : Certificate) (row : ℕ) (r : Reason) → AreNodes night c.nodes → IsFirstReason night start plan c row r → IsReasonOfNight night r
+of_reason : (night : Night) (start : List Block) (plan : Plan) (c : Certificate) (row : ℕ) (r : Reason) → AreNodes night c.nodes → IsFirstReason night start plan c row r
+    → IsReasonOfNight night r
 of_reason night start plan c row r nodes (inl h) = subst (IsReasonOfNight night) (sym h.told) (of_plan night plan h.fault h.first.is)
 of_reason night start plan c row r nodes (inr (inl h)) = of_node night start c nodes h.node h.there h.first.fault r h.first.is
 of_reason night start plan c row r nodes (inr (inr h)) = subst (IsReasonOfNight night) (sym h.told) tt
 
-pub of_verdict : (night : Night) (pins : List Block) (plan : Plan) (c : Certificate) (v : Verdict) → IsCertificate night c → IsVerdict night pins plan c v → IsVerdictOfNight night v
+pub of_verdict : (night : Night) (pins : List Block) (plan : Plan) (c : Certificate) (v : Verdict) → IsCertificate night c → IsVerdict night pins plan c v
+    → IsVerdictOfNight night v
 of_verdict night pins plan c (verdict.Accepted bound) is h = tt
 of_verdict night pins plan c (verdict.Rejected row r) is h = of_reason night h.start plan c row r is.nodes h.answers

@@ -20,8 +20,12 @@ reached : (rows : List (List (List ℕ))) → ArePlain rows → Reached default_
 unfolding Reached
 reached [] all = (refl, refl)
 reached (row ∷ rows) all =
-    let text : text_of_rows (row ∷ rows) ≡ row_text default_writer row ++ text_of_rows rows = flat_map-cons (row_text default_writer) row rows in
-    ((read_back row, st.StartRecord, text_of_rows rows), ap (next_record default_config st.StartRecord [] []) text ∙ read-write row (text_of_rows rows), sym (same_row row all.0.0), reached rows all.1)
+    let text : text_of_rows (row ∷ rows) ≡ row_text default_writer row ++ text_of_rows rows = flat_map-cons (row_text default_writer) row rows in (
+      (read_back row, st.StartRecord, text_of_rows rows),
+      ap (next_record default_config st.StartRecord [] []) text ∙ read-write row (text_of_rows rows),
+      sym (same_row row all.0.0),
+      reached rows all.1,
+    )
 
 none_left : next_record default_config st.StartRecord [] [] [] ≡ None
 unfolding next_record
@@ -50,7 +54,8 @@ plain_field (b ∷ field) all = or_from _ _ (plain_byte b all.0) (plain_field fi
 pub field_is : (field : List ℕ) → AllByRecursion (λ b. IsTrue (is_plain b)) field → field_text default_writer field ≡ field
 field_is field all = ap (λ t. cond t (quoted default_writer field) field) (plain_field field all)
 
-first_byte : (x : ℕ) (field : List ℕ) (fields : List (List ℕ)) → AllByRecursion (λ b. IsTrue (is_plain b)) (x ∷ field) → (rest : List ℕ) × (row_text default_writer ((x ∷ field) ∷ fields) ≡ x ∷ rest)
+first_byte : (x : ℕ) (field : List ℕ) (fields : List (List ℕ)) → AllByRecursion (λ b. IsTrue (is_plain b)) (x ∷ field)
+    → (rest : List ℕ) × (row_text default_writer ((x ∷ field) ∷ fields) ≡ x ∷ rest)
 first_byte x field fields all =
     let tail = cond (is_blank default_writer ((x ∷ field) ∷ fields)) (34 ∷ 34 ∷ []) [] ++ (10 ∷ []) in
     ((field ++ fields_text default_writer fields) ++ tail, ap (λ t. (t ++ fields_text default_writer fields) ++ tail) (field_is (x ∷ field) all))
@@ -61,7 +66,8 @@ starts ([] ∷ rows) all b rest e = absurd (let lt = all.0.0 in omega arith)
 starts (([] ∷ fields) ∷ rows) all b rest e = absurd (let lt = all.0.1.0.0 in omega arith)
 starts (((x ∷ field) ∷ fields) ∷ rows) all b rest e =
     let one = first_byte x field fields all.0.1.0.1 in
-    let text : b ∷ rest ≡ x ∷ (one.0 ++ text_of_rows rows) = sym e ∙ flat_map-cons (row_text default_writer) ((x ∷ field) ∷ fields) rows ∙ ap (λ (t : List ℕ). t ++ text_of_rows rows) one.1 in
+    let text : b ∷ rest ≡ x ∷ (one.0 ++ text_of_rows rows) = sym e ∙ flat_map-cons (row_text default_writer) ((x ∷ field) ∷ fields) rows
+    ∙ ap (λ (t : List ℕ). t ++ text_of_rows rows) one.1 in
     let same : b ≡ x = cc in
     λ f. plain_small x all.0.1.0.1.0 (sym same ∙ f)
 

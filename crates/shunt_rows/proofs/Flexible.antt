@@ -44,7 +44,9 @@ same_row (field ∷ rest) =
 necessary : style.Necessary ≢ style.NonNumeric
 necessary e = absurd (let quotes : false ≡ true = ap (λ s. by_style s false) e in cc)
 
-pub one_more : {A : Type 0} (old new : Writer (Vec ℕ A)) (row : List (List ℕ)) → IsAtRow old → (fields_written old ≡ 0 → has_written old ≡ false → (writer_setup old).style ≢ style.NonNumeric → Appends (text_written (λ v. Some v.items) old) (text_written (λ v. Some v.items) new) (row_text (writer_setup old) row)) → rows_text new ≡ rows_text old ++ text_of_row row
+pub one_more : {A : Type 0} (old new : Writer (Vec ℕ A)) (row : List (List ℕ)) → IsAtRow old
+    → (fields_written old ≡ 0 → has_written old ≡ false → (writer_setup old).style ≢ style.NonNumeric
+    → Appends (text_written (λ v. Some v.items) old) (text_written (λ v. Some v.items) new) (row_text (writer_setup old) row)) → rows_text new ≡ rows_text old ++ text_of_row row
 one_more old new row at appends =
     appends at.none at.nothing (subst (λ c. c.style ≢ style.NonNumeric) (sym at.setup) necessary)
     ∙ ap (λ t. rows_text old ++ t) (ap (λ c. row_text c row) at.setup ∙ same_row row)

@@ -47,6 +47,7 @@ hold_rest [] more p = p
 hold_rest (c ∷ checks) more p = hold_rest checks more p.1
 
 -- a choice of two records
-pub in_either : {A : Type 0} (n : ℕ) (b : Bool) (m k : Judged A) (z : A) (P : Type 0) → (b ≡ true → answer n m ≡ Ok z → P) → (answer n k ≡ Ok z → P) → answer n (if b then m else k) ≡ Ok z → P
+pub in_either : {A : Type 0} (n : ℕ) (b : Bool) (m k : Judged A) (z : A) (P : Type 0) → (b ≡ true → answer n m ≡ Ok z → P) → (answer n k ≡ Ok z → P)
+    → answer n (if b then m else k) ≡ Ok z → P
 in_either n true m k z P f g e = f refl e
 in_either n false m k z P f g e = g e

@@ -66,7 +66,8 @@ pub reads_on : {S V : Type 0} (f : Format S V) (s : S) (n : ℕ) (rows more : Li
 reads_on f s n [] more = ap (λ k. reading_from f s k more) (let e : n ≡ n + 0 = omega arith in e)
 reads_on f s n (row ∷ rows) more =
     goes_alike (answer n (in_state f s row)) (λ t. reading_from f t (n + 1) (rows ++ more)) (λ t. reads f t (n + 1) rows >>= (λ u. reading_from f u (n + length (row ∷ rows)) more))
-    (λ t. reads_on f t (n + 1) rows more ∙ ap (λ k. reads f t (n + 1) rows >>= (λ u. reading_from f u k more)) (let e : n + 1 + length rows ≡ n + length (row ∷ rows) = omega arith in e))
+    (λ t. reads_on f t (n + 1) rows more ∙ ap (λ k. reads f t (n + 1) rows >>= (λ u. reading_from f u k more))
+    (let e : n + 1 + length rows ≡ n + length (row ∷ rows) = omega arith in e))
     ∙ sym (regroup (answer n (in_state f s row)) (λ t. reads f t (n + 1) rows) (λ u. reading_from f u (n + length (row ∷ rows)) more))
 
 -- the state that two lists leave, one after the other
@@ -75,11 +76,13 @@ pub reads_more : {S V : Type 0} (f : Format S V) (s : S) (n : ℕ) (rows more : 
 reads_more f s n [] more = ap (λ k. reads f s k more) (let e : n ≡ n + 0 = omega arith in e)
 reads_more f s n (row ∷ rows) more =
     goes_alike (answer n (in_state f s row)) (λ t. reads f t (n + 1) (rows ++ more)) (λ t. reads f t (n + 1) rows >>= (λ u. reads f u (n + length (row ∷ rows)) more))
-    (λ t. reads_more f t (n + 1) rows more ∙ ap (λ k. reads f t (n + 1) rows >>= (λ u. reads f u k more)) (let e : n + 1 + length rows ≡ n + length (row ∷ rows) = omega arith in e))
+    (λ t. reads_more f t (n + 1) rows more ∙ ap (λ k. reads f t (n + 1) rows >>= (λ u. reads f u k more))
+    (let e : n + 1 + length rows ≡ n + length (row ∷ rows) = omega arith in e))
     ∙ sym (regroup (answer n (in_state f s row)) (λ t. reads f t (n + 1) rows) (λ u. reads f u (n + length (row ∷ rows)) more))
 
 -- reading is to read the records, and then to look whether they are enough
 pub reading_is : {S V : Type 0} (f : Format S V) (head : List (List ℕ)) (rows : List (List (List ℕ)))
     → reading f (head ∷ rows) ≡ (answer 1 (f.first head) >>= (λ s. reads f s 2 rows >>= (λ t. ends f t (length rows + 2))))
 reading_is f head rows = goes_alike (answer 1 (f.first head)) (λ s. reading_from f s 2 rows) (λ s. reads f s 2 rows >>= (λ t. ends f t (length rows + 2)))
-    (λ s. ap (reading_from f s 2) (sym (append-nil rows)) ∙ reads_on f s 2 rows [] ∙ ap (λ k. reads f s 2 rows >>= (λ t. ends f t k)) (let e : 2 + length rows ≡ length rows + 2 = omega arith in e))
+    (λ s. ap (reading_from f s 2) (sym (append-nil rows)) ∙ reads_on f s 2 rows []
+    ∙ ap (λ k. reads f s 2 rows >>= (λ t. ends f t k)) (let e : 2 + length rows ≡ length rows + 2 = omega arith in e))

@@ -38,7 +38,8 @@ kept f P step s n (row ∷ rows) v has e =
     let one = goes_on (answer n (in_state f s row)) (λ t. reading_from f t (n + 1) rows) v e in
     kept f P step one.0 (n + 1) rows v (step n s one.0 row has one.1) one.2
 
-pub all_kept : {S V : Type 0} (f : Format S V) (P : S → Type 0) → ((t : S) (row : List (List ℕ)) → answer 1 (f.first row) ≡ Ok t → P t) → ((n : ℕ) (s t : S) (row : List (List ℕ)) → P s → answer n (in_state f s row) ≡ Ok t → P t)
+pub all_kept : {S V : Type 0} (f : Format S V) (P : S → Type 0) → ((t : S) (row : List (List ℕ)) → answer 1 (f.first row) ≡ Ok t → P t)
+    → ((n : ℕ) (s t : S) (row : List (List ℕ)) → P s → answer n (in_state f s row) ≡ Ok t → P t)
     → (rows : List (List (List ℕ))) (v : V) → reading f rows ≡ Ok v → Leaves f P v
 all_kept f P start step [] v e = absurd cc
 all_kept f P start step (head ∷ rows) v e =
@@ -46,11 +47,13 @@ all_kept f P start step (head ∷ rows) v e =
     kept f P step one.0 2 rows v (start one.0 head one.1) one.2
 
 -- where the first record leaves a state with this and each later record keeps it, so has the value that is read
-pub formed : {S V : Type 0} (f : Format S V) (P : S → Type 0) (Q : V → Type 0) → ((t : S) (row : List (List ℕ)) → answer 1 (f.first row) ≡ Ok t → P t) → ((n : ℕ) (s t : S) (row : List (List ℕ)) → P s → answer n (in_state f s row) ≡ Ok t → P t)
+pub formed : {S V : Type 0} (f : Format S V) (P : S → Type 0) (Q : V → Type 0) → ((t : S) (row : List (List ℕ)) → answer 1 (f.first row) ≡ Ok t → P t)
+    → ((n : ℕ) (s t : S) (row : List (List ℕ)) → P s → answer n (in_state f s row) ≡ Ok t → P t)
     → ((s : S) → P s → Q (f.value s)) → (rows : List (List (List ℕ))) (v : V) → reading f rows ≡ Ok v → Q v
 formed f P Q start step end rows v e = let l = all_kept f P start step rows v e in subst Q l.value (end l.state l.has)
 
 -- and so has what a reader gives
-pub given : {X V : Type 0} (view : X → V) (Q : V → Type 0) (stated : Result V RowFault) → ((v : V) → stated ≡ Ok v → Q v) → (r : Result X ReadError) → Gives view r stated → IfOk r (λ x. Q (view x))
+pub given : {X V : Type 0} (view : X → V) (Q : V → Type 0) (stated : Result V RowFault) → ((v : V) → stated ≡ Ok v → Q v) → (r : Result X ReadError) → Gives view r stated
+    → IfOk r (λ x. Q (view x))
 given view Q stated h (Ok x) g = h (view x) g
 given view Q stated h (Err e) g = tt

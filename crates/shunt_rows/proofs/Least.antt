@@ -10,7 +10,8 @@ use Rattle.shunt_rows.specs.defs.Checks.{Check, passes}
 use Rattle.shunt_rows.specs.defs.FirstFault.{Finds, IsFaulty, rank, ascends_from, IsBefore}
 
 kind_of : ℕ → RowKind
-kind_of n = if n == 1 then kinds.Kind else if n == 2 then kinds.Fields else if n == 3 then kinds.Name else if n == 4 then kinds.Number else if n == 5 then kinds.Time else if n == 6 then kinds.Unknown else if n == 7 then kinds.Repeat else if n == 8 then kinds.Limit else if n == 9 then kinds.Missing else if n == 10 then kinds.ClosedSide else kinds.Tail
+kind_of n = if n == 1 then kinds.Kind else if n == 2 then kinds.Fields else if n == 3 then kinds.Name else if n == 4 then kinds.Number else if n == 5 then kinds.Time else if n == 6
+    then kinds.Unknown else if n == 7 then kinds.Repeat else if n == 8 then kinds.Limit else if n == 9 then kinds.Missing else if n == 10 then kinds.ClosedSide else kinds.Tail
 
 kind_back : (k : RowKind) → kind_of (kind_number k) ≡ k
 unfolding kind_of
@@ -112,7 +113,8 @@ pub least_faulty : (checks : List Check) (e : RowFault) → IsTrue (ascends_from
 least_faulty checks e up l =
     let low = later 13 checks up e.field e.kind l.found in
     let range = kind_range e.kind in
-    let before : (k : RowKind) → 2 ≤ e.field → kind_number k ≤ 2 → Finds checks 1 k → ⊥ = λ k ge small found. let le = l.least 13 up 1 k found in omega (arith, le, ge, small, range.0) in
+    let before : (k : RowKind) → 2 ≤ e.field → kind_number k ≤ 2 → Finds checks 1 k
+    → ⊥ = λ k ge small found. let le = l.least 13 up 1 k found in omega (arith, le, ge, small, range.0) in
     record {
       found = l.found;
       judged = ⊎_elim

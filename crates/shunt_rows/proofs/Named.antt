@@ -19,13 +19,15 @@ pub same_name : (name other : List ℕ) → other ≡ name → bytes_eq other na
 same_name name other e = (bytes_eq-Decides other name).1 e
 
 -- where none passes a test that this key passes, each key differs from it
-none_such : {X Y : Type 0} (f : X → Y) (test : X → Bool) (xs : List X) (y : Y) → ((x : X) → f x ≡ y → test x ≡ true) → list_any test xs ≡ false → (k : ℕ) (d : Y) → k < length (map f xs) → get_or (map f xs) k d ≢ y
+none_such : {X Y : Type 0} (f : X → Y) (test : X → Bool) (xs : List X) (y : Y) → ((x : X) → f x ≡ y → test x ≡ true) → list_any test xs ≡ false → (k : ℕ) (d : Y)
+    → k < length (map f xs) → get_or (map f xs) k d ≢ y
 none_such f test [] y same e k d lt is = absurd (omega arith)
 none_such f test (x ∷ xs) y same e zero d lt is = true≢false (sym (same x is) ∙ (or_parts _ _ e).0)
 none_such f test (x ∷ xs) y same e (suc k) d lt is = none_such f test xs y same (or_parts _ _ e).1 k d (omega arith) is
 
 -- one more thing, unlike the others by its key
-pub distinct_push : {X Y : Type 0} (f : X → Y) (test : X → Bool) (xs : List X) (y : X) → ((x : X) → f x ≡ f y → test x ≡ true) → Apart (map f xs) → list_any test xs ≡ false → Apart (map f (xs ++ y ∷ []))
+pub distinct_push : {X Y : Type 0} (f : X → Y) (test : X → Bool) (xs : List X) (y : X) → ((x : X) → f x ≡ f y → test x ≡ true) → Apart (map f xs) → list_any test xs ≡ false
+    → Apart (map f (xs ++ y ∷ []))
 distinct_push f test xs y same all e = subst Apart (sym (map-append f xs (y ∷ []))) (all_pairs_push (λ m n. m ≢ n) (map f xs) (f y) all (none_such f test xs (f y) same e))
 
 -- one more thing, unlike the others
@@ -38,11 +40,13 @@ in_middle f [] zs y d = refl
 in_middle f (x ∷ xs) zs y d = in_middle f xs zs y d
 
 -- of things that keys tell apart none before one of them passes a test that tells it
-pub not_before : {X Y : Type 0} (f : X → Y) (test : X → Bool) (xs zs : List X) (y : X) → ((x : X) → test x ≡ true → f x ≡ f y) → Apart (map f (xs ++ y ∷ zs)) → list_any test xs ≡ false
+pub not_before : {X Y : Type 0} (f : X → Y) (test : X → Bool) (xs zs : List X) (y : X) → ((x : X) → test x ≡ true → f x ≡ f y) → Apart (map f (xs ++ y ∷ zs))
+    → list_any test xs ≡ false
 not_before f test [] zs y tells all = refl
 not_before f test (x ∷ xs) zs y tells all =
     or_from (test x) (list_any test xs)
-    (false_from_ne_true (test x) (λ e. all 0 (suc (length xs)) (f y) (omega arith) (omega (arith, length-map (xs ++ y ∷ zs) f, length-append xs (y ∷ zs))) (tells x e ∙ sym (in_middle f xs zs y (f y)))))
+    (false_from_ne_true (test x) (λ e. all 0 (suc (length xs)) (f y) (omega arith) (omega (arith, length-map (xs ++ y ∷ zs) f, length-append xs (y ∷ zs)))
+    (tells x e ∙ sym (in_middle f xs zs y (f y)))))
     (not_before f test xs zs y tells (λ i j d lt small. all (suc i) (suc j) d (omega arith) (omega arith)))
 
 -- what is true of each is true of the one in the middle
@@ -58,7 +62,8 @@ pub fewer : {X : Type 0} (all xs zs : List X) (y : X) (most : ℕ) → length al
 fewer all xs zs y most few e = lt-ltb (length xs) most (omega (arith, few, ap length e, length-append xs (y ∷ zs)))
 
 -- a number that is found is one of the list's
-pub number_found : {X I : Type 0} (p : X → Bool) (xs : List X) (d : X) (id : ℕ → I) (number : I → ℕ) → ((k : ℕ) → number (id k) ≡ k) → (i : I) → option_map id (position p xs) ≡ Some i → number i < length xs
+pub number_found : {X I : Type 0} (p : X → Bool) (xs : List X) (d : X) (id : ℕ → I) (number : I → ℕ) → ((k : ℕ) → number (id k) ≡ k) → (i : I)
+    → option_map id (position p xs) ≡ Some i → number i < length xs
 number_found {I = I} p xs d id number is i e = by (position p xs) refl e
   where
     by : (o : Option ℕ) → position p xs ≡ o → option_map id o ≡ Some i → number i < length xs

@@ -26,9 +26,13 @@ some_field cfg s fields field [] p e =
     subst (λ (l : List (List ℕ)). 0 < length l) (ap (λ (r : Read). r.0) is) (one_more fields field)
 some_field cfg s fields field (c ∷ rest) p e = ⊎_elim
     (λ t.
-    let is = some_is (fields_after (step cfg s c).1 fields field, (step cfg s c).0, rest) p (sym (ap (λ b. cond b (Some (fields_after (step cfg s c).1 fields field, (step cfg s c).0, rest)) (next_record cfg (step cfg s c).0 (fields_after (step cfg s c).1 fields field) (field_after (step cfg s c).1 c field) rest)) t) ∙ e) in
+    let is = some_is (fields_after (step cfg s c).1 fields field, (step cfg s c).0, rest) p
+    (sym (ap (λ b. cond b (Some (fields_after (step cfg s c).1 fields field, (step cfg s c).0, rest))
+    (next_record cfg (step cfg s c).0 (fields_after (step cfg s c).1 fields field) (field_after (step cfg s c).1 c field) rest)) t) ∙ e) in
     subst (λ (l : List (List ℕ)). 0 < length l) (ap (λ (r : Read). r.0) is) (at_the_end (step cfg s c).1 fields field t))
-    (λ t. some_field cfg (step cfg s c).0 (fields_after (step cfg s c).1 fields field) (field_after (step cfg s c).1 c field) rest p (sym (ap (λ b. cond b (Some (fields_after (step cfg s c).1 fields field, (step cfg s c).0, rest)) (next_record cfg (step cfg s c).0 (fields_after (step cfg s c).1 fields field) (field_after (step cfg s c).1 c field) rest)) t) ∙ e))
+    (λ t. some_field cfg (step cfg s c).0 (fields_after (step cfg s c).1 fields field) (field_after (step cfg s c).1 c field) rest p
+    (sym (ap (λ b. cond b (Some (fields_after (step cfg s c).1 fields field, (step cfg s c).0, rest))
+    (next_record cfg (step cfg s c).0 (fields_after (step cfg s c).1 fields field) (field_after (step cfg s c).1 c field) rest)) t) ∙ e))
     (cases_Bool (is_end (step cfg s c).1))
 
 next_has : (o : Option Read) (fields : List (List ℕ)) (s : State) (left : List ℕ) → ((p : Read) → o ≡ Some p → 0 < length p.0) → NextIs o true fields s left → 0 < length fields

@@ -26,7 +26,8 @@ by_bytes q k =
     let e = bytes_eq-Decides k q in
     one_test _ _ (q ≡ k) (k ≡ q) d e sym sym
 
-or_len_is : (p : List ℕ → Bool) (q : Bor (List ℕ) → Bool) → ((k : Bor (List ℕ)) → q k ≡ p k.now) → (keys : List (Bor (List ℕ))) → position_or_len q keys ≡ position_or_len p (map (λ k. k.now) keys)
+or_len_is : (p : List ℕ → Bool) (q : Bor (List ℕ) → Bool) → ((k : Bor (List ℕ)) → q k ≡ p k.now) → (keys : List (Bor (List ℕ)))
+    → position_or_len q keys ≡ position_or_len p (map (λ k. k.now) keys)
 or_len_is p q h [] = refl
 or_len_is p q h (k ∷ keys) = ap (λ b. cond (not b) (1 + position_or_len q keys) 0) (h k) ∙ ap (λ n. cond (not (p k.now)) (1 + n) 0) (or_len_is p q h keys)
 
@@ -61,17 +62,20 @@ place_named f p xs =
     let place = position_or_len (λ x. p (f x)) xs in
     ap (λ n. cond (nat_lt n (length (map f xs))) (Some n) None) (or_len_named f p xs) ∙ ap (λ m. cond (nat_lt place m) (Some place) None) (length-map xs f)
 
-pub has_named : {X : Type 0} (f : X → List ℕ) (q : List ℕ) (names : List (List ℕ)) (inside things : List X) → names ≡ map f inside → inside ≡ things → list_any (λ n. bytes_eq n q) names ≡ list_any (λ t. bytes_eq (f t) q) things
+pub has_named : {X : Type 0} (f : X → List ℕ) (q : List ℕ) (names : List (List ℕ)) (inside things : List X) → names ≡ map f inside → inside ≡ things
+    → list_any (λ n. bytes_eq n q) names ≡ list_any (λ t. bytes_eq (f t) q) things
 has_named f q names inside things are is =
     ap (list_any (λ n. bytes_eq n q)) are ∙ any_named f (λ n. bytes_eq n q) inside ∙ ap (list_any (λ t. bytes_eq (f t) q)) is
 
-pub known_named : {X : Type 0} (f : X → List ℕ) (n : ℕ) (row : List (List ℕ)) (k : ℕ) (names : List (List ℕ)) (inside things : List X) → names ≡ map f inside → inside ≡ things → answer n (known_in row k names) ≡ answer n (named_in f things row k)
+pub known_named : {X : Type 0} (f : X → List ℕ) (n : ℕ) (row : List (List ℕ)) (k : ℕ) (names : List (List ℕ)) (inside things : List X) → names ≡ map f inside → inside ≡ things
+    → answer n (known_in row k names) ≡ answer n (named_in f things row k)
 known_named f n row k names inside things are is =
     ap (λ l. answer n (known_in row k l)) are
     ∙ ap (λ o. answer n (found 0 o k kinds.Unknown)) (place_named f (λ m. bytes_eq m (at row k)) inside)
     ∙ ap (λ l. answer n (named_in f l row k)) is
 
-pub number_named : {X : Type 0} (f : X → List ℕ) (q : List ℕ) (names : List (List ℕ)) (inside things : List X) → names ≡ map f inside → inside ≡ things → position (λ n. bytes_eq n q) names ≡ position (λ t. bytes_eq (f t) q) things
+pub number_named : {X : Type 0} (f : X → List ℕ) (q : List ℕ) (names : List (List ℕ)) (inside things : List X) → names ≡ map f inside → inside ≡ things
+    → position (λ n. bytes_eq n q) names ≡ position (λ t. bytes_eq (f t) q) things
 number_named f q names inside things are is =
     ap (position (λ n. bytes_eq n q)) are ∙ place_named f (λ n. bytes_eq n q) inside ∙ ap (position (λ t. bytes_eq (f t) q)) is
 
@@ -81,7 +85,8 @@ parted (x ∷ xs) zero d lt = refl
 parted (x ∷ xs) (suc i) d lt = ap (λ l. x ∷ l) (parted xs i d (omega arith))
 
 -- of things with distinct names none before one has its name
-pub not_among : {X : Type 0} (f : X → List ℕ) (xs : List X) (i : ℕ) (y : X) (names : List (List ℕ)) (q : List ℕ) → AllPairs (λ m n. m ≢ n) (map f xs) → i < length xs → y ≡ get_or xs i y → q ≡ f y → names ≡ map f (take i xs)
+pub not_among : {X : Type 0} (f : X → List ℕ) (xs : List X) (i : ℕ) (y : X) (names : List (List ℕ)) (q : List ℕ) → AllPairs (λ m n. m ≢ n) (map f xs) → i < length xs
+    → y ≡ get_or xs i y → q ≡ f y → names ≡ map f (take i xs)
     → list_any (λ n. bytes_eq n q) names ≡ false
 not_among f xs i y names q apart lt at is are =
     let split : xs ≡ take i xs ++ y ∷ drop (suc i) xs = parted xs i y lt ∙ ap (λ z. take i xs ++ z ∷ drop (suc i) xs) (sym at) in

@@ -55,7 +55,16 @@ digit_plain : (d : ℕ) → d < 10 → IsTrue (is_plain (48 + d))
 digit_plain d lt = grind (arith, nat_tests)
 
 pub plain_minute : (m : ℕ) → m < 2880 → IsPlainField (minute_text m)
-plain_minute m small = (omega arith, (digit_plain (m / 60 / 10) (omega arith), (digit_plain (m / 60 % 10) (omega arith), (refl, (digit_plain (m % 60 / 10) (omega arith), (digit_plain (m % 60 % 10) (omega arith), tt))))))
+plain_minute m small = (
+  omega arith,
+  (
+    digit_plain (m / 60 / 10) (omega arith),
+    (
+      digit_plain (m / 60 % 10) (omega arith),
+      (refl, (digit_plain (m % 60 / 10) (omega arith), (digit_plain (m % 60 % 10) (omega arith), tt))),
+    ),
+  ),
+)
 
 -- plain rows of two lists
 pub plain_more : (rows more : List (List (List ℕ))) → ArePlain rows → ArePlain more → ArePlain (rows ++ more)

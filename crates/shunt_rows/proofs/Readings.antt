@@ -79,7 +79,15 @@ stands f s n (row ∷ rows) e at = ⊎_elim
     (λ here. record { before = []; row = row; after = rows; place = refl; number = omega (arith, here.0); faulty = here.1 })
     (λ more.
     let r = stands f (in_state f s row).value (n + 1) rows e more in
-    record { before = row ∷ r.before; row = r.row; after = r.after; place = ap (λ (l : List (List (List ℕ))). row ∷ l) r.place; number = omega (arith, r.number); faulty = r.faulty })
+    record {
+      before = row ∷ r.before;
+      row = r.row;
+      after = r.after;
+      place = ap (λ (l : List (List (List ℕ))). row ∷ l) r.place;
+      number = omega
+          (arith, r.number);
+      faulty = r.faulty;
+    })
     at
 
 -- reading later records
@@ -116,7 +124,8 @@ reads_err {S = S} f up s n (row ∷ rows) e is = ⊎_elim
 
 -- a fault of all records, the first among them
 
-at_first : {S V : Type 0} (f : Format S V) (head : List (List ℕ)) (rows : List (List (List ℕ))) (e : RowFault) (before : List (List (List ℕ))) (row : List (List ℕ)) (after : List (List (List ℕ)))
+at_first : {S V : Type 0} (f : Format S V) (head : List (List ℕ)) (rows : List (List (List ℕ))) (e : RowFault) (before : List (List (List ℕ))) (row : List (List ℕ))
+    (after : List (List (List ℕ)))
     → head ∷ rows ≡ before ++ row ∷ after → e.row ≡ length before + 1 → IsFaulty (judged f before row).checks e.field e.kind
     → ((e.row ≡ 1) × IsFaulty (f.first head).checks e.field e.kind) ⊎ FaultIn f (f.first head).value 2 rows e
 at_first f head rows e [] row after place number faulty =
@@ -126,17 +135,27 @@ at_first f head rows e (b ∷ before) row after place number faulty =
     let same : b ≡ head = cc in
     let tail : rows ≡ before ++ row ∷ after = cc in
     let in_place : FaultIn f (f.first head).value 2 (before ++ row ∷ after) e =
-    in_from f (f.first head).value 2 before row after e (omega (arith, number)) (subst (λ (r : List (List ℕ)). IsFaulty (in_state f (state_after f (f.first r).value before) row).checks e.field e.kind) same faulty) in
+    in_from f (f.first head).value 2 before row after e (omega (arith, number)) (subst
+    (λ (r : List (List ℕ)). IsFaulty (in_state f (state_after f (f.first r).value before) row).checks e.field e.kind) same faulty) in
     inr (subst (λ (l : List (List (List ℕ))). FaultIn f (f.first head).value 2 l e) (sym tail) in_place)
 
 at_record : {S V : Type 0} (f : Format S V) (head : List (List ℕ)) (rows : List (List (List ℕ))) (e : RowFault) → AtRecord f (head ∷ rows) e
     → ((e.row ≡ 1) × IsFaulty (f.first head).checks e.field e.kind) ⊎ FaultIn f (f.first head).value 2 rows e
 at_record f head rows e a = at_first f head rows e a.before a.row a.after a.place a.number a.faulty
 
-in_record : {S V : Type 0} (f : Format S V) (head : List (List ℕ)) (rows : List (List (List ℕ))) (e : RowFault) → FaultIn f (f.first head).value 2 rows e → AtRecord f (head ∷ rows) e
+in_record : {S V : Type 0} (f : Format S V) (head : List (List ℕ)) (rows : List (List (List ℕ))) (e : RowFault) → FaultIn f (f.first head).value 2 rows e
+    → AtRecord f (head ∷ rows) e
 in_record f head rows e at =
     let r = stands f (f.first head).value 2 rows e at in
-    record { before = head ∷ r.before; row = r.row; after = r.after; place = ap (λ (l : List (List (List ℕ))). head ∷ l) r.place; number = omega (arith, r.number); faulty = r.faulty }
+    record {
+      before = head ∷ r.before;
+      row = r.row;
+      after = r.after;
+      place = ap (λ (l : List (List (List ℕ))). head ∷ l) r.place;
+      number = omega
+          (arith, r.number);
+      faulty = r.faulty;
+    }
 
 -- the end of the records
 
@@ -153,7 +172,8 @@ end_err f s n e is = ⊎_elim
     (choice (f.is_whole s) (Ok (f.value s)) (Err record { row = n; field = 0; kind = kinds.Missing }))
 
 -- a record is still needed, or none is
-needed : {S V : Type 0} (f : Format S V) (head : List (List ℕ)) (rows : List (List (List ℕ))) (t : S) (b : Bool) → t ≡ state_after f (f.first head).value rows → f.is_whole t ≡ b → lacks f (head ∷ rows) ≡ not b
+needed : {S V : Type 0} (f : Format S V) (head : List (List ℕ)) (rows : List (List (List ℕ))) (t : S) (b : Bool) → t ≡ state_after f (f.first head).value rows → f.is_whole t ≡ b
+    → lacks f (head ∷ rows) ≡ not b
 needed f head rows t b at is = ap (λ x. not (f.is_whole x)) (sym at) ∙ ap not is
 
 none_in : {S V : Type 0} (f : Format S V) (row : List (List ℕ)) (before after : List (List (List ℕ))) → [] ≡ before ++ row ∷ after → ⊥
@@ -161,13 +181,15 @@ none_in f row [] after place = absurd cc
 none_in f row (b ∷ before) after place = absurd cc
 
 -- where records are read to their end, what holds of them is at the end
-pub at_end : {S V : Type 0} (f : Format S V) (head : List (List ℕ)) (rows : List (List (List ℕ))) (s t : S) (e : RowFault) → answer 1 (f.first head) ≡ Ok s → reads f s 2 rows ≡ Ok t → AtRecord f (head ∷ rows) e → ⊥
+pub at_end : {S V : Type 0} (f : Format S V) (head : List (List ℕ)) (rows : List (List (List ℕ))) (s t : S) (e : RowFault) → answer 1 (f.first head) ≡ Ok s
+    → reads f s 2 rows ≡ Ok t → AtRecord f (head ∷ rows) e → ⊥
 at_end {S = S} f head rows s t e one on at =
     let same = passed 1 (f.first head).checks (f.first head).value s one in
     let r = reads_ok f (f.first head).value 2 rows t (ap (λ (x : S). reads f x 2 rows) (sym same) ∙ on) in
     ⊎_elim (λ here. clean 1 (f.first head) s one e.field e.kind here.1) (λ more. r.1 e more) (at_record f head rows e at)
 
-last_state : {S V : Type 0} (f : Format S V) (head : List (List ℕ)) (rows : List (List (List ℕ))) (s t : S) → answer 1 (f.first head) ≡ Ok s → reads f s 2 rows ≡ Ok t → t ≡ state_after f (f.first head).value rows
+last_state : {S V : Type 0} (f : Format S V) (head : List (List ℕ)) (rows : List (List (List ℕ))) (s t : S) → answer 1 (f.first head) ≡ Ok s → reads f s 2 rows ≡ Ok t
+    → t ≡ state_after f (f.first head).value rows
 last_state {S = S} f head rows s t one on =
     let same = passed 1 (f.first head).checks (f.first head).value s one in
     (reads_ok f (f.first head).value 2 rows t (ap (λ (x : S). reads f x 2 rows) (sym same) ∙ on)).0
@@ -206,7 +228,8 @@ reading_err {S = S} f up (head ∷ rows) e is = ⊎_elim
     let missing = end_err f q.0 (length rows + 2) e q.2 in
     let at = last_state f head rows p.0 q.0 p.1 q.1 in
     let number : length rows + 2 ≡ length (head ∷ rows) + 1 = omega arith in
-    let place : ◌≡◌ {A = RowFault} e record { row = length (head ∷ rows) + 1; field = 0; kind = kinds.Missing } = missing.1 ∙ ap (λ n. let g : RowFault = record { row = n; field = 0; kind = kinds.Missing } in g) number in
+    let place : ◌≡◌ {A = RowFault} e record { row = length (head ∷ rows) + 1; field = 0; kind = kinds.Missing } = missing.1
+    ∙ ap (λ n. let g : RowFault = record { row = n; field = 0; kind = kinds.Missing } in g) number in
     record {
       holds = inr (needed f head rows q.0 false at missing.0, place);
       least = λ o holds. ⊎_elim
@@ -216,7 +239,8 @@ reading_err {S = S} f up (head ∷ rows) e is = ⊎_elim
     })
     (λ q.
     let same = passed 1 (f.first head).checks (f.first head).value p.0 p.1 in
-    let first = reads_err f up (f.first head).value 2 rows e (ap (λ (x : S). reads f x 2 rows) (sym same) ∙ q.1 ∙ ap (λ (x : RowFault). let r : Result S RowFault = Err x in r) (sym (same_fault e q.0 q.2))) in
+    let first = reads_err f up (f.first head).value 2 rows e (ap (λ (x : S). reads f x 2 rows) (sym same) ∙ q.1
+    ∙ ap (λ (x : RowFault). let r : Result S RowFault = Err x in r) (sym (same_fault e q.0 q.2))) in
     let below = from_on f (f.first head).value 2 rows e first.0 in
     record {
       holds = inl (in_record f head rows e first.0);

@@ -17,7 +17,8 @@ section f row state all step n xs (y ∷ ys) e =
     ∙ section f row state all step (n + 1) (xs ++ y ∷ []) ys (e ∙ sym (append_assoc xs (y ∷ []) ys))
 
 -- and then what follows
-pub then_reads : {S V : Type 0} (f : Format S V) (s t u : S) (n : ℕ) (rows more : List (List (List ℕ))) → reads f s n rows ≡ Ok t → ((k : ℕ) → reads f t k more ≡ Ok u) → reads f s n (rows ++ more) ≡ Ok u
+pub then_reads : {S V : Type 0} (f : Format S V) (s t u : S) (n : ℕ) (rows more : List (List (List ℕ))) → reads f s n rows ≡ Ok t → ((k : ℕ) → reads f t k more ≡ Ok u)
+    → reads f s n (rows ++ more) ≡ Ok u
 then_reads f s t u n rows more e h =
     reads_more f s n rows more ∙ ap (λ r. r >>= (λ v. reads f v (n + length rows) more)) e ∙ h (n + length rows)
 
@@ -32,7 +33,8 @@ pub one_reads : {S V : Type 0} (f : Format S V) (s t : S) (n : ℕ) (row : List 
 one_reads f s t n row e = ap (λ r. r >>= (λ v. reads f v (n + 1) [])) e
 
 -- the first record and those behind it state a value, where no more is needed behind them
-pub all_read : {S V : Type 0} (f : Format S V) (head : List (List ℕ)) (rows : List (List (List ℕ))) (s t : S) → answer 1 (f.first head) ≡ Ok s → reads f s 2 rows ≡ Ok t → f.is_whole t ≡ true → reading f (head ∷ rows) ≡ Ok (f.value t)
+pub all_read : {S V : Type 0} (f : Format S V) (head : List (List ℕ)) (rows : List (List (List ℕ))) (s t : S) → answer 1 (f.first head) ≡ Ok s → reads f s 2 rows ≡ Ok t
+    → f.is_whole t ≡ true → reading f (head ∷ rows) ≡ Ok (f.value t)
 all_read f head rows s t first rest whole =
     reading_is f head rows
     ∙ ap (λ r. r >>= (λ d. reads f d 2 rows >>= (λ u. ends f u (length rows + 2)))) first

@@ -35,12 +35,14 @@ lead a n h = ⊎_elim (λ t. let m = h (eq_of a t) in grind (arith, nat_tests)) 
     eq_of a t = grind (arith, nat_tests)
 
 decimal_test : (bytes : List ℕ) → IsDecimal bytes → is_decimal_text bytes ≡ true
-decimal_test bytes is = and_from _ _ (and_from _ _ (and_from _ _ (lt-ltb 0 (length bytes) is.nonempty) (le-leb (length bytes) 18 is.short)) (lead _ _ is.leading)) (list_all-from_AllPass is_ascii_digit bytes is.digits)
+decimal_test bytes is = and_from _ _ (and_from _ _ (and_from _ _ (lt-ltb 0 (length bytes) is.nonempty) (le-leb (length bytes) 18 is.short)) (lead _ _ is.leading))
+    (list_all-from_AllPass is_ascii_digit bytes is.digits)
 
 -- a number is read from what is printed of it
 pub number_again : (x : ℕ) → x < 10 ^ 18 → decimal_of (decimal x) ≡ Some x
 unfolding decimal_of
-number_again x lt = cond-true (is_decimal_text (decimal x)) (Some (digits_value 10 (decimal x))) None (decimal_test (decimal x) (spelled x lt)) ∙ ap (λ y. Some y) (value_again x lt)
+number_again x lt = cond-true (is_decimal_text (decimal x)) (Some (digits_value 10 (decimal x))) None (decimal_test (decimal x) (spelled x lt))
+    ∙ ap (λ y. Some y) (value_again x lt)
 
 -- a number from the one to the other is read from what is printed of it
 pub record IsRead (least most x : ℕ) : Type 0 where

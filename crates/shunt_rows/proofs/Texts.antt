@@ -18,12 +18,15 @@ pub one_short : (row : List (List ℕ)) (a : ℕ) → length (text_of_row row) �
 one_short row a p = omega (arith, p, ap length (flat_map-cons text_of_row row []), length-append (text_of_row row) [])
 
 -- one more record is written of those that are left
-pub row_written : (w v : Written) (row : List (List ℕ)) (rest : List (List (List ℕ))) (all : List ℕ) → v ≡ record { text = w.text ++ text_of_row row; row = [] } → w.text ++ text_of_rows (row ∷ rest) ≡ all → v.text ++ text_of_rows rest ≡ all
+pub row_written : (w v : Written) (row : List (List ℕ)) (rest : List (List (List ℕ))) (all : List ℕ) → v ≡ record { text = w.text ++ text_of_row row; row = [] }
+    → w.text ++ text_of_rows (row ∷ rest) ≡ all → v.text ++ text_of_rows rest ≡ all
 row_written w v row rest all e left =
-    ap (λ (x : Written). x.text ++ text_of_rows rest) e ∙ append_assoc w.text (text_of_row row) (text_of_rows rest) ∙ ap (λ t. w.text ++ t) (sym (flat_map-cons text_of_row row rest)) ∙ left
+    ap (λ (x : Written). x.text ++ text_of_rows rest) e ∙ append_assoc w.text (text_of_row row) (text_of_rows rest)
+    ∙ ap (λ t. w.text ++ t) (sym (flat_map-cons text_of_row row rest)) ∙ left
 
 -- a list of records is written of those that are left
-pub rows_written : (w v : Written) (rows rest : List (List (List ℕ))) (all : List ℕ) → v ≡ record { text = w.text ++ text_of_rows rows; row = [] } → w.text ++ text_of_rows (rows ++ rest) ≡ all → v.text ++ text_of_rows rest ≡ all
+pub rows_written : (w v : Written) (rows rest : List (List (List ℕ))) (all : List ℕ) → v ≡ record { text = w.text ++ text_of_rows rows; row = [] }
+    → w.text ++ text_of_rows (rows ++ rest) ≡ all → v.text ++ text_of_rows rest ≡ all
 rows_written w v rows rest all e left =
     ap (λ (x : Written). x.text ++ text_of_rows rest) e ∙ append_assoc w.text (text_of_rows rows) (text_of_rows rest) ∙ ap (λ t. w.text ++ t) (sym (texts_join rows rest)) ∙ left
 

@@ -24,15 +24,19 @@ goes cfg s fields field [] p e =
     let is = ended (ends_at_end s) (fields ++ (field ∷ []), st.StartRecord, []) p e in
     record { less = inr (refl, ap (λ (r : Read). r.1) (sym is), ap (λ (r : Read). r.2) (sym is)) }
 goes cfg s fields field (c ∷ rest) p e =
-    ⊎_elim stop (λ t. later (goes cfg (step cfg s c).0 (fields_after (step cfg s c).1 fields field) (field_after (step cfg s c).1 c field) rest p (chosen t))) (cases_Bool (is_end (step cfg s c).1))
+    ⊎_elim stop (λ t. later (goes cfg (step cfg s c).0 (fields_after (step cfg s c).1 fields field) (field_after (step cfg s c).1 c field) rest p (chosen t)))
+    (cases_Bool (is_end (step cfg s c).1))
   where
     stop : is_end (step cfg s c).1 ≡ true → Goes (c ∷ rest) p
     stop t =
-        let is = some_is (fields_after (step cfg s c).1 fields field, (step cfg s c).0, rest) p (sym (ap (λ b. cond b (Some (fields_after (step cfg s c).1 fields field, (step cfg s c).0, rest)) (next_record cfg (step cfg s c).0 (fields_after (step cfg s c).1 fields field) (field_after (step cfg s c).1 c field) rest)) t) ∙ e) in
+        let is = some_is (fields_after (step cfg s c).1 fields field, (step cfg s c).0, rest) p
+        (sym (ap (λ b. cond b (Some (fields_after (step cfg s c).1 fields field, (step cfg s c).0, rest))
+        (next_record cfg (step cfg s c).0 (fields_after (step cfg s c).1 fields field) (field_after (step cfg s c).1 c field) rest)) t) ∙ e) in
         record { less = inl (omega (arith, ap (λ (r : Read). length r.2) is)) }
 
     chosen : is_end (step cfg s c).1 ≡ false → next_record cfg (step cfg s c).0 (fields_after (step cfg s c).1 fields field) (field_after (step cfg s c).1 c field) rest ≡ Some p
-    chosen t = sym (ap (λ b. cond b (Some (fields_after (step cfg s c).1 fields field, (step cfg s c).0, rest)) (next_record cfg (step cfg s c).0 (fields_after (step cfg s c).1 fields field) (field_after (step cfg s c).1 c field) rest)) t) ∙ e
+    chosen t = sym (ap (λ b. cond b (Some (fields_after (step cfg s c).1 fields field, (step cfg s c).0, rest))
+        (next_record cfg (step cfg s c).0 (fields_after (step cfg s c).1 fields field) (field_after (step cfg s c).1 c field) rest)) t) ∙ e
 
     later : Goes rest p → Goes (c ∷ rest) p
     later g = record { less = inl (⊎_elim (λ lt. omega arith) (λ k. omega (arith, ap length k.2)) g.less) }
@@ -48,7 +52,8 @@ no_more [] s2 ys r = refl
 no_more (row ∷ rows) s2 ys r = absurd (let f : ◌≡◌ {A = Option Read} None (Some r.0) = r.1 in cc)
 
 -- fuel for each byte and one more is enough
-from_reached : (n : ℕ) (s s2 : State) (xs ys : List ℕ) (rows : List (List (List ℕ))) → Reached default_config s xs rows s2 ys → next_record default_config s2 [] [] ys ≡ None → length xs < n → records_from default_config n s xs ≡ rows
+from_reached : (n : ℕ) (s s2 : State) (xs ys : List ℕ) (rows : List (List (List ℕ))) → Reached default_config s xs rows s2 ys → next_record default_config s2 [] [] ys ≡ None
+    → length xs < n → records_from default_config n s xs ≡ rows
 unfolding records_from Reached
 from_reached zero s s2 xs ys rows r none lt = absurd (omega arith)
 from_reached (suc n) s s2 xs ys [] r none lt =

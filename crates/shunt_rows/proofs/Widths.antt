@@ -36,7 +36,8 @@ row_width (field ∷ fields) all =
     omega (arith, more, here, ap length end, length-append body (10 ∷ []), length-append (field_text default_writer field) (fields_text default_writer fields))
 
 -- each record of a list is at most so long
-pub rows_width : {X : Type 0} (P : X → Type 0) (row : X → List (List ℕ)) (most : ℕ) (xs : List X) → ((x : X) → P x → length (text_of_row (row x)) ≤ most) → All P xs → length (text_of_rows (map row xs)) ≤ most * length xs
+pub rows_width : {X : Type 0} (P : X → Type 0) (row : X → List (List ℕ)) (most : ℕ) (xs : List X) → ((x : X) → P x → length (text_of_row (row x)) ≤ most) → All P xs
+    → length (text_of_rows (map row xs)) ≤ most * length xs
 rows_width P row most [] h all = omega arith
 rows_width P row most (x ∷ xs) h all =
     let rest = rows_width P row most xs h (λ k d lt. all (suc k) d (omega arith)) in

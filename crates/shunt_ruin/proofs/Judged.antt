@@ -24,7 +24,13 @@ few_some h [] = omega arith
 few_some h (x ∷ xs) = omega (arith, option_few (h x) (filter_map h xs), few_some h xs)
 
 rising : (k n : ℕ) → AreDistinct (range_with_len k n)
-rising k n i j d before lt same = omega (arith, before, same, get_or-range_with_len k n i d (omega (arith, before, lt, size)), get_or-range_with_len k n j d (omega (arith, lt, size)))
+rising k n i j d before lt same = omega (
+  arith,
+  before,
+  same,
+  get_or-range_with_len k n i d (omega (arith, before, lt, size)),
+  get_or-range_with_len k n j d (omega (arith, lt, size)),
+)
   where
     size : length (range_with_len k n) ≡ n
     size = length-range_with_len k n

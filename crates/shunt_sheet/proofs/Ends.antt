@@ -6,7 +6,8 @@ use Rattle.shunt_stays.specs.defs.Run.{Standing, without_last}
 use Rattle.shunt_sheet.specs.declared.tracks.Parked.{Parked}
 use Rattle.shunt_sheet.specs.defs.Tracks.{standing, blocks_of}
 
-pub last_taken : (id : ℕ) (blocks : List Parked) (k : ℕ) (d : Parked) → k + 1 ≡ length blocks → (get_or blocks k d).id ≡ id → without_last id (blocks_of blocks) ≡ Some (blocks_of (take k blocks))
+pub last_taken : (id : ℕ) (blocks : List Parked) (k : ℕ) (d : Parked) → k + 1 ≡ length blocks → (get_or blocks k d).id ≡ id
+    → without_last id (blocks_of blocks) ≡ Some (blocks_of (take k blocks))
 last_taken id [] k d n e = absurd (omega arith)
 last_taken id (b ∷ []) zero d n e = ap (λ t. cond t (Some []) None) (eq-eqb b.id id e)
 last_taken id (b ∷ []) (suc k) d n e = absurd (omega arith)

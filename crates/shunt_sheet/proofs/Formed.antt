@@ -34,13 +34,15 @@ grown s orders o f few may = record { few = omega (arith, few, length_push order
 -- no order of the same block and word stands before
 once_from : (orders : List Order) (enters : Bool) (id : ℕ) → not (stands orders enters id) ≡ true → (p : Order) → In p orders → p.enters ≡ enters → p.id ≡ id → ⊥
 unfolding stands
-once_from orders enters id e p i alike same = never_both (stands orders enters id) (any_to (is_of enters id) orders p i (tells_of enters id p alike same)) (not-true (stands orders enters id) e)
+once_from orders enters id e p i alike same = never_both (stands orders enters id) (any_to (is_of enters id) orders p i (tells_of enters id p alike same))
+    (not-true (stands orders enters id) e)
 
 no_block : Entered
 no_block = record { length = 0; track = record { 0 = 0 } }
 
 -- what the tests of a leave tell of its entry
-entered_from : (orders : List Order) (m : Named) (long track : ℕ) → has_entered orders m.enters m.id ≡ true → keeps_length orders m long ≡ true → keeps_track orders m track ≡ true → m.enters ≡ false
+entered_from : (orders : List Order) (m : Named) (long track : ℕ) → has_entered orders m.enters m.id ≡ true → keeps_length orders m long ≡ true → keeps_track orders m track ≡ true
+    → m.enters ≡ false
     → entry_in m.id orders ≡ Some (record { length = long; track = record { 0 = track } })
 unfolding has_entered keeps_length keeps_track
 entered_from orders m long track known same_length same_track leaves =
@@ -49,7 +51,8 @@ entered_from orders m long track known same_length same_track leaves =
     let is : entry ≡ Some e = there no_block entry (none_first m.enters _ leaves known) in
     let l : e.length ≡ long = eqb-true e.length long (keeps_is (λ x. x.length == long) entry e is (none_first m.enters _ leaves same_length)) in
     let t : e.track.0 ≡ track = eqb-true e.track.0 track (keeps_is (λ x. x.track.0 == track) entry e is (none_first m.enters _ leaves same_track)) in
-    is ∙ ap (λ (k : ℕ). let x : Entered = record { length = k; track = e.track } in Some x) l ∙ ap (λ (k : ℕ). let x : Entered = record { length = long; track = record { 0 = k } } in Some x) t
+    is ∙ ap (λ (k : ℕ). let x : Entered = record { length = k; track = e.track } in Some x) l
+    ∙ ap (λ (k : ℕ). let x : Entered = record { length = long; track = record { 0 = k } } in Some x) t
 
 order_formed : (s : Station) (n : ℕ) (orders more : List Order) (row : List (List ℕ)) → AreOrders s orders → answer n (more_of s orders row) ≡ Ok more → AreOrders s more
 unfolding more_of order_in start_in move_in place_in
@@ -80,7 +83,8 @@ order_formed s n orders more row f e =
       last_id = (within 1 1000000 m.id range.0).1;
       some = (within 1 40000 p.length size.0).0;
       long = (within 1 40000 p.length size.0).1;
-      track = (position-Some (λ x. bytes_eq x.name (at row 6)) s.tracks (unwrap_or place 0) (record { name = []; length = 0; side_a = true; side_b = true }) (there 0 place track.0)).0;
+      track = (position-Some (λ x. bytes_eq x.name (at row 6)) s.tracks (unwrap_or place 0) (record { name = []; length = 0; side_a = true; side_b = true })
+          (there 0 place track.0)).0;
       once = once_from orders m.enters m.id new.0;
       entered = entered_from orders m p.length p.track.0 known.0 same_length.0 same_track.0;
     } in

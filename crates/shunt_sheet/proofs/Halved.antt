@@ -69,7 +69,8 @@ same_half g h e f = ap (λ (t : Stay). let p : Half = (t, g.1) in p) e ∙ ap (�
 
 below : (front back : List Half) (h g : Half) → Ascends at (front ++ h ∷ back) → In g front → at g < at h
 below [] back h g asc i = absurd i
-below (x ∷ front) back h g asc (inl e) = let lt : at x < at h = all_in (λ y. at x < at y) (front ++ h ∷ back) h asc.0 (in_right front (h ∷ back) h (inl refl)) in omega (arith, lt, ap at e)
+below (x ∷ front) back h g asc (inl e) = let lt : at x < at h = all_in (λ y. at x < at y) (front ++ h ∷ back) h asc.0 (in_right front (h ∷ back) h (inl refl)) in omega
+    (arith, lt, ap at e)
 below (x ∷ front) back h g asc (inr i) = below front back h g asc.1 i
 
 above : (front back : List Half) (h g : Half) → Ascends at (front ++ h ∷ back) → In g back → at h < at g
@@ -100,8 +101,10 @@ module _ (s : Station) (stays : List Stay) (a : AreStays stays) (fit : (t : Stay
   numbers (t, false) i = ((fit t i).leave, refl, (fit t i).track)
 
   -- the entry of one that leaves stands before it
-  entered : (front back : List Half) (h : Half) → halves_of stays ≡ front ++ h ∷ back → (half_order h).enters ≡ false → entry_in (half_order h).id (map half_order front) ≡ Some (entered_by (half_order h))
-  entered front back (t, true) e leaves = absurd (never_both t.enter.enters (well (t, true) (subst (In (t, true)) (sym e) (in_right front ((t, true) ∷ back) (t, true) (inl refl)))).enters leaves)
+  entered : (front back : List Half) (h : Half) → halves_of stays ≡ front ++ h ∷ back → (half_order h).enters ≡ false
+      → entry_in (half_order h).id (map half_order front) ≡ Some (entered_by (half_order h))
+  entered front back (t, true) e leaves = absurd (never_both t.enter.enters (well (t, true)
+      (subst (In (t, true)) (sym e) (in_right front ((t, true) ∷ back) (t, true) (inl refl)))).enters leaves)
   entered front back (t, false) e leaves =
       let all : (g : Half) → In g (front ++ (t, false) ∷ back) → In g (halves_of stays) = λ g i. subst (In g) (sym e) i in
       let here : In (t, false) (halves_of stays) = all (t, false) (in_right front ((t, false) ∷ back) (t, false) (inl refl)) in
@@ -141,7 +144,8 @@ module _ (s : Station) (stays : List Stay) (a : AreStays stays) (fit : (t : Stay
         track = n.2;
         once = λ p i alike same.
             let r = of_map half_order front p i in
-            let one : r.0 ≡ h = one_half r.0 h (before r.0 r.1) here (ap (λ (o : Order). o.enters) (sym r.2) ∙ alike ∙ enters_is h w) (ap (λ (o : Order). o.id) (sym r.2) ∙ same ∙ id_is h w) in
+            let one : r.0 ≡ h = one_half r.0 h (before r.0 r.1) here (ap (λ (o : Order). o.enters) (sym r.2) ∙ alike ∙ enters_is h w)
+            (ap (λ (o : Order). o.id) (sym r.2) ∙ same ∙ id_is h w) in
             let lt = below front back h r.0 asc r.1 in
             absurd (omega (arith, lt, ap at one));
         entered = entered front back h e;
@@ -167,7 +171,8 @@ either_long false xs ys n e f = f
 
 inserted_long : (m : Move) (moves : List Move) → length (insert_by_key m moves) ≡ length moves + 1
 inserted_long m [] = refl
-inserted_long m (n ∷ moves) = either_long (key_before m.key n.key) (m ∷ n ∷ moves) (n ∷ insert_by_key m moves) (length (n ∷ moves) + 1) (omega arith) (omega (arith, inserted_long m moves))
+inserted_long m (n ∷ moves) = either_long (key_before m.key n.key) (m ∷ n ∷ moves) (n ∷ insert_by_key m moves) (length (n ∷ moves) + 1) (omega arith)
+    (omega (arith, inserted_long m moves))
 
 events_long : (stays : List Stay) → length (in_order stays) ≡ 2 * length stays
 events_long [] = refl

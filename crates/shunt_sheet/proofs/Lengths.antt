@@ -39,5 +39,6 @@ sheet_short s orders f is =
     let whole = ap length (flat_map-cons text_of_row head_row (map (order_row s) orders)) in
     omega (arith, few, all, head_short, whole, length-append (text_of_row head_row) (text_of_rows (map (order_row s) orders)))
 
-pub short_from : (s : Station) (orders : List Order) → IsStation s → AreOrders s orders → (text bytes : List ℕ) → text ≡ text_of_rows (rows_of s orders) → bytes ≡ text → length bytes ≤ 40808
+pub short_from : (s : Station) (orders : List Order) → IsStation s → AreOrders s orders → (text bytes : List ℕ) → text ≡ text_of_rows (rows_of s orders) → bytes ≡ text
+    → length bytes ≤ 40808
 short_from s orders f is text bytes e same = subst (λ (t : List ℕ). length t ≤ 40808) (sym (same ∙ e)) (sheet_short s orders f is)

@@ -43,7 +43,8 @@ pub record BlockLaws : Type 0 where
   pub stays : (night : Night) (blocks : List Block) → IsInstance night → CanStand night blocks → AreStays (stays_of night blocks)
   pub in_range : (night : Night) (blocks : List Block) → AreInRange night blocks → CanStand night blocks
   pub from : (night : Night) (blocks : List Block) (s : Stay) → In s (stays_of night blocks) → (b : Block) × In b blocks × (stay_of night b ≡ Some s)
-  pub unit : (night : Night) (s : Shape) (k : ℕ) → AreRunsWithin night s → k < s.n → unit_at night (unit_from night s + k) ≡ make_unit s.arr.0 (s.p + k) (kind_at (train_at night.arrive s.arr.0) (s.p + k))
+  pub unit : (night : Night) (s : Shape) (k : ℕ) → AreRunsWithin night s → k < s.n
+      → unit_at night (unit_from night s + k) ≡ make_unit s.arr.0 (s.p + k) (kind_at (train_at night.arrive s.arr.0) (s.p + k))
 
 -- ---- lengths
 
@@ -69,7 +70,8 @@ arrival night k h lt = h.timetable.arrive.each k _ lt
 departure : (night : Night) (k : ℕ) → IsOrderedNight night → k < length night.depart → IsTrain night.station (train_at night.depart k)
 departure night k h lt = h.timetable.depart.each k _ lt
 
-unit_long : (laws : BlockLaws) (night : Night) (s : Shape) (k : ℕ) → IsOrderedNight night → AreRunsWithin night s → k < s.n → 1 ≤ length_of night.station (unit_at night (unit_from night s + k)).kind
+unit_long : (laws : BlockLaws) (night : Night) (s : Shape) (k : ℕ) → IsOrderedNight night → AreRunsWithin night s → k < s.n
+    → 1 ≤ length_of night.station (unit_at night (unit_from night s + k)).kind
 unit_long laws night s k h r lt =
     let kind = kind_at (train_at night.arrive s.arr.0) (s.p + k) in
     let within = (arrival night s.arr.0 h r.arr).kinds (s.p + k - 1) _ (omega (arith, r.p, r.units, lt)) in
@@ -90,11 +92,13 @@ stands_when : (soon : Bool) (t s : Stay) → (if soon then None else Some t) ≡
 stands_when true t s e = absurd (none-some _ e)
 stands_when false t s e = cc
 
-stay_is : (night : Night) (b : Block) (o : Option Park) (s : Stay) → IsOnTrack night.station o → stay_with night b o ≡ Some s → (k : Park) × (k.track.0 < length night.station.tracks) × (s ≡ parked_stay night b k)
+stay_is : (night : Night) (b : Block) (o : Option Park) (s : Stay) → IsOnTrack night.station o → stay_with night b o ≡ Some s
+    → (k : Park) × (k.track.0 < length night.station.tracks) × (s ≡ parked_stay night b k)
 stay_is night b None s on e = absurd (none-some _ e)
 stay_is night b (Some k) s on e = (k, on, stands_when (is_too_soon night (shape_of b)) (parked_stay night b k) s e)
 
-parked_fits : (laws : BlockLaws) (night : Night) (b : Block) (k : Park) → IsOrderedNight night → IsInRange night b → k.track.0 < length night.station.tracks → IsFit night.station (parked_stay night b k)
+parked_fits : (laws : BlockLaws) (night : Night) (b : Block) (k : Park) → IsOrderedNight night → IsInRange night b → k.track.0 < length night.station.tracks
+    → IsFit night.station (parked_stay night b k)
 parked_fits laws night b k h r on =
     let size = block_long laws night b h r.within.runs in
     record {
@@ -110,7 +114,8 @@ parked_fits laws night b k h r on =
 each_one : {X : Type 0} (P : X → Type 0) (xs : List X) (x : X) → All P xs → In x xs → P x
 each_one P xs x all i = let c = in_to xs x i in subst P c.2 (all c.0 x c.1)
 
-stay_fits : (laws : BlockLaws) (night : Night) (blocks : List Block) → IsInstance night → AreInRange night blocks → (s : Stay) → In s (stays_of night blocks) → IsFit night.station s
+stay_fits : (laws : BlockLaws) (night : Night) (blocks : List Block) → IsInstance night → AreInRange night blocks → (s : Stay) → In s (stays_of night blocks)
+    → IsFit night.station s
 stay_fits laws night blocks is range s i =
     let b = laws.from night blocks s i in
     let r = each_one (IsInRange night) blocks b.0 range.each b.1 in
@@ -134,21 +139,27 @@ pub orders_formed : (laws : BlockLaws) (night : Night) (blocks : List Block) →
 unfolding orders_in
 orders_formed laws night blocks is range =
     let few = range.few in
-    stays_ordered night.station (stays_of night blocks) (are_stays laws night blocks is range) (stay_fits laws night blocks is range) (omega (arith, few, few_some (stay_of night) blocks))
+    stays_ordered night.station (stays_of night blocks) (are_stays laws night blocks is range) (stay_fits laws night blocks is range)
+    (omega (arith, few, few_some (stay_of night) blocks))
 
-pub due_in_time : (laws : BlockLaws) (night : Night) (blocks : List Block) → IsInstance night → AreInRange night blocks → (dues seen : List Due) → seen ≡ dues → map due_move dues ≡ in_order (stays_of night blocks) → All (λ d. d.key.minute < 2880) seen
+pub due_in_time : (laws : BlockLaws) (night : Night) (blocks : List Block) → IsInstance night → AreInRange night blocks → (dues seen : List Due) → seen ≡ dues
+    → map due_move dues ≡ in_order (stays_of night blocks) → All (λ d. d.key.minute < 2880) seen
 due_in_time laws night blocks is range dues seen same e =
-    subst (All (λ d. d.key.minute < 2880)) (sym same) (dues_in_time night.station (stays_of night blocks) (are_stays laws night blocks is range) (stay_fits laws night blocks is range) dues e)
+    subst (All (λ d. d.key.minute < 2880)) (sym same) (dues_in_time night.station (stays_of night blocks) (are_stays laws night blocks is range)
+    (stay_fits laws night blocks is range) dues e)
 
-pub orders_are : (night : Night) (blocks : List Block) (dues seen : List Due) → seen ≡ dues → map due_move dues ≡ in_order (stays_of night blocks) → map order_of (map due_move seen) ≡ orders_in night blocks
+pub orders_are : (night : Night) (blocks : List Block) (dues seen : List Due) → seen ≡ dues → map due_move dues ≡ in_order (stays_of night blocks)
+    → map order_of (map due_move seen) ≡ orders_in night blocks
 unfolding orders_in
 orders_are night blocks dues seen same sorted = ap (λ l. map order_of (map due_move l)) same ∙ ap (map order_of) sorted
 
-pub plan_followed : (laws : BlockLaws) (night : Night) (blocks : List Block) → IsInstance night → AreInRange night blocks → RunsThrough night blocks → followed night.station (orders_in night blocks) ≡ answers.Through 0
+pub plan_followed : (laws : BlockLaws) (night : Night) (blocks : List Block) → IsInstance night → AreInRange night blocks → RunsThrough night blocks
+    → followed night.station (orders_in night blocks) ≡ answers.Through 0
 unfolding orders_in
 plan_followed laws night blocks is range through =
     stays_followed night.station (stays_of night blocks) (are_stays laws night blocks is range)
     (on_tracks night.station (map order_of (in_order (stays_of night blocks))) (orders_formed laws night blocks is range)) through
 
-pub orders_read : (laws : BlockLaws) (night : Night) (blocks : List Block) → IsInstance night → AreInRange night blocks → ReadsAsSheet night.station (orders_in night blocks) (text_of_rows (rows_of night.station (orders_in night blocks)))
+pub orders_read : (laws : BlockLaws) (night : Night) (blocks : List Block) → IsInstance night → AreInRange night blocks
+    → ReadsAsSheet night.station (orders_in night blocks) (text_of_rows (rows_of night.station (orders_in night blocks)))
 orders_read laws night blocks is range = text_back night.station (orders_in night blocks) (opened night is).station (orders_formed laws night blocks is range)

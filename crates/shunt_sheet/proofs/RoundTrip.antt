@@ -55,8 +55,25 @@ track_named s k f lt = name_at (λ (t : Track). t.name) s.tracks k (λ i d small
 pub plain_order : (s : Station) → IsStation s → (o : Order) → IsSpelled s o → IsPlainRow (order_row s o)
 plain_order s f o is =
     let id = is.id in
-    let long = is.long in
-    (omega arith, (plain_word (codes "order") refl refl, (plain_minute o.minute is.minute, (plain_move o.enters, (plain_number o.id (omega (arith, id)), (plain_number o.length (omega (arith, long)), (plain_name _ (track_named s o.track.0 f is.track), (plain_side o.side, tt))))))))
+    let long = is.long in (
+      omega arith,
+      (
+        plain_word (codes "order") refl refl,
+        (
+          plain_minute o.minute is.minute,
+          (
+            plain_move o.enters,
+            (
+              plain_number o.id (omega (arith, id)),
+              (
+                plain_number o.length (omega (arith, long)),
+                (plain_name _ (track_named s o.track.0 f is.track), (plain_side o.side, tt)),
+              ),
+            ),
+          ),
+        ),
+      ),
+    )
 
 pub plain_head : IsPlainRow head_row
 plain_head = (omega arith, (plain_word (codes "sheet") refl refl, (plain_number 1 (omega arith), tt)))
@@ -101,7 +118,8 @@ track_kept s xs y may = unless y.enters _ (λ leaves. is_kept (λ e. e.track.0 =
 some_track : Track
 some_track = record { name = []; length = 0; side_a = false; side_b = false }
 
-track_found : (s : Station) (k : ℕ) → IsStation s → k < length s.tracks → position (λ t. bytes_eq t.name (slice_index_or (map (λ (t : Track). t.name) s.tracks) k [])) s.tracks ≡ Some k
+track_found : (s : Station) (k : ℕ) → IsStation s → k < length s.tracks → position (λ t. bytes_eq t.name (slice_index_or (map (λ (t : Track). t.name) s.tracks) k [])) s.tracks
+    ≡ Some k
 track_found s k f lt =
     found_there (λ (t : Track). t.name) s.tracks (slice_index_or (map (λ (t : Track). t.name) s.tracks) k []) k some_track f.track_names
     (slice_get-get_or (map (λ (t : Track). t.name) s.tracks) k [] (omega (arith, lt, length-map s.tracks (λ (t : Track). t.name))))
@@ -116,12 +134,14 @@ three f a b i j k l e g h = two (λ x y. f x y k) a b i j e g ∙ ap (f b j) h
 abbrev order_from : ℕ → Bool → ℕ → ℕ → ℕ → Side → Order
 order_from minute enters id long track side = record { minute = minute; enters = enters; id = id; length = long; track = record { 0 = track }; side = side }
 
-six : (f : Order → List Order) (m n : ℕ) (a b : Bool) (i j k l t u : ℕ) (p q : Side) → m ≡ n → a ≡ b → i ≡ j → k ≡ l → t ≡ u → p ≡ q → f (order_from m a i k t p) ≡ f (order_from n b j l u q)
+six : (f : Order → List Order) (m n : ℕ) (a b : Bool) (i j k l t u : ℕ) (p q : Side) → m ≡ n → a ≡ b → i ≡ j → k ≡ l → t ≡ u → p ≡ q
+    → f (order_from m a i k t p) ≡ f (order_from n b j l u q)
 six f m n a b i j k l t u p q e g h v w z =
     ap (λ x. f (order_from x a i k t p)) e ∙ three (λ x y r. f (order_from n x y r t p)) a b i j k l g h v
     ∙ ap (λ x. f (order_from n b j l x p)) w ∙ ap (λ x. f (order_from n b j l u x)) z
 
-order_read : (s : Station) (orders : List Order) → IsStation s → AreOrders s orders → (n : ℕ) (xs : List Order) (y : Order) (zs : List Order) → orders ≡ xs ++ y ∷ zs → answer n (sheet_later s xs (order_row s y)) ≡ Ok (xs ++ y ∷ [])
+order_read : (s : Station) (orders : List Order) → IsStation s → AreOrders s orders → (n : ℕ) (xs : List Order) (y : Order) (zs : List Order) → orders ≡ xs ++ y ∷ zs
+    → answer n (sheet_later s xs (order_row s y)) ≡ Ok (xs ++ y ∷ [])
 unfolding sheet_later more_of order_in start_in move_in place_in is_within
 order_read s orders f g n xs y zs e =
     let may = g.each xs y zs e in
@@ -144,7 +164,16 @@ order_read s orders f g n xs y zs e =
     let same_length = three (λ b k l. keeps_length xs (record { enters = b; id = k }) l) _ y.enters _ y.id _ y.length wv iv v.value ∙ length_kept s xs y may in
     let same_track = three (λ b k l. keeps_track xs (record { enters = b; id = k }) l) _ y.enters _ y.id _ y.track.0 wv iv tv ∙ track_kept s xs y may in
     let r = more_of s xs (order_row s y) in
-    holding n r.checks r.value (refl, (fewer orders xs zs y 800 g.few e, (ap is_some time, (later, (ap is_some word, (ap is_some id, (known, (new, (range, (v.there, (v.range, (same_length, (ap is_some t, (same_track, (ap is_some q, tt)))))))))))))))
+    holding n r.checks r.value (
+      refl,
+      (
+        fewer orders xs zs y 800 g.few e,
+        (
+          ap is_some time,
+          (later, (ap is_some word, (ap is_some id, (known, (new, (range, (v.there, (v.range, (same_length, (ap is_some t, (same_track, (ap is_some q, tt)))))))))))),
+        ),
+      ),
+    )
     ∙ ap (λ l. Ok l) (six (λ o. xs ++ o ∷ []) _ y.minute _ y.enters _ y.id _ y.length _ y.track.0 _ y.side mv wv iv v.value tv qv)
 
 head_read : answer 1 (sheet_first head_row) ≡ Ok []
@@ -162,7 +191,8 @@ orders_back s orders f g =
 
 -- ---- their text is read back
 
-pub back_from : (s : Station) (orders : List Order) → IsStation s → AreOrders s orders → (text bytes : List ℕ) → text ≡ text_of_rows (rows_of s orders) → ReadsBack text bytes → ReadsAsSheet s orders bytes
+pub back_from : (s : Station) (orders : List Order) → IsStation s → AreOrders s orders → (text bytes : List ℕ) → text ≡ text_of_rows (rows_of s orders) → ReadsBack text bytes
+    → ReadsAsSheet s orders bytes
 back_from s orders f g text bytes e back =
     let rows = back (rows_of s orders) (rows_plain s orders f g) e in
     record { rows = rows; value = ap (reading (sheet_format s)) rows ∙ orders_back s orders f g }
@@ -174,7 +204,8 @@ abbrev wrote : List ℕ → Written
 wrote text = record { text = text; row = [] }
 
 -- all records of a sheet, one part after the other
-pub sheet_written : (s : Station) (orders seen : List Order) (w a b : Written) → seen ≡ orders → w ≡ record { text = []; row = [] } → a ≡ record { text = w.text ++ text_of_row head_row; row = [] }
+pub sheet_written : (s : Station) (orders seen : List Order) (w a b : Written) → seen ≡ orders → w ≡ record { text = []; row = [] }
+    → a ≡ record { text = w.text ++ text_of_row head_row; row = [] }
     → b ≡ record { text = a.text ++ text_of_rows (map (order_row s) seen); row = [] } → b.text ≡ text_of_rows (rows_of s orders)
 sheet_written s orders seen w a b same h0 h1 h2 =
     let all = text_of_rows (rows_of s orders) in

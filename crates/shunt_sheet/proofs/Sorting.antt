@@ -29,7 +29,8 @@ moves_are (s ∷ stays) =
     ∙ ap (λ (l : List Move). entry_of s ∷ leave_of s ∷ l) (moves_are stays)
     ∙ sym (flat_map-cons (λ (z : Stay). entry_of z ∷ leave_of z ∷ []) s stays)
 
-sorted_map : (cmp : Due → Due → Ordering) (dues : List Due) → ((d e : Due) → is_lt (cmp d e) ≡ false → is_lt (key_cmp d.key e.key) ≡ false) → IsSorted cmp dues → IsSorted by_key (map due_move dues)
+sorted_map : (cmp : Due → Due → Ordering) (dues : List Due) → ((d e : Due) → is_lt (cmp d e) ≡ false → is_lt (key_cmp d.key e.key) ≡ false) → IsSorted cmp dues
+    → IsSorted by_key (map due_move dues)
 sorted_map cmp dues finer s = λ k m low high.
     let z : Due = record { key = m.key; track = m.track; side = m.side; length = m.length } in
     let lt : k + 1 < length dues = omega (arith, length-map dues due_move) in
@@ -39,6 +40,9 @@ sorted_map cmp dues finer s = λ k m low high.
     ∙ ap (λ (n : Move). is_lt (by_key (due_move (get_or dues (k + 1) z)) n)) here
     ∙ finer (get_or dues (k + 1) z) (get_or dues k z) (s k z low lt)
 
-pub sorted_moves : (cmp : Due → Due → Ordering) (stays : List Stay) (dues sorted : List Due) → AreStays stays → ((d e : Due) → is_lt (cmp d e) ≡ false → is_lt (key_cmp d.key e.key) ≡ false) → dues ≡ flat_map dues_of stays → IsPermutation dues sorted → IsSorted cmp sorted → map due_move sorted ≡ in_order stays
+pub sorted_moves : (cmp : Due → Due → Ordering) (stays : List Stay) (dues sorted : List Due) → AreStays stays
+    → ((d e : Due) → is_lt (cmp d e) ≡ false → is_lt (key_cmp d.key e.key) ≡ false) → dues ≡ flat_map dues_of stays → IsPermutation dues sorted → IsSorted cmp sorted
+    → map due_move sorted ≡ in_order stays
 sorted_moves cmp stays dues sorted a finer e p s =
-    sorted_is stays (map due_move sorted) a (subst (λ (l : List Move). IsPermutation l (map due_move sorted)) (ap (map due_move) e ∙ moves_are stays) (IsPermutation-map due_move dues sorted p)) (sorted_map cmp sorted finer s)
+    sorted_is stays (map due_move sorted) a (subst (λ (l : List Move). IsPermutation l (map due_move sorted)) (ap (map due_move) e ∙ moves_are stays)
+    (IsPermutation-map due_move dues sorted p)) (sorted_map cmp sorted finer s)

@@ -42,14 +42,16 @@ told_is n (Blocked m) rest = refl
 told_is n (Over m k) rest = refl
 
 -- a run whose first order can be done
-first : (lengths : List ℕ) (o : Order) (orders : List Order) (tracks : List (List Standing)) (blocks : List Standing) (t : Through) → moved_at lengths o tracks ≡ Ok blocks → run lengths (map move_of orders) (set tracks o.track.0 blocks) ≡ Ok t
+first : (lengths : List ℕ) (o : Order) (orders : List Order) (tracks : List (List Standing)) (blocks : List Standing) (t : Through) → moved_at lengths o tracks ≡ Ok blocks
+    → run lengths (map move_of orders) (set tracks o.track.0 blocks) ≡ Ok t
     → run lengths (map move_of (o ∷ orders)) tracks ≡ Ok (one_more (move_of o) blocks t)
 first lengths o orders tracks blocks t is goes =
     ap (λ (r : Result (List Standing) Stop). r >>= (λ bs. run lengths (map move_of orders) (set tracks o.track.0 bs) >>= (λ u. Ok (one_more (move_of o) bs u)))) is
     ∙ ap (λ (r : Result Through Stop). r >>= (λ u. Ok (one_more (move_of o) blocks u))) goes
 
 -- the first can be done, and the others end so
-behind : (lengths : List ℕ) (n : ℕ) (o : Order) (orders : List Order) (tracks : List (List Standing)) (blocks : List Standing) (a : Followed) → moved_at lengths o tracks ≡ Ok blocks
+behind : (lengths : List ℕ) (n : ℕ) (o : Order) (orders : List Order) (tracks : List (List Standing)) (blocks : List Standing) (a : Followed)
+    → moved_at lengths o tracks ≡ Ok blocks
     → Ends lengths (n + 1) orders (set tracks o.track.0 blocks) a → Ends lengths n (o ∷ orders) tracks a
 behind lengths n o orders tracks blocks a is (inl t) = inl (one_more (move_of o) blocks t.0, first lengths o orders tracks blocks t.0 is t.1, t.2)
 behind lengths n o orders tracks blocks a is (inr r) =
@@ -75,11 +77,18 @@ abbrev rest_of : List ℕ → ℕ → Order → List Order → List (List Standi
 rest_of lengths n o orders tracks blocks = follow_from lengths (n + 1) orders (set tracks o.track.0 blocks)
 
 first_ends : (lengths : List ℕ) (n : ℕ) (o : Order) (orders : List Order) (tracks : List (List Standing)) (r : Result (List Standing) Stop) → moved_at lengths o tracks ≡ r
-    → ((blocks : List Standing) → Ends lengths (n + 1) orders (set tracks o.track.0 blocks) (rest_of lengths n o orders tracks blocks)) → Ends lengths n (o ∷ orders) tracks (goes_on n (moved_at lengths o tracks) (rest_of lengths n o orders tracks))
+    → ((blocks : List Standing) → Ends lengths (n + 1) orders (set tracks o.track.0 blocks) (rest_of lengths n o orders tracks blocks))
+    → Ends lengths n (o ∷ orders) tracks (goes_on n (moved_at lengths o tracks) (rest_of lengths n o orders tracks))
 first_ends lengths n o orders tracks (Ok blocks) is h =
-    subst (λ q. Ends lengths n (o ∷ orders) tracks (goes_on n q (rest_of lengths n o orders tracks))) (sym is) (behind lengths n o orders tracks blocks (rest_of lengths n o orders tracks blocks) is (h blocks))
+    subst (λ q. Ends lengths n (o ∷ orders) tracks (goes_on n q (rest_of lengths n o orders tracks))) (sym is)
+    (behind lengths n o orders tracks blocks (rest_of lengths n o orders tracks blocks) is (h blocks))
 first_ends lengths n o orders tracks (Err stop) is h =
-    inr (n, stop, record { before = []; here = o; after = orders; place = refl; counted = omega arith; done = record { steps = []; tracks = tracks }; goes = refl; stops = is }, ap (λ q. goes_on n q (rest_of lengths n o orders tracks)) is ∙ told_is n stop (rest_of lengths n o orders tracks))
+    inr (
+      n,
+      stop,
+      record { before = []; here = o; after = orders; place = refl; counted = omega arith; done = record { steps = []; tracks = tracks }; goes = refl; stops = is },
+      ap (λ q. goes_on n q (rest_of lengths n o orders tracks)) is ∙ told_is n stop (rest_of lengths n o orders tracks),
+    )
 
 ends : (lengths : List ℕ) (n : ℕ) (orders : List Order) (tracks : List (List Standing)) → Ends lengths n orders tracks (follow_from lengths n orders tracks)
 ends lengths n [] tracks = inl (record { steps = []; tracks = tracks }, refl, refl)
@@ -106,7 +115,8 @@ left_blames m None stop e = inl (err_same (Blocked m) stop e)
 
 entered_blames : (room : ℕ) (m : Move) (blocks : List Standing) (stop : Stop) → entered room m blocks ≡ Err stop → Blames m stop
 entered_blames room m blocks stop =
-    either_blames (nat_le (load blocks) room) (Ok blocks) (Err (Over m (load blocks))) stop (λ e. no_error blocks stop e) (λ e. inr (load blocks, err_same (Over m (load blocks)) stop e))
+    either_blames (nat_le (load blocks) room) (Ok blocks) (Err (Over m (load blocks))) stop (λ e. no_error blocks stop e)
+    (λ e. inr (load blocks, err_same (Over m (load blocks)) stop e))
 
 abbrev block_of : Move → Standing
 block_of m = record { id = m.key.id; length = m.length }
@@ -125,12 +135,14 @@ ok_was : (r : Result Through Stop) (f : Through → Through) (t : Through) → (
 ok_was (Ok x) f t e = (x, refl, cc)
 ok_was (Err stop) f t e = absurd (cc)
 
-first_was : (r : Result (List Standing) Stop) (f : List Standing → Result Through Stop) (t : Through) → (r >>= f) ≡ Ok t → (blocks : List Standing) × (r ≡ Ok blocks) × (f blocks ≡ Ok t)
+first_was : (r : Result (List Standing) Stop) (f : List Standing → Result Through Stop) (t : Through) → (r >>= f) ≡ Ok t
+    → (blocks : List Standing) × (r ≡ Ok blocks) × (f blocks ≡ Ok t)
 first_was (Ok blocks) f t e = (blocks, refl, e)
 first_was (Err stop) f t e = absurd (cc)
 
 -- where the first orders can be done, it goes on behind them
-reached : (lengths : List ℕ) (n : ℕ) (before later : List Order) (tracks : List (List Standing)) (done : Through) → run lengths (map move_of before) tracks ≡ Ok done → follow_from lengths n (before ++ later) tracks ≡ follow_from lengths (length before + n) later done.tracks
+reached : (lengths : List ℕ) (n : ℕ) (before later : List Order) (tracks : List (List Standing)) (done : Through) → run lengths (map move_of before) tracks ≡ Ok done
+    → follow_from lengths n (before ++ later) tracks ≡ follow_from lengths (length before + n) later done.tracks
 reached lengths n [] later tracks done e =
     let number : n ≡ 0 + n = omega arith in
     ap (λ (t : Through). follow_from lengths n later t.tracks) (ok_same (record { steps = []; tracks = tracks }) done e) ∙ ap (λ k. follow_from lengths k later done.tracks) number
@@ -182,7 +194,8 @@ module _ (s : Station) (orders : List Order) where
   unfolding followed
   ended = ends (track_lengths s) 1 orders (empty_tracks (track_lengths s))
 
-  stops_at : (number other : ℕ) (stop : Stop) (told_by : Move → Stop) (st : stopped number stop) → stop ≡ told_by (move_of st.here) → number ≡ other → StopsAt s orders other told_by
+  stops_at : (number other : ℕ) (stop : Stop) (told_by : Move → Stop) (st : stopped number stop) → stop ≡ told_by (move_of st.here) → number ≡ other
+      → StopsAt s orders other told_by
   stops_at number other stop told_by st is same = record {
     before = st.before;
     here = st.here;
@@ -215,7 +228,8 @@ module _ (s : Station) (orders : List Order) where
   was_over number load e (inl t) = through_over (blocks_on t.0.tracks) number load (sym t.2 ∙ e)
   was_over number load e (inr r) =
       ⊎_elim (λ b. blocked_over r.0 number load (sym (r.3 ∙ ap (told r.0) b) ∙ e))
-      (λ o. let both = over_same r.0 number o.0 load (sym (r.3 ∙ ap (told r.0) o.1) ∙ e) in stops_at r.0 number r.1 (λ m. Over m load) r.2 (o.1 ∙ ap (Over (move_of r.2.here)) both.1) both.0) (blame r.0 r.1 r.2)
+      (λ o. let both = over_same r.0 number o.0 load (sym (r.3 ∙ ap (told r.0) o.1) ∙ e) in stops_at r.0 number r.1 (λ m. Over m load) r.2
+      (o.1 ∙ ap (Over (move_of r.2.here)) both.1) both.0) (blame r.0 r.1 r.2)
 
   goes_through : (count : ℕ) (t : Through) → run_in s orders ≡ Ok t → blocks_on t.tracks ≡ count → followed s orders ≡ answers.Through count
   unfolding followed

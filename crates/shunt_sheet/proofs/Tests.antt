@@ -74,7 +74,8 @@ pub is_kept : (test : Entered → Bool) (o : Option Entered) (e : Entered) → o
 is_kept test o e is t = ap (keeps test) is ∙ t
 
 -- the entry of a block is found among orders of which no other one is
-pub first_entry : {X : Type 0} (f : X → Order) (id : ℕ) (e : X) (xs : List X) → In e xs → is_of true id (f e) ≡ true → ((x : X) → In x xs → is_of true id (f x) ≡ true → x ≡ e) → entry_in id (map f xs) ≡ Some (entered_by (f e))
+pub first_entry : {X : Type 0} (f : X → Order) (id : ℕ) (e : X) (xs : List X) → In e xs → is_of true id (f e) ≡ true → ((x : X) → In x xs → is_of true id (f x) ≡ true → x ≡ e)
+    → entry_in id (map f xs) ≡ Some (entered_by (f e))
 first_entry f id e [] i t only = absurd i
 first_entry f id e (x ∷ xs) i t only = ⊎_elim here (later i (λ j. first_entry f id e xs j t (λ z k v. only z (inr k) v))) (cases_Bool (is_of true id (f x)))
   where
@@ -106,7 +107,8 @@ split_in (y ∷ ys) x (inl e) = ([], ys, ap (λ z. z ∷ ys) (sym e))
 split_in (y ∷ ys) x (inr i) = let r = split_in ys x i in (y ∷ r.0, r.1, ap (λ l. y ∷ l) r.2)
 
 -- one of a list and one more is the last one, or stands among the others
-pub last_or_earlier : {X : Type 0} (xs before after : List X) (x y : X) → xs ++ x ∷ [] ≡ before ++ y ∷ after → ((before ≡ xs) × (y ≡ x)) ⊎ ((rest : List X) × (xs ≡ before ++ y ∷ rest))
+pub last_or_earlier : {X : Type 0} (xs before after : List X) (x y : X) → xs ++ x ∷ [] ≡ before ++ y ∷ after
+    → ((before ≡ xs) × (y ≡ x)) ⊎ ((rest : List X) × (xs ≡ before ++ y ∷ rest))
 last_or_earlier [] [] after x y e = inl (refl, sym (heads x y [] after e))
 last_or_earlier [] (b ∷ before) after x y e = absurd (omega (arith, ap length (tails x b [] (before ++ y ∷ after) e), length-append before (y ∷ after)))
 last_or_earlier (a ∷ xs) [] after x y e = inr (xs, ap (λ z. z ∷ xs) (heads a y (xs ++ x ∷ []) after e))

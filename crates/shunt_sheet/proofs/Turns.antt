@@ -20,7 +20,8 @@ use Rattle.shunt_sheet.proofs.Runs.{few_left}
 did_moved : (x : Did) (m : Move) (room : ℕ) (old new : List Standing) → x ≡ did.Moved → Does x m room old new → moved room m old ≡ Ok new
 did_moved x m room old new e h = subst (λ (y : Did). Does y m room old new) e h
 
-module _ {X : Type 0} (view : X → List Standing) (lengths : List ℕ) (orders : List Order) (i n : ℕ) (tracks : List X) (u : ℕ) (o : Order) (v : X) (lt : i < length orders) (is : o ≡ get_or orders i o) (at : u ≡ o.track.0) (on : u < length tracks) (was : v ≡ get_or tracks u v) where
+module _ {X : Type 0} (view : X → List Standing) (lengths : List ℕ) (orders : List Order) (i n : ℕ) (tracks : List X) (u : ℕ) (o : Order) (v : X) (lt : i < length orders)
+    (is : o ≡ get_or orders i o) (at : u ≡ o.track.0) (on : u < length tracks) (was : v ≡ get_or tracks u v) where
   abbrev rest : List Standing → Followed
   rest bs = follow_from lengths (n + 1) (drop (i + 1) orders) (set (map view tracks) o.track.0 bs)
 
@@ -32,7 +33,8 @@ module _ {X : Type 0} (view : X → List Standing) (lengths : List ℕ) (orders 
       ∙ ap (λ (l : List Standing). goes_on n (moved (get_or lengths u 0) (move_of o) l) rest) (get_or-map view tracks u v [] on ∙ ap view (sym was))
 
   -- what came of it decides what the whole comes to
-  decided : (r : Result (List Standing) Stop) (all : Followed) → moved (get_or lengths u 0) (move_of o) (view v) ≡ r → follow_from lengths n (drop i orders) (map view tracks) ≡ all → goes_on n r rest ≡ all
+  decided : (r : Result (List Standing) Stop) (all : Followed) → moved (get_or lengths u 0) (move_of o) (view v) ≡ r → follow_from lengths n (drop i orders) (map view tracks) ≡ all
+      → goes_on n r rest ≡ all
   decided r all did_so so = sym (first_is ∙ ap (λ (q : Result (List Standing) Stop). goes_on n q rest) did_so) ∙ so
 
   pub turned : (x : Did) (w : X) (all : Followed) → x ≡ did.Moved → Does x (move_of o) (get_or lengths u 0) (view v) (view w)
@@ -46,10 +48,12 @@ module _ {X : Type 0} (view : X → List Standing) (lengths : List ℕ) (orders 
       let m = did_moved x (move_of o) (get_or lengths u 0) (view v) (view w) e does in
       let bound : load (view v) ≤ get_or lengths u 0 = subst (λ (y : X). load (view y) ≤ get_or lengths u 0) (sym was) (fit u v on) in
       let size = length-set tracks u w in
-      ⊎_elim (λ s. subst (λ (j : ℕ). load (view (get_or (set tracks u w) j d)) ≤ get_or lengths j 0) (sym s) (subst (λ (y : X). load (view y) ≤ get_or lengths u 0) (sym (get_or-set_same tracks u w d on)) (load_kept (get_or lengths u 0) (move_of o) (view v) (view w) m bound)))
+      ⊎_elim (λ s. subst (λ (j : ℕ). load (view (get_or (set tracks u w) j d)) ≤ get_or lengths j 0) (sym s)
+      (subst (λ (y : X). load (view y) ≤ get_or lengths u 0) (sym (get_or-set_same tracks u w d on)) (load_kept (get_or lengths u 0) (move_of o) (view v) (view w) m bound)))
       (λ ne. subst (λ (y : X). load (view y) ≤ get_or lengths k 0) (sym (get_or-set_other tracks u k w d ne)) (fit k d (omega arith))) (cases_eq k u)
 
-pub within : (lengths : List ℕ) (orders : List Order) (i u n : ℕ) (o : Order) → All (λ x. x.track.0 < length lengths) orders → i < length orders → o ≡ get_or orders i o → u ≡ o.track.0 → n ≡ length lengths → u < n
+pub within : (lengths : List ℕ) (orders : List Order) (i u n : ℕ) (o : Order) → All (λ x. x.track.0 < length lengths) orders → i < length orders → o ≡ get_or orders i o
+    → u ≡ o.track.0 → n ≡ length lengths → u < n
 within lengths orders i u n o on lt is at e = let below = on i o lt in omega (arith, below, ap (λ (x : Order). x.track.0) is, at, e)
 
 -- no order is left
@@ -59,11 +63,13 @@ none_left [] (suc i) le = refl
 none_left (o ∷ orders) zero le = absurd (omega arith)
 none_left (o ∷ orders) (suc i) le = none_left orders i (omega arith)
 
-pub all_through : (lengths : List ℕ) (orders : List Order) (i n : ℕ) (tracks : List (List Standing)) (all : Followed) → length orders ≤ i → follow_from lengths n (drop i orders) tracks ≡ all → answers.Through (blocks_on tracks) ≡ all
+pub all_through : (lengths : List ℕ) (orders : List Order) (i n : ℕ) (tracks : List (List Standing)) (all : Followed) → length orders ≤ i
+    → follow_from lengths n (drop i orders) tracks ≡ all → answers.Through (blocks_on tracks) ≡ all
 all_through lengths orders i n tracks all le so = ap (λ (l : List Order). follow_from lengths n l tracks) (sym (none_left orders i le)) ∙ so
 
 -- orders that are done leave no more blocks than there are orders
-pub left_few : {X : Type 0} (view : X → List Standing) (lengths : List ℕ) (orders : List Order) (i n : ℕ) (was now seen : List X) → length orders ≤ 800 → length was ≡ length lengths → All (λ o. o.track.0 < length lengths) orders → blocks_on (map view was) ≡ 0
+pub left_few : {X : Type 0} (view : X → List Standing) (lengths : List ℕ) (orders : List Order) (i n : ℕ) (was now seen : List X) → length orders ≤ 800
+    → length was ≡ length lengths → All (λ o. o.track.0 < length lengths) orders → blocks_on (map view was) ≡ 0
     → length orders ≤ i → follow_from lengths n (drop i orders) (map view now) ≡ follow_from lengths 1 orders (map view was) → seen ≡ now → blocks_on (map view seen) ≤ 800
 left_few view lengths orders i n was now seen few sizes on none past so same =
     subst (λ l. blocks_on (map view l) ≤ 800) (sym same)
@@ -81,7 +87,8 @@ fit_empty view lengths tracks e = λ k d lt.
     let none : view (get_or tracks k d) ≡ [] = sym (get_or-map view tracks k d [] lt) ∙ ap (λ (l : List (List Standing)). get_or l k []) e ∙ none_at lengths k in
     omega (arith, ap load none)
 
-pub empty_more : {X : Type 0} (view : X → List Standing) (lengths : List ℕ) (i : ℕ) (tracks more : List X) (v : X) → i < length lengths → view v ≡ [] → more ≡ tracks ++ v ∷ [] → map view tracks ≡ empty_tracks (take i lengths) → map view more ≡ empty_tracks (take (i + 1) lengths)
+pub empty_more : {X : Type 0} (view : X → List Standing) (lengths : List ℕ) (i : ℕ) (tracks more : List X) (v : X) → i < length lengths → view v ≡ [] → more ≡ tracks ++ v ∷ []
+    → map view tracks ≡ empty_tracks (take i lengths) → map view more ≡ empty_tracks (take (i + 1) lengths)
 empty_more view lengths i tracks more v lt none grown so =
     ap (map view) grown ∙ map-append view tracks (v ∷ [])
     ∙ ap (λ (l : List Standing). map view tracks ++ l ∷ []) none
@@ -90,12 +97,14 @@ empty_more view lengths i tracks more v lt none grown so =
     ∙ ap empty_tracks (sym (take_more lengths i 0 lt))
 
 -- the tracks of orders have lengths
-pub lengths_for : (s : Station) (lengths : List ℕ) (orders seen : List Order) → seen ≡ orders → lengths ≡ track_lengths s → All (λ o. o.track.0 < length s.tracks) orders → All (λ o. o.track.0 < length lengths) seen
+pub lengths_for : (s : Station) (lengths : List ℕ) (orders seen : List Order) → seen ≡ orders → lengths ≡ track_lengths s → All (λ o. o.track.0 < length s.tracks) orders
+    → All (λ o. o.track.0 < length lengths) seen
 lengths_for s lengths orders seen same e on =
     subst (All (λ o. o.track.0 < length lengths)) (sym same)
     (λ k d lt. let small = on k d lt in omega (arith, small, ap length e, length-map s.tracks (λ t. t.length)))
 
-pub followed_from : (s : Station) (lengths : List ℕ) (orders seen : List Order) (tracks : List (List Standing)) → seen ≡ orders → lengths ≡ track_lengths s → tracks ≡ empty_tracks lengths → follow_from lengths 1 seen tracks ≡ followed s orders
+pub followed_from : (s : Station) (lengths : List ℕ) (orders seen : List Order) (tracks : List (List Standing)) → seen ≡ orders → lengths ≡ track_lengths s
+    → tracks ≡ empty_tracks lengths → follow_from lengths 1 seen tracks ≡ followed s orders
 unfolding followed
 followed_from s lengths orders seen tracks same e none =
     ap (λ l. follow_from lengths 1 l tracks) same ∙ ap (follow_from lengths 1 orders) none ∙ ap (λ l. follow_from l 1 orders (empty_tracks l)) e

@@ -32,13 +32,15 @@ greatest_same o p (q ∷ os) e h =
     ∙ ap (greater o) (greatest_same o q os (h q (inl refl)) (λ r j. h r (inr j)))
     ∙ twice o
 
-at_one : (fixed free : List Span) (without : Option ℤ) (value : Span → Option ℤ) (f : Span) → In f fixed → ((g : Span) → In g fixed → g ≡ f) → best_at fixed free without value ≡ value f
+at_one : (fixed free : List Span) (without : Option ℤ) (value : Span → Option ℤ) (f : Span) → In f fixed → ((g : Span) → In g fixed → g ≡ f)
+    → best_at fixed free without value ≡ value f
 at_one [] free without value f j same = absurd j
 at_one (g ∷ fixed) free without value f j same =
     greatest_same (value f) (value g) (map value fixed) (ap value (same g (inl refl)))
     (λ q k. let s = of_map value fixed q k in s.2 ∙ ap value (same s.0 (inr s.1)))
 
-at_nothing : (fixed free : List Span) (without : Option ℤ) (value : Span → Option ℤ) → ((f : Span) → In f fixed → ⊥) → ((s : Span) → In s free → ⊥) → best_at fixed free without value ≡ without
+at_nothing : (fixed free : List Span) (without : Option ℤ) (value : Span → Option ℤ) → ((f : Span) → In f fixed → ⊥) → ((s : Span) → In s free → ⊥)
+    → best_at fixed free without value ≡ without
 at_nothing [] [] without value bare clear = alone without
 at_nothing [] (s ∷ free) without value bare clear = absurd (clear s (inl refl))
 at_nothing (f ∷ fixed) free without value bare clear = absurd (bare f (inl refl))
@@ -50,7 +52,8 @@ module _ (fixed free : List Span) (own : AreOwn fixed free) where
   opened : (n x y room : ℕ) → x < y
       → best_step (best n fixed free) fixed free x y room ≡ best_at (coming_at x fixed) (coming_at x free) (best n fixed free (x + 1) y room) (best_with (best n fixed free) y room)
   opened n x y room lt =
-      ap (λ (b : Bool). cond b (Some (pos 0)) (best_at (coming_at x fixed) (coming_at x free) (best n fixed free (x + 1) y room) (best_with (best n fixed free) y room))) (no_le y x lt)
+      ap (λ (b : Bool). cond b (Some (pos 0)) (best_at (coming_at x fixed) (coming_at x free) (best n fixed free (x + 1) y room) (best_with (best n fixed free) y room)))
+      (no_le y x lt)
 
   pub at_fixed : (n x y room : ℕ) (f : Span) → In f fixed → f.from ≡ x → x < y → y ≤ x + n → best n fixed free x y room ≡ best_with (best n fixed free) y room f
   at_fixed n x y room f j here lt le =
@@ -69,7 +72,8 @@ module _ (fixed free : List Span) (own : AreOwn fixed free) where
 
 -- ---- two pairs of lists
 
-moved : (fixed free others more : List Span) (x y room : ℕ) (spans : List Span) → AgreeWithin fixed free others more x y → IsNest fixed free x y room spans → IsNest others more x y room spans
+moved : (fixed free others more : List Span) (x y room : ℕ) (spans : List Span) → AgreeWithin fixed free others more x y → IsNest fixed free x y room spans
+    → IsNest others more x y room spans
 moved fixed free others more x y room spans agree nest = record {
   of = λ s j. let b = nest.between s j in (agree.members s b.0 b.1).0 (nest.of s j);
   has = λ f j low high. nest.has f ((agree.same f low high).1 j) low high;

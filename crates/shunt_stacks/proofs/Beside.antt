@@ -59,25 +59,29 @@ or_right false q e = e
 
 -- two blocks that share something share a unit or a position
 record Shared (night : Night) (x y : Block) : Type 0 where
-  one : ((u : ℕ) × (has_unit night (shape_of x) u ≡ true) × (has_unit night (shape_of y) u ≡ true)) ⊎ ((v : ℕ) × (has_position night (shape_of x) v ≡ true) × (has_position night (shape_of y) v ≡ true))
+  one : ((u : ℕ) × (has_unit night (shape_of x) u ≡ true) × (has_unit night (shape_of y) u ≡ true))
+      ⊎ ((v : ℕ) × (has_position night (shape_of x) v ≡ true) × (has_position night (shape_of y) v ≡ true))
 
 shared : (night : Night) (x y : Block) → IsBlockButId night x → IsBlockButId night y → shares night x y ≡ true → Shared night x y
 shared night x y a b e = record {
   one = ⊎_elim
       (λ h. inl (common (unit_from night (shape_of x)) x.n (unit_from night (shape_of y)) y.n a.shape.within.n b.shape.within.n h))
       (λ h. inr (common (position_from night (shape_of x)) x.n (position_from night (shape_of y)) y.n a.shape.within.n b.shape.within.n h))
-      (or_cases (meet (unit_from night (shape_of x)) x.n (unit_from night (shape_of y)) y.n) (meet (position_from night (shape_of x)) x.n (position_from night (shape_of y)) y.n) e);
+      (or_cases (meet (unit_from night (shape_of x)) x.n (unit_from night (shape_of y)) y.n)
+      (meet (position_from night (shape_of x)) x.n (position_from night (shape_of y)) y.n) e);
 }
 
 -- and where they don't, they share neither
 no_unit : (night : Night) (x y : Block) (u : ℕ) → shares night x y ≡ false → has_unit night (shape_of x) u ≡ true → has_unit night (shape_of y) u ≡ true → ⊥
 no_unit night x y u e p q =
-    true≢false (sym (or_left (meet (unit_from night (shape_of x)) x.n (unit_from night (shape_of y)) y.n) (meet (position_from night (shape_of x)) x.n (position_from night (shape_of y)) y.n)
+    true≢false (sym (or_left (meet (unit_from night (shape_of x)) x.n (unit_from night (shape_of y)) y.n)
+    (meet (position_from night (shape_of x)) x.n (position_from night (shape_of y)) y.n)
     (meets (unit_from night (shape_of x)) x.n (unit_from night (shape_of y)) y.n u p q)) ∙ e)
 
 no_position : (night : Night) (x y : Block) (v : ℕ) → shares night x y ≡ false → has_position night (shape_of x) v ≡ true → has_position night (shape_of y) v ≡ true → ⊥
 no_position night x y v e p q =
-    true≢false (sym (or_right (meet (unit_from night (shape_of x)) x.n (unit_from night (shape_of y)) y.n) (meet (position_from night (shape_of x)) x.n (position_from night (shape_of y)) y.n)
+    true≢false (sym (or_right (meet (unit_from night (shape_of x)) x.n (unit_from night (shape_of y)) y.n)
+    (meet (position_from night (shape_of x)) x.n (position_from night (shape_of y)) y.n)
     (meets (position_from night (shape_of x)) x.n (position_from night (shape_of y)) y.n v p q)) ∙ e)
 
 -- ---- free blocks
@@ -99,8 +103,10 @@ module _ (places : PlaceLaws) (night : Night) (path : List Block) (b : Block) (f
 
   still_free : (x : Block) → IsFreeAt night path x → shares night b x ≡ false → IsFreeAt night longer x
   still_free x before off = free_from places night longer x (is_block places night path x before)
-      (λ w h. none_of (has_unit night (shape_of b) w) (times_unit night longer w) (times_unit night path w) (unit_more night path b w) (unit_bare places night path x before w h) (λ on. no_unit night b x w off on (unit_test night x w h)))
-      (λ v h. none_of (has_position night (shape_of b) v) (times_position night longer v) (times_position night path v) (position_more night path b v) (position_bare places night path x before v h) (λ on. no_position night b x v off on (position_test night x v h)))
+      (λ w h. none_of (has_unit night (shape_of b) w) (times_unit night longer w) (times_unit night path w) (unit_more night path b w) (unit_bare places night path x before w h)
+      (λ on. no_unit night b x w off on (unit_test night x w h)))
+      (λ v h. none_of (has_position night (shape_of b) v) (times_position night longer v) (times_position night path v) (position_more night path b v)
+      (position_bare places night path x before v h) (λ on. no_position night b x v off on (position_test night x v h)))
 
   -- what is free there shares nothing with the block
   shares_none : (x : Block) → IsFreeAt night longer x → shares night b x ≡ false
@@ -108,14 +114,18 @@ module _ (places : PlaceLaws) (night : Night) (path : List Block) (b : Block) (f
     where
       never : Shared night b x → ⊥
       never h = ⊎_elim
-          (λ u. some_of (has_unit night (shape_of b) u.0) (times_unit night longer u.0) (times_unit night path u.0) (unit_more night path b u.0) (unit_bare places night longer x after u.0 (has_from night x u.0 u.2)) u.1)
-          (λ v. some_of (has_position night (shape_of b) v.0) (times_position night longer v.0) (times_position night path v.0) (position_more night path b v.0) (position_bare places night longer x after v.0 (has_position_from night x v.0 v.2)) v.1)
+          (λ u. some_of (has_unit night (shape_of b) u.0) (times_unit night longer u.0) (times_unit night path u.0) (unit_more night path b u.0)
+          (unit_bare places night longer x after u.0 (has_from night x u.0 u.2)) u.1)
+          (λ v. some_of (has_position night (shape_of b) v.0) (times_position night longer v.0) (times_position night path v.0) (position_more night path b v.0)
+          (position_bare places night longer x after v.0 (has_position_from night x v.0 v.2)) v.1)
           h.one
 
   pub lists_of_longer : (c : Case) (stack : Stack) (blocks : List Block) → AreFreeOf night path c stack blocks → AreFreeOf night (path ++ b ∷ []) c stack (apart_of night b blocks)
   lists_of_longer c stack blocks are = record {
-    own = from_members (λ (x : Block). is_of stack x.park ≡ true) (apart_of night b blocks) (λ x j. each_one (λ (y : Block). is_of stack y.park ≡ true) blocks x are.own (inside x j).0);
-    free = from_members (IsFreeAt night longer) (apart_of night b blocks) (λ x j. let h = inside x j in still_free x (each_one (IsFreeAt night path) blocks x are.free h.0) (not-true _ h.1));
+    own = from_members (λ (x : Block). is_of stack x.park ≡ true) (apart_of night b blocks)
+        (λ x j. each_one (λ (y : Block). is_of stack y.park ≡ true) blocks x are.own (inside x j).0);
+    free = from_members (IsFreeAt night longer) (apart_of night b blocks) (λ x j. let h = inside x j in still_free x (each_one (IsFreeAt night path) blocks x are.free h.0)
+        (not-true _ h.1));
     every = λ x of after gains room.
         let other = are.every x of (free_before places night path longer x (part_left night path (b ∷ [])) after) gains room in
         let off : shares night b other.0 ≡ false = sym (ap (λ (y : Block). shares night b y) other.2) ∙ shares_none x after in
@@ -190,7 +200,8 @@ module _ (laws : EventLaws) (night : Night) (i : IsInstance night) (stack : Stac
   others_are : others ≡ fixed ++ own_span ∷ []
   others_are =
       ap (λ (bs : List Block). map (span_of night entry leave (λ z. pos 0)) bs)
-      (filter-append (λ (z : Block). is_of stack z.park) path (b ∷ []) ∙ ap (λ (bs : List Block). blocks_of stack path ++ bs) (filter_yes (λ (z : Block). is_of stack z.park) b [] of))
+      (filter-append (λ (z : Block). is_of stack z.park) path (b ∷ []) ∙ ap (λ (bs : List Block). blocks_of stack path ++ bs)
+      (filter_yes (λ (z : Block). is_of stack z.park) b [] of))
       ∙ map-append (span_of night entry leave (λ z. pos 0)) (blocks_of stack path) (b ∷ [])
 
   to_others : (s : Span) → In s fixed → In s others
@@ -211,14 +222,17 @@ module _ (laws : EventLaws) (night : Night) (i : IsInstance night) (stack : Stac
       let s_from = ap (λ (t : Span). t.from) z.2 in
       let s_past = ap (λ (t : Span). t.past) z.2 in
       let off = lies_apart z.0 z.1 (omega (arith, low, s_from)) (omega (arith, high, s_past)) in
-      subst (λ (t : Span). In t more) (sym z.2) (in_map (span_of night entry leave (gain night c)) (apart_of night b blocks) z.0 (filter_to (λ (w : Block). not (shares night b w)) blocks z.0 z.1 (ap not off)))
+      subst (λ (t : Span). In t more) (sym z.2) (in_map (span_of night entry leave (gain night c)) (apart_of night b blocks) z.0
+      (filter_to (λ (w : Block). not (shares night b w)) blocks z.0 z.1 (ap not off)))
 
   of_more : (s : Span) → In s more → In s frees
   of_more s j =
       let z = of_map (span_of night entry leave (gain night c)) (apart_of night b blocks) s j in
-      subst (λ (t : Span). In t frees) (sym z.2) (in_map (span_of night entry leave (gain night c)) blocks z.0 (filter_from (λ (w : Block). not (shares night b w)) blocks z.0 z.1).0)
+      subst (λ (t : Span). In t frees) (sym z.2) (in_map (span_of night entry leave (gain night c)) blocks z.0
+      (filter_from (λ (w : Block). not (shares night b w)) blocks z.0 z.1).0)
 
-  pub agree : AgreeWithin (fixed_spans night entry leave (blocks_of stack path)) (free_spans night entry leave c blocks) (fixed_spans night entry leave (blocks_of stack (path ++ b ∷ []))) (free_spans night entry leave c (apart_of night b blocks)) x y
+  pub agree : AgreeWithin (fixed_spans night entry leave (blocks_of stack path)) (free_spans night entry leave c blocks)
+      (fixed_spans night entry leave (blocks_of stack (path ++ b ∷ []))) (free_spans night entry leave c (apart_of night b blocks)) x y
   agree = record {
     members = λ s low high. (
       λ j. ⊎_elim (λ l. inl (to_others s l)) (λ r. inr (to_more s low high r)) j,
@@ -242,7 +256,8 @@ module _ (laws : EventLaws) (night : Night) (i : IsInstance night) (stack : Stac
 -- ---- the value where the block comes
 
 module _ (laws : TieLaws) (night : Night) (i : IsInstance night) (stack : Stack) (events : ℕ) (entry leave : ℕ → ℕ) (num : IsNumbering night events entry leave)
-    (path : List Block) (all : All (IsBlockButId night) path) (apart : ShareNothing night path) (b : Block) (free : IsFreeAt night path b) (of : is_of stack b.park ≡ true) (c : Case) (blocks : List Block) (are : AreFreeOf night path c stack blocks) where
+    (path : List Block) (all : All (IsBlockButId night) path) (apart : ShareNothing night path) (b : Block) (free : IsFreeAt night path b) (of : is_of stack b.park ≡ true)
+    (c : Case) (blocks : List Block) (are : AreFreeOf night path c stack blocks) where
   abbrev block_span : Span
   block_span = span_of night entry leave (λ z. pos 0) b
 
@@ -272,26 +287,31 @@ module _ (laws : TieLaws) (night : Night) (i : IsInstance night) (stack : Stack)
 
   pub own_after : AreOwn after after_free
   own_after =
-      own_events laws night i stack events entry leave num (path ++ b ∷ []) longer_all longer_apart c (apart_of night b blocks) (lists_of_longer laws.places night path b free c stack blocks are)
+      own_events laws night i stack events entry leave num (path ++ b ∷ []) longer_all longer_apart c (apart_of night b blocks)
+      (lists_of_longer laws.places night path b free c stack blocks are)
 
   pub span_there : IsSpan (span_of night entry leave (λ z. pos 0) b)
   span_there = is_span laws.lists.events night i stack events entry leave num b is_there of
 
   pub same_among : (n x z r : ℕ) → z ≤ x + n → IsOutside x z (span_of night entry leave (λ w. pos 0) b) → best n after after_free x z r ≡ best n before before_free x z r
   same_among n x z r few out =
-      sym (agreeing before before_free after after_free own_before own_after n x z r few (agree laws.lists.events night i stack events entry leave num path b free of c blocks are x z out))
+      sym (agreeing before before_free after after_free own_before own_after n x z r few
+      (agree laws.lists.events night i stack events entry leave num path b free of c blocks are x z out))
 
   module _ (n y room : ℕ) (past : leave (position_from night (shape_of b)) + 1 ≤ y) (le : y ≤ entry (unit_from night (shape_of b)) + n) where
     abbrev test : Bool
     test = nat_le block_span.past y && nat_le block_span.length room
 
-    pub value_at : best n (fixed_spans night entry leave (blocks_of stack (path ++ b ∷ []))) (free_spans night entry leave c (apart_of night b blocks)) (entry (unit_from night (shape_of b))) y room
+    pub value_at : best n (fixed_spans night entry leave (blocks_of stack (path ++ b ∷ []))) (free_spans night entry leave c (apart_of night b blocks))
+        (entry (unit_from night (shape_of b))) y room
         ≡ best_with (best n (fixed_spans night entry leave (blocks_of stack path)) (free_spans night entry leave c blocks)) y room (span_of night entry leave (λ z. pos 0) b)
     value_at =
         at_fixed after after_free own_after n (entry (unit_from night (shape_of b))) y room block_span
-        (in_map (span_of night entry leave (λ z. pos 0)) (blocks_of stack (path ++ b ∷ [])) b (filter_to (λ (x : Block). is_of stack x.park) (path ++ b ∷ []) b (in_right path (b ∷ []) b (inl refl)) of))
+        (in_map (span_of night entry leave (λ z. pos 0)) (blocks_of stack (path ++ b ∷ [])) b
+        (filter_to (λ (x : Block). is_of stack x.park) (path ++ b ∷ []) b (in_right path (b ∷ []) b (inl refl)) of))
         refl (omega (arith, past, span_there.enters, span_there.stays, span_there.leaves)) le
         ∙ ap (λ (o : Option ℤ). cond test (plus (Some (pos 0)) (plus o (best n after after_free block_span.past y room))) None)
-        (same_among n block_span.inside block_span.until (room - block_span.length) (omega (arith, past, le, span_there.enters, span_there.leaves)) (inr (inl (omega arith, omega arith))))
+        (same_among n block_span.inside block_span.until (room - block_span.length) (omega (arith, past, le, span_there.enters, span_there.leaves))
+        (inr (inl (omega arith, omega arith))))
         ∙ ap (λ (o : Option ℤ). cond test (plus (Some (pos 0)) (plus (best n before before_free block_span.inside block_span.until (room - block_span.length)) o)) None)
         (same_among n block_span.past y room (omega (arith, le, span_there.enters, span_there.stays, span_there.leaves)) (inr (inr (omega arith))))

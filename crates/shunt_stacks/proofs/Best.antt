@@ -76,7 +76,8 @@ values_down P value spans h = most_down P (map value spans) (λ o i. let s = of_
 
 -- ---- the choice at an event
 
-fixed_up : (fixed free : List Span) (without : Option ℤ) (value : Span → Option ℤ) (s : Span) (z : ℤ) → In s fixed → AtLeast (value s) z → AtLeast (best_at fixed free without value) z
+fixed_up : (fixed free : List Span) (without : Option ℤ) (value : Span → Option ℤ) (s : Span) (z : ℤ) → In s fixed → AtLeast (value s) z
+    → AtLeast (best_at fixed free without value) z
 fixed_up [] free without value s z i h = absurd i
 fixed_up (f ∷ fixed) free without value s z i h = most_up (map value (f ∷ fixed)) (value s) z (in_map value (f ∷ fixed) s i) h
 
@@ -85,7 +86,8 @@ free_up : (fixed free : List Span) (without : Option ℤ) (value : Span → Opti
 free_up [] free without value s z bare i h = greater_right without (greatest_of (map value free)) z (most_up (map value free) (value s) z (in_map value free s i) h)
 free_up (f ∷ fixed) free without value s z bare i h = absurd (bare f (inl refl))
 
-none_up : (fixed free : List Span) (without : Option ℤ) (value : Span → Option ℤ) (z : ℤ) → ((f : Span) → In f fixed → ⊥) → AtLeast without z → AtLeast (best_at fixed free without value) z
+none_up : (fixed free : List Span) (without : Option ℤ) (value : Span → Option ℤ) (z : ℤ) → ((f : Span) → In f fixed → ⊥) → AtLeast without z
+    → AtLeast (best_at fixed free without value) z
 none_up [] free without value z bare h = greater_left without (greatest_of (map value free)) z h
 none_up (f ∷ fixed) free without value z bare h = absurd (bare f (inl refl))
 
@@ -114,15 +116,18 @@ with_up : (rest : ℕ → ℕ → ℕ → Option ℤ) (y room : ℕ) (s : Span) 
     → AtLeast (rest s.past y room) b → AtLeast (best_with rest y room s) (s.gain +ℤ (a +ℤ b))
 with_up rest y room s a b past long h k =
     let sum = plus (Some s.gain) (plus (rest s.inside s.until (room - s.length)) (rest s.past y room)) in
-    subst (λ (t : Bool). AtLeast (cond t sum None) (s.gain +ℤ (a +ℤ b))) (sym (and_from (nat_le s.past y) (nat_le s.length room) (yes_le s.past y past) (yes_le s.length room long)))
-    (plus_up (Some s.gain) (plus (rest s.inside s.until (room - s.length)) (rest s.past y room)) s.gain (a +ℤ b) (omega (arith, ints)) (plus_up (rest s.inside s.until (room - s.length)) (rest s.past y room) a b h k))
+    subst (λ (t : Bool). AtLeast (cond t sum None) (s.gain +ℤ (a +ℤ b))) (sym (and_from (nat_le s.past y) (nat_le s.length room) (yes_le s.past y past)
+    (yes_le s.length room long)))
+    (plus_up (Some s.gain) (plus (rest s.inside s.until (room - s.length)) (rest s.past y room)) s.gain (a +ℤ b) (omega (arith, ints))
+    (plus_up (rest s.inside s.until (room - s.length)) (rest s.past y room) a b h k))
 
 with_down : (P Q R : ℤ → Type 0) (rest : ℕ → ℕ → ℕ → Option ℤ) (y room : ℕ) (s : Span)
     → (s.past ≤ y → s.length ≤ room → IfSome (rest s.inside s.until (room - s.length)) P × IfSome (rest s.past y room) Q)
     → (s.past ≤ y → s.length ≤ room → (a b : ℤ) → P a → Q b → R (s.gain +ℤ (a +ℤ b))) → IfSome (best_with rest y room s) R
 with_down P Q R rest y room s parts both = at (nat_le s.past y && nat_le s.length room) refl
   where
-    at : (t : Bool) → (nat_le s.past y && nat_le s.length room) ≡ t → IfSome (cond t (plus (Some s.gain) (plus (rest s.inside s.until (room - s.length)) (rest s.past y room))) None) R
+    at : (t : Bool) → (nat_le s.past y && nat_le s.length room) ≡ t → IfSome (cond t
+        (plus (Some s.gain) (plus (rest s.inside s.until (room - s.length)) (rest s.past y room))) None) R
     at false e = tt
     at true e =
         let f = and_parts (nat_le s.past y) (nat_le s.length room) e in
@@ -139,7 +144,8 @@ pub find_start : (x : ℕ) (spans : List Span) → ((s : Span) × In s spans × 
 find_start x [] = inr (λ s i e. i)
 find_start x (t ∷ spans) = ⊎_elim
     (λ e. inl (t, inl refl, e))
-    (λ ne. ⊎_elim (λ f. inl (f.0, inr f.1, f.2)) (λ none. inr (λ s i e. ⊎_elim (λ same. ne (ap (λ (u : Span). u.from) (sym same) ∙ e)) (λ later. none s later e) i)) (find_start x spans))
+    (λ ne. ⊎_elim (λ f. inl (f.0, inr f.1, f.2)) (λ none. inr (λ s i e. ⊎_elim (λ same. ne (ap (λ (u : Span). u.from) (sym same) ∙ e)) (λ later. none s later e) i))
+    (find_start x spans))
     (cases_eq t.from x)
 
 pub in_coming : (x : ℕ) (spans : List Span) (s : Span) → In s spans → s.from ≡ x → In s (coming_at x spans)
@@ -165,7 +171,8 @@ module _ (fixed free : List Span) (own : AreOwn fixed free) where
 
   none_here : (x y room : ℕ) (spans : List Span) → y ≤ x → Nest x y room spans → gain_of_spans spans ≤ℤ pos 0
   none_here x y room spans le nest =
-      sum_z-low (λ (s : Span). s.gain) spans (λ s i. let b = nest.between s i in let a = own.spans s (nest.of s i) in absurd (omega (arith, le, b.0, b.1, a.enters, a.stays, a.leaves)))
+      sum_z-low (λ (s : Span). s.gain) spans (λ s i. let b = nest.between s i in let a = own.spans s (nest.of s i) in absurd
+      (omega (arith, le, b.0, b.1, a.enters, a.stays, a.leaves)))
 
   later : (x y room : ℕ) (spans : List Span) → Nest x y room spans → ((s : Span) → In s spans → s.from ≡ x → ⊥) → Nest (x + 1) y room spans
   later x y room spans nest none = record {
@@ -191,7 +198,8 @@ module _ (fixed free : List Span) (own : AreOwn fixed free) where
         let b = nest.between s there in
         let a = are s there in
         let in_spans = nest.has f i (omega (arith, low, b.0, a.enters)) (omega (arith, high, b.1, a.leaves)) in
-        ⊎_elim (λ e. let same = ap (λ (t : Span). t.from) e in absurd (omega (arith, same, low, a.enters))) (λ both. inner_to s spans f in_spans low (ends f in_spans low high both)) (two_of spans nest.nested s f there in_spans)
+        ⊎_elim (λ e. let same = ap (λ (t : Span). t.from) e in absurd (omega (arith, same, low, a.enters)))
+        (λ both. inner_to s spans f in_spans low (ends f in_spans low high both)) (two_of spans nest.nested s f there in_spans)
       where
         ends : (f : Span) → In f spans → s.inside ≤ f.from → f.from < s.until → AreNested s f → f.past ≤ s.until
         ends f i low high (inl (inl h)) = let a = are s there in absurd (omega (arith, h, high, a.leaves))
@@ -211,7 +219,8 @@ module _ (fixed free : List Span) (own : AreOwn fixed free) where
     outer_nest : Nest s.past y room (outer s spans)
     outer_nest = record {
       of = λ t i. nest.of t (in_outer s spans t i).0;
-      has = λ f i low high. let b = nest.between s there in let a = are s there in let in_spans = nest.has f i (omega (arith, low, b.0, a.enters, a.stays, a.leaves)) high in outer_to s spans f in_spans low a (are f in_spans);
+      has = λ f i low high. let b = nest.between s there in let a = are s there in let in_spans = nest.has f i
+          (omega (arith, low, b.0, a.enters, a.stays, a.leaves)) high in outer_to s spans f in_spans low a (are f in_spans);
       between = λ t i. let h = in_outer s spans t i in (h.1, (nest.between t h.0).1);
       nested = nested_filter (is_behind s) (beyond s spans) (nested_filter (λ t. not (is_inside s t)) spans nest.nested);
       fits = λ t i. omega (arith, load_outer spans nest.nested are s there first t, nest.fits t (in_outer s spans t i).0);
@@ -223,7 +232,8 @@ module _ (fixed free : List Span) (own : AreOwn fixed free) where
     gain_up : (rest : ℕ → ℕ → ℕ → Option ℤ) → AtLeast (rest s.inside s.until (room - s.length)) (gain_of_spans (inner s spans))
         → AtLeast (rest s.past y room) (gain_of_spans (outer s spans)) → AtLeast (best_with rest y room s) (gain_of_spans spans)
     gain_up rest h k =
-        subst (AtLeast (best_with rest y room s)) (sym (split spans nest.nested are s there first)) (with_up rest y room s (gain_of_spans (inner s spans)) (gain_of_spans (outer s spans)) (nest.between s there).1 long h k)
+        subst (AtLeast (best_with rest y room s)) (sym (split spans nest.nested are s there first))
+        (with_up rest y room s (gain_of_spans (inner s spans)) (gain_of_spans (outer s spans)) (nest.between s there).1 long h k)
 
     -- a fixed one that comes there is this one
     is_fixed : (f : Span) → In f fixed → f.from ≡ x → f ≡ s
@@ -235,7 +245,8 @@ module _ (fixed free : List Span) (own : AreOwn fixed free) where
 
     at_up : (without : Option ℤ) (value : Span → Option ℤ) (z : ℤ) → AtLeast (value s) z → AtLeast (best_at (coming_at x fixed) (coming_at x free) without value) z
     at_up without value z h = ⊎_elim
-        (λ f. fixed_up (coming_at x fixed) (coming_at x free) without value s z (subst (λ (t : Span). In t (coming_at x fixed)) (is_fixed f.0 f.1 f.2) (in_coming x fixed f.0 f.1 f.2)) h)
+        (λ f. fixed_up (coming_at x fixed) (coming_at x free) without value s z (subst (λ (t : Span). In t (coming_at x fixed)) (is_fixed f.0 f.1 f.2)
+        (in_coming x fixed f.0 f.1 f.2)) h)
         (λ bare. free_up (coming_at x fixed) (coming_at x free) without value s z (λ f i. let g = of_coming x fixed f i in bare f g.0 g.1)
         (in_coming x free s (⊎_elim (λ i. absurd (bare s i here)) (λ i. i) (nest.of s there)) here) h)
         (find_start x fixed)
@@ -266,7 +277,8 @@ module _ (fixed free : List Span) (own : AreOwn fixed free) where
   abbrev pub Reached : ℕ → ℕ → ℕ → ℤ → Type 0
   Reached x y room g = (spans : List Span) × IsNest fixed free x y room spans × (gain_of_spans spans ≡ g)
 
-  module _ (x y room : ℕ) (s : Span) (of : In s fixed ⊎ In s free) (here : s.from ≡ x) (past : s.past ≤ y) (long : s.length ≤ room) (alone : (f : Span) → In f fixed → f.from ≡ x → f ≡ s)
+  module _ (x y room : ℕ) (s : Span) (of : In s fixed ⊎ In s free) (here : s.from ≡ x) (past : s.past ≤ y) (long : s.length ≤ room) (alone : (f : Span) → In f fixed → f.from ≡ x
+      → f ≡ s)
       (inside behind : List Span) (h : IsNest fixed free s.inside s.until (room - s.length) inside) (k : IsNest fixed free s.past y room behind) where
     a : IsSpan s
     a = own.spans s of
@@ -293,7 +305,14 @@ module _ (fixed free : List Span) (own : AreOwn fixed free) where
     fits_all : (t : Span) → In t (s ∷ inside ++ behind) → load_with (s ∷ inside ++ behind) t ≤ room
     fits_all t i = ⊎_elim
         (λ e. subst (λ (u : Span). load_with (s ∷ inside ++ behind) u ≤ room) (sym e)
-        (omega (arith, load_of s, share_small s s, load_none inside s (not_inside s a.enters), load_none behind s (not_behind s (omega (arith, a.enters, a.stays, a.leaves))), long)))
+        (omega (
+          arith,
+          load_of s,
+          share_small s s,
+          load_none inside s (not_inside s a.enters),
+          load_none behind s (not_behind s (omega (arith, a.enters, a.stays, a.leaves))),
+          long,
+        )))
         (λ j. ⊎_elim
         (λ l. let b = inside_span t l in let c = h.between t l in
         omega (arith, load_of t, share_small s t, h.fits t l, long, load_none behind t (not_behind t (omega (arith, c.1, b.enters, b.stays, b.leaves, a.leaves)))))
@@ -309,7 +328,8 @@ module _ (fixed free : List Span) (own : AreOwn fixed free) where
         (λ before. absurd (own.entries s f of i (omega (arith, lt, here)) before))
         (λ from_inside. ⊎_elim
         (λ within. inr (in_left inside behind f (h.has f i from_inside within)))
-        (λ from_until. ⊎_elim (λ leaving. absurd (own.leaves s f of i from_until leaving)) (λ from_past. inr (in_right inside behind f (k.has f i from_past high))) (cases_lt f.from s.past))
+        (λ from_until. ⊎_elim (λ leaving. absurd (own.leaves s f of i from_until leaving)) (λ from_past. inr (in_right inside behind f (k.has f i from_past high)))
+        (cases_lt f.from s.past))
         (cases_lt f.from s.until))
         (cases_lt f.from s.inside))
         (λ le. inl (alone f i (omega (arith, le, low))))
@@ -327,7 +347,8 @@ module _ (fixed free : List Span) (own : AreOwn fixed free) where
           j)
           (own_first t i);
       nested = (
-        all_from (AreNested s) (inside ++ behind) (λ t i. ⊎_elim (λ l. let c = h.between t l in inr (inr (c.0, c.1))) (λ r. inl (inl (k.between t r).0)) (in_cases inside behind t i)),
+        all_from (AreNested s) (inside ++ behind) (λ t i. ⊎_elim (λ l. let c = h.between t l in inr (inr (c.0, c.1))) (λ r. inl (inl (k.between t r).0))
+            (in_cases inside behind t i)),
         nested_append inside behind h.nested k.nested (λ t u l r. inl (inl (omega (arith, (h.between t l).1, a.leaves, (k.between u r).0)))),
       );
       fits = fits_all;
@@ -350,14 +371,18 @@ module _ (fixed free : List Span) (own : AreOwn fixed free) where
   skipped x y room (Some g) bare h = (h.0, earlier x y room h.0 bare h.1, h.2)
 
   summed : (s : Span) (inside behind : List Span) (g f : ℤ) → gain_of_spans inside ≡ g → gain_of_spans behind ≡ f → gain_of_spans (s ∷ inside ++ behind) ≡ s.gain +ℤ (g +ℤ f)
-  summed s inside behind g f e d = ap (λ (z : ℤ). s.gain +ℤ z) (sum_z-append (λ (t : Span). t.gain) inside behind ∙ ap (λ (z : ℤ). z +ℤ gain_of_spans behind) e ∙ ap (λ (z : ℤ). g +ℤ z) d)
+  summed s inside behind g f e d = ap (λ (z : ℤ). s.gain +ℤ z) (sum_z-append (λ (t : Span). t.gain) inside behind ∙ ap (λ (z : ℤ). z +ℤ gain_of_spans behind) e
+      ∙ ap (λ (z : ℤ). g +ℤ z) d)
 
   with_span : (n x y room : ℕ) → y ≤ x + suc n → Down n → (s : Span) → In s fixed ⊎ In s free → s.from ≡ x → ((f : Span) → In f fixed → f.from ≡ x → f ≡ s)
       → IfSome (best_with (best n fixed free) y room s) (Reached x y room)
   with_span n x y room le known s of here alone =
       let a = own.spans s of in
       with_down (Reached s.inside s.until (room - s.length)) (Reached s.past y room) (Reached x y room) (best n fixed free) y room s
-      (λ past long. (known s.inside s.until (room - s.length) (omega (arith, le, here, past, a.enters, a.leaves)), known s.past y room (omega (arith, le, here, a.enters, a.stays, a.leaves))))
+      (λ past long. (
+        known s.inside s.until (room - s.length) (omega (arith, le, here, past, a.enters, a.leaves)),
+        known s.past y room (omega (arith, le, here, a.enters, a.stays, a.leaves)),
+      ))
       (λ past long g f h k. (s ∷ h.0 ++ k.0, joined x y room s of here past long alone h.0 k.0 h.1 k.1, summed s h.0 k.0 g f h.2 k.2))
 
   stepped : (n x y room : ℕ) → y ≤ x + suc n → x < y → Down n → IfSome (best_step (best n fixed free) fixed free x y room) (Reached x y room)

@@ -32,7 +32,8 @@ module _ (night : Night) (path : List Block) (has : HasGains night path) where
   gains_there c (s ∷ ss) = let g = has c s in let rest = gains_there c ss in (g.0 ∷ rest.0, (g.1, rest.1))
 
   pub sum_there : (cases : List Case) (k : ℕ) → (sum : ℤ) × IsStackSum night path cases k sum
-  sum_there cases k = let g = gains_there (case_at cases k) (stacks night.station) in (case_sum night path cases k -ℤ sum_z (λ z. z) g.0, record { gains = g.0; are = g.1; is = refl })
+  sum_there cases k = let g = gains_there (case_at cases k) (stacks night.station) in
+      (case_sum night path cases k -ℤ sum_z (λ z. z) g.0, record { gains = g.0; are = g.1; is = refl })
 
   pub bound_there : (cases : List Case) → 1 ≤ length cases → (bound : ℤ) × IsStackBound night path cases bound
   bound_there cases some =

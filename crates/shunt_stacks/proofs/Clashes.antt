@@ -22,19 +22,23 @@ pub record ClashLaws : Type 0 where
   pub clash : (lengths : List ℕ) (stays : List Stay) → AreStays stays → AreOnTracks lengths stays → GoesThrough lengths stays ↔ NoneCross stays × NoneOver lengths stays
 
 -- what stands with a path's blocks of a stack, where it shares nothing and is free
-module _ (laws : ClashLaws) (night : Night) (path filling : List Block) (stack : Stack) (i : IsInstance night) (within : All (IsWithinTrains night) path) (apart : ShareNothing night path)
+module _ (laws : ClashLaws) (night : Night) (path filling : List Block) (stack : Stack) (i : IsInstance night) (within : All (IsWithinTrains night) path)
+    (apart : ShareNothing night path)
     (free : All (IsFreeAt night path) filling) (few : ShareNothing night filling) where
   abbrev test : Block → Bool
   test b = is_of stack b.park
 
   whole_within : All (IsWithinTrains night) (blocks_of stack path ++ filling)
-  whole_within = All-append (IsWithinTrains night) (blocks_of stack path) filling (part_within night (IsWithinTrains night) (blocks_of stack path) path (part_filter night test path) within)
+  whole_within = All-append (IsWithinTrains night) (blocks_of stack path) filling
+      (part_within night (IsWithinTrains night) (blocks_of stack path) path (part_filter night test path) within)
       (λ k d lt. is_within night (get_or filling k d) (is_block laws.places night path (get_or filling k d) (free k d lt)))
 
   whole_apart : ShareNothing night (blocks_of stack path ++ filling)
   whole_apart = joined_apart laws.places night path (blocks_of stack path) filling apart free few (part_filter night test path)
 
-  pub clashes : RunsThrough night (placed (blocks_of stack path ++ filling)) ↔ NoneCross (stays_of night (placed (blocks_of stack path ++ filling))) × NoneOver (track_lengths night.station) (stays_of night (placed (blocks_of stack path ++ filling)))
+  pub clashes : RunsThrough night (placed (blocks_of stack path ++ filling)) ↔ NoneCross (stays_of night (placed (blocks_of stack path ++ filling)))
+      × NoneOver (track_lengths night.station) (stays_of night (placed (blocks_of stack path ++ filling)))
   clashes =
       let stand = laws.stand night (blocks_of stack path ++ filling) i whole_within whole_apart in
-      laws.clash (track_lengths night.station) (stays_of night (placed (blocks_of stack path ++ filling))) (laws.stays night (placed (blocks_of stack path ++ filling)) i stand) (laws.tracks night (placed (blocks_of stack path ++ filling)) stand)
+      laws.clash (track_lengths night.station) (stays_of night (placed (blocks_of stack path ++ filling))) (laws.stays night (placed (blocks_of stack path ++ filling)) i stand)
+      (laws.tracks night (placed (blocks_of stack path ++ filling)) stand)

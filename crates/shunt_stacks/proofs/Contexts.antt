@@ -75,7 +75,8 @@ off_right true = refl
 off_right false = refl
 
 with_yes : (rest : ℕ → ℕ → ℕ → Option ℤ) (y room : ℕ) (s : Span) → s.past ≤ y → s.length ≤ room → best_with rest y room s ≡ sum_with rest y room s
-with_yes rest y room s past long = ap (λ (t : Bool). cond t (sum_with rest y room s) None) (and_from (nat_le s.past y) (nat_le s.length room) (yes_le s.past y past) (yes_le s.length room long))
+with_yes rest y room s past long = ap (λ (t : Bool). cond t (sum_with rest y room s) None)
+    (and_from (nat_le s.past y) (nat_le s.length room) (yes_le s.past y past) (yes_le s.length room long))
 
 with_past : (rest : ℕ → ℕ → ℕ → Option ℤ) (y room : ℕ) (s : Span) → y < s.past → best_with rest y room s ≡ None
 with_past rest y room s past = ap (λ (t : Bool). cond (t && nat_le s.length room) (sum_with rest y room s) None) (no_le s.past y past)
@@ -121,9 +122,12 @@ module _ (laws : TieLaws) (night : Night) (i : IsInstance night) (stack : Stack)
     pub left : ℕ
     pub around : Option ℤ
     pub within : to ≤ y
-    pub path_gain : best n (fixed_spans night entry leave (blocks_of stack path)) (free_spans night entry leave c blocks) x y room ≡ plus around (best n (fixed_spans night entry leave (blocks_of stack path)) (free_spans night entry leave c blocks) at to left)
-    pub choice_gain : (b : Block) → ComesAt b → best n (fixed_spans night entry leave (blocks_of stack (path ++ b ∷ []))) (free_spans night entry leave c (apart_of night b blocks)) x y room
-        ≡ plus around (best_with (best n (fixed_spans night entry leave (blocks_of stack path)) (free_spans night entry leave c blocks)) to left (span_of night entry leave (λ z. pos 0) b))
+    pub path_gain : best n (fixed_spans night entry leave (blocks_of stack path)) (free_spans night entry leave c blocks) x y room
+        ≡ plus around (best n (fixed_spans night entry leave (blocks_of stack path)) (free_spans night entry leave c blocks) at to left)
+    pub choice_gain : (b : Block) → ComesAt b → best n (fixed_spans night entry leave (blocks_of stack (path ++ b ∷ [])))
+        (free_spans night entry leave c (apart_of night b blocks)) x y room
+        ≡ plus around (best_with (best n (fixed_spans night entry leave (blocks_of stack path)) (free_spans night entry leave c blocks)) to left
+        (span_of night entry leave (λ z. pos 0) b))
 
   module _ (b : Block) (k : ComesAt b) where
     span_is : IsSpan (span_of night entry leave (λ z. pos 0) b)
@@ -134,7 +138,8 @@ module _ (laws : TieLaws) (night : Night) (i : IsInstance night) (stack : Stack)
 
     in_then : In (span b) (fixed_with b)
     in_then =
-        in_map (span_of night entry leave (λ z. pos 0)) (blocks_of stack (path ++ b ∷ [])) b (filter_to (λ (x : Block). is_of stack x.park) (path ++ b ∷ []) b (in_right path (b ∷ []) b (inl refl)) k.own)
+        in_map (span_of night entry leave (λ z. pos 0)) (blocks_of stack (path ++ b ∷ [])) b
+        (filter_to (λ (x : Block). is_of stack x.park) (path ++ b ∷ []) b (in_right path (b ∷ []) b (inl refl)) k.own)
 
     own_then : AreOwn (fixed_with b) (free_with b)
     own_then = own_after laws night i stack events entry leave num path all apart b k.free k.own c blocks are
@@ -144,13 +149,15 @@ module _ (laws : TieLaws) (night : Night) (i : IsInstance night) (stack : Stack)
         let x = of_map (span_of night entry leave (λ z. pos 0)) (blocks_of stack path) f j in
         let there = filter_from (λ (w : Block). is_of stack w.park) path x.0 x.1 in
         subst (λ (s : Span). In s (fixed_with b)) (sym x.2)
-        (in_map (span_of night entry leave (λ z. pos 0)) (blocks_of stack (path ++ b ∷ [])) x.0 (filter_to (λ (w : Block). is_of stack w.park) (path ++ b ∷ []) x.0 (in_left path (b ∷ []) x.0 there.0) there.1))
+        (in_map (span_of night entry leave (λ z. pos 0)) (blocks_of stack (path ++ b ∷ [])) x.0
+        (filter_to (λ (w : Block). is_of stack w.park) (path ++ b ∷ []) x.0 (in_left path (b ∷ []) x.0 there.0) there.1))
 
     value_there : (y room : ℕ) → at < y → y ≤ at + n → then b at y room ≡ best_with now y room (span b)
     value_there y room lt le = subst (λ (e : ℕ). then b e y room ≡ best_with now y room (span b)) k.comes
         (⊎_elim
         (λ out.
-        at_fixed (fixed_with b) (free_with b) own_then n (entry (unit_from night (shape_of b))) y room (span b) in_then refl (omega (arith, lt, k.comes)) (omega (arith, le, k.comes))
+        at_fixed (fixed_with b) (free_with b) own_then n (entry (unit_from night (shape_of b))) y room (span b) in_then refl (omega (arith, lt, k.comes))
+        (omega (arith, le, k.comes))
         ∙ with_past (then b) y room (span b) out
         ∙ sym (with_past now y room (span b) out))
         (λ past. value_at laws night i stack events entry leave num path all apart b k.free k.own c blocks are n y room past (omega (arith, le, k.comes)))
@@ -171,7 +178,8 @@ module _ (laws : TieLaws) (night : Night) (i : IsInstance night) (stack : Stack)
             let z = of_map (span_of night entry leave (λ w. pos 0)) (blocks_of stack (path ++ b ∷ [])) s j in
             let h = filter_from (λ (w : Block). is_of stack w.park) (path ++ b ∷ []) z.0 z.1 in
             ⊎_elim
-            (λ l. bare s (subst (λ (t : Span). In t fixed) (sym z.2) (in_map (span_of night entry leave (λ w. pos 0)) (blocks_of stack path) z.0 (filter_to (λ (w : Block). is_of stack w.park) path z.0 l h.1))) e)
+            (λ l. bare s (subst (λ (t : Span). In t fixed) (sym z.2) (in_map (span_of night entry leave (λ w. pos 0)) (blocks_of stack path) z.0
+            (filter_to (λ (w : Block). is_of stack w.park) path z.0 l h.1))) e)
             (λ r.
             let same = of_one b z.0 r in
             let from = ap (λ (t : Span). t.from) z.2 in
@@ -254,7 +262,8 @@ module _ (laws : TieLaws) (night : Night) (i : IsInstance night) (stack : Stack)
               let first = comes.comes in
               f_then b comes
               ∙ with_yes (then b) y room f past long
-              ∙ ap (λ (o : Option ℤ). plus (Some f.gain) (plus o (then b f.past y room))) (among b comes f.inside f.until (room - f.length) (omega (arith, past, le, here, f_is.enters, f_is.leaves)) (inl (omega (arith, first, gone, f_is.leaves))))
+              ∙ ap (λ (o : Option ℤ). plus (Some f.gain) (plus o (then b f.past y room)))
+              (among b comes f.inside f.until (room - f.length) (omega (arith, past, le, here, f_is.enters, f_is.leaves)) (inl (omega (arith, first, gone, f_is.leaves))))
               ∙ ap (λ (o : Option ℤ). plus (Some f.gain) (plus (now f.inside f.until (room - f.length)) o)) (k.choice_gain b comes)
               ∙ behind_first f.gain (now f.inside f.until (room - f.length)) k.around (best_with now k.to k.left (span b));
         }
@@ -281,23 +290,28 @@ module _ (laws : TieLaws) (night : Night) (i : IsInstance night) (stack : Stack)
                 ap (λ (o : Option ℤ). plus (Some f.gain) (plus o (then b f.past y room))) (k.choice_gain b comes ∙ ap (plus k.around) none ∙ plus_none k.around)
                 ∙ sym (ap (plus (plus (Some f.gain) (plus k.around (now f.past y room)))) none ∙ plus_none (plus (Some f.gain) (plus k.around (now f.past y room))))
             of_choice b comes (inr past_it) =
-                ap (λ (o : Option ℤ). plus (Some f.gain) (plus (then b f.inside f.until (room - f.length)) o)) (among b comes f.past y room (omega (arith, le, here, f_is.enters, f_is.stays, f_is.leaves)) (inr (inr past_it)))
+                ap (λ (o : Option ℤ). plus (Some f.gain) (plus (then b f.inside f.until (room - f.length)) o))
+                (among b comes f.past y room (omega (arith, le, here, f_is.enters, f_is.stays, f_is.leaves)) (inr (inr past_it)))
                 ∙ ap (λ (o : Option ℤ). plus (Some f.gain) (plus o (now f.past y room))) (k.choice_gain b comes)
                 ∙ inside_first f.gain k.around (best_with now k.to k.left (span b)) (now f.past y room)
 
         -- the event is none of its own
         from_inside : f.inside ≤ at
         from_inside =
-            ⊎_elim (λ less. absurd ((own_then one one_comes).entries f (span one) (inl (fixed_then one one_comes f j)) (in_then one one_comes) (omega (arith, one_comes.comes, here, early)) (omega (arith, one_comes.comes, less)))) (λ ge. ge) (cases_lt at f.inside)
+            ⊎_elim (λ less. absurd ((own_then one one_comes).entries f (span one) (inl (fixed_then one one_comes f j)) (in_then one one_comes)
+            (omega (arith, one_comes.comes, here, early)) (omega (arith, one_comes.comes, less)))) (λ ge. ge) (cases_lt at f.inside)
 
         before_leaving : at < f.past → at < f.until
         before_leaving there =
-            ⊎_elim (λ less. less) (λ ge. absurd ((own_then one one_comes).leaves f (span one) (inl (fixed_then one one_comes f j)) (in_then one one_comes) (omega (arith, one_comes.comes, ge)) (omega (arith, one_comes.comes, there)))) (cases_lt at f.until)
+            ⊎_elim (λ less. less) (λ ge. absurd ((own_then one one_comes).leaves f (span one) (inl (fixed_then one one_comes f j)) (in_then one one_comes)
+            (omega (arith, one_comes.comes, ge)) (omega (arith, one_comes.comes, there)))) (cases_lt at f.until)
 
         with_fixed : ((x y room : ℕ) → f.from < x → x ≤ at → at < y → y ≤ x + n → Context x y room) → at < y → Context x y room
         with_fixed known more = ⊎_elim
-            (λ there. inside there (known f.inside f.until (room - f.length) (omega (arith, f_is.enters)) from_inside (before_leaving there) (omega (arith, past, le, here, f_is.enters, f_is.leaves))))
-            (λ gone. behind gone (known f.past y room (omega (arith, f_is.enters, f_is.stays, f_is.leaves)) gone more (omega (arith, le, here, f_is.enters, f_is.stays, f_is.leaves))))
+            (λ there. inside there (known f.inside f.until (room - f.length) (omega (arith, f_is.enters)) from_inside (before_leaving there)
+            (omega (arith, past, le, here, f_is.enters, f_is.leaves))))
+            (λ gone. behind gone (known f.past y room (omega (arith, f_is.enters, f_is.stays, f_is.leaves)) gone more
+            (omega (arith, le, here, f_is.enters, f_is.stays, f_is.leaves))))
             (cases_lt at f.past)
 
     step : (x y room : ℕ) → x < at → at < y → y ≤ x + n → ((v w r : ℕ) → x < v → v ≤ at → at < w → w ≤ v + n → Context v w r) → Context x y room
@@ -327,9 +341,14 @@ module _ (laws : TieLaws) (night : Night) (i : IsInstance night) (stack : Stack)
 -- ---- the next unit of a path
 
 -- no free block comes before it
-pub first_free : (places : PlaceLaws) (night : Night) (path : List Block) (b : Block) (u : ℕ) → next_of (masks_of night path) ≡ Some u → IsFreeAt night path b → u ≤ unit_from night (shape_of b)
+pub first_free : (places : PlaceLaws) (night : Night) (path : List Block) (b : Block) (u : ℕ) → next_of (masks_of night path) ≡ Some u → IsFreeAt night path b
+    → u ≤ unit_from night (shape_of b)
 first_free places night path b u next free = ⊎_elim
-    (λ less. absurd (omega (arith, (next_is night path u next).before (unit_from night (shape_of b)) less, unit_bare places night path b free (unit_from night (shape_of b)) (record { from = omega arith; to = omega (arith, free.shape.shape.within.n) }))))
+    (λ less. absurd (omega (
+      arith,
+      (next_is night path u next).before (unit_from night (shape_of b)) less,
+      unit_bare places night path b free (unit_from night (shape_of b)) (record { from = omega arith; to = omega (arith, free.shape.shape.within.n) }),
+    )))
     (λ ge. ge)
     (cases_lt (unit_from night (shape_of b)) u)
 
@@ -357,5 +376,6 @@ module _ (laws : TieLaws) (night : Night) (i : IsInstance night) (stack : Stack)
   pub around : (first : Block) → BeginsAt night path stack u first → IsAround night events entry leave c stack path blocks u
   around first k =
       let there = num.entries_in u (next_is night path u next).there in
-      let x = context laws night i stack events entry leave num path all apart c blocks are events (entry u) clear first (comes first k) (entry u) 0 events (track_length night stack.track.0) (omega arith) (omega arith) there (omega arith) in
+      let x = context laws night i stack events entry leave num path all apart c blocks are events (entry u) clear first (comes first k) (entry u) 0 events
+      (track_length night stack.track.0) (omega arith) (omega arith) there (omega arith) in
       record { to = x.to; left = x.left; around = x.around; path_gain = x.path_gain; choice_gain = λ b begins. x.choice_gain b (comes b begins) }

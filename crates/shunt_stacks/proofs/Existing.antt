@@ -45,12 +45,22 @@ bare blocks = map without_id blocks
 bare_units : (night : Night) (blocks : List Block) (u : ℕ) → times_unit night (bare blocks) u ≡ times_unit night blocks u
 bare_units night [] u = refl
 bare_units night (b ∷ blocks) u =
-    omega (arith, sum_by-cons (λ (x : Block). cond (has_unit night (shape_of x) u) 1 0) (without_id b) (bare blocks), sum_by-cons (λ (x : Block). cond (has_unit night (shape_of x) u) 1 0) b blocks, bare_units night blocks u)
+    omega (
+      arith,
+      sum_by-cons (λ (x : Block). cond (has_unit night (shape_of x) u) 1 0) (without_id b) (bare blocks),
+      sum_by-cons (λ (x : Block). cond (has_unit night (shape_of x) u) 1 0) b blocks,
+      bare_units night blocks u,
+    )
 
 bare_positions : (night : Night) (blocks : List Block) (v : ℕ) → times_position night (bare blocks) v ≡ times_position night blocks v
 bare_positions night [] v = refl
 bare_positions night (b ∷ blocks) v =
-    omega (arith, sum_by-cons (λ (x : Block). cond (has_position night (shape_of x) v) 1 0) (without_id b) (bare blocks), sum_by-cons (λ (x : Block). cond (has_position night (shape_of x) v) 1 0) b blocks, bare_positions night blocks v)
+    omega (
+      arith,
+      sum_by-cons (λ (x : Block). cond (has_position night (shape_of x) v) 1 0) (without_id b) (bare blocks),
+      sum_by-cons (λ (x : Block). cond (has_position night (shape_of x) v) 1 0) b blocks,
+      bare_positions night blocks v,
+    )
 
 bare_placed : (k : ℕ) (front blocks : List Block) → placed_from k (front ++ bare blocks) ≡ placed_from k (front ++ blocks)
 bare_placed k [] [] = refl
@@ -97,7 +107,8 @@ module _ (places : PlaceLaws) (choices : ChoiceLaw) (few : FewLaw) (night : Nigh
 
     abbrev test : List Block → Bool
     test l =
-        (all_below (unit_total night) (λ u. nat_le (times_unit night l u) 1) && all_below (position_total night) (λ v. nat_le (times_position night l v) 1)) && runs_placed night (blocks_of stack path ++ l)
+        (all_below (unit_total night) (λ u. nat_le (times_unit night l u) 1) && all_below (position_total night) (λ v. nat_le (times_position night l v) 1)) && runs_placed night
+        (blocks_of stack path ++ l)
 
     abbrev owned : List Block
     owned = blocks_of stack (frees night path)
@@ -113,20 +124,25 @@ module _ (places : PlaceLaws) (choices : ChoiceLaw) (few : FewLaw) (night : Nigh
 
     all_free : (l : List Block) → In l fillings → (b : Block) → In b l → IsFreeAt night path b × (is_of stack b.park ≡ true)
     all_free l there b in_l =
-        let h = filter_from (λ (x : Block). is_of stack x.park) (frees night path) b (of_lists (unit_total night) owned l (filter_from test (lists_of (unit_total night) owned) l there).0 b in_l) in
+        let h = filter_from (λ (x : Block). is_of stack x.park) (frees night path) b
+        (of_lists (unit_total night) owned l (filter_from test (lists_of (unit_total night) owned) l there).0 b in_l) in
         (of_frees b h.0, h.1)
 
     is_filling : (l : List Block) → In l fillings → IsFilling night path stack l
     is_filling l there =
         let t = (filter_from test (lists_of (unit_total night) owned) l there).1 in
-        let parts = and_parts (all_below (unit_total night) (λ u. nat_le (times_unit night l u) 1) && all_below (position_total night) (λ v. nat_le (times_position night l v) 1)) (runs_placed night (blocks_of stack path ++ l)) t in
-        let counts = and_parts (all_below (unit_total night) (λ u. nat_le (times_unit night l u) 1)) (all_below (position_total night) (λ v. nat_le (times_position night l v) 1)) parts.0 in
+        let parts = and_parts (all_below (unit_total night) (λ u. nat_le (times_unit night l u) 1) && all_below (position_total night) (λ v. nat_le (times_position night l v) 1))
+        (runs_placed night (blocks_of stack path ++ l)) t in
+        let counts = and_parts (all_below (unit_total night) (λ u. nat_le (times_unit night l u) 1))
+        (all_below (position_total night) (λ v. nat_le (times_position night l v) 1)) parts.0 in
         record {
           own = from_members (λ (b : Block). is_of stack b.park ≡ true) l (λ b in_l. (all_free l there b in_l).1);
           free = from_members (IsFreeAt night path) l (λ b in_l. (all_free l there b in_l).0);
           apart = record {
-            units = λ u. ⊎_elim (λ lt. low (times_unit night l u) (each_passes (unit_total night) (λ w. nat_le (times_unit night l w) 1) counts.0 u lt)) (λ ge. past_unit u ge) (cases_lt u (unit_total night));
-            positions = λ v. ⊎_elim (λ lt. low (times_position night l v) (each_passes (position_total night) (λ w. nat_le (times_position night l w) 1) counts.1 v lt)) (λ ge. past_position v ge) (cases_lt v (position_total night));
+            units = λ u. ⊎_elim (λ lt. low (times_unit night l u) (each_passes (unit_total night) (λ w. nat_le (times_unit night l w) 1) counts.0 u lt)) (λ ge. past_unit u ge)
+                (cases_lt u (unit_total night));
+            positions = λ v. ⊎_elim (λ lt. low (times_position night l v) (each_passes (position_total night) (λ w. nat_le (times_position night l w) 1) counts.1 v lt))
+                (λ ge. past_position v ge) (cases_lt v (position_total night));
           };
           through = parts.1;
         }
@@ -166,8 +182,10 @@ module _ (places : PlaceLaws) (choices : ChoiceLaw) (few : FewLaw) (night : Nigh
         passes : test (bare l) ≡ true
         passes = and_from _ _
             (and_from _ _
-            (all_pass (unit_total night) (λ u. nat_le (times_unit night (bare l) u) 1) (λ u lt. to_low (times_unit night (bare l) u) (omega (arith, bare_units night l u, fill.apart.units u))))
-            (all_pass (position_total night) (λ v. nat_le (times_position night (bare l) v) 1) (λ v lt. to_low (times_position night (bare l) v) (omega (arith, bare_positions night l v, fill.apart.positions v)))))
+            (all_pass (unit_total night) (λ u. nat_le (times_unit night (bare l) u) 1)
+            (λ u lt. to_low (times_unit night (bare l) u) (omega (arith, bare_units night l u, fill.apart.units u))))
+            (all_pass (position_total night) (λ v. nat_le (times_position night (bare l) v) 1)
+            (λ v lt. to_low (times_position night (bare l) v) (omega (arith, bare_positions night l v, fill.apart.positions v)))))
             (subst (λ (bs : List Block). GoesThrough (track_lengths night.station) (stays_of night bs)) (sym (bare_placed 1 (blocks_of stack path) l)) fill.through)
 
     -- ---- all free blocks of the stack
@@ -190,5 +208,13 @@ module _ (places : PlaceLaws) (choices : ChoiceLaw) (few : FewLaw) (night : Nigh
             → ((l : List Block) → IsFilling night path stack l → In (bare l) ls) → (most : ℤ) × IsStackGain night path c stack most
         found [] there are all = absurd there
         found (l ∷ ls) there are all =
-            let g = greatest (gain_of night c) l ls in
-            (gain_of night c g.one, record { filling = g.one; fills = are g.one g.there; has = refl; no_more = λ other fill. omega (arith, ints, bare_gain night c other, g.most (bare other) (all other fill)) })
+            let g = greatest (gain_of night c) l ls in (
+              gain_of night c g.one,
+              record {
+                filling = g.one;
+                fills = are g.one g.there;
+                has = refl;
+                no_more = λ other fill. omega
+                    (arith, ints, bare_gain night c other, g.most (bare other) (all other fill));
+              },
+            )

@@ -36,7 +36,8 @@ module _ (law : PartLaw) (night : Night) (i : IsInstance night) (path : List Blo
     own = All-nil (λ (b : Block). is_of stack b.park ≡ true);
     free = All-nil (IsFreeAt night path);
     apart = nothing_apart;
-    through = subst (λ (bs : List Block). RunsThrough night (placed bs)) (sym (append-nil (blocks_of stack path))) (part_runs law night (blocks_of stack path) path i within apart (part_filter night (λ (b : Block). is_of stack b.park) path) go);
+    through = subst (λ (bs : List Block). RunsThrough night (placed bs)) (sym (append-nil (blocks_of stack path)))
+        (part_runs law night (blocks_of stack path) path i within apart (part_filter night (λ (b : Block). is_of stack b.park) path) go);
   }
 
   pub at_least_zero : (c : Case) (stack : Stack) (most : ℤ) → RunsThrough night (placed path) → IsStackGain night path c stack most → pos 0 ≤ℤ most
@@ -53,7 +54,8 @@ other_block stack blocks b there = let h = filter_from (λ (x : Block). not (is_
 
 -- blocks behind a path that share nothing with it, and whose run goes through with it
 module _ (places : PlaceLaws) (law : PartLaw) (night : Night) (i : IsInstance night) (path rest : List Block)
-    (within : All (IsWithinTrains night) (path ++ rest)) (fits : All (IsBlockButId night) rest) (apart : ShareNothing night (path ++ rest)) (go : RunsThrough night (placed (path ++ rest))) where
+    (within : All (IsWithinTrains night) (path ++ rest)) (fits : All (IsBlockButId night) rest) (apart : ShareNothing night (path ++ rest))
+    (go : RunsThrough night (placed (path ++ rest))) where
   rest_part : (some : List Block) → IsPart night some rest → IsPart night some (path ++ rest)
   rest_part some h = part_part night some rest (path ++ rest) h (part_right night path rest)
 
@@ -63,9 +65,11 @@ module _ (places : PlaceLaws) (law : PartLaw) (night : Night) (i : IsInstance ni
       let part = part_part night (blocks_of stack some) some rest (part_filter night test some) h in
       record {
         own = from_members (λ (b : Block). is_of stack b.park ≡ true) (blocks_of stack some) (λ b there. (filter_from test some b there).1);
-        free = from_members (IsFreeAt night path) (blocks_of stack some) (λ b there. let in_rest = part.members b there in free_behind places night path rest b apart in_rest (each_one (IsBlockButId night) rest b fits in_rest));
+        free = from_members (IsFreeAt night path) (blocks_of stack some) (λ b there. let in_rest = part.members b there in free_behind places night path rest b apart in_rest
+            (each_one (IsBlockButId night) rest b fits in_rest));
         apart = part_apart night (blocks_of stack some) (path ++ rest) (rest_part (blocks_of stack some) part) apart;
-        through = part_runs law night (blocks_of stack path ++ blocks_of stack some) (path ++ rest) i within apart (part_append night (blocks_of stack path) (blocks_of stack some) path rest (part_filter night test path) part) go;
+        through = part_runs law night (blocks_of stack path ++ blocks_of stack some) (path ++ rest) i within apart
+            (part_append night (blocks_of stack path) (blocks_of stack some) path rest (part_filter night test path) part) go;
       }
 
   module _ (c : Case) where
@@ -92,7 +96,13 @@ module _ (places : PlaceLaws) (law : PartLaw) (night : Night) (i : IsInstance ni
     within_gains [] (g ∷ gains) some are h beside = absurd are
     within_gains (s ∷ stacks) [] some are h beside = absurd are
     within_gains (s ∷ stacks) (g ∷ gains) some are h beside =
-        omega (arith, ints, sum_z-both (gain night c) (λ (b : Block). is_of s b.park) some, are.0.no_more (blocks_of s some) (fills s some h), within_gains stacks gains (others s some) are.1 (other_part s some h) (fewer s stacks some beside))
+        omega (
+          arith,
+          ints,
+          sum_z-both (gain night c) (λ (b : Block). is_of s b.park) some,
+          are.0.no_more (blocks_of s some) (fills s some h),
+          within_gains stacks gains (others s some) are.1 (other_part s some h) (fewer s stacks some beside),
+        )
 
     -- and where none of them is of one of the stacks, the gains of the others alone
     pub within_others : (own : Stack) (most : ℤ) → IsStackGain night path c own most → (stacks : List Stack) (gains : List ℤ) (some : List Block) → In own stacks
@@ -124,7 +134,8 @@ behind places law night i path rest within fits apart go stack =
 
 -- ---- parts of a filling
 
-module _ (places : PlaceLaws) (law : PartLaw) (night : Night) (i : IsInstance night) (path : List Block) (within : All (IsWithinTrains night) path) (apart : ShareNothing night path)
+module _ (places : PlaceLaws) (law : PartLaw) (night : Night) (i : IsInstance night) (path : List Block) (within : All (IsWithinTrains night) path)
+    (apart : ShareNothing night path)
     (stack : Stack) (filling : List Block) (fill : IsFilling night path stack filling) where
   pub whole_apart : ShareNothing night (blocks_of stack path ++ filling)
   whole_apart = joined_apart places night path (blocks_of stack path) filling apart fill.free fill.apart (part_filter night (λ (b : Block). is_of stack b.park) path)

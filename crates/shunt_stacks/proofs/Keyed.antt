@@ -45,8 +45,13 @@ after_minute d e t u p q i j = ordering_then (bool_cmp d e) (ordering_then (nat_
 pub by_minute : (m n : ℕ) (d e : Bool) (t u p q i j : ℕ) → m < n → Ordered (key m d t p i) (key n e u q j)
 by_minute m n d e t u p q i j lt = record { less = first_less m n (after_minute d e t u p q i j) lt; more = first_more n m (after_minute e d u t q p j i) lt }
 
-same_minute : (m n : ℕ) (d e : Bool) (t u p q i j : ℕ) → m ≡ n → after_minute d e t u p q i j ≡ Less → after_minute e d u t q p j i ≡ Greater → Ordered (key m d t p i) (key n e u q j)
-same_minute m n d e t u p q i j same h k = record { less = first_even m n (after_minute d e t u p q i j) same ∙ h; more = first_even n m (after_minute e d u t q p j i) (sym same) ∙ k }
+same_minute : (m n : ℕ) (d e : Bool) (t u p q i j : ℕ) → m ≡ n → after_minute d e t u p q i j ≡ Less → after_minute e d u t q p j i ≡ Greater
+    → Ordered (key m d t p i) (key n e u q j)
+same_minute m n d e t u p q i j same h k = record {
+  less = first_even m n (after_minute d e t u p q i j) same
+      ∙ h;
+  more = first_even n m (after_minute e d u t q p j i) (sym same) ∙ k;
+}
 
 -- of one minute, the lesser train
 pub by_train : (m n : ℕ) (e : Bool) (t u p q i j : ℕ) → m ≤ n → t < u → Ordered (key m e t p i) (key n e u q j)

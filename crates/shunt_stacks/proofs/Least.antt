@@ -65,7 +65,8 @@ module _ (cases : List Case) (path : List Block) (sums : List ℤ) where
           number = n;
           opens = o;
           is = (own n).1;
-          least = λ k other lt p b. ⊎_elim (λ less. omega (arith, ints, lower, f.1.least k other less p b)) (λ ge. same_case k n (own n).0 other (last_one k n lt ge) (own n).1 b) (cases_lt k n);
+          least = λ k other lt p b. ⊎_elim (λ less. omega (arith, ints, lower, f.1.least k other less p b)) (λ ge. same_case k n (own n).0 other (last_one k n lt ge) (own n).1 b)
+              (cases_lt k n);
         },
       ))
       (λ le. (
@@ -74,7 +75,8 @@ module _ (cases : List Case) (path : List Block) (sums : List ℤ) where
           number = f.1.number;
           opens = f.1.opens;
           is = f.1.is;
-          least = λ k other lt p b. ⊎_elim (λ less. f.1.least k other less p b) (λ ge. omega (arith, ints, le, same_case k n (own n).0 other (last_one k n lt ge) (own n).1 b)) (cases_lt k n);
+          least = λ k other lt p b. ⊎_elim (λ less. f.1.least k other less p b) (λ ge. omega (arith, ints, le, same_case k n (own n).0 other (last_one k n lt ge) (own n).1 b))
+              (cases_lt k n);
         },
       ))
 
@@ -85,7 +87,11 @@ module _ (cases : List Case) (path : List Block) (sums : List ℤ) where
       ⊎_elim (λ e. inr (opened n (record { there = omega (arith, le); opens = e }) rest)) (λ e. shut n (λ o. false≢true (sym e ∙ o.opens)) rest) (cases_Bool (is_open cases path n))
 
   last_open : (n : ℕ) → length cases ≡ suc n → IsOpenAt cases path n
-  last_open n e = record { there = omega (arith, e); opens = or_left (n + 1 == length cases) (nat_le (unparked_in path) (case_at cases n).to) (eq-eqb (n + 1) (length cases) (omega (arith, e))) }
+  last_open n e = record {
+    there = omega (arith, e);
+    opens = or_left (n + 1 == length cases) (nat_le (unparked_in path) (case_at cases n).to)
+        (eq-eqb (n + 1) (length cases) (omega (arith, e)));
+  }
 
   pub least_there : 1 ≤ length cases → (bound : ℤ) × IsLeastBound cases path sums bound
   least_there some =

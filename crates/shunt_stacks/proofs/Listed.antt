@@ -33,7 +33,8 @@ in_lists zero xs [] le h = inl refl
 in_lists zero xs (x ∷ l) le h = absurd (omega (arith, le))
 in_lists (suc n) xs [] le h = inl refl
 in_lists {X} (suc n) xs (x ∷ l) le h =
-    inr (in_flat (λ (y : X). map (λ (m : List X). y ∷ m) (lists_of n xs)) xs x (x ∷ l) (h x (inl refl)) (in_map (λ (m : List X). x ∷ m) (lists_of n xs) l (in_lists n xs l (omega (arith, le)) (λ y i. h y (inr i)))))
+    inr (in_flat (λ (y : X). map (λ (m : List X). y ∷ m) (lists_of n xs)) xs x (x ∷ l) (h x (inl refl))
+    (in_map (λ (m : List X). x ∷ m) (lists_of n xs) l (in_lists n xs l (omega (arith, le)) (λ y i. h y (inr i)))))
 
 pub of_lists : {X : Type 0} (n : ℕ) (xs l : List X) → In l (lists_of n xs) → (x : X) → In x l → In x xs
 of_lists {X} zero xs l (inl e) x there = absurd (subst (λ (m : List X). In x m) e there)

@@ -39,7 +39,11 @@ apart_starts s t a b e (inr (inr h)) = omega (arith, e, h.0, a.enters)
 pub nested_filter : (p : Span → Bool) (spans : List Span) → AreAllNested spans → AreAllNested (filter p spans)
 nested_filter p [] nested = tt
 nested_filter p (s ∷ spans) nested = ⊎_elim
-    (λ t. subst AreAllNested (sym (filter_yes p s spans t)) (all_from (AreNested s) (filter p spans) (λ u there. all_in (AreNested s) spans u nested.0 (filter_from p spans u there).0), nested_filter p spans nested.1))
+    (λ t. subst AreAllNested (sym (filter_yes p s spans t)) (
+      all_from (AreNested s) (filter p spans)
+          (λ u there. all_in (AreNested s) spans u nested.0 (filter_from p spans u there).0),
+      nested_filter p spans nested.1,
+    ))
     (λ t. subst AreAllNested (sym (filter_no p s spans t)) (nested_filter p spans nested.1))
     (cases_Bool (p s))
 
@@ -138,7 +142,8 @@ inner_to s spans t i low high = filter_to (is_inside s) spans t i (inside_to s t
 
 pub outer_to : (s : Span) (spans : List Span) (t : Span) → In t spans → s.past ≤ t.from → IsSpan s → IsSpan t → In t (outer s spans)
 outer_to s spans t i le a b =
-    filter_to (is_behind s) (beyond s spans) t (filter_to (λ u. not (is_inside s u)) spans t i (ap not (out (is_inside s t) (λ e. let h = inside_from s t e in absurd (omega (arith, le, h.1, a.leaves, b.enters, b.stays, b.leaves)))))) (behind_to s t le)
+    filter_to (is_behind s) (beyond s spans) t (filter_to (λ u. not (is_inside s u)) spans t i
+    (ap not (out (is_inside s t) (λ e. let h = inside_from s t e in absurd (omega (arith, le, h.1, a.leaves, b.enters, b.stays, b.leaves)))))) (behind_to s t le)
   where
     out : (b : Bool) → (b ≡ true → ⊥) → b ≡ false
     out true never = absurd (never refl)
@@ -146,13 +151,15 @@ outer_to s spans t i le a b =
 
 -- ---- a span before which none of them comes
 
-module _ (spans : List Span) (nested : AreAllNested spans) (are : (t : Span) → In t spans → IsSpan t) (s : Span) (there : In s spans) (first : (t : Span) → In t spans → s.from ≤ t.from) where
+module _ (spans : List Span) (nested : AreAllNested spans) (are : (t : Span) → In t spans → IsSpan t) (s : Span) (there : In s spans) (first : (t : Span) → In t spans
+    → s.from ≤ t.from) where
   off : (b : Bool) → (b ≡ true → ⊥) → b ≡ false
   off true never = absurd (never refl)
   off false never = refl
 
   in_beyond : In s (beyond s spans)
-  in_beyond = filter_to (λ t. not (is_inside s t)) spans s there (ap not (off (is_inside s s) (λ e. let h = inside_from s s e in let a = are s there in absurd (omega (arith, h.0, a.enters)))))
+  in_beyond = filter_to (λ t. not (is_inside s t)) spans s there (ap not (off (is_inside s s)
+      (λ e. let h = inside_from s s e in let a = are s there in absurd (omega (arith, h.0, a.enters)))))
 
   -- what is neither inside nor behind is the span itself
   itself : (t : Span) → In t (filter (λ u. not (is_behind s u)) (beyond s spans)) → s ≡ t
@@ -182,7 +189,8 @@ module _ (spans : List Span) (nested : AreAllNested spans) (are : (t : Span) →
   split =
       let rest = filter (λ u. not (is_behind s u)) (beyond s spans) in
       let own = only_one rest (nested_filter (λ u. not (is_behind s u)) (beyond s spans) (nested_filter (λ t. not (is_inside s t)) spans nested)) itself
-      (filter_to (λ u. not (is_behind s u)) (beyond s spans) s in_beyond (ap not (off (is_behind s s) (λ e. let h = behind_from s s e in let a = are s there in absurd (omega (arith, h, a.enters, a.stays, a.leaves)))))) in
+      (filter_to (λ u. not (is_behind s u)) (beyond s spans) s in_beyond (ap not (off (is_behind s s)
+      (λ e. let h = behind_from s s e in let a = are s there in absurd (omega (arith, h, a.enters, a.stays, a.leaves)))))) in
       added _ _ _ _ _ s.gain (sum_z-both (λ (t : Span). t.gain) (is_inside s) spans) (sum_z-both (λ (t : Span). t.gain) (is_behind s) (beyond s spans)) own
     where
       added : (all inside other behind left own : ℤ) → all ≡ inside +ℤ other → other ≡ behind +ℤ left → left ≡ own → all ≡ own +ℤ (inside +ℤ behind)

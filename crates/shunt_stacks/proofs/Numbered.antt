@@ -35,10 +35,12 @@ module _ (laws : NumberLaws) (night : Night) (i : IsInstance night) where
   departure_rises t u le lt = h.depart_rises t u _ le lt
 
   arrival_small : (u : ℕ) → u < unit_total night → arrives night u < 2880
-  arrival_small u within = let t : IsTrain night.station (train_at night.arrive (unit_at night u).train.0) = h.timetable.arrive.each (unit_at night u).train.0 _ (laws.unit night u i within).train in t.minute
+  arrival_small u within = let t : IsTrain night.station (train_at night.arrive (unit_at night u).train.0) = h.timetable.arrive.each (unit_at night u).train.0 _
+      (laws.unit night u i within).train in t.minute
 
   departure_small : (v : ℕ) → v < position_total night → departs night v < 2880
-  departure_small v within = let t : IsTrain night.station (train_at night.depart (position_at night v).train.0) = h.timetable.depart.each (position_at night v).train.0 _ (laws.position night v i within).train in t.minute
+  departure_small v within = let t : IsTrain night.station (train_at night.depart (position_at night v).train.0) = h.timetable.depart.each (position_at night v).train.0 _
+      (laws.position night v i within).train in t.minute
 
   place_small : (v : ℕ) → v < position_total night → (position_at night v).place ≤ 8
   place_small v within =
@@ -53,7 +55,12 @@ module _ (laws : NumberLaws) (night : Night) (i : IsInstance night) where
   numbered = record {
     entries = λ u w lt within. omega (arith, arrival_rises u w lt within, lt);
     leaves = λ v w a b before. ⊎_elim
-        (λ lt. omega (arith, departure_rises (position_at night v).train.0 (position_at night w).train.0 (omega (arith, lt)) (laws.position night w i b).train, lt, (laws.position night v i a).placed))
+        (λ lt. omega (
+          arith,
+          departure_rises (position_at night v).train.0 (position_at night w).train.0 (omega (arith, lt)) (laws.position night w i b).train,
+          lt,
+          (laws.position night v i a).placed,
+        ))
         (λ same.
         let minutes = ap (λ (t : ℕ). (train_at night.depart t).minute) same.0 in
         omega (arith, minutes, same.0, same.1, place_small v a))

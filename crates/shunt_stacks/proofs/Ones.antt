@@ -17,15 +17,18 @@ one_fall : (night : Night) (path : List Block) (b : Block) (c : Case) (o : Optio
 one_fall night path b c None x y f g = f ∙ sym g
 one_fall night path b c (Some s) x y f g = omega (arith, ints, f.4, g.4, one_gain night path c s f.0 g.0 f.2 g.2, one_gain night (path ++ b ∷ []) c s f.1 g.1 f.3 g.3)
 
-pub one_choice_sum : (night : Night) (path : List Block) (b : Block) (cases : List Case) (k : ℕ) (x y : ℤ) → IsChoiceSum night path b cases k x → IsChoiceSum night path b cases k y → x ≡ y
+pub one_choice_sum : (night : Night) (path : List Block) (b : Block) (cases : List Case) (k : ℕ) (x y : ℤ) → IsChoiceSum night path b cases k x
+    → IsChoiceSum night path b cases k y → x ≡ y
 one_choice_sum night path b cases k x y s t =
-    same x y s.whole t.whole s.fall t.fall (gain night (case_at cases k) b) s.is t.is (one_sum night path cases k s.whole t.whole s.is_whole t.is_whole) (one_fall night path b (case_at cases k) (stack_of b.park) s.fall t.fall s.is_fall t.is_fall)
+    same x y s.whole t.whole s.fall t.fall (gain night (case_at cases k) b) s.is t.is (one_sum night path cases k s.whole t.whole s.is_whole t.is_whole)
+    (one_fall night path b (case_at cases k) (stack_of b.park) s.fall t.fall s.is_fall t.is_fall)
   where
     same : (x y a b c d g : ℤ) → x ≡ a +ℤ c -ℤ g → y ≡ b +ℤ d -ℤ g → a ≡ b → c ≡ d → x ≡ y
     same x y a b c d g e f h k = omega (arith, ints, e, f, h, k)
 
 -- the least of one list of sums is at most that of another which agrees where cases are open
-below : (cases : List Case) (path : List Block) (sums others : List ℤ) (x y : ℤ) → ((k : ℕ) → IsOpenAt cases path k → slice_index_or sums k (pos 0) ≡ slice_index_or others k (pos 0))
+below : (cases : List Case) (path : List Block) (sums others : List ℤ) (x y : ℤ) → ((k : ℕ) → IsOpenAt cases path k
+    → slice_index_or sums k (pos 0) ≡ slice_index_or others k (pos 0))
     → IsLeastBound cases path sums x → IsLeastBound cases path others y → x ≤ℤ y
 below cases path sums others x y same h k = h.least k.number y k.opens (subst (λ (z : ℤ). IsBoundOf z y) (sym (same k.number k.opens)) k.is)
 

@@ -55,7 +55,8 @@ told t u x y z e = ⊎_elim
     (λ same.
     let here : Some (end_of t x) ≡ Some (end_of u z) = sym (ap (λ (b : Bool). cond b (Some (end_of t x)) None) same) ∙ e in
     let side : x ≡ z = ap side_in here in
-    and_from (t == u) (same_side x z && same_side y z) (eq-eqb t u (ap track_in here)) (and_from (same_side x z) (same_side y z) (same_side_is x z side) (same_side_is y z (sym (same_side_tells x y same) ∙ side))))
+    and_from (t == u) (same_side x z && same_side y z) (eq-eqb t u (ap track_in here))
+    (and_from (same_side x z) (same_side y z) (same_side_is x z side) (same_side_is y z (sym (same_side_tells x y same) ∙ side))))
     (λ apart. absurd (false≢true (ap is_some (sym (ap (λ (b : Bool). cond b (Some (end_of t x)) None) apart) ∙ e))))
     (cases_Bool (same_side x y))
 
@@ -77,7 +78,8 @@ in_below (suc n) t x lt = ⊎_elim
     at B = inr (inl refl)
 
 pub listed : (s : Station) (stack : Stack) → stack.track.0 < length s.tracks → IsTrue (is_open_at s stack.track stack.side) → In stack (stacks s)
-listed s stack lt opens = filter_to (λ (k : Stack). is_open_at s k.track k.side) (sides_below (length s.tracks)) stack (in_below (length s.tracks) stack.track.0 stack.side lt) opens
+listed s stack lt opens = filter_to (λ (k : Stack). is_open_at s k.track k.side) (sides_below (length s.tracks)) stack
+    (in_below (length s.tracks) stack.track.0 stack.side lt) opens
 
 pub listed_open : (s : Station) (stack : Stack) → In stack (stacks s) → IsTrue (is_open_at s stack.track stack.side)
 listed_open s stack there = (filter_from (λ (k : Stack). is_open_at s k.track k.side) (sides_below (length s.tracks)) stack there).1
@@ -116,7 +118,8 @@ opens_out s h (origin.Platform p) k way = known (route_cost s p k.track k.side_o
     known (Some c) way opens = opens
 opens_out s h (origin.Track t) k way = absurd (false≢true way)
 
-pub stack_there : (night : Night) (h : IsStation night.station) (s : Shape) (park : Option Park) (stack : Stack) → IsOption night s park → is_of stack park ≡ true → In stack (stacks night.station)
+pub stack_there : (night : Night) (h : IsStation night.station) (s : Shape) (park : Option Park) (stack : Stack) → IsOption night s park → is_of stack park ≡ true
+    → In stack (stacks night.station)
 stack_there night h s None stack is of = absurd (false≢true of)
 stack_there night h s (Some k) stack is of =
     let e = and_parts (k.track.0 == stack.track.0) (same_side k.side_in stack.side && same_side k.side_out stack.side) of in
@@ -126,7 +129,8 @@ stack_there night h s (Some k) stack is of =
     listed night.station stack (omega (arith, track, is.track)) (open_there k.track.0 stack.track.0 k.side_out stack.side track (same_side_tells k.side_out stack.side f.1) opens)
   where
     open_there : (t u : ℕ) (x y : Side) → t ≡ u → x ≡ y → IsTrue (is_open_at night.station (record { 0 = t }) x) → IsTrue (is_open_at night.station (record { 0 = u }) y)
-    open_there t u x y e f opens = sym (ap (λ (n : ℕ). is_open_at night.station (record { 0 = n }) x) e ∙ ap (λ (z : Side). is_open_at night.station (record { 0 = u }) z) f) ∙ opens
+    open_there t u x y e f opens = sym (ap (λ (n : ℕ). is_open_at night.station (record { 0 = n }) x) e
+        ∙ ap (λ (z : Side). is_open_at night.station (record { 0 = u }) z) f) ∙ opens
 
 -- ---- tracks that are open at one side
 
@@ -134,7 +138,8 @@ opens_in : (s : Station) (h : IsStation s) (p : PlatformId) (k : Park) → IsSom
 opens_in s h p k way = opens_out s h (origin.Platform p) (record k { side_out = k.side_in }) way
 
 -- what comes from a platform to a track that is open at one side alone is of the stack there
-pub one_side : (night : Night) (h : IsStation night.station) (s : Shape) (k : Park) (p : PlatformId) (side : Side) → IsParkable night s k → (train_at night.arrive s.arr.0).origin ≡ origin.Platform p
+pub one_side : (night : Night) (h : IsStation night.station) (s : Shape) (k : Park) (p : PlatformId) (side : Side) → IsParkable night s k
+    → (train_at night.arrive s.arr.0).origin ≡ origin.Platform p
     → ((other : Side) → IsTrue (is_open_at night.station k.track other) → other ≡ side) → is_of (record { track = k.track; side = side }) (Some k) ≡ true
 one_side night h s k p side is from only =
     let way : IsSome (way_from night.station (origin.Platform p) k.track k.side_in) = subst (λ (o : Origin). IsSome (way_from night.station o k.track k.side_in)) from is.way_in in

@@ -68,7 +68,16 @@ module _ (laws : EventLaws) (night : Night) (i : IsInstance night) (stack : Stac
 
   -- the stay of a block of the stack
   abbrev pub stay : Block → Stay
-  stay b = record { id = b.id; track = stack.track; side_in = stack.side; side_out = stack.side; enter = enter_key night b; leave = leave_key night b; length = block_length night b }
+  stay b = record {
+    id = b.id;
+    track = stack.track;
+    side_in = stack.side;
+    side_out = stack.side;
+    enter = enter_key night b;
+    leave = leave_key night b;
+    length = block_length
+        night b;
+  }
 
   one_stay : (b : Block) (t u : ℕ) (x y z : Side) → t ≡ u → x ≡ z → y ≡ z
       → parked_stay night b (record { track = record { 0 = t }; side_in = x; side_out = y })
@@ -84,7 +93,8 @@ module _ (laws : EventLaws) (night : Night) (i : IsInstance night) (stack : Stac
       let e = and_parts (k.track.0 == stack.track.0) (same_side k.side_in stack.side && same_side k.side_out stack.side) of in
       let f = and_parts (same_side k.side_in stack.side) (same_side k.side_out stack.side) e.1 in
       ap (λ (t : Bool). cond t None (Some (parked_stay night b k))) soon
-      ∙ ap Some (one_stay b k.track.0 stack.track.0 k.side_in k.side_out stack.side (eqb-true k.track.0 stack.track.0 e.0) (same_side_tells k.side_in stack.side f.0) (same_side_tells k.side_out stack.side f.1))
+      ∙ ap Some (one_stay b k.track.0 stack.track.0 k.side_in k.side_out stack.side (eqb-true k.track.0 stack.track.0 e.0) (same_side_tells k.side_in stack.side f.0)
+      (same_side_tells k.side_out stack.side f.1))
 
   pub has_stay : (b : Block) → IsBlockButId night b → is_of stack b.park ≡ true → stay_of night b ≡ Some (stay b)
   has_stay b is of = stay_there b b.park of (laws.in_time night (shape_of b) is.shape)
@@ -150,19 +160,23 @@ module _ (laws : EventLaws) (night : Night) (i : IsInstance night) (stack : Stac
         let first = subst (λ (v : ℕ). (position_at night v).train.0 ≡ b.dep.0) zero (train_of 0 zero_in) in
         let place = subst (λ (v : ℕ). (position_at night v).place ≡ b.q + 0) zero (place_of 0 zero_in) in
         let inside = subst (λ (v : ℕ). v < position_total night) zero (position_in 0 zero_in) in
-        let before = num.leaves (first_position_of b + k) (first_position_of b) (position_in k lt) inside (inr (train_of k lt ∙ sym first, omega (arith, place_of k lt, place, some))) in
+        let before = num.leaves (first_position_of b + k) (first_position_of b) (position_in k lt) inside
+        (inr (train_of k lt ∙ sym first, omega (arith, place_of k lt, place, some))) in
         omega (arith, before))
         (cases_lt k 1)
 
   -- ---- the order of two blocks' events
 
   -- the one comes while the other stands, or after it has left
-  while_there : (x y : Block) → IsBlockButId night x → IsBlockButId night y → comes y < goes x → (k j : ℕ) → k < y.n → j < x.n → entry (first_unit_of y + k) < leave (first_position_of x + j)
+  while_there : (x y : Block) → IsBlockButId night x → IsBlockButId night y → comes y < goes x → (k j : ℕ) → k < y.n → j < x.n
+      → entry (first_unit_of y + k) < leave (first_position_of x + j)
   while_there x y a b lt k j p q =
       num.entry_first (first_unit_of y + k) (first_position_of x + j) (unit_in y b k p) (position_in x a j q) (omega (arith, arrives_then y b k p, departs_then x a j q, lt))
 
-  after_it : (x y : Block) → IsBlockButId night x → IsBlockButId night y → goes x ≤ comes y → (k j : ℕ) → k < y.n → j < x.n → leave (first_position_of x + j) < entry (first_unit_of y + k)
-  after_it x y a b le k j p q = num.leave_first (first_unit_of y + k) (first_position_of x + j) (unit_in y b k p) (position_in x a j q) (omega (arith, arrives_then y b k p, departs_then x a j q, le))
+  after_it : (x y : Block) → IsBlockButId night x → IsBlockButId night y → goes x ≤ comes y → (k j : ℕ) → k < y.n → j < x.n
+      → leave (first_position_of x + j) < entry (first_unit_of y + k)
+  after_it x y a b le k j p q = num.leave_first (first_unit_of y + k) (first_position_of x + j) (unit_in y b k p) (position_in x a j q)
+      (omega (arith, arrives_then y b k p, departs_then x a j q, le))
 
   -- who comes first
   record ComesFirst (x y : Block) : Type 0 where
@@ -192,7 +206,8 @@ module _ (laws : EventLaws) (night : Night) (i : IsInstance night) (stack : Stac
           (λ more. absurd (omega (arith, laws.behind night.arrive y.arr.0 x.arr.0 more s.arr, le, r.n, r.p, s.p, s.n, s.units)))
           (λ le_too. let same : x.arr.0 ≡ y.arr.0 = omega (arith, ge, le_too) in
           let firsts = ap (λ (t : ℕ). unit_count (take t night.arrive)) same in
-          by_place (comes x) (comes y) true x.arr.0 y.arr.0 x.p y.p x.id y.id (ap (λ (t : ℕ). (train_at night.arrive t).minute) same) same (omega (arith, le, firsts, r.p, s.p, r.n)))
+          by_place (comes x) (comes y) true x.arr.0 y.arr.0 x.p y.p x.id y.id (ap (λ (t : ℕ). (train_at night.arrive t).minute) same) same
+          (omega (arith, le, firsts, r.p, s.p, r.n)))
           (cases_lt y.arr.0 x.arr.0))
           (cases_lt x.arr.0 y.arr.0)
 
@@ -219,17 +234,20 @@ module _ (laws : EventLaws) (night : Night) (i : IsInstance night) (stack : Stac
 
   leaves_first : (x y : Block) → IsBlockButId night x → IsBlockButId night y → (x.dep.0 < y.dep.0) ⊎ ((x.dep.0 ≡ y.dep.0) × (y.q + y.n ≤ x.q)) → LeavesFirst x y
   leaves_first x y a b (inl lt) = record {
-    number = num.leaves (first_position_of x) (first_position_of y + (y.n - 1)) (first_position_in x a) (position_in y b (y.n - 1) (last y b)) (inl (omega (arith, lt, first_train x a, train_of y b (y.n - 1) (last y b))));
+    number = num.leaves (first_position_of x) (first_position_of y + (y.n - 1)) (first_position_in x a) (position_in y b (y.n - 1) (last y b))
+        (inl (omega (arith, lt, first_train x a, train_of y b (y.n - 1) (last y b))));
     keys = by_train (goes x) (goes y) false x.dep.0 y.dep.0 (9 - x.q) (9 - y.q) x.id y.id (h.depart_rises x.dep.0 y.dep.0 _ (omega (arith, lt)) b.shape.within.dep) lt;
   }
   leaves_first x y a b (inr same) = record {
     number = num.leaves (first_position_of x) (first_position_of y + (y.n - 1)) (first_position_in x a) (position_in y b (y.n - 1) (last y b))
         (inr (first_train x a ∙ same.0 ∙ sym (train_of y b (y.n - 1) (last y b)), omega (arith, same.1, first_place x a, place_of y b (y.n - 1) (last y b), b.shape.within.n)));
-    keys = by_place (goes x) (goes y) false x.dep.0 y.dep.0 (9 - x.q) (9 - y.q) x.id y.id (ap (λ (t : ℕ). (train_at night.depart t).minute) same.0) same.0 (omega (arith, same.1, b.shape.within.n, small));
+    keys = by_place (goes x) (goes y) false x.dep.0 y.dep.0 (9 - x.q) (9 - y.q) x.id y.id (ap (λ (t : ℕ). (train_at night.depart t).minute) same.0) same.0
+        (omega (arith, same.1, b.shape.within.n, small));
   }
     where
       small : x.q ≤ 8
-      small = let t : IsTrain night.station (train_at night.depart x.dep.0) = h.timetable.depart.each x.dep.0 _ a.shape.within.dep in omega (arith, a.shape.within.positions, a.shape.within.n, t.few)
+      small = let t : IsTrain night.station (train_at night.depart x.dep.0) = h.timetable.depart.each x.dep.0 _ a.shape.within.dep in omega
+          (arith, a.shape.within.positions, a.shape.within.n, t.few)
 
   leaves_either : (x y : Block) → IsBlockButId night x → IsBlockButId night y → AreApart night x y → LeavesFirst x y ⊎ LeavesFirst y x
   leaves_either x y a b apart = ⊎_elim
@@ -327,7 +345,15 @@ module _ (laws : EventLaws) (night : Night) (i : IsInstance night) (stack : Stac
 
       apart_numbers : ComesFirst x y → comes y < goes x → LeavesFirst x y → AreNested (span x) (span y) → ⊥
       apart_numbers c lt l (inl (inl e)) = omega (arith, e, first_there x y a b lt)
-      apart_numbers c lt l (inl (inr e)) = omega (arith, e, first_there x y a b lt, first_inside x y a b c, later_entry x a (x.n - 1) (last x a), l.number, earlier_leave y b (y.n - 1) (last y b))
+      apart_numbers c lt l (inl (inr e)) = omega (
+        arith,
+        e,
+        first_there x y a b lt,
+        first_inside x y a b c,
+        later_entry x a (x.n - 1) (last x a),
+        l.number,
+        earlier_leave y b (y.n - 1) (last y b),
+      )
       apart_numbers c lt l (inr (inl e)) = omega (arith, e.0, first_inside x y a b c, later_entry x a (x.n - 1) (last x a), later_entry y b (y.n - 1) (last y b))
       apart_numbers c lt l (inr (inr e)) = omega (arith, e.1, l.number, earlier_leave x a (x.n - 1) (last x a), earlier_leave y b (y.n - 1) (last y b))
 
@@ -352,7 +378,8 @@ module _ (laws : EventLaws) (night : Night) (i : IsInstance night) (stack : Stac
   pub not_leaving : (x y : Block) → IsBlockButId night x → IsBlockButId night y → leave (first_position_of x + (x.n - 1)) ≤ entry (first_unit_of y)
       → entry (first_unit_of y) < leave (first_position_of x) + 1 → ⊥
   not_leaving x y a b low high = ⊎_elim
-      (λ lt. let there = subst (λ (u : ℕ). entry u < leave (first_position_of x + (x.n - 1))) (plus_none (first_unit_of y)) (while_there x y a b lt 0 (x.n - 1) (zero_in y b) (last x a)) in omega (arith, low, there))
+      (λ lt. let there = subst (λ (u : ℕ). entry u < leave (first_position_of x + (x.n - 1))) (plus_none (first_unit_of y))
+      (while_there x y a b lt 0 (x.n - 1) (zero_in y b) (last x a)) in omega (arith, low, there))
       (λ ge. omega (arith, high, first_after x y a b ge))
       (cases_lt (comes y) (goes x))
 
@@ -396,7 +423,8 @@ module _ (laws : EventLaws) (night : Night) (i : IsInstance night) (stack : Stac
       (λ ge. let e : first_position_of b + (b.n - 1) ≡ first_position_of b + k = omega (arith, ge, lt) in let same = ap leave e in omega (arith, same))
       (cases_lt k (b.n - 1))
 
-  pub unit_between : (b : Block) → IsBlockButId night b → (u : ℕ) → has_unit night (shape_of b) u ≡ true → (entry (first_unit_of b) ≤ entry u) × (entry u ≤ entry (first_unit_of b + (b.n - 1)))
+  pub unit_between : (b : Block) → IsBlockButId night b → (u : ℕ) → has_unit night (shape_of b) u ≡ true
+      → (entry (first_unit_of b) ≤ entry u) × (entry u ≤ entry (first_unit_of b + (b.n - 1)))
   unit_between b is u has =
       let k = unit_at_place b u has in
       let same = ap entry k.2 in
@@ -457,7 +485,8 @@ module _ (laws : EventLaws) (night : Night) (i : IsInstance night) (stack : Stac
       (comes_either x y a b apart)
 
   -- whether it hasn't left
-  gone : (x y : Block) → IsBlockButId night x → IsBlockButId night y → nat_lt (entry (first_unit_of x)) (leave (first_position_of y) + 1) ≡ key_before (enter_key night x) (leave_key night y)
+  gone : (x y : Block) → IsBlockButId night x → IsBlockButId night y → nat_lt (entry (first_unit_of x)) (leave (first_position_of y) + 1)
+      ≡ key_before (enter_key night x) (leave_key night y)
   gone x y a b = ⊎_elim
       (λ lt. yes_lt (entry (first_unit_of x)) (leave (first_position_of y) + 1) (omega (arith, first_there y x b a lt)) ∙ sym (ap is_lt (there_keys y x lt).less))
       (λ ge. no_lt (entry (first_unit_of x)) (leave (first_position_of y) + 1) (omega (arith, first_after y x b a ge)) ∙ sym (ap is_lt (after_keys y x ge).more))

@@ -85,13 +85,15 @@ part_within night P part whole h all = from_members P part (λ b there. each_one
 -- of blocks that share nothing the run of each part goes through, with places as ids
 abbrev pub PartLaw : Type 0
 PartLaw =
-    (night : Night) (blocks others : List Block) → IsInstance night → All (IsWithinTrains night) blocks → ShareNothing night blocks → All (IsWithinTrains night) others → ShareNothing night others
+    (night : Night) (blocks others : List Block) → IsInstance night → All (IsWithinTrains night) blocks → ShareNothing night blocks → All (IsWithinTrains night) others
+    → ShareNothing night others
     → ((c : Block) → In c others → (b : Block) × In b blocks × (without_id b ≡ without_id c)) → RunsThrough night (placed blocks) → RunsThrough night (placed others)
 
 pub part_runs : (law : PartLaw) (night : Night) (part whole : List Block) → IsInstance night → All (IsWithinTrains night) whole → ShareNothing night whole
     → IsPart night part whole → RunsThrough night (placed whole) → RunsThrough night (placed part)
 part_runs law night part whole i within apart h go =
-    law night whole part i within apart (part_within night (IsWithinTrains night) part whole h within) (part_apart night part whole h apart) (λ b there. (b, h.members b there, refl)) go
+    law night whole part i within apart (part_within night (IsWithinTrains night) part whole h within) (part_apart night part whole h apart)
+    (λ b there. (b, h.members b there, refl)) go
 
 -- ---- free blocks
 
@@ -109,7 +111,8 @@ few_both front filling path le one few none = ⊎_elim (λ less. omega (arith, l
 
 module _ (places : PlaceLaws) (night : Night) where
   pub unit_bare : (path : List Block) (b : Block) → IsFreeAt night path b → (w : ℕ) → HasUnit night (shape_of b) w → times_unit night path w ≡ 0
-  unit_bare path b free w has = not_taken (times_unit night path) (unit_total night) w true (places.unit_in night (shape_of b) w free.shape.shape.within has) (free.shape.units w has)
+  unit_bare path b free w has = not_taken (times_unit night path) (unit_total night) w true (places.unit_in night (shape_of b) w free.shape.shape.within has)
+      (free.shape.units w has)
 
   pub position_bare : (path : List Block) (b : Block) → IsFreeAt night path b → (v : ℕ) → HasPosition night (shape_of b) v → times_position night path v ≡ 0
   position_bare path b free v has =

@@ -58,7 +58,8 @@ pub record PlanLaws : Type 0 where
   pub fewer : FewerLaw
   pub apart : (night : Night) (blocks : List Block) → IsFeasible night blocks → ShareNothing night blocks
   pub renumbered : (night : Night) (blocks : List Block) → IsInstance night → IsFeasible night blocks → IsFeasible night (placed blocks)
-  pub held : (night : Night) (plan path : List Block) (u : ℕ) → IsInstance night → IsFeasible night plan → ShareNothing night path → Keeps plan path → next_of (masks_of night path) ≡ Some u
+  pub held : (night : Night) (plan path : List Block) (u : ℕ) → IsInstance night → IsFeasible night plan → ShareNothing night path → Keeps plan path
+      → next_of (masks_of night path) ≡ Some u
       → (c : Choice) × IsChoiceAt night path c × Keeps plan (longer_by path c) × RunsThrough night (placed (longer_by path c))
   pub of_cases : (night : Night) (path : List Block) (cases : List Case) → 1 ≤ length cases → (bound : ℤ) × IsCasesBound night path cases bound
   pub prices : (night : Night) (plan path : List Block) (cases : List Case) (bound : ℤ) → IsInstance night → IsFeasible night plan → ShareNothing night path
@@ -102,7 +103,8 @@ module _ (laws : StepLaws) (night : Night) where
   sum_after (b ∷ rest) path apart fits from c =
       let e = append_one path b rest in
       ap (λ (bs : List Block). sum_at night bs from c) e
-      ∙ chain (sum_at night ((path ++ b ∷ []) ++ rest) from c) (sum_at night (path ++ b ∷ []) from c) (sum_at night path from c) (weight night c b) (duals_over night c.duals (shape_of b)) (gain_of night c rest)
+      ∙ chain (sum_at night ((path ++ b ∷ []) ++ rest) from c) (sum_at night (path ++ b ∷ []) from c) (sum_at night path from c) (weight night c b)
+      (duals_over night c.duals (shape_of b)) (gain_of night c rest)
       (sum_after rest (path ++ b ∷ []) (subst (ShareNothing night) e apart) (All-tail (IsBlockButId night) b rest fits) from c)
       (laws.sum night path b from c (free_behind laws.places night path (b ∷ rest) b apart (inl refl) (fits 0 b (omega arith))))
 
@@ -138,7 +140,8 @@ module _ (laws : PlanLaws) (night : Night) (i : IsInstance night) (plan : List B
       let x = laws.held night plan path u i h apart keeps e in
       let at = next_unit night path x.0 x.1 in
       let b = chosen (length path + 1) x.0 in
-      let more = known (longer_by path x.0) (length-append path (b ∷ [])) (grown_apart night path b apart (choice_free laws.steps.places night path at.0 (length path + 1) x.0 at.2)) x.2 in
+      let more = known (longer_by path x.0) (length-append path (b ∷ [])) (grown_apart night path b apart
+      (choice_free laws.steps.places night path at.0 (length path + 1) x.0 at.2)) x.2 in
       (b ∷ more.0, subst IsEnd (sym (append_one path b more.0)) more.1)
 
   next : (o : Option ℕ) (path : List Block) → next_of (masks_of night path) ≡ o → (next_of (masks_of night path) ≡ None → Ends path)
@@ -147,14 +150,16 @@ module _ (laws : PlanLaws) (night : Night) (i : IsInstance night) (plan : List B
   next (Some u) path e none some = some u e
 
   pub ends : (n : ℕ) (path : List Block) → unit_total night ≤ length path + n → ShareNothing night path → Keeps plan path → Ends path
-  ends zero path le apart keeps = next (next_of (masks_of night path)) path refl (λ e. here path apart keeps e) (λ u e. absurd (omega (arith, le, full_length path u apart keeps e)))
+  ends zero path le apart keeps = next (next_of (masks_of night path)) path refl (λ e. here path apart keeps e)
+      (λ u e. absurd (omega (arith, le, full_length path u apart keeps e)))
   ends (suc n) path le apart keeps = next (next_of (masks_of night path)) path refl (λ e. here path apart keeps e)
       (λ u e. further path u apart keeps e (λ longer more apart_too keeps_too. ends n longer (omega (arith, le, more)) apart_too keeps_too))
 
   -- ---- at the end
 
   through : (end : List Block) → IsEnd end → RunsThrough night (placed end)
-  through end is = laws.steps.part night plan end i (all_within night plan (but_ids night plan h.each)) (laws.apart night plan h) (all_within night end (kept end is.keeps)) is.apart
+  through end is = laws.steps.part night plan end i (all_within night plan (but_ids night plan h.each)) (laws.apart night plan h)
+      (all_within night end (kept end is.keeps)) is.apart
       (λ b there. let k = each_one (IsKept plan) end b is.keeps there in (k.block, k.there, k.same)) (laws.renumbered night plan i h).through
 
   none_free : (end : List Block) → IsEnd end → (s : Shape) (park : Option Park) → IsFreeBlock night (masks_of night end) s park → ⊥
@@ -207,20 +212,23 @@ module _ (laws : PlanLaws) (night : Night) (i : IsInstance night) (plan : List B
     rest_gains : (c : Case) (gains : List ℤ) (some : List Block) → HoldsBesideStacks night (masks_of night path) c
         → AllZip (IsStackGain night path c) (stacks night.station) gains → IsPart night some rest → gain_of night c some ≤ℤ sum_z (λ z. z) gains
     rest_gains c gains some hold all part =
-        within_gains laws.steps.places laws.steps.part night i path rest within fits is.apart (through (path ++ rest) is) c (stacks night.station) gains some all part (λ b there none. beside c hold b (part.members b there) none)
+        within_gains laws.steps.places laws.steps.part night i path rest within fits is.apart (through (path ++ rest) is) c (stacks night.station) gains some all part
+        (λ b there none. beside c hold b (part.members b there) none)
 
     other_gains : (c : Case) (gains : List ℤ) (own : Stack) (most : ℤ) (some : List Block) → HoldsBesideStacks night (masks_of night path) c
         → AllZip (IsStackGain night path c) (stacks night.station) gains → In own (stacks night.station) → IsStackGain night path c own most → IsPart night some rest
         → gain_of night c (others own some) ≤ℤ (sum_z (λ z. z) gains -ℤ most)
     other_gains c gains own most some hold all there has part =
         let less = part_part night (others own some) some rest (part_filter night (λ (b : Block). not (is_of own b.park)) some) part in
-        within_others laws.steps.places laws.steps.part night i path rest within fits is.apart (through (path ++ rest) is) c own most has (stacks night.station) gains (others own some) there all less
+        within_others laws.steps.places laws.steps.part night i path rest within fits is.apart (through (path ++ rest) is) c own most has (stacks night.station) gains
+        (others own some) there all less
         (λ b in_others none. beside c hold b (less.members b in_others) none)
         (λ b in_others. (other_block own some b in_others).1)
 
     own_gains : (c : Case) (own : Stack) (most : ℤ) → IsStackGain night path c own most → gain_of night c (blocks_of own rest) ≤ℤ most
     own_gains c own most has =
-        has.no_more (blocks_of own rest) (fills laws.steps.places laws.steps.part night i path rest within fits is.apart (through (path ++ rest) is) own rest (part_itself night rest))
+        has.no_more (blocks_of own rest) (fills laws.steps.places laws.steps.part night i path rest within fits is.apart (through (path ++ rest) is) own rest
+        (part_itself night rest))
 
     end_sum : (cases : List Case) (k : ℕ) → case_sum night (path ++ rest) cases k ≡ case_sum night path cases k -ℤ gain_of night (case_at cases k) rest
     end_sum cases k = sum_after laws.steps night rest path is.apart fits (from_of cases k) (case_at cases k)
@@ -258,7 +266,8 @@ module _ (laws : PlanLaws) (night : Night) (i : IsInstance night) (plan : List B
 
       done : gain_of night (case_at cases k) rest ≤ℤ (sum_z (λ z. z) s.is_whole.gains -ℤ s.fall) → sum ≤ℤ case_sum night (path ++ b ∷ rest) cases k
       done le =
-          lower sum s.whole s.fall (gain night (case_at cases k) b) (case_sum night path cases k) (case_sum night (path ++ b ∷ rest) cases k) (sum_z (λ z. z) s.is_whole.gains) (gain_of night (case_at cases k) rest) s.is s.is_whole.is (end_sum path (b ∷ rest) is cases k) le
+          lower sum s.whole s.fall (gain night (case_at cases k) b) (case_sum night path cases k) (case_sum night (path ++ b ∷ rest) cases k) (sum_z (λ z. z) s.is_whole.gains)
+          (gain_of night (case_at cases k) rest) s.is s.is_whole.is (end_sum path (b ∷ rest) is cases k) le
 
       by_stack : (o : Option Stack) → stack_of b.park ≡ o → IsFall night path b (case_at cases k) o s.fall → sum ≤ℤ case_sum night (path ++ b ∷ rest) cases k
       by_stack None e fall = done (omega (arith, ints, fall, rest_gains path (b ∷ rest) is (case_at cases k) s.is_whole.gains rest hold s.is_whole.are part))

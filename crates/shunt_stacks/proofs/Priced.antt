@@ -41,7 +41,9 @@ module _ (laws : StepLaws) (night : Night) (i : IsInstance night) where
         one : (b : Block) → In b filling → gain night c b ≤ℤ pos 0
         one b there =
             let free = each_one (IsFreeAt night path) filling b fill.free there in
-            let room = laws.room night (blocks_of stack path ++ filling) b i (whole_within laws.places laws.part night i path within apart stack filling fill) (whole_apart laws.places laws.part night i path within apart stack filling fill) fill.through (in_right (blocks_of stack path) filling b there) (is_block laws.places night path b free) in
+            let room = laws.room night (blocks_of stack path ++ filling) b i (whole_within laws.places laws.part night i path within apart stack filling fill)
+            (whole_apart laws.places laws.part night i path within apart stack filling fill) fill.through (in_right (blocks_of stack path) filling b there)
+            (is_block laws.places night path b free) in
             omega (arith, ints, hold.holds (shape_of b) b.park free room)
 
     pub no_gain : (c : Case) (stack : Stack) → RunsThrough night (placed path) → HoldsInCase night (masks_of night path) c → IsStackGain night path c stack (pos 0)
@@ -49,7 +51,8 @@ module _ (laws : StepLaws) (night : Night) (i : IsInstance night) where
 
     -- ---- sums and bounds
 
-    no_gains : (c : Case) → RunsThrough night (placed path) → HoldsInCase night (masks_of night path) c → (ss : List Stack) → AllZip (IsStackGain night path c) ss (map (λ s. pos 0) ss)
+    no_gains : (c : Case) → RunsThrough night (placed path) → HoldsInCase night (masks_of night path) c → (ss : List Stack)
+        → AllZip (IsStackGain night path c) ss (map (λ s. pos 0) ss)
     no_gains c go hold [] = tt
     no_gains c go hold (s ∷ ss) = (no_gain c s go hold, no_gains c go hold ss)
 
@@ -95,12 +98,19 @@ module _ (laws : StepLaws) (night : Night) (i : IsInstance night) where
       (go_on : RunsThrough night (placed (path ++ b ∷ []))) where
     go : RunsThrough night (placed path)
     go =
-        part_runs laws.part night path (path ++ b ∷ []) i (longer_within laws.places laws.part night i path b within apart free) (longer_apart laws.places laws.part night i path b within apart free) (part_left night path (b ∷ [])) go_on
+        part_runs laws.part night path (path ++ b ∷ []) i (longer_within laws.places laws.part night i path b within apart free)
+        (longer_apart laws.places laws.part night i path b within apart free) (part_left night path (b ∷ [])) go_on
 
     no_fall : (c : Case) → HoldsInCase night (masks_of night path) c → HoldsInCase night (masks_of night (path ++ b ∷ [])) c → (o : Option Stack) → IsFall night path b c o (pos 0)
     no_fall c hold then None = refl
-    no_fall c hold then (Some s) =
-        (pos 0, pos 0, no_gain path within apart c s go hold, no_gain (path ++ b ∷ []) (longer_within laws.places laws.part night i path b within apart free) (longer_apart laws.places laws.part night i path b within apart free) c s go_on then, refl)
+    no_fall c hold then (Some s) = (
+      pos 0,
+      pos 0,
+      no_gain path within apart c s go hold,
+      no_gain (path ++ b ∷ []) (longer_within laws.places laws.part night i path b within apart free)
+          (longer_apart laws.places laws.part night i path b within apart free) c s go_on then,
+      refl,
+    )
 
     choice_sum : (cases : List Case) (k : ℕ) → HoldsInCase night (masks_of night path) (case_at cases k)
         → HoldsInCase night (masks_of night (path ++ b ∷ [])) (case_at cases k) → IsChoiceSum night path b cases k (case_sum night (path ++ b ∷ []) cases k)

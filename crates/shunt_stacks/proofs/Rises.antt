@@ -39,16 +39,21 @@ use Rattle.shunt_stacks.proofs.Plans.{StepLaws}
 abbrev block_with : Shape → Option Park → Block
 block_with s park = record { id = 0; arr = s.arr; p = s.p; n = s.n; dep = s.dep; q = s.q; park = park }
 
-pub still_hold : (places : PlaceLaws) (night : Night) (path : List Block) (b : Block) (cases : List Case) → StackCasesHold night path cases → StackCasesHold night (path ++ b ∷ []) cases
+pub still_hold : (places : PlaceLaws) (night : Night) (path : List Block) (b : Block) (cases : List Case) → StackCasesHold night path cases
+    → StackCasesHold night (path ++ b ∷ []) cases
 still_hold places night path b cases hold k d lt =
-    record { holds = λ s park free own room. (hold k d lt).holds s park (free_before places night path (path ++ b ∷ []) (block_with s park) (part_left night path (b ∷ [])) free) own room }
+    record {
+      holds = λ s park free own room. (hold k d lt).holds s park (free_before places night path (path ++ b ∷ []) (block_with s park) (part_left night path (b ∷ [])) free)
+          own room;
+    }
 
 -- ---- sums of gains
 
 abbrev AllGain : Night → List Block → Case → List Stack → List ℤ → Type 0
 AllGain night path c ss gains = AllZip (IsStackGain night path c) ss gains
 
-pub same_gains : (night : Night) (path : List Block) (c : Case) (ss : List Stack) (gs hs : List ℤ) → AllGain night path c ss gs → AllGain night path c ss hs → sum_z (λ z. z) gs ≡ sum_z (λ z. z) hs
+pub same_gains : (night : Night) (path : List Block) (c : Case) (ss : List Stack) (gs hs : List ℤ) → AllGain night path c ss gs → AllGain night path c ss hs
+    → sum_z (λ z. z) gs ≡ sum_z (λ z. z) hs
 same_gains night path c [] [] [] g h = refl
 same_gains night path c [] [] (y ∷ hs) g h = absurd h
 same_gains night path c [] (x ∷ gs) hs g h = absurd g
@@ -59,14 +64,16 @@ same_gains night path c (s ∷ ss) (x ∷ gs) (y ∷ hs) g h = omega (arith, int
 -- a path has one sum with stacks in a case
 pub one_sum : (night : Night) (path : List Block) (cases : List Case) (k : ℕ) (x y : ℤ) → IsStackSum night path cases k x → IsStackSum night path cases k y → x ≡ y
 one_sum night path cases k x y g h =
-    same x y (case_sum night path cases k) (sum_z (λ z. z) g.gains) (sum_z (λ z. z) h.gains) g.is h.is (same_gains night path (case_at cases k) (stacks night.station) g.gains h.gains g.are h.are)
+    same x y (case_sum night path cases k) (sum_z (λ z. z) g.gains) (sum_z (λ z. z) h.gains) g.is h.is
+    (same_gains night path (case_at cases k) (stacks night.station) g.gains h.gains g.are h.are)
   where
     same : (x y now a b : ℤ) → x ≡ now -ℤ a → y ≡ now -ℤ b → a ≡ b → x ≡ y
     same x y now a b e f g = omega (arith, ints, e, f, g)
 
 -- ---- fillings
 
-module _ (places : PlaceLaws) (law : PartLaw) (night : Night) (i : IsInstance night) (path : List Block) (b : Block) (within : All (IsWithinTrains night) path) (apart : ShareNothing night path) (free : IsFreeAt night path b) where
+module _ (places : PlaceLaws) (law : PartLaw) (night : Night) (i : IsInstance night) (path : List Block) (b : Block) (within : All (IsWithinTrains night) path)
+    (apart : ShareNothing night path) (free : IsFreeAt night path b) where
   abbrev longer : List Block
   longer = path ++ b ∷ []
 
@@ -82,7 +89,8 @@ module _ (places : PlaceLaws) (law : PartLaw) (night : Night) (i : IsInstance ni
   -- with the block, a filling at the longer path is one at the shorter
   one_list : (stack : Stack) (filling : List Block) → is_of stack b.park ≡ true → blocks_of stack (path ++ b ∷ []) ++ filling ≡ blocks_of stack path ++ b ∷ filling
   one_list stack filling of =
-      ap (λ (bs : List Block). bs ++ filling) (filter-append (λ (x : Block). is_of stack x.park) path (b ∷ []) ∙ ap (λ (bs : List Block). blocks_of stack path ++ bs) (filter_yes (λ (x : Block). is_of stack x.park) b [] of))
+      ap (λ (bs : List Block). bs ++ filling) (filter-append (λ (x : Block). is_of stack x.park) path (b ∷ [])
+      ∙ ap (λ (bs : List Block). blocks_of stack path ++ bs) (filter_yes (λ (x : Block). is_of stack x.park) b [] of))
       ∙ sym (append_one (blocks_of stack path) b filling)
 
   pub with_block : (stack : Stack) (filling : List Block) → is_of stack b.park ≡ true → IsFilling night (path ++ b ∷ []) stack filling → IsFilling night path stack (b ∷ filling)
@@ -134,14 +142,17 @@ module _ (places : PlaceLaws) (law : PartLaw) (night : Night) (i : IsInstance ni
   }
     where
       less : IsPart night (blocks_of stack path) (blocks_of stack longer)
-      less = subst (IsPart night (blocks_of stack path)) (sym (filter-append (λ (x : Block). is_of stack x.park) path (b ∷ []))) (part_left night (blocks_of stack path) (blocks_of stack (b ∷ [])))
+      less = subst (IsPart night (blocks_of stack path)) (sym (filter-append (λ (x : Block). is_of stack x.park) path (b ∷ [])))
+          (part_left night (blocks_of stack path) (blocks_of stack (b ∷ [])))
 
       whole_apart : ShareNothing night (blocks_of stack longer ++ filling)
-      whole_apart = joined_apart places night longer (blocks_of stack longer) filling longer_apart fill.free fill.apart (part_filter night (λ (x : Block). is_of stack x.park) longer)
+      whole_apart = joined_apart places night longer (blocks_of stack longer) filling longer_apart fill.free fill.apart
+          (part_filter night (λ (x : Block). is_of stack x.park) longer)
 
       whole_within : All (IsWithinTrains night) (blocks_of stack longer ++ filling)
       whole_within =
-          All-append (IsWithinTrains night) (blocks_of stack longer) filling (part_within night (IsWithinTrains night) (blocks_of stack longer) longer (part_filter night (λ (x : Block). is_of stack x.park) longer) longer_within)
+          All-append (IsWithinTrains night) (blocks_of stack longer) filling (part_within night (IsWithinTrains night) (blocks_of stack longer) longer
+          (part_filter night (λ (x : Block). is_of stack x.park) longer) longer_within)
           (λ k d lt. is_within night (get_or filling k d) (is_block places night longer (get_or filling k d) (fill.free k d lt)))
 
   -- ---- gains
@@ -163,7 +174,8 @@ module _ (places : PlaceLaws) (law : PartLaw) (night : Night) (i : IsInstance ni
 
   -- all gains fall by as much as one of them at least
   pub own_among : (c : Case) (own : Stack) (before after : ℤ) → IsStackGain night path c own before → IsStackGain night (path ++ b ∷ []) c own after
-      → (ss : List Stack) (gs hs : List ℤ) → In own ss → AllGain night path c ss gs → AllGain night (path ++ b ∷ []) c ss hs → (before -ℤ after) ≤ℤ (sum_z (λ z. z) gs -ℤ sum_z (λ z. z) hs)
+      → (ss : List Stack) (gs hs : List ℤ) → In own ss → AllGain night path c ss gs → AllGain night (path ++ b ∷ []) c ss hs
+      → (before -ℤ after) ≤ℤ (sum_z (λ z. z) gs -ℤ sum_z (λ z. z) hs)
   own_among c own before after was now [] gs hs there g h = absurd there
   own_among c own before after was now (s ∷ ss) [] hs there g h = absurd g
   own_among c own before after was now (s ∷ ss) (x ∷ gs) [] there g h = absurd h
@@ -180,11 +192,13 @@ module _ (places : PlaceLaws) (law : PartLaw) (night : Night) (i : IsInstance ni
 
 -- ---- bounds
 
-module _ (laws : StepLaws) (night : Night) (i : IsInstance night) (path : List Block) (b : Block) (within : All (IsWithinTrains night) path) (apart : ShareNothing night path) (free : IsFreeAt night path b) where
+module _ (laws : StepLaws) (night : Night) (i : IsInstance night) (path : List Block) (b : Block) (within : All (IsWithinTrains night) path) (apart : ShareNothing night path)
+    (free : IsFreeAt night path b) where
   -- a block of no stack gains nothing, where the longer path's run goes through
   alone_low : (c : Case) → RunsThrough night (placed (path ++ b ∷ [])) → HoldsBesideStacks night (masks_of night path) c → stack_of b.park ≡ None → gain night c b ≤ℤ pos 0
   alone_low c go hold e =
-      let room = laws.room night (path ++ b ∷ []) b i (longer_within laws.places laws.part night i path b within apart free) (longer_apart laws.places laws.part night i path b within apart free) go (in_right path (b ∷ []) b (inl refl)) (is_block laws.places night path b free) in
+      let room = laws.room night (path ++ b ∷ []) b i (longer_within laws.places laws.part night i path b within apart free)
+      (longer_apart laws.places laws.part night i path b within apart free) go (in_right path (b ∷ []) b (inl refl)) (is_block laws.places night path b free) in
       omega (arith, ints, hold.holds (shape_of b) b.park free e room)
 
   choice_rises : (cases : List Case) (k : ℕ) (x y : ℤ) → RunsThrough night (placed (path ++ b ∷ [])) → HoldsBesideStacks night (masks_of night path) (case_at cases k)
@@ -194,7 +208,14 @@ module _ (laws : StepLaws) (night : Night) (i : IsInstance night) (path : List B
       by_stack : (o : Option Stack) → stack_of b.park ≡ o → IsFall night path b (case_at cases k) o t.fall → x ≤ℤ y
       by_stack None e fall = omega (arith, ints, t.is, fall, one_sum night path cases k x t.whole s t.is_whole, alone_low (case_at cases k) go hold e)
       by_stack (Some own) e fall =
-          omega (arith, ints, t.is, fall.4, one_sum night path cases k x t.whole s t.is_whole, own_falls laws.places laws.part night i path b within apart free (case_at cases k) own fall.0 fall.1 ((is_of_tells own b.park).1 e) fall.2 fall.3)
+          omega (
+            arith,
+            ints,
+            t.is,
+            fall.4,
+            one_sum night path cases k x t.whole s t.is_whole,
+            own_falls laws.places laws.part night i path b within apart free (case_at cases k) own fall.0 fall.1 ((is_of_tells own b.park).1 e) fall.2 fall.3,
+          )
 
   pub longer_rises : (cases : List Case) (k : ℕ) (x y : ℤ) → IsChoiceSum night path b cases k x → IsStackSum night (path ++ b ∷ []) cases k y → x ≤ℤ y
   longer_rises cases k x y s t = by_stack (stack_of b.park) refl s.is_fall
@@ -210,15 +231,28 @@ module _ (laws : StepLaws) (night : Night) (i : IsInstance night) (path : List B
 
       done : s.fall ≤ℤ (sum_z (λ z. z) s.is_whole.gains -ℤ sum_z (λ z. z) t.gains) → x ≤ℤ y
       done le =
-          higher x y s.whole s.fall (gain night (case_at cases k) b) (case_sum night path cases k) (case_sum night (path ++ b ∷ []) cases k) (sum_z (λ z. z) s.is_whole.gains) (sum_z (λ z. z) t.gains) s.is s.is_whole.is t.is step le
+          higher x y s.whole s.fall (gain night (case_at cases k) b) (case_sum night path cases k) (case_sum night (path ++ b ∷ []) cases k) (sum_z (λ z. z) s.is_whole.gains)
+          (sum_z (λ z. z) t.gains) s.is s.is_whole.is t.is step le
 
       by_stack : (o : Option Stack) → stack_of b.park ≡ o → IsFall night path b (case_at cases k) o s.fall → x ≤ℤ y
       by_stack None e fall =
-          done (omega (arith, ints, fall, gains_fall laws.places laws.part night i path b within apart free (case_at cases k) (stacks night.station) s.is_whole.gains t.gains s.is_whole.are t.are))
+          done (omega (
+            arith,
+            ints,
+            fall,
+            gains_fall laws.places laws.part night i path b within apart free (case_at cases k)
+                (stacks night.station) s.is_whole.gains t.gains s.is_whole.are t.are,
+          ))
       by_stack (Some own) e fall =
           let of = (is_of_tells own b.park).1 e in
           let there = stack_there night (laws.station night i) (shape_of b) b.park own free.option of in
-          done (omega (arith, ints, fall.4, own_among laws.places laws.part night i path b within apart free (case_at cases k) own fall.0 fall.1 fall.2 fall.3 (stacks night.station) s.is_whole.gains t.gains there s.is_whole.are t.are))
+          done (omega (
+            arith,
+            ints,
+            fall.4,
+            own_among laws.places laws.part night i path b within apart free (case_at cases k) own fall.0 fall.1 fall.2 fall.3
+                (stacks night.station) s.is_whole.gains t.gains there s.is_whole.are t.are,
+          ))
 
   pub path_to_choice : (cases : List Case) (x y : ℤ) → RunsThrough night (placed (path ++ b ∷ [])) → StackCasesHold night path cases → IsStackBound night path cases x
       → IsChoiceBound night path b cases y → x ≤ℤ y
@@ -228,7 +262,8 @@ module _ (laws : StepLaws) (night : Night) (i : IsInstance night) (path : List B
       let opens = laws.opens cases path b k there in
       let own = laws.there (slice_index_or now.sums k (pos 0)) in
       let low = now.least.least k own.0 opens own.1 in
-      let high = laws.rise (slice_index_or now.sums k (pos 0)) (slice_index_or then.sums k (pos 0)) own.0 y (choice_rises cases k _ _ go (hold k _ there.there) (now.are k opens) (then.are k there)) own.1 then.least.is in
+      let high = laws.rise (slice_index_or now.sums k (pos 0)) (slice_index_or then.sums k (pos 0)) own.0 y
+      (choice_rises cases k _ _ go (hold k _ there.there) (now.are k opens) (then.are k there)) own.1 then.least.is in
       omega (arith, ints, low, high)
 
   pub choice_to_longer : (cases : List Case) (x y : ℤ) → IsChoiceBound night path b cases x → IsStackBound night (path ++ b ∷ []) cases y → x ≤ℤ y
@@ -237,5 +272,6 @@ module _ (laws : StepLaws) (night : Night) (i : IsInstance night) (path : List B
       let there = then.least.opens in
       let own = laws.there (slice_index_or now.sums k (pos 0)) in
       let low = now.least.least k own.0 there own.1 in
-      let high = laws.rise (slice_index_or now.sums k (pos 0)) (slice_index_or then.sums k (pos 0)) own.0 y (longer_rises cases k _ _ (now.are k there) (then.are k there)) own.1 then.least.is in
+      let high = laws.rise (slice_index_or now.sums k (pos 0)) (slice_index_or then.sums k (pos 0)) own.0 y
+      (longer_rises cases k _ _ (now.are k there) (then.are k there)) own.1 then.least.is in
       omega (arith, ints, low, high)

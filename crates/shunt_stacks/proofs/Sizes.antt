@@ -44,14 +44,19 @@ module _ (places : PlaceLaws) (night : Night) where
   unit_end : (s : Shape) → AreRunsWithin night s → unit_from night s + s.n ≤ unit_total night
   unit_end s r = let lt = places.unit_in night s (unit_from night s + (s.n - 1)) r (record { from = omega arith; to = omega (arith, r.n) }) in omega (arith, lt, r.n)
 
-  units_in : (blocks : List Block) → All (IsWithinTrains night) blocks → sum_z_below (unit_total night) (λ u. pos (times_unit night blocks u)) ≡ pos (sum_by (λ (b : Block). b.n) blocks)
+  units_in : (blocks : List Block) → All (IsWithinTrains night) blocks → sum_z_below (unit_total night) (λ u. pos (times_unit night blocks u))
+      ≡ pos (sum_by (λ (b : Block). b.n) blocks)
   units_in [] all = sum_z_below-zero (unit_total night) (λ u. pos 0) (λ i lt. refl)
   units_in (b ∷ blocks) all =
       let s = shape_of b in
-      let parts = sum_z_below-same (unit_total night) (λ u. pos (times_unit night (b ∷ blocks) u)) (λ u. cond (has_unit night s u) (pos 1) (pos 0) +ℤ pos (times_unit night blocks u)) (λ u lt. flags (has_unit night s u) (times_unit night blocks u) (times_unit night (b ∷ blocks) u) (sum_by-cons (λ (x : Block). cond (has_unit night (shape_of x) u) 1 0) b blocks)) in
+      let parts = sum_z_below-same (unit_total night) (λ u. pos (times_unit night (b ∷ blocks) u))
+      (λ u. cond (has_unit night s u) (pos 1) (pos 0) +ℤ pos (times_unit night blocks u))
+      (λ u lt. flags (has_unit night s u) (times_unit night blocks u) (times_unit night (b ∷ blocks) u)
+      (sum_by-cons (λ (x : Block). cond (has_unit night (shape_of x) u) 1 0) b blocks)) in
       let sums = sum_z_below-add (unit_total night) (λ u. cond (has_unit night s u) (pos 1) (pos 0)) (λ u. pos (times_unit night blocks u)) in
       let own = window (unit_total night) (unit_from night s) b.n (λ u. pos 1) (unit_end s (all 0 b (omega arith)).runs) ∙ ones b.n in
-      parts ∙ sums ∙ added _ _ b.n (sum_by (λ (x : Block). x.n) blocks) _ own (units_in blocks (All-tail (IsWithinTrains night) b blocks all)) (sum_by-cons (λ (x : Block). x.n) b blocks)
+      parts ∙ sums ∙ added _ _ b.n (sum_by (λ (x : Block). x.n) blocks) _ own (units_in blocks (All-tail (IsWithinTrains night) b blocks all))
+      (sum_by-cons (λ (x : Block). x.n) b blocks)
     where
       added : (x y : ℤ) (n m k : ℕ) → x ≡ pos n → y ≡ pos m → k ≡ n + m → x +ℤ y ≡ pos k
       added x y n m k e f g = omega (arith, ints, e, f, g)
@@ -83,12 +88,14 @@ module _ (night : Night) (c : Case) (is : IsCase night c) (stack : Stack) where
   parked_weighs s (Some k) of = omega (arith, ints)
 
   block_small : (b : Block) → is_of stack b.park ≡ true → gain night c b ≤ℤ pos (1999999999998 * b.n)
-  block_small b of = small (duals_over night c.duals (shape_of b)) (weight_with night c (shape_of b) b.park) b.n (over_units (shape_of b)).high (parked_weighs (shape_of b) b.park of)
+  block_small b of = small (duals_over night c.duals (shape_of b)) (weight_with night c (shape_of b) b.park) b.n (over_units (shape_of b)).high
+      (parked_weighs (shape_of b) b.park of)
     where
       small : (d w : ℤ) (n : ℕ) → d ≤ℤ pos (n * 999999999999 + n * 999999999999) → pos 0 ≤ℤ w → (d -ℤ w) ≤ℤ pos (1999999999998 * n)
       small d w n le some = omega (arith, ints, le, some)
 
-  blocks_small : (filling : List Block) → All (λ (b : Block). is_of stack b.park ≡ true) filling → gain_of night c filling ≤ℤ pos (1999999999998 * sum_by (λ (b : Block). b.n) filling)
+  blocks_small : (filling : List Block) → All (λ (b : Block). is_of stack b.park ≡ true) filling
+      → gain_of night c filling ≤ℤ pos (1999999999998 * sum_by (λ (b : Block). b.n) filling)
   blocks_small [] all = omega (arith, ints)
   blocks_small (b ∷ filling) all =
       more (gain night c b) (gain_of night c filling) b.n (sum_by (λ (x : Block). x.n) filling) (sum_by (λ (x : Block). x.n) (b ∷ filling)) (block_small b (all 0 b (omega arith)))
@@ -97,7 +104,8 @@ module _ (night : Night) (c : Case) (is : IsCase night c) (stack : Stack) where
       more : (x y : ℤ) (n m k : ℕ) → x ≤ℤ pos (1999999999998 * n) → y ≤ℤ pos (1999999999998 * m) → k ≡ n + m → (x +ℤ y) ≤ℤ pos (1999999999998 * k)
       more x y n m k e f g = omega (arith, ints, e, f, g)
 
-  pub filling_small : (places : PlaceLaws) → unit_total night ≤ 160 → (path filling : List Block) → IsFilling night path stack filling → gain_of night c filling ≤ℤ pos 319999999999680
+  pub filling_small : (places : PlaceLaws) → unit_total night ≤ 160 → (path filling : List Block) → IsFilling night path stack filling
+      → gain_of night c filling ≤ℤ pos 319999999999680
   filling_small places few path filling fill =
       let all : All (IsWithinTrains night) filling = λ k d lt. is_within night (get_or filling k d) (is_block places night path (get_or filling k d) (fill.free k d lt)) in
       small (gain_of night c filling) (sum_by (λ (b : Block). b.n) filling) (blocks_small filling fill.own) (few_units places night filling all fill.apart)
@@ -107,7 +115,8 @@ module _ (night : Night) (c : Case) (is : IsCase night c) (stack : Stack) where
 
 -- ---- stacks
 
-module _ (places : PlaceLaws) (law : PartLaw) (night : Night) (i : IsInstance night) (few : unit_total night ≤ 160) (path : List Block) (within : All (IsWithinTrains night) path) (apart : ShareNothing night path) (go : RunsThrough night (placed path)) (c : Case) (is : IsCase night c) where
+module _ (places : PlaceLaws) (law : PartLaw) (night : Night) (i : IsInstance night) (few : unit_total night ≤ 160) (path : List Block) (within : All (IsWithinTrains night) path)
+    (apart : ShareNothing night path) (go : RunsThrough night (placed path)) (c : Case) (is : IsCase night c) where
   pub gain_small : (stack : Stack) (most : ℤ) → IsStackGain night path c stack most → IsWithin 319999999999680 most
   gain_small stack most g =
       ends most (gain_of night c g.filling) g.has (at_least_zero law night i path within apart c stack most go g) (filling_small night c is stack places few path g.filling g.fills)
@@ -152,7 +161,8 @@ fall_small places law night i few path b within apart go more_within more_apart 
     none : (z : ℤ) → z ≡ pos 0 → IsWithin 639999999999360 z
     none z e = record { low = omega (arith, ints, e); high = omega (arith, ints, e) }
 fall_small places law night i few path b within apart go more_within more_apart more_go c is (Some s) fall f =
-    difference fall f.0 f.1 f.4 (gain_small places law night i few path within apart go c is s f.0 f.2) (gain_small places law night i few (path ++ b ∷ []) more_within more_apart more_go c is s f.1 f.3)
+    difference fall f.0 f.1 f.4 (gain_small places law night i few path within apart go c is s f.0 f.2)
+    (gain_small places law night i few (path ++ b ∷ []) more_within more_apart more_go c is s f.1 f.3)
   where
     difference : (z x y : ℤ) → z ≡ x -ℤ y → IsWithin 319999999999680 x → IsWithin 319999999999680 y → IsWithin 639999999999360 z
     difference z x y e v w = record { low = omega (arith, ints, e, v.low, w.high); high = omega (arith, ints, e, v.high, w.low) }

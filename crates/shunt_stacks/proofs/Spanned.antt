@@ -60,7 +60,8 @@ pub record ListLaws : Type 0 where
   pub clash : (lengths : List ℕ) (stays : List Stay) → AreStays stays → AreOnTracks lengths stays → GoesThrough lengths stays ↔ NoneCross stays × NoneOver lengths stays
 
 module _ (laws : ListLaws) (night : Night) (i : IsInstance night) (stack : Stack) (events : ℕ) (entry leave : ℕ → ℕ) (num : IsNumbering night events entry leave)
-    (blocks : List Block) (fits : (b : Block) → In b blocks → IsBlockButId night b) (own : (b : Block) → In b blocks → is_of stack b.park ≡ true) (apart : ShareNothing night blocks) (stand : CanStand night blocks) where
+    (blocks : List Block) (fits : (b : Block) → In b blocks → IsBlockButId night b) (own : (b : Block) → In b blocks → is_of stack b.park ≡ true)
+    (apart : ShareNothing night blocks) (stand : CanStand night blocks) where
   abbrev stay_for : Block → Stay
   stay_for b = stay laws.events night i stack events entry leave num b
 
@@ -93,14 +94,18 @@ module _ (laws : ListLaws) (night : Night) (i : IsInstance night) (stack : Stack
 
   same_test : (x y : Block) → In x blocks → In y blocks → is_standing (span_for y) (span_for x) ≡ stands_at stack.track.0 (enter_key night x) (stay_for y)
   same_test x y k j = ⊎_elim
-      (λ e. subst (λ (z : Block). is_standing (span_for z) (span_for x) ≡ stands_at stack.track.0 (enter_key night x) (stay_for z)) e (own_standing laws.events night i stack events entry leave num x (fits x k)))
+      (λ e. subst (λ (z : Block). is_standing (span_for z) (span_for x) ≡ stands_at stack.track.0 (enter_key night x) (stay_for z)) e
+      (own_standing laws.events night i stack events entry leave num x (fits x k)))
       (λ far. same_standing laws.events night i stack events entry leave num x y (fits x k) (fits y j) far)
       (two_blocks night blocks apart x y k j)
 
-  same_load : (x : Block) → In x blocks → (some : List Block) → Among some → load_with (map span_for some) (span_for x) ≡ load_at (map stay_for some) stack.track.0 (enter_key night x)
+  same_load : (x : Block) → In x blocks → (some : List Block) → Among some → load_with (map span_for some) (span_for x)
+      ≡ load_at (map stay_for some) stack.track.0 (enter_key night x)
   same_load x k [] among = refl
   same_load x k (y ∷ some) among =
-      let one : cond (is_standing (span_for y) (span_for x)) (block_length night y) 0 ≡ cond (stands_at stack.track.0 (enter_key night x) (stay_for y)) (block_length night y) 0 = ap (λ (t : Bool). cond t (block_length night y) 0) (same_test x y k (among y (inl refl))) in
+      let one : cond (is_standing (span_for y) (span_for x)) (block_length night y) 0
+      ≡ cond (stands_at stack.track.0 (enter_key night x) (stay_for y)) (block_length night y) 0 = ap (λ (t : Bool). cond t (block_length night y) 0)
+      (same_test x y k (among y (inl refl))) in
       omega (
         arith,
         load_one (span_for y) (map span_for some) (span_for x),
@@ -128,7 +133,8 @@ module _ (laws : ListLaws) (night : Night) (i : IsInstance night) (stack : Stack
           (none (stay_for y.0) (stay_for x) (in_map stay_for blocks y.0 there) (in_map stay_for blocks x here)))
 
   pub to_nest : RunsThrough night blocks
-      → AreAllNested (map (span_of night entry leave (λ z. pos 0)) blocks) × ((s : Span) → In s (map (span_of night entry leave (λ z. pos 0)) blocks) → load_with (map (span_of night entry leave (λ z. pos 0)) blocks) s ≤ track_length night stack.track.0)
+      → AreAllNested (map (span_of night entry leave (λ z. pos 0)) blocks) × ((s : Span) → In s (map (span_of night entry leave (λ z. pos 0)) blocks)
+      → load_with (map (span_of night entry leave (λ z. pos 0)) blocks) s ≤ track_length night stack.track.0)
   to_nest go =
       let parts = clash.0 (subst (GoesThrough (track_lengths night.station)) (stays_are blocks all) go) in
       (nested_some blocks all apart parts.0, λ s j. fitting s (of_map span_for blocks s j) parts.1)
@@ -142,7 +148,8 @@ module _ (laws : ListLaws) (night : Night) (i : IsInstance night) (stack : Stack
   -- ---- a nest runs through
 
   pub from_nest : AreAllNested (map (span_of night entry leave (λ z. pos 0)) blocks)
-      → ((s : Span) → In s (map (span_of night entry leave (λ z. pos 0)) blocks) → load_with (map (span_of night entry leave (λ z. pos 0)) blocks) s ≤ track_length night stack.track.0)
+      → ((s : Span) → In s (map (span_of night entry leave (λ z. pos 0)) blocks) → load_with
+      (map (span_of night entry leave (λ z. pos 0)) blocks) s ≤ track_length night stack.track.0)
       → RunsThrough night blocks
   from_nest nested load = subst (GoesThrough (track_lengths night.station)) (sym (stays_are blocks all)) (clash.1 (none, over))
     where
@@ -165,4 +172,5 @@ module _ (laws : ListLaws) (night : Night) (i : IsInstance night) (stack : Stack
       over b k =
           let x = of_map stay_for blocks b k in
           let fit = load (span_for x.0) (in_map span_for blocks x.0 x.1) in
-          subst (λ (s : Stay). load_after (map stay_for blocks) s ≤ slice_index (track_lengths night.station) s.track.0) (sym x.2) (omega (arith, fit, same_load x.0 x.1 blocks all))
+          subst (λ (s : Stay). load_after (map stay_for blocks) s ≤ slice_index (track_lengths night.station) s.track.0) (sym x.2)
+          (omega (arith, fit, same_load x.0 x.1 blocks all))

@@ -11,8 +11,10 @@ use Rattle.shunt_prices.specs.defs.Sums.{sum_z}
 pub sum_z-both : {X : Type 0} (f : X → ℤ) (p : X → Bool) (xs : List X) → sum_z f xs ≡ sum_z f (filter p xs) +ℤ sum_z f (filter (λ x. not (p x)) xs)
 sum_z-both f p [] = omega (arith, ints)
 sum_z-both f p (x ∷ xs) = ⊎_elim
-    (λ t. let yes = ap (sum_z f) (filter_yes p x xs t) in let other = ap (sum_z f) (filter_no (λ y. not (p y)) x xs (not_from_true (p x) t)) in omega (arith, ints, yes, other, sum_z-both f p xs))
-    (λ t. let yes = ap (sum_z f) (filter_no p x xs t) in let other = ap (sum_z f) (filter_yes (λ y. not (p y)) x xs (ap not t)) in omega (arith, ints, yes, other, sum_z-both f p xs))
+    (λ t. let yes = ap (sum_z f) (filter_yes p x xs t) in let other = ap (sum_z f) (filter_no (λ y. not (p y)) x xs (not_from_true (p x) t)) in omega
+    (arith, ints, yes, other, sum_z-both f p xs))
+    (λ t. let yes = ap (sum_z f) (filter_no p x xs t) in let other = ap (sum_z f) (filter_yes (λ y. not (p y)) x xs (ap not t)) in omega
+    (arith, ints, yes, other, sum_z-both f p xs))
     (cases_Bool (p x))
 
 -- where none is above 0

@@ -40,7 +40,8 @@ bare_span s = record s { gain = pos 0 }
 to_bare : (spans : List Span) → AreAllNested spans → AreAllNested (map bare_span spans)
 to_bare [] nested = tt
 to_bare (s ∷ spans) nested = (
-  all_from (AreNested (bare_span s)) (map bare_span spans) (λ t i. let u = of_map bare_span spans t i in subst (AreNested (bare_span s)) (sym u.2) (all_in (AreNested s) spans u.0 nested.0 u.1)),
+  all_from (AreNested (bare_span s)) (map bare_span spans) (λ t i. let u = of_map bare_span spans t i in subst (AreNested (bare_span s)) (sym u.2)
+      (all_in (AreNested s) spans u.0 nested.0 u.1)),
   to_bare spans nested.1,
 )
 
@@ -65,12 +66,22 @@ of_placed k (x ∷ blocks) b (inr later) = let y = of_placed (k + 1) blocks b la
 placed_units : (night : Night) (k : ℕ) (blocks : List Block) (u : ℕ) → times_unit night (placed_from k blocks) u ≡ times_unit night blocks u
 placed_units night k [] u = refl
 placed_units night k (b ∷ blocks) u =
-    omega (arith, sum_by-cons (λ (x : Block). cond (has_unit night (shape_of x) u) 1 0) (record b { id = k }) (placed_from (k + 1) blocks), sum_by-cons (λ (x : Block). cond (has_unit night (shape_of x) u) 1 0) b blocks, placed_units night (k + 1) blocks u)
+    omega (
+      arith,
+      sum_by-cons (λ (x : Block). cond (has_unit night (shape_of x) u) 1 0) (record b { id = k }) (placed_from (k + 1) blocks),
+      sum_by-cons (λ (x : Block). cond (has_unit night (shape_of x) u) 1 0) b blocks,
+      placed_units night (k + 1) blocks u,
+    )
 
 placed_positions : (night : Night) (k : ℕ) (blocks : List Block) (v : ℕ) → times_position night (placed_from k blocks) v ≡ times_position night blocks v
 placed_positions night k [] v = refl
 placed_positions night k (b ∷ blocks) v =
-    omega (arith, sum_by-cons (λ (x : Block). cond (has_position night (shape_of x) v) 1 0) (record b { id = k }) (placed_from (k + 1) blocks), sum_by-cons (λ (x : Block). cond (has_position night (shape_of x) v) 1 0) b blocks, placed_positions night (k + 1) blocks v)
+    omega (
+      arith,
+      sum_by-cons (λ (x : Block). cond (has_position night (shape_of x) v) 1 0) (record b { id = k }) (placed_from (k + 1) blocks),
+      sum_by-cons (λ (x : Block). cond (has_position night (shape_of x) v) 1 0) b blocks,
+      placed_positions night (k + 1) blocks v,
+    )
 
 placed_apart : (night : Night) (blocks : List Block) → ShareNothing night blocks → ShareNothing night (placed blocks)
 placed_apart night blocks apart = record {
@@ -86,7 +97,10 @@ cases_off false = inl refl
 
 distinct_from : (spans : List Span) → AreAllNested spans → ((s : Span) → In s spans → IsSpan s) → Distinct spans
 distinct_from [] nested are = tt
-distinct_from (s ∷ spans) nested are = (λ i. apart_starts s s (are s (inl refl)) (are s (inl refl)) refl (all_in (AreNested s) spans s nested.0 i), distinct_from spans nested.1 (λ t i. are t (inr i)))
+distinct_from (s ∷ spans) nested are = (
+  λ i. apart_starts s s (are s (inl refl)) (are s (inl refl)) refl (all_in (AreNested s) spans s nested.0 i),
+  distinct_from spans nested.1 (λ t i. are t (inr i)),
+)
 
 -- members of a list of spans that are distinct are together no longer than all of it
 load_within : (spans whole : List Span) (t : Span) → Distinct spans → ((s : Span) → In s spans → In s whole) → load_with spans t ≤ load_with whole t
@@ -164,7 +178,8 @@ module _ (laws : TieLaws) (night : Night) (i : IsInstance night) (stack : Stack)
     whole_within = from_members (IsWithinTrains night) (standing ++ filling) (λ b j. is_within night b (whole_fits b j))
 
     placed_fits : (b : Block) → In b (placed (standing ++ filling)) → IsBlockButId night b
-    placed_fits b j = let x = of_placed 1 (standing ++ filling) b j in let w = whole_fits x.0 x.1 in subst (IsBlockButId night) (sym x.2) (record { shape = w.shape; option = w.option })
+    placed_fits b j = let x = of_placed 1 (standing ++ filling) b j in let w = whole_fits x.0 x.1 in subst (IsBlockButId night) (sym x.2)
+        (record { shape = w.shape; option = w.option })
 
     placed_own : (b : Block) → In b (placed (standing ++ filling)) → is_of stack b.park ≡ true
     placed_own b j = let x = of_placed 1 (standing ++ filling) b j in subst (λ (y : Block). is_of stack y.park ≡ true) (sym x.2) (whole_own x.0 x.1)
@@ -174,9 +189,13 @@ module _ (laws : TieLaws) (night : Night) (i : IsInstance night) (stack : Stack)
 
     nest_of_run : RunsThrough night (placed (standing ++ filling)) → Fit (fixed ++ free_of filling)
     nest_of_run go =
-        let fit = to_nest laws.lists night i stack events entry leave num (placed (standing ++ filling)) placed_fits placed_own (placed_apart night (standing ++ filling) whole_apart) (laws.stand night (standing ++ filling) i whole_within whole_apart) go in
-        let bare = subst Fit (sym (same_spans filling)) fit in
-        (of_bare (fixed ++ free_of filling) bare.0, λ s j. let fits = bare.1 (bare_span s) (in_map bare_span (fixed ++ free_of filling) s j) in omega (arith, fits, load_bare (fixed ++ free_of filling) (bare_span s)))
+        let fit = to_nest laws.lists night i stack events entry leave num (placed (standing ++ filling)) placed_fits placed_own
+        (placed_apart night (standing ++ filling) whole_apart) (laws.stand night (standing ++ filling) i whole_within whole_apart) go in
+        let bare = subst Fit (sym (same_spans filling)) fit in (
+          of_bare (fixed ++ free_of filling) bare.0,
+          λ s j. let fits = bare.1 (bare_span s) (in_map bare_span (fixed ++ free_of filling) s j) in omega
+              (arith, fits, load_bare (fixed ++ free_of filling) (bare_span s)),
+        )
 
     run_of_nest : Fit (fixed ++ free_of filling) → RunsThrough night (placed (standing ++ filling))
     run_of_nest fit =
@@ -185,17 +204,21 @@ module _ (laws : TieLaws) (night : Night) (i : IsInstance night) (stack : Stack)
           λ s j. bare_load s (of_map bare_span (fixed ++ free_of filling) s j),
         ) in
         let placed_fit = subst Fit (same_spans filling) bare in
-        from_nest laws.lists night i stack events entry leave num (placed (standing ++ filling)) placed_fits placed_own (placed_apart night (standing ++ filling) whole_apart) (laws.stand night (standing ++ filling) i whole_within whole_apart) placed_fit.0 placed_fit.1
+        from_nest laws.lists night i stack events entry leave num (placed (standing ++ filling)) placed_fits placed_own (placed_apart night (standing ++ filling) whole_apart)
+        (laws.stand night (standing ++ filling) i whole_within whole_apart) placed_fit.0 placed_fit.1
       where
         bare_load : (s : Span) → ((u : Span) × In u (fixed ++ free_of filling) × (s ≡ bare_span u)) → load_with (map bare_span (fixed ++ free_of filling)) s ≤ room
-        bare_load s u = let fits = fit.1 u.0 u.1 in subst (λ (t : Span). load_with (map bare_span (fixed ++ free_of filling)) t ≤ room) (sym u.2) (omega (arith, fits, load_bare (fixed ++ free_of filling) (bare_span u.0)))
+        bare_load s u = let fits = fit.1 u.0 u.1 in subst (λ (t : Span). load_with (map bare_span (fixed ++ free_of filling)) t ≤ room) (sym u.2)
+            (omega (arith, fits, load_bare (fixed ++ free_of filling) (bare_span u.0)))
 
   -- ---- free blocks and those of the path
 
   free_apart : (x y : Block) → IsFreeAt night path x → In y path → AreApart night x y
   free_apart x y free j = record {
-    units = λ u p q. let none = unit_bare laws.places night path x free u (has_from night x u p) in omega (arith, none, held (λ (b : Block). has_unit night (shape_of b) u) path y j q);
-    positions = λ v p q. let none = position_bare laws.places night path x free v (has_position_from night x v p) in omega (arith, none, held (λ (b : Block). has_position night (shape_of b) v) path y j q);
+    units = λ u p q. let none = unit_bare laws.places night path x free u (has_from night x u p) in omega
+        (arith, none, held (λ (b : Block). has_unit night (shape_of b) u) path y j q);
+    positions = λ v p q. let none = position_bare laws.places night path x free v (has_position_from night x v p) in omega
+        (arith, none, held (λ (b : Block). has_position night (shape_of b) v) path y j q);
   }
 
   -- ---- spans of blocks of the stack
@@ -282,7 +305,8 @@ module _ (laws : TieLaws) (night : Night) (i : IsInstance night) (stack : Stack)
             let f_from = ap (λ (t : Span). t.from) y.2 in
             ⊎_elim
             (λ e. let same = ap (λ (b : Block). entry (unit_from night (shape_of b))) e in omega (arith, low, s_from, f_from, same))
-            (λ far. not_between laws.lists.events night i stack events entry leave num x.block y.0 x.fit (standing_fits y.0 y.1) far (omega (arith, low, s_from, f_from)) (omega (arith, high, s_inside, f_from)))
+            (λ far. not_between laws.lists.events night i stack events entry leave num x.block y.0 x.fit (standing_fits y.0 y.1) far (omega (arith, low, s_from, f_from))
+            (omega (arith, high, s_inside, f_from)))
             (x.far y.0 (standing_there y.0 y.1).0)
 
         leaves_of : (s f : Span) → In s fixed ⊎ In s free_ones → In f fixed → s.until ≤ f.from → f.from < s.past → ⊥
@@ -292,7 +316,8 @@ module _ (laws : TieLaws) (night : Night) (i : IsInstance night) (stack : Stack)
             let s_until = ap (λ (t : Span). t.until) x.is in
             let s_past = ap (λ (t : Span). t.past) x.is in
             let f_from = ap (λ (t : Span). t.from) y.2 in
-            not_leaving laws.lists.events night i stack events entry leave num x.block y.0 x.fit (standing_fits y.0 y.1) (omega (arith, low, s_until, f_from)) (omega (arith, high, s_past, f_from))
+            not_leaving laws.lists.events night i stack events entry leave num x.block y.0 x.fit (standing_fits y.0 y.1) (omega (arith, low, s_until, f_from))
+            (omega (arith, high, s_past, f_from))
 
         one_of : (f g : Span) → In f fixed → In g fixed → f.from ≡ g.from → f ≡ g
         one_of f g j k e =
@@ -310,19 +335,23 @@ module _ (laws : TieLaws) (night : Night) (i : IsInstance night) (stack : Stack)
     filling_nest filling fill gains = record {
       of = λ s j. ⊎_elim (λ l. inl l) (λ r. inr (listed s (of_map (span_with (gain night c)) filling s r))) (in_cases fixed (free_of filling) s j);
       has = λ f j low high. in_left fixed (free_of filling) f j;
-      between = λ s j. ⊎_elim (λ l. first s (of_map (span_with (λ z. pos 0)) standing s l)) (λ r. second s (of_map (span_with (gain night c)) filling s r)) (in_cases fixed (free_of filling) s j);
+      between = λ s j. ⊎_elim (λ l. first s (of_map (span_with (λ z. pos 0)) standing s l)) (λ r. second s (of_map (span_with (gain night c)) filling s r))
+          (in_cases fixed (free_of filling) s j);
       nested = (nest_of_run filling fill.own fill.free fill.apart fill.through).0;
       fits = (nest_of_run filling fill.own fill.free fill.apart fill.through).1;
     }
       where
         has_room : (b : Block) → In b filling → HasRoom night (shape_of b) b.park
         has_room b j =
-            laws.room night (standing ++ filling) b i (whole_within filling fill.own fill.free fill.apart) (whole_apart filling fill.own fill.free fill.apart) fill.through (in_right standing filling b j) (free_fits filling fill.own fill.free fill.apart b j)
+            laws.room night (standing ++ filling) b i (whole_within filling fill.own fill.free fill.apart) (whole_apart filling fill.own fill.free fill.apart) fill.through
+            (in_right standing filling b j) (free_fits filling fill.own fill.free fill.apart b j)
 
         listed : (s : Span) → ((b : Block) × In b filling × (s ≡ span_of night entry leave (gain night c) b)) → In s (free_spans night entry leave c blocks)
         listed s b =
-            let other = are.every b.0 (each_one (λ (x : Block). is_of stack x.park ≡ true) filling b.0 fill.own b.1) (each_one (IsFreeAt night path) filling b.0 fill.free b.1) (gains b.0 b.1) (has_room b.0 b.1) in
-            let same : span_of night entry leave (gain night c) b.0 ≡ span_of night entry leave (gain night c) other.0 = ap (λ (x : Block). span_of night entry leave (gain night c) x) other.2 in
+            let other = are.every b.0 (each_one (λ (x : Block). is_of stack x.park ≡ true) filling b.0 fill.own b.1) (each_one (IsFreeAt night path) filling b.0 fill.free b.1)
+            (gains b.0 b.1) (has_room b.0 b.1) in
+            let same : span_of night entry leave (gain night c) b.0 ≡ span_of night entry leave (gain night c) other.0 = ap
+            (λ (x : Block). span_of night entry leave (gain night c) x) other.2 in
             subst (λ (t : Span). In t (free_spans night entry leave c blocks)) (sym (b.2 ∙ same)) (in_map (span_of night entry leave (gain night c)) blocks other.0 other.1)
 
         ends : (value : Block → ℤ) (b : Block) → IsBlockButId night b → (s : Span) → s ≡ span_of night entry leave value b → (0 ≤ s.from) × (s.past ≤ events)
@@ -373,7 +402,8 @@ module _ (laws : TieLaws) (night : Night) (i : IsInstance night) (stack : Stack)
         more : (z g x y : ℤ) → z ≡ g → x ≡ y → z +ℤ x ≡ g +ℤ y
         more z g x y e f = omega (arith, ints, e, f)
 
-        pair : AreAllNested (s ∷ spans) → (t : Span) → ((y : Block) × In y k.filling × (t ≡ span_of night entry leave (gain night c) y)) → AreNested (span_of night entry leave (gain night c) b.0) t
+        pair : AreAllNested (s ∷ spans) → (t : Span) → ((y : Block) × In y k.filling × (t ≡ span_of night entry leave (gain night c) y))
+            → AreNested (span_of night entry leave (gain night c) b.0) t
         pair n t y = subst (λ (r : Span). AreNested r t) b.2 (subst (AreNested s) (sym y.2) (all_in (AreNested s) spans (span_with (gain night c) y.0) n.0 (k.there y.0 y.1)))
 
     choose : (spans : List Span) → ((s : Span) → In s spans → In s fixed ⊎ In s free_ones) → Chosen spans
@@ -394,8 +424,10 @@ module _ (laws : TieLaws) (night : Night) (i : IsInstance night) (stack : Stack)
       where
         far : (y : Block) → In y filling → AreApart night b y
         far y l =
-            apart_from laws.lists.events night i stack events entry leave num b y (block_fits b (each b (inl refl))) (block_fits y (each y (inr l))) (block_own b (each b (inl refl))) (block_own y (each y (inr l)))
-            (all_in (AreNested (span_with (gain night c) b)) (map (span_with (gain night c)) filling) (span_with (gain night c) y) nested.0 (in_map (span_with (gain night c)) filling y l))
+            apart_from laws.lists.events night i stack events entry leave num b y (block_fits b (each b (inl refl))) (block_fits y (each y (inr l)))
+            (block_own b (each b (inl refl))) (block_own y (each y (inr l)))
+            (all_in (AreNested (span_with (gain night c) b)) (map (span_with (gain night c)) filling) (span_with (gain night c) y) nested.0
+            (in_map (span_with (gain night c)) filling y l))
 
         one_at : (test : Block → Bool) → count_by test filling ≤ 1 → ((y : Block) → In y filling → test b ≡ true → test y ≡ true → ⊥) → count_by test (b ∷ filling) ≤ 1
         one_at test few none = ⊎_elim
@@ -443,7 +475,8 @@ module _ (laws : TieLaws) (night : Night) (i : IsInstance night) (stack : Stack)
               let in_blocks = chosen.each y.0 y.1 in
               subst (λ (r : Span). AreNested r t) (sym x.2) (subst (AreNested (span_for x.0)) (sym y.2)
               (⊎_elim
-              (λ e. absurd (different y.0 x.0 (block_fits y.0 in_blocks) (standing_fits x.0 x.1) (free_apart y.0 x.0 (block_free y.0 in_blocks) (standing_there x.0 x.1).0) (sym (ap (λ (r : Span). r.from) e))))
+              (λ e. absurd (different y.0 x.0 (block_fits y.0 in_blocks) (standing_fits x.0 x.1) (free_apart y.0 x.0 (block_free y.0 in_blocks) (standing_there x.0 x.1).0)
+              (sym (ap (λ (r : Span). r.from) e))))
               (λ both. both)
               (two_of spans nest.nested (span_for x.0) (span_with (gain night c) y.0) (fixed_in x.0 x.1) (chosen.there y.0 y.1))))
 
@@ -504,5 +537,6 @@ module _ (laws : TieLaws) (night : Night) (i : IsInstance night) (stack : Stack)
         at (Some x) e le = e ∙ ap Some (one_gain night path c stack x most (gain_from x e) g)
 
     pub gain_is : (most : ℤ)
-        → (best events (fixed_spans night entry leave (blocks_of stack path)) (free_spans night entry leave c blocks) 0 events (track_length night stack.track.0) ≡ Some most) ↔ IsStackGain night path c stack most
+        → (best events (fixed_spans night entry leave (blocks_of stack path)) (free_spans night entry leave c blocks) 0 events (track_length night stack.track.0)
+        ≡ Some most) ↔ IsStackGain night path c stack most
     gain_is most = (gain_from most, gain_to most)

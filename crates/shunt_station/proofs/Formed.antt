@@ -52,7 +52,8 @@ ArePermits s permits = All (IsPermit s) permits × AreDistinct permits
 abbrev AreCosts : Station → Type 0
 AreCosts s = (s.split ≤ 1000000) × (s.couple ≤ 1000000) × (s.unparked ≤ 1000000)
 
-of_parts : (s : Station) → IsName s.name → AreTypes s.types → ArePlatforms s.platforms → AreTracks s.tracks → AreRoutes s s.routes → ArePermits s s.permits → AreCosts s → IsStation s
+of_parts : (s : Station) → IsName s.name → AreTypes s.types → ArePlatforms s.platforms → AreTracks s.tracks → AreRoutes s s.routes → ArePermits s s.permits → AreCosts s
+    → IsStation s
 of_parts s name types platforms tracks routes permits costs = record {
   name = name;
   few_types = types.0;
@@ -157,7 +158,8 @@ type_formed n d t row s e =
       All-push IsUnitType old.types t0 s.types (record { name = name_from (at row 2) name.0; some = long.0; long = long.1; turns = late.0; turn = late.1 }),
       distinct_push (λ u. u.name) (λ u. bytes_eq u.name (at row 2)) old.types t0 (λ u. same_name (at row 2) u.name) s.type_names (not-true _ new.0),
     ) in
-    subst (λ (u : Draft). IsStation u.station) all.1 (of_parts next s.name types (platforms_of old s) (tracks_of old s) (routes_on old next grows s) (permits_on old next grows s) (costs_of old s))
+    subst (λ (u : Draft). IsStation u.station) all.1 (of_parts next s.name types (platforms_of old s) (tracks_of old s) (routes_on old next grows s) (permits_on old next grows s)
+    (costs_of old s))
 
 platform_formed : (n : ℕ) (d t : Draft) (row : List (List ℕ)) → IsStation d.station → answer n (platform_of d row) ≡ Ok t → IsStation t.station
 unfolding platform_of
@@ -174,7 +176,8 @@ platform_formed n d t row s e =
       All-push IsName old.platforms (at row 2) s.platforms (name_from (at row 2) name.0),
       plain_push (λ p. bytes_eq p (at row 2)) old.platforms (at row 2) (λ p. same_name (at row 2) p) s.platform_names (not-true _ new.0),
     ) in
-    subst (λ (u : Draft). IsStation u.station) all.1 (of_parts next s.name (types_of old s) platforms (tracks_of old s) (routes_on old next grows s) (permits_on old next grows s) (costs_of old s))
+    subst (λ (u : Draft). IsStation u.station) all.1 (of_parts next s.name (types_of old s) platforms (tracks_of old s) (routes_on old next grows s) (permits_on old next grows s)
+    (costs_of old s))
 
 if_is : {X : Type 0} (P : X → Type 0) (b : Bool) (r s : X) → (b ≡ true → P r) → (b ≡ false → P s) → P (if b then r else s)
 if_is P true r s f g = f refl
@@ -206,13 +209,26 @@ track_formed n d t row s e =
     let old = d.station in
     let t0 : Track = record { name = at row 2; length = (number_in row 3 1 50000).value; side_a = ends.side_a; side_b = ends.side_b } in
     let next : Station = record old { tracks = old.tracks ++ t0 ∷ [] } in
-    let grows : Grows old next = record { types = omega arith; platforms = omega arith; tracks = at_least old.tracks t0; open_at = λ k side o. open_kept old.tracks (t0 ∷ []) k.0 side o } in
+    let grows : Grows old next = record {
+      types = omega arith;
+      platforms = omega arith;
+      tracks = at_least old.tracks t0;
+      open_at = λ k side o. open_kept old.tracks
+          (t0 ∷ []) k.0 side o;
+    } in
     let tracks : AreTracks next.tracks = (
       more old.tracks t0 60 room.0,
-      All-push IsTrack old.tracks t0 s.tracks (record { name = name_from (at row 2) name.0; some = long.0; long = long.1; open_at = ends_open (at row 4) ends (there all_open _ sides.0) }),
+      All-push IsTrack old.tracks t0 s.tracks (record {
+        name = name_from (at row 2) name.0;
+        some = long.0;
+        long = long.1;
+        open_at = ends_open (at row 4) ends
+            (there all_open _ sides.0);
+      }),
       distinct_push (λ u. u.name) (λ u. bytes_eq u.name (at row 2)) old.tracks t0 (λ u. same_name (at row 2) u.name) s.track_names (not-true _ new.0),
     ) in
-    subst (λ (u : Draft). IsStation u.station) all.1 (of_parts next s.name (types_of old s) (platforms_of old s) tracks (routes_on old next grows s) (permits_on old next grows s) (costs_of old s))
+    subst (λ (u : Draft). IsStation u.station) all.1 (of_parts next s.name (types_of old s) (platforms_of old s) tracks (routes_on old next grows s) (permits_on old next grows s)
+    (costs_of old s))
 
 platform_within : (s : Station) (name : List ℕ) (i : PlatformId) → platform_of_name s name ≡ Some i → i.0 < length s.platforms
 unfolding platform_of_name
@@ -220,7 +236,8 @@ platform_within s name i e = number_found (λ p. bytes_eq p name) s.platforms []
 
 track_within : (s : Station) (name : List ℕ) (i : TrackId) → track_number s name ≡ Some i → i.0 < length s.tracks
 unfolding track_number
-track_within s name i e = number_found (λ t. bytes_eq t.name name) s.tracks (record { name = []; length = 0; side_a = false; side_b = false }) (λ k. record { 0 = k }) (λ j. j.0) (λ k. refl) i e
+track_within s name i e = number_found (λ t. bytes_eq t.name name) s.tracks (record { name = []; length = 0; side_a = false; side_b = false }) (λ k. record { 0 = k }) (λ j. j.0)
+    (λ k. refl) i e
 
 type_within : (s : Station) (name : List ℕ) (i : TypeId) → type_of_name s name ≡ Some i → i.0 < length s.types
 unfolding type_of_name
@@ -264,9 +281,19 @@ route_formed n d t row s e =
     let next : Station = record old { routes = old.routes ++ r0 ∷ [] } in
     let grows = same_size old next refl refl refl in
     let kept = routes_on old next grows s in
-    let is : IsRoute next r0 = record { platform = platform_within old (at row 2) mp.value (there no_platform _ p.0); track = track_within old (at row 3) mt.value (there no_track _ k.0); open_at = shut.0; cost = (within 0 1000000 mc.value price.0).1 } in
-    let routes : AreRoutes next next.routes = (All-push (IsRoute next) old.routes r0 kept.0 is, distinct_push way_of (joins mp.value mt.value ms.value) old.routes r0 (joins_own r0) kept.1 (not-true _ new.0)) in
-    subst (λ (u : Draft). IsStation u.station) all.1 (of_parts next s.name (types_of old s) (platforms_of old s) (tracks_of old s) routes (permits_on old next grows s) (costs_of old s))
+    let is : IsRoute next r0 = record {
+      platform = platform_within old (at row 2) mp.value (there no_platform _ p.0);
+      track = track_within old (at row 3) mt.value
+          (there no_track _ k.0);
+      open_at = shut.0;
+      cost = (within 0 1000000 mc.value price.0).1;
+    } in
+    let routes : AreRoutes next next.routes = (
+      All-push (IsRoute next) old.routes r0 kept.0 is,
+      distinct_push way_of (joins mp.value mt.value ms.value) old.routes r0 (joins_own r0) kept.1 (not-true _ new.0),
+    ) in
+    subst (λ (u : Draft). IsStation u.station) all.1 (of_parts next s.name (types_of old s) (platforms_of old s) (tracks_of old s) routes (permits_on old next grows s)
+    (costs_of old s))
 
 permit_formed : (n : ℕ) (d t : Draft) (row : List (List ℕ)) → IsStation d.station → answer n (permit_of d row) ≡ Ok t → IsStation t.station
 unfolding permit_of is_permitted
@@ -283,8 +310,12 @@ permit_formed n d t row s e =
     let grows = same_size old next refl refl refl in
     let kept = permits_on old next grows s in
     let is : IsPermit next p0 = record { track = track_within old (at row 2) mt.value (there no_track _ k.0); kind = type_within old (at row 3) mk.value (there no_type _ u.0) } in
-    let permits : ArePermits next next.permits = (All-push (IsPermit next) old.permits p0 kept.0 is, plain_push (λ p. p.track.0 == mt.value.0 && p.kind.0 == mk.value.0) old.permits p0 (names_own p0) kept.1 (not-true _ new.0)) in
-    subst (λ (u : Draft). IsStation u.station) all.1 (of_parts next s.name (types_of old s) (platforms_of old s) (tracks_of old s) (routes_on old next grows s) permits (costs_of old s))
+    let permits : ArePermits next next.permits = (
+      All-push (IsPermit next) old.permits p0 kept.0 is,
+      plain_push (λ p. p.track.0 == mt.value.0 && p.kind.0 == mk.value.0) old.permits p0 (names_own p0) kept.1 (not-true _ new.0),
+    ) in
+    subst (λ (u : Draft). IsStation u.station) all.1 (of_parts next s.name (types_of old s) (platforms_of old s) (tracks_of old s) (routes_on old next grows s) permits
+    (costs_of old s))
 
 cost_formed : (n : ℕ) (d t : Draft) (row : List (List ℕ)) → IsStation d.station → answer n (cost_of d row) ≡ Ok t → IsStation t.station
 unfolding cost_of
@@ -297,7 +328,8 @@ cost_formed n d t row s e =
     let next : Station = record old { split = (number_in row 2 0 1000000).value; couple = (number_in row 3 0 1000000).value; unparked = (number_in row 4 0 1000000).value } in
     let grows = same_size old next refl refl refl in
     let costs : AreCosts next = ((within 0 1000000 next.split a.0).1, (within 0 1000000 next.couple b.0).1, (within 0 1000000 next.unparked c.0).1) in
-    subst (λ (u : Draft). IsStation u.station) all.1 (of_parts next s.name (types_of old s) (platforms_of old s) (tracks_of old s) (routes_on old next grows s) (permits_on old next grows s) costs)
+    subst (λ (u : Draft). IsStation u.station) all.1 (of_parts next s.name (types_of old s) (platforms_of old s) (tracks_of old s) (routes_on old next grows s)
+    (permits_on old next grows s) costs)
 
 later_formed : (n : ℕ) (d t : Draft) (row : List (List ℕ)) → IsStation d.station → answer n (later_of d row) ≡ Ok t → IsStation t.station
 unfolding later_of

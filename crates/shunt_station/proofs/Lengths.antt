@@ -103,7 +103,8 @@ few P key number n nothing xs none all each small tells =
     ne_eqb (get_or (map number xs) i d) (get_or (map number xs) j d) (λ same.
     all i j none lt (omega (arith, inside, length-map xs key))
     (get_or-map key xs i nothing none before
-    ∙ tells (get_or xs i nothing) (get_or xs j nothing) (each i nothing before) (each j nothing inside) (sym (get_or-map number xs i nothing d before) ∙ same ∙ get_or-map number xs j nothing d inside)
+    ∙ tells (get_or xs i nothing) (get_or xs j nothing) (each i nothing before) (each j nothing inside)
+    (sym (get_or-map number xs i nothing d before) ∙ same ∙ get_or-map number xs j nothing d inside)
     ∙ sym (get_or-map key xs j nothing none inside)))) in
     let below : All (λ x. x < n) (map number xs) = λ k d lt.
     let inside : k < length xs = omega (arith, lt, length-map xs number) in
@@ -155,7 +156,8 @@ way_tells s f r q is js e =
     let p_same : r.platform.0 ≡ q.platform.0 = omega arith in
     let t_same : r.track.0 ≡ q.track.0 = omega arith in
     let f_same : flag r.side ≡ flag q.side = omega arith in
-    ap (λ k. way_from (platform_id k) r.track r.side) p_same ∙ ap (λ k. way_from q.platform (track_id k) r.side) t_same ∙ ap (λ k. way_from q.platform q.track k) (flag_tells r.side q.side f_same)
+    ap (λ k. way_from (platform_id k) r.track r.side) p_same ∙ ap (λ k. way_from q.platform (track_id k) r.side) t_same
+    ∙ ap (λ k. way_from q.platform q.track k) (flag_tells r.side q.side f_same)
 
 abbrev some_route : Route
 some_route = record { platform = platform_id 0; track = track_id 0; side = A; cost = 0 }
@@ -182,10 +184,12 @@ pair_tells s f p q is js e =
     ap (λ k. permit_from (track_id k) p.kind) t_same ∙ ap (λ k. permit_from q.track (type_id k)) k_same
 
 few_permits : (s : Station) → IsStation s → length s.permits ≤ 2400
-few_permits s f = few (IsPermit s) (λ p. p) pair_number 2400 (permit_from (track_id 0) (type_id 0)) s.permits (permit_from (track_id 0) (type_id 0)) (subst AreDistinct (sym (map-id s.permits)) f.permits_differ) f.permits (pair_small s f) (pair_tells s f)
+few_permits s f = few (IsPermit s) (λ p. p) pair_number 2400 (permit_from (track_id 0) (type_id 0)) s.permits (permit_from (track_id 0) (type_id 0))
+    (subst AreDistinct (sym (map-id s.permits)) f.permits_differ) f.permits (pair_small s f) (pair_tells s f)
 
 abbrev rest_rows : Station → List (List (List ℕ))
-rest_rows s = map type_row s.types ++ (map platform_row s.platforms ++ (map track_row s.tracks ++ (map (route_row s) s.routes ++ (map (permit_row s) s.permits ++ cost_row s ∷ []))))
+rest_rows s = map type_row s.types ++ (map platform_row s.platforms ++ (map track_row s.tracks
+    ++ (map (route_row s) s.routes ++ (map (permit_row s) s.permits ++ cost_row s ∷ []))))
 
 -- the text of a station has at most 282,436 bytes
 pub station_short : (s : Station) → IsStation s → length (text_of_rows (rows_of s)) ≤ 282436
@@ -196,9 +200,11 @@ station_short s f =
     let platforms : length (text_of_rows (map platform_row s.platforms)) ≤ 780 = let r = rows_width IsName platform_row 26 s.platforms platform_short f.platforms in omega arith in
     let tracks : length (text_of_rows (map track_row s.tracks)) ≤ 1920 = let r = rows_width IsTrack track_row 32 s.tracks track_short f.tracks in omega arith in
     let routes : length (text_of_rows (map (route_row s) s.routes)) ≤ 180000 = let r = rows_width (IsRoute s) (route_row s) 50 s.routes (route_short s f) f.routes in omega arith in
-    let permits : length (text_of_rows (map (permit_row s) s.permits)) ≤ 98400 = let r = rows_width (IsPermit s) (permit_row s) 41 s.permits (permit_short s f) f.permits in omega arith in
+    let permits : length (text_of_rows (map (permit_row s) s.permits)) ≤ 98400 = let r = rows_width (IsPermit s) (permit_row s) 41 s.permits
+    (permit_short s f) f.permits in omega arith in
     join_short (head_row s ∷ []) (rest_rows s) 27 282409 (one_short (head_row s) 27 (head_short s f))
-    (join_short (map type_row s.types) (map platform_row s.platforms ++ (map track_row s.tracks ++ (map (route_row s) s.routes ++ (map (permit_row s) s.permits ++ cost_row s ∷ [])))) 1280 281129 types
+    (join_short (map type_row s.types) (map platform_row s.platforms ++ (map track_row s.tracks
+    ++ (map (route_row s) s.routes ++ (map (permit_row s) s.permits ++ cost_row s ∷ [])))) 1280 281129 types
     (join_short (map platform_row s.platforms) (map track_row s.tracks ++ (map (route_row s) s.routes ++ (map (permit_row s) s.permits ++ cost_row s ∷ []))) 780 280349 platforms
     (join_short (map track_row s.tracks) (map (route_row s) s.routes ++ (map (permit_row s) s.permits ++ cost_row s ∷ [])) 1920 278429 tracks
     (join_short (map (route_row s) s.routes) (map (permit_row s) s.permits ++ cost_row s ∷ []) 180000 98429 routes

@@ -48,11 +48,28 @@ plain_track t is =
 
 pub plain_route : (s : Station) → IsStation s → (r : Route) → IsRoute s r → IsPlainRow (route_row s r)
 plain_route s f r is =
-    let a = is.cost in
-    (omega arith, (plain_word (codes "route") refl refl, (plain_name _ (platform_named s r.platform f is.platform), (plain_name _ (track_named s r.track f is.track), (plain_side r.side, (plain_number r.cost (omega arith), tt))))))
+    let a = is.cost in (
+      omega arith,
+      (
+        plain_word (codes "route") refl refl,
+        (
+          plain_name _ (platform_named s r.platform f is.platform),
+          (plain_name _ (track_named s r.track f is.track), (plain_side r.side, (plain_number r.cost (omega arith), tt))),
+        ),
+      ),
+    )
 
 pub plain_permit : (s : Station) → IsStation s → (p : Permit) → IsPermit s p → IsPlainRow (permit_row s p)
-plain_permit s f p is = (omega arith, (plain_word (codes "permit") refl refl, (plain_name _ (track_named s p.track f is.track), (plain_name _ (type_named s p.kind f is.kind), tt))))
+plain_permit s f p is = (
+  omega arith,
+  (
+    plain_word (codes "permit") refl refl,
+    (
+      plain_name _ (track_named s p.track f is.track),
+      (plain_name _ (type_named s p.kind f is.kind), tt),
+    ),
+  ),
+)
 
 pub plain_cost : (s : Station) → IsStation s → IsPlainRow (cost_row s)
 plain_cost s f =

@@ -42,7 +42,21 @@ use Rattle.shunt_station.proofs.Plain.{station_plain}
 
 -- the parts of a station that were read
 abbrev partial : Station → List UnitType → List (List ℕ) → List Track → List Route → List Permit → Draft
-partial s ts ps ks rs qs = record { version = 2; station = record { name = s.name; types = ts; platforms = ps; tracks = ks; routes = rs; permits = qs; split = 0; couple = 0; unparked = 0 }; is_costed = false }
+partial s ts ps ks rs qs = record {
+  version = 2;
+  station = record {
+    name = s.name;
+    types = ts;
+    platforms = ps;
+    tracks = ks;
+    routes = rs;
+    permits = qs;
+    split = 0;
+    couple = 0;
+    unparked = 0;
+  };
+  is_costed = false;
+}
 
 abbrev type_from : List ℕ → ℕ → ℕ → UnitType
 type_from name size turn = record { name = name; length = size; turn = turn }
@@ -54,10 +68,20 @@ type_read s f n xs y zs e =
     let is = of_middle IsUnitType s.types xs zs y f.types e in
     let size = number_read 1 5000 y.length is.some is.long (omega arith) in
     let turn = number_read 1 1440 y.turn is.turns is.turn (omega arith) in
-    let new = not_before (λ t. t.name) (λ t. bytes_eq t.name y.name) xs zs y (λ t. by_name y.name t.name) (subst (λ (l : List UnitType). AreDistinct (map (λ t. t.name) l)) e f.type_names) in
+    let new = not_before (λ t. t.name) (λ t. bytes_eq t.name y.name) xs zs y (λ t. by_name y.name t.name)
+    (subst (λ (l : List UnitType). AreDistinct (map (λ t. t.name) l)) e f.type_names) in
     let m = type_of (partial s xs [] [] [] []) (type_row y) in
     let same = ap (λ a. type_from y.name a (unwrap_or (decimal_of (decimal y.turn)) 0)) size.value ∙ ap (λ b. type_from y.name y.length b) turn.value in
-    holding n m.checks m.value (refl, (fewer s.types xs zs y 40 f.few_types e, (name_read y.name is.name, (ap not new, (size.there, (size.range, (turn.there, (turn.range, tt))))))))
+    holding n m.checks m.value (
+      refl,
+      (
+        fewer s.types xs zs y 40 f.few_types e,
+        (
+          name_read y.name is.name,
+          (ap not new, (size.there, (size.range, (turn.there, (turn.range, tt))))),
+        ),
+      ),
+    )
     ∙ ap (λ (t : UnitType). Ok (partial s (xs ++ t ∷ []) [] [] [] [])) same
 
 platform_read : (s : Station) → IsStation s → (n : ℕ) (xs : List (List ℕ)) (y : List ℕ) (zs : List (List ℕ)) → s.platforms ≡ xs ++ y ∷ zs
@@ -91,9 +115,11 @@ track_read s f n xs y zs e =
     let is = of_middle IsTrack s.tracks xs zs y f.tracks e in
     let size = number_read 1 50000 y.length is.some is.long (omega arith) in
     let sides = ends_read y.side_a y.side_b is.open_at in
-    let new = not_before (λ t. t.name) (λ t. bytes_eq t.name y.name) xs zs y (λ t. by_name y.name t.name) (subst (λ (l : List Track). AreDistinct (map (λ t. t.name) l)) e f.track_names) in
+    let new = not_before (λ t. t.name) (λ t. bytes_eq t.name y.name) xs zs y (λ t. by_name y.name t.name)
+    (subst (λ (l : List Track). AreDistinct (map (λ t. t.name) l)) e f.track_names) in
     let m = track_of (partial s s.types s.platforms xs [] []) (track_row y) in
-    let same = ap (λ a. track_from y.name a (unwrap_or (open_sides_of (ends_text y.side_a y.side_b)) both_ends)) size.value ∙ ap (λ o. track_from y.name y.length (unwrap_or o both_ends)) sides in
+    let same = ap (λ a. track_from y.name a (unwrap_or (open_sides_of (ends_text y.side_a y.side_b)) both_ends)) size.value
+    ∙ ap (λ o. track_from y.name y.length (unwrap_or o both_ends)) sides in
     holding n m.checks m.value (refl, (fewer s.tracks xs zs y 60 f.few_tracks e, (name_read y.name is.name, (ap not new, (size.there, (size.range, (ap is_some sides, tt)))))))
     ∙ ap (λ (t : Track). Ok (partial s s.types s.platforms (xs ++ t ∷ []) [] [])) same
 
@@ -179,7 +205,8 @@ route_read s f n xs y zs e =
     let m = route_of d (route_row s y) in
     let repeats = three (λ a b c. not (list_any (joins a b c) xs)) _ y.platform _ y.track _ y.side pv tv qv ∙ ap not new in
     let shut = ap (λ k. is_open_at d.station k (unwrap_or (side_of (side_text y.side)) A)) tv ∙ ap (λ k. is_open_at d.station y.track k) qv ∙ is.open_at in
-    let same = three (λ a b c. route_from a b c (unwrap_or (decimal_of (decimal y.cost)) 0)) _ y.platform _ y.track _ y.side pv tv qv ∙ ap (λ c. route_from y.platform y.track y.side c) price.value in
+    let same = three (λ a b c. route_from a b c (unwrap_or (decimal_of (decimal y.cost)) 0)) _ y.platform _ y.track _ y.side pv tv qv
+    ∙ ap (λ c. route_from y.platform y.track y.side c) price.value in
     holding n m.checks m.value (refl, (ap is_some p, (ap is_some t, (ap is_some q, (repeats, (shut, (price.there, (price.range, tt))))))))
     ∙ ap (λ (r : Route). Ok (partial s s.types s.platforms s.tracks (xs ++ r ∷ []) [])) same
 
@@ -197,15 +224,32 @@ permit_read s f n xs y zs e =
     let new = not_before (λ p. p) (λ p. p.track.0 == y.track.0 && p.kind.0 == y.kind.0) xs zs y (names_tell y) apart in
     let m = permit_of d (permit_row s y) in
     let read_kind = unwrap_or (type_of_name d.station (type_name s.types y.kind)) (type_id 0) in
-    let repeats = ap (λ (a : TrackId). not (list_any (λ p. p.track.0 == a.0 && p.kind.0 == read_kind.0) xs)) tv ∙ ap (λ (a : TypeId). not (list_any (λ p. p.track.0 == y.track.0 && p.kind.0 == a.0) xs)) kv ∙ ap not new in
+    let repeats = ap (λ (a : TrackId). not (list_any (λ p. p.track.0 == a.0 && p.kind.0 == read_kind.0) xs)) tv
+    ∙ ap (λ (a : TypeId). not (list_any (λ p. p.track.0 == y.track.0 && p.kind.0 == a.0) xs)) kv ∙ ap not new in
     let same = ap (λ a. permit_from a read_kind) tv ∙ ap (λ b. permit_from y.track b) kv in
     holding n m.checks m.value (refl, (ap is_some t, (ap is_some k, (repeats, tt))))
     ∙ ap (λ (p : Permit). Ok (partial s s.types s.platforms s.tracks s.routes (xs ++ p ∷ []))) same
 
 abbrev whole : Station → ℕ → ℕ → ℕ → Draft
-whole s a b c = record { version = 2; station = record { name = s.name; types = s.types; platforms = s.platforms; tracks = s.tracks; routes = s.routes; permits = s.permits; split = a; couple = b; unparked = c }; is_costed = true }
+whole s a b c = record {
+  version = 2;
+  station = record {
+    name = s.name;
+    types = s.types;
+    platforms = s.platforms;
+    tracks = s.tracks;
+    routes = s.routes;
+    permits = s.permits;
+    split =
+        a;
+    couple = b;
+    unparked = c;
+  };
+  is_costed = true;
+}
 
-cost_read : (s : Station) → IsStation s → (n : ℕ) → answer n (later_of (partial s s.types s.platforms s.tracks s.routes s.permits) (cost_row s)) ≡ Ok (whole s s.split s.couple s.unparked)
+cost_read : (s : Station) → IsStation s → (n : ℕ) → answer n (later_of (partial s s.types s.platforms s.tracks s.routes s.permits) (cost_row s))
+    ≡ Ok (whole s s.split s.couple s.unparked)
 unfolding later_of cost_of is_within
 cost_read s f n =
     let a = number_read 0 1000000 s.split (omega arith) f.split (omega arith) in

@@ -37,7 +37,8 @@ TakenFrom side id blocks others = (b : Standing) × (b.id ≡ id) × (blocks ≡
 first_was : (id : ℕ) (blocks others : List Standing) → without_first id blocks ≡ Some others → TakenFrom A id blocks others
 first_was id [] others e = absurd (cc)
 first_was id (b ∷ blocks) others e =
-    ⊎_elim (λ t. let f : ◌≡◌ {A = Option (List Standing)} (Some blocks) (Some others) = sym (ap (λ x. cond x (Some blocks) None) t) ∙ e in let g : blocks ≡ others = cc in (b, eqb-true b.id id t, ap (λ (l : List Standing). b ∷ l) g))
+    ⊎_elim (λ t. let f : ◌≡◌ {A = Option (List Standing)} (Some blocks) (Some others) = sym (ap (λ x. cond x (Some blocks) None) t) ∙ e in let g : blocks
+    ≡ others = cc in (b, eqb-true b.id id t, ap (λ (l : List Standing). b ∷ l) g))
     (λ t. absurd (let f : ◌≡◌ {A = Option (List Standing)} None (Some others) = sym (ap (λ x. cond x (Some blocks) None) t) ∙ e in cc)) (cases_Bool (eqb b.id id))
 
 mapped : {X Y : Type 0} (f : X → Y) (o : Option X) (y : Y) → option_map f o ≡ Some y → (x : X) × (o ≡ Some x) × (y ≡ f x)
@@ -47,7 +48,8 @@ mapped f (Some x) y e = (x, refl, cc)
 last_was : (id : ℕ) (blocks others : List Standing) → without_last id blocks ≡ Some others → TakenFrom B id blocks others
 last_was id [] others e = absurd (cc)
 last_was id (b ∷ []) others e =
-    ⊎_elim (λ t. let f : ◌≡◌ {A = Option (List Standing)} (Some []) (Some others) = sym (ap (λ x. cond x (Some []) None) t) ∙ e in let g : ◌≡◌ {A = List Standing} [] others = cc in (b, eqb-true b.id id t, ap (λ (l : List Standing). l ++ b ∷ []) g))
+    ⊎_elim (λ t. let f : ◌≡◌ {A = Option (List Standing)} (Some []) (Some others) = sym (ap (λ x. cond x (Some []) None) t)
+    ∙ e in let g : ◌≡◌ {A = List Standing} [] others = cc in (b, eqb-true b.id id t, ap (λ (l : List Standing). l ++ b ∷ []) g))
     (λ t. absurd (let f : ◌≡◌ {A = Option (List Standing)} None (Some others) = sym (ap (λ x. cond x (Some []) None) t) ∙ e in cc)) (cases_Bool (eqb b.id id))
 last_was id (b ∷ c ∷ blocks) others e =
     let m = mapped (λ (l : List Standing). b ∷ l) (without_last id (c ∷ blocks)) others e in
@@ -64,11 +66,13 @@ without_is side id blocks others = (
   λ t. ap (without side id) t.2 ∙ without_put side id t.0 others t.1,
 )
 
-none_from : (side : Side) (id : ℕ) (blocks : List Standing) (o : Option (List Standing)) → without side id blocks ≡ o → ((b : Standing) (others : List Standing) → b.id ≡ id → blocks ≢ put side b others) → o ≡ None
+none_from : (side : Side) (id : ℕ) (blocks : List Standing) (o : Option (List Standing)) → without side id blocks ≡ o
+    → ((b : Standing) (others : List Standing) → b.id ≡ id → blocks ≢ put side b others) → o ≡ None
 none_from side id blocks None e h = refl
 none_from side id blocks (Some others) e h = absurd (let t = without_was side id blocks others e in h t.0 others t.1 t.2)
 
-pub without_none : (side : Side) (id : ℕ) (blocks : List Standing) → without side id blocks ≡ None ↔ ((b : Standing) (others : List Standing) → b.id ≡ id → blocks ≢ put side b others)
+pub without_none : (side : Side) (id : ℕ) (blocks : List Standing) → without side id blocks
+    ≡ None ↔ ((b : Standing) (others : List Standing) → b.id ≡ id → blocks ≢ put side b others)
 without_none side id blocks = (
   λ e b others f g. absurd (let k : ◌≡◌ {A = Option (List Standing)} None (Some others) = sym e ∙ ap (without side id) g ∙ without_put side id b others f in cc),
   λ h. none_from side id blocks (without side id blocks) refl h,
@@ -121,7 +125,8 @@ module _ (all : List Stay) (a : AreStays all) (room : ℕ) (s : Stay) (h : In s 
 
   enter_is : moved room (entry_of s) (blocks_of st) ≡ entered room (entry_of s) (blocks_of (put s.side_in s st))
   enter_is =
-      ap (λ b. cond b (entered room (entry_of s) (put s.side_in (record { id = s.enter.id; length = s.length }) (blocks_of st))) (left (entry_of s) (without s.side_in s.enter.id (blocks_of st)))) form.enters
+      ap (λ b. cond b (entered room (entry_of s) (put s.side_in (record { id = s.enter.id; length = s.length }) (blocks_of st)))
+      (left (entry_of s) (without s.side_in s.enter.id (blocks_of st)))) form.enters
       ∙ ap (λ (i : ℕ). entered room (entry_of s) (put s.side_in (record { id = i; length = s.length }) (blocks_of st))) form.enter_id
       ∙ ap (entered room (entry_of s)) (sym (blocks_put s.side_in s st))
 
@@ -142,23 +147,28 @@ module _ (all : List Stay) (a : AreStays all) (room : ℕ) (s : Stay) (h : In s 
 
       no : leb (load (blocks_of (put s.side_in s st))) room ≡ false → (total (put s.side_in s st) ≤ room) × (after ≡ blocks_of (put s.side_in s st))
       no t =
-          absurd (let f : ◌≡◌ {A = Result (List Standing) Stop} (Err (Over (entry_of s) (load (blocks_of (put s.side_in s st))))) (Ok after) = sym (ap (λ b. cond b (Ok (blocks_of (put s.side_in s st))) (Err (Over (entry_of s) (load (blocks_of (put s.side_in s st)))))) t) ∙ sym enter_is ∙ e in cc)
+          absurd (let f : ◌≡◌ {A = Result (List Standing) Stop} (Err (Over (entry_of s) (load (blocks_of (put s.side_in s st))))) (Ok after) = sym
+          (ap (λ b. cond b (Ok (blocks_of (put s.side_in s st))) (Err (Over (entry_of s) (load (blocks_of (put s.side_in s st)))))) t) ∙ sym enter_is ∙ e in cc)
 
   leave_is : moved room (leave_of s) (blocks_of st) ≡ left (leave_of s) (without s.side_out s.id (blocks_of st))
   leave_is =
-      ap (λ b. cond b (entered room (leave_of s) (put s.side_out (record { id = s.leave.id; length = s.length }) (blocks_of st))) (left (leave_of s) (without s.side_out s.leave.id (blocks_of st)))) form.leaves
+      ap (λ b. cond b (entered room (leave_of s) (put s.side_out (record { id = s.leave.id; length = s.length }) (blocks_of st)))
+      (left (leave_of s) (without s.side_out s.leave.id (blocks_of st)))) form.leaves
       ∙ ap (λ (i : ℕ). left (leave_of s) (without s.side_out i (blocks_of st))) form.leave_id
 
   leave_ok : (rest : List Stay) → st ≡ put s.side_out s rest → moved room (leave_of s) (blocks_of st) ≡ Ok (blocks_of rest)
   leave_ok rest e =
-      leave_is ∙ ap (left (leave_of s)) (ap (λ (l : List Stay). without s.side_out s.id (blocks_of l)) e ∙ ap (without s.side_out s.id) (blocks_put s.side_out s rest) ∙ without_put s.side_out s.id (block_of s) (blocks_of rest) refl)
+      leave_is ∙ ap (left (leave_of s)) (ap (λ (l : List Stay). without s.side_out s.id (blocks_of l)) e ∙ ap (without s.side_out s.id) (blocks_put s.side_out s rest)
+      ∙ without_put s.side_out s.id (block_of s) (blocks_of rest) refl)
 
-  leave_was : ((x : Stay) → In x st → In x all) → (after : List Standing) → moved room (leave_of s) (blocks_of st) ≡ Ok after → (rest : List Stay) × (st ≡ put s.side_out s rest) × (after ≡ blocks_of rest)
+  leave_was : ((x : Stay) → In x st → In x all) → (after : List Standing) → moved room (leave_of s) (blocks_of st) ≡ Ok after
+      → (rest : List Stay) × (st ≡ put s.side_out s rest) × (after ≡ blocks_of rest)
   leave_was known after e =
       let o = took (without s.side_out s.id (blocks_of st)) (sym leave_is ∙ e) in
       let b = without_was s.side_out s.id (blocks_of st) after o in
       let w = was s.side_out st b.0 after b.2 in
-      let same : w.0 ≡ s = same_id all w.0 s a (known w.0 (subst (λ (l : List Stay). In w.0 l) (sym w.2) (put_here s.side_out w.0 w.1))) h (ap (λ (z : Standing). z.id) w.3 ∙ b.1) in
+      let same : w.0 ≡ s = same_id all w.0 s a (known w.0 (subst (λ (l : List Stay). In w.0 l) (sym w.2) (put_here s.side_out w.0 w.1))) h
+      (ap (λ (z : Standing). z.id) w.3 ∙ b.1) in
       (w.1, w.2 ∙ ap (λ (z : Stay). put s.side_out z w.1) same, sym w.4)
     where
       took : (o : Option (List Standing)) → left (leave_of s) o ≡ Ok after → o ≡ Some after
@@ -168,7 +178,8 @@ module _ (all : List Stay) (a : AreStays all) (room : ℕ) (s : Stay) (h : In s 
 -- all tracks at once: the halves are done one after the other, over the lists of the stays that stand there
 abbrev pub GoesAll : List ℕ → List Half → List (List Stay) → Type 0
 GoesAll lengths [] states = Unit {0}
-GoesAll lengths ((s, true) ∷ halves) states = (total (put s.side_in s (get_or states s.track.0 [])) ≤ get_or lengths s.track.0 0) × GoesAll lengths halves (set states s.track.0 (put s.side_in s (get_or states s.track.0 [])))
+GoesAll lengths ((s, true) ∷ halves) states = (total (put s.side_in s (get_or states s.track.0 [])) ≤ get_or lengths s.track.0 0)
+    × GoesAll lengths halves (set states s.track.0 (put s.side_in s (get_or states s.track.0 [])))
 GoesAll lengths ((s, false) ∷ halves) states = (rest : List Stay) × (get_or states s.track.0 [] ≡ put s.side_out s rest) × GoesAll lengths halves (set states s.track.0 rest)
 
 abbrev pub tracks_of : List (List Stay) → List (List Standing)
@@ -185,7 +196,8 @@ with_step m blocks t = record t { steps = (m, load blocks) ∷ t.steps }
 abbrev go_on : List ℕ → Move → List Move → List (List Standing) → List Standing → Result Through Stop
 go_on lengths m moves tracks blocks = run lengths moves (set tracks m.track.0 blocks) >>= (λ t. Ok (with_step m blocks t))
 
-pub run_ok : (lengths : List ℕ) (m : Move) (moves : List Move) (tracks : List (List Standing)) (blocks : List Standing) → moved (get_or lengths m.track.0 0) m (get_or tracks m.track.0 []) ≡ Ok blocks
+pub run_ok : (lengths : List ℕ) (m : Move) (moves : List Move) (tracks : List (List Standing)) (blocks : List Standing)
+    → moved (get_or lengths m.track.0 0) m (get_or tracks m.track.0 []) ≡ Ok blocks
     → IsOk (run lengths (m ∷ moves) tracks) ↔ IsOk (run lengths moves (set tracks m.track.0 blocks))
 run_ok lengths m moves tracks blocks e =
     let to : run lengths (m ∷ moves) tracks ≡ go_on lengths m moves tracks blocks = ap (λ (r : Result (List Standing) Stop). r >>= go_on lengths m moves tracks) e in
@@ -196,29 +208,34 @@ could : (r : Result (List Standing) Stop) (f : List Standing → Result Through 
 could (Ok blocks) f h = (blocks, refl)
 could (Err e) f h = absurd (false≢true h)
 
-pub run_first : (lengths : List ℕ) (m : Move) (moves : List Move) (tracks : List (List Standing)) → IsOk (run lengths (m ∷ moves) tracks) → (blocks : List Standing) × (moved (get_or lengths m.track.0 0) m (get_or tracks m.track.0 []) ≡ Ok blocks)
+pub run_first : (lengths : List ℕ) (m : Move) (moves : List Move) (tracks : List (List Standing)) → IsOk (run lengths (m ∷ moves) tracks)
+    → (blocks : List Standing) × (moved (get_or lengths m.track.0 0) m (get_or tracks m.track.0 []) ≡ Ok blocks)
 run_first lengths m moves tracks h = could (moved (get_or lengths m.track.0 0) m (get_or tracks m.track.0 [])) (go_on lengths m moves tracks) h
 
 -- the stays that stand are among these
 abbrev pub Known : List Stay → List (List Stay) → Type 0
 Known all states = (t : ℕ) (s : Stay) → In s (get_or states t []) → In s all
 
-known_set : (all : List Stay) (states : List (List Stay)) (u : ℕ) (st : List Stay) → u < length states → Known all states → ((s : Stay) → In s st → In s all) → Known all (set states u st)
+known_set : (all : List Stay) (states : List (List Stay)) (u : ℕ) (st : List Stay) → u < length states → Known all states → ((s : Stay) → In s st → In s all)
+    → Known all (set states u st)
 known_set all states u st lt k new t s h =
     ⊎_elim (λ e. new s (subst (λ (l : List Stay). In s l) (ap (λ i. get_or (set states u st) i []) e ∙ get_or-set_same states u st [] lt) h))
     (λ ne. k t s (subst (λ (l : List Stay). In s l) (get_or-set_other states u t st [] ne) h)) (cases_eq t u)
 
 module _ (lengths : List ℕ) (all : List Stay) (a : AreStays all) where
   -- the first move over blocks, where the stays stand there
-  stands : (states : List (List Stay)) (u room : ℕ) (m : Move) (after : Result (List Standing) Stop) → moved room m (blocks_of (get_or states u [])) ≡ after → moved room m (get_or (tracks_of states) u []) ≡ after
+  stands : (states : List (List Stay)) (u room : ℕ) (m : Move) (after : Result (List Standing) Stop) → moved room m (blocks_of (get_or states u [])) ≡ after
+      → moved room m (get_or (tracks_of states) u []) ≡ after
   stands states u room m after e = ap (moved room m) (get_or-map blocks_of states u []) ∙ e
 
-  next : (states : List (List Stay)) (u : ℕ) (st : List Stay) (moves : List Move) → IsOk (run lengths moves (set (tracks_of states) u (blocks_of st))) ↔ IsOk (run lengths moves (tracks_of (set states u st)))
+  next : (states : List (List Stay)) (u : ℕ) (st : List Stay) (moves : List Move)
+      → IsOk (run lengths moves (set (tracks_of states) u (blocks_of st))) ↔ IsOk (run lengths moves (tracks_of (set states u st)))
   next states u st moves =
       let e : tracks_of (set states u st) ≡ set (tracks_of states) u (blocks_of st) = map-set blocks_of states u st in
       (λ h. subst (λ (l : List (List Standing)). IsOk (run lengths moves l)) (sym e) h, λ h. subst (λ (l : List (List Standing)). IsOk (run lengths moves l)) e h)
 
-  pub blocks_all : (halves : List Half) (states : List (List Stay)) → length states ≡ length lengths → ((m : Half) → In m halves → In m.0 all × (m.0.track.0 < length lengths)) → Known all states → IsOk (run lengths (map move_of halves) (tracks_of states)) → GoesAll lengths halves states
+  pub blocks_all : (halves : List Half) (states : List (List Stay)) → length states ≡ length lengths → ((m : Half) → In m halves → In m.0 all × (m.0.track.0 < length lengths))
+      → Known all states → IsOk (run lengths (map move_of halves) (tracks_of states)) → GoesAll lengths halves states
   blocks_all [] states len ins k go = tt
   blocks_all ((s, true) ∷ halves) states len ins k go =
       let u = s.track.0 in
@@ -227,8 +244,13 @@ module _ (lengths : List ℕ) (all : List Stay) (a : AreStays all) where
       let lt : u < length states = let below = i.1 in omega arith in
       let f = run_first lengths (entry_of s) (map move_of halves) (tracks_of states) go in
       let w = enter_was all a (get_or lengths u 0) s i.0 st f.0 (sym (stands states u (get_or lengths u 0) (entry_of s) _ refl) ∙ f.1) in
-      let rest = (next states u (put s.side_in s st) (map move_of halves)).0 (subst (λ (l : List Standing). IsOk (run lengths (map move_of halves) (set (tracks_of states) u l))) w.1 ((run_ok lengths (entry_of s) (map move_of halves) (tracks_of states) f.0 f.1).0 go)) in
-      (w.0, blocks_all halves (set states u (put s.side_in s st)) (length-set states u (put s.side_in s st) ∙ len) (λ m j. ins m (inr j)) (known_set all states u (put s.side_in s st) lt k (λ x j. ⊎_elim (λ e. subst (λ (z : Stay). In z all) (sym e) i.0) (λ y. k u x y) (put_cases s.side_in s x st j))) rest)
+      let rest = (next states u (put s.side_in s st) (map move_of halves)).0 (subst
+      (λ (l : List Standing). IsOk (run lengths (map move_of halves) (set (tracks_of states) u l))) w.1
+      ((run_ok lengths (entry_of s) (map move_of halves) (tracks_of states) f.0 f.1).0 go)) in (
+        w.0,
+        blocks_all halves (set states u (put s.side_in s st)) (length-set states u (put s.side_in s st) ∙ len) (λ m j. ins m (inr j))
+            (known_set all states u (put s.side_in s st) lt k (λ x j. ⊎_elim (λ e. subst (λ (z : Stay). In z all) (sym e) i.0) (λ y. k u x y) (put_cases s.side_in s x st j))) rest,
+      )
   blocks_all ((s, false) ∷ halves) states len ins k go =
       let u = s.track.0 in
       let st = get_or states u [] in
@@ -236,18 +258,26 @@ module _ (lengths : List ℕ) (all : List Stay) (a : AreStays all) where
       let lt : u < length states = let below = i.1 in omega arith in
       let f = run_first lengths (leave_of s) (map move_of halves) (tracks_of states) go in
       let w = leave_was all a (get_or lengths u 0) s i.0 st (λ x j. k u x j) f.0 (sym (stands states u (get_or lengths u 0) (leave_of s) _ refl) ∙ f.1) in
-      let rest = (next states u w.0 (map move_of halves)).0 (subst (λ (l : List Standing). IsOk (run lengths (map move_of halves) (set (tracks_of states) u l))) w.2 ((run_ok lengths (leave_of s) (map move_of halves) (tracks_of states) f.0 f.1).0 go)) in
-      (w.0, w.1, blocks_all halves (set states u w.0) (length-set states u w.0 ∙ len) (λ m j. ins m (inr j)) (known_set all states u w.0 lt k (λ x j. k u x (subst (λ (l : List Stay). In x l) (sym w.1) (put_there s.side_out s x w.0 j)))) rest)
+      let rest = (next states u w.0 (map move_of halves)).0 (subst (λ (l : List Standing). IsOk (run lengths (map move_of halves) (set (tracks_of states) u l))) w.2
+      ((run_ok lengths (leave_of s) (map move_of halves) (tracks_of states) f.0 f.1).0 go)) in (
+        w.0,
+        w.1,
+        blocks_all halves (set states u w.0) (length-set states u w.0 ∙ len) (λ m j. ins m (inr j))
+            (known_set all states u w.0 lt k (λ x j. k u x (subst (λ (l : List Stay). In x l) (sym w.1) (put_there s.side_out s x w.0 j)))) rest,
+      )
 
-  pub all_blocks : (halves : List Half) (states : List (List Stay)) → ((m : Half) → In m halves → In m.0 all) → GoesAll lengths halves states → IsOk (run lengths (map move_of halves) (tracks_of states))
+  pub all_blocks : (halves : List Half) (states : List (List Stay)) → ((m : Half) → In m halves → In m.0 all) → GoesAll lengths halves states
+      → IsOk (run lengths (map move_of halves) (tracks_of states))
   all_blocks [] states ins go = refl
   all_blocks ((s, true) ∷ halves) states ins go =
       let u = s.track.0 in
       let st = get_or states u [] in
       let e = stands states u (get_or lengths u 0) (entry_of s) _ (enter_ok all a (get_or lengths u 0) s (ins (s, true) (inl refl)) st go.0) in
-      (run_ok lengths (entry_of s) (map move_of halves) (tracks_of states) (blocks_of (put s.side_in s st)) e).1 ((next states u (put s.side_in s st) (map move_of halves)).1 (all_blocks halves (set states u (put s.side_in s st)) (λ m j. ins m (inr j)) go.1))
+      (run_ok lengths (entry_of s) (map move_of halves) (tracks_of states) (blocks_of (put s.side_in s st)) e).1
+      ((next states u (put s.side_in s st) (map move_of halves)).1 (all_blocks halves (set states u (put s.side_in s st)) (λ m j. ins m (inr j)) go.1))
   all_blocks ((s, false) ∷ halves) states ins go =
       let u = s.track.0 in
       let st = get_or states u [] in
       let e = stands states u (get_or lengths u 0) (leave_of s) _ (leave_ok all a (get_or lengths u 0) s (ins (s, false) (inl refl)) st go.0 go.1) in
-      (run_ok lengths (leave_of s) (map move_of halves) (tracks_of states) (blocks_of go.0) e).1 ((next states u go.0 (map move_of halves)).1 (all_blocks halves (set states u go.0) (λ m j. ins m (inr j)) go.2))
+      (run_ok lengths (leave_of s) (map move_of halves) (tracks_of states) (blocks_of go.0) e).1
+      ((next states u go.0 (map move_of halves)).1 (all_blocks halves (set states u go.0) (λ m j. ins m (inr j)) go.2))

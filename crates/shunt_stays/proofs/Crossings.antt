@@ -50,13 +50,16 @@ Blocked b c = (IsBefore c.leave b.leave × (c.side_out ≢ c.side_in)) ⊎ (IsBe
 
 way_from : (b c : Stay) → in_the_way b c ≡ true → Blocked b c
 way_from b c t =
-    ⊎_elim (λ u. let p = and_parts (key_before c.leave b.leave) (not (same_side c.side_out c.side_in)) u in inl (before_from c.leave b.leave p.0, side_differs c.side_out c.side_in p.1))
+    ⊎_elim (λ u. let p = and_parts (key_before c.leave b.leave) (not (same_side c.side_out c.side_in)) u in inl
+    (before_from c.leave b.leave p.0, side_differs c.side_out c.side_in p.1))
     (λ u. let p = and_parts (key_before b.leave c.leave) (same_side b.side_out c.side_in) u in inr (before_from b.leave c.leave p.0, same_side_tells b.side_out c.side_in p.1))
     (or_cases (key_before c.leave b.leave && not (same_side c.side_out c.side_in)) (key_before b.leave c.leave && same_side b.side_out c.side_in) t)
 
 way_to : (b c : Stay) → Blocked b c → in_the_way b c ≡ true
-way_to b c (inl p) = or_left (key_before c.leave b.leave && not (same_side c.side_out c.side_in)) (key_before b.leave c.leave && same_side b.side_out c.side_in) (and_from (key_before c.leave b.leave) (not (same_side c.side_out c.side_in)) (before_to c.leave b.leave p.0) (differing c.side_out c.side_in p.1))
-way_to b c (inr p) = or_right (key_before c.leave b.leave && not (same_side c.side_out c.side_in)) (key_before b.leave c.leave && same_side b.side_out c.side_in) (and_from (key_before b.leave c.leave) (same_side b.side_out c.side_in) (before_to b.leave c.leave p.0) (same_side_is b.side_out c.side_in p.1))
+way_to b c (inl p) = or_left (key_before c.leave b.leave && not (same_side c.side_out c.side_in)) (key_before b.leave c.leave && same_side b.side_out c.side_in)
+    (and_from (key_before c.leave b.leave) (not (same_side c.side_out c.side_in)) (before_to c.leave b.leave p.0) (differing c.side_out c.side_in p.1))
+way_to b c (inr p) = or_right (key_before c.leave b.leave && not (same_side c.side_out c.side_in)) (key_before b.leave c.leave && same_side b.side_out c.side_in)
+    (and_from (key_before b.leave c.leave) (same_side b.side_out c.side_in) (before_to b.leave c.leave p.0) (same_side_is b.side_out c.side_in p.1))
 
 -- the test of a crossing
 pub crosses_is : (b c : Stay) → crosses b c ≡ true ↔ Crosses b c
@@ -102,7 +105,8 @@ le_is a b = grind (arith, nat_tests)
 
 by_is : (k : EventKey) (s : Stay) → IsKey k → IsWellFormed s → (is_le (key_cmp s.enter k) && key_before k s.leave) ≡ stands_by (rank k) s
 by_is k s q w =
-    ap (λ x. x && key_before k s.leave) (ap is_le (key_cmp_is s.enter k w.enter_in q) ∙ le_is (rank s.enter) (rank k)) ∙ ap (λ x. leb (rank s.enter) (rank k) && x) (before_is k s.leave q w.leave_in)
+    ap (λ x. x && key_before k s.leave) (ap is_le (key_cmp_is s.enter k w.enter_in q) ∙ le_is (rank s.enter) (rank k))
+    ∙ ap (λ x. leb (rank s.enter) (rank k) && x) (before_is k s.leave q w.leave_in)
 
 twice : (x y : Bool) (n : ℕ) → cond (x && y) n 0 ≡ cond x (cond y n 0) 0
 twice true y n = refl
@@ -115,7 +119,8 @@ load_is stays t k a q =
     ∙ sym (sum_filter (some_of length_of (stands_by (rank k))) (on_track t) stays)
 
 -- who stands on a track at a moment fits it
-pub standing_fits : (lengths : List ℕ) (stays : List Stay) (t : ℕ) (k : EventKey) → AreStays stays → AreOnTracks lengths stays → GoesThrough lengths stays → IsKey k → load_at stays t k ≤ get_or lengths t 0
+pub standing_fits : (lengths : List ℕ) (stays : List Stay) (t : ℕ) (k : EventKey) → AreStays stays → AreOnTracks lengths stays → GoesThrough lengths stays → IsKey k
+    → load_at stays t k ≤ get_or lengths t 0
 standing_fits lengths stays t k a on go q =
     let le = fits_at (get_or lengths t 0) (filter (on_track t) stays) (rank k) (stays_filter (on_track t) stays a) ((by_track lengths stays a on).0 go t) in
     omega (arith, load_is stays t k a q)
@@ -136,11 +141,14 @@ module _ (lengths : List ℕ) (stays : List Stay) (a : AreStays stays) (on : Are
     λ b h. let le = (clear b).1 b (own b h) in omega (arith, load_of b h),
   )
     where
-      clear : (b : Stay) → ((x y : Stay) → In x (filter (on_track b.track.0) stays) → In y (filter (on_track b.track.0) stays) → Meets x y → ⊥) × ((x : Stay) → In x (filter (on_track b.track.0) stays) → total_at (filter (on_track b.track.0) stays) (rank x.enter) ≤ get_or lengths b.track.0 0)
-      clear b = goes_clear (get_or lengths b.track.0 0) (filter (on_track b.track.0) stays) (halves_of (filter (on_track b.track.0) stays)) (ordered (filter (on_track b.track.0) stays) (stays_filter (on_track b.track.0) stays a)) ((by_track lengths stays a on).0 go b.track.0)
+      clear : (b : Stay) → ((x y : Stay) → In x (filter (on_track b.track.0) stays) → In y (filter (on_track b.track.0) stays) → Meets x y → ⊥)
+          × ((x : Stay) → In x (filter (on_track b.track.0) stays) → total_at (filter (on_track b.track.0) stays) (rank x.enter) ≤ get_or lengths b.track.0 0)
+      clear b = goes_clear (get_or lengths b.track.0 0) (filter (on_track b.track.0) stays) (halves_of (filter (on_track b.track.0) stays))
+          (ordered (filter (on_track b.track.0) stays) (stays_filter (on_track b.track.0) stays a)) ((by_track lengths stays a on).0 go b.track.0)
 
   pub clear_through : NoneCross stays → NoneOver lengths stays → GoesThrough lengths stays
-  clear_through none over = (by_track lengths stays a on).1 (λ t. clear_goes (get_or lengths t 0) (filter (on_track t) stays) (halves_of (filter (on_track t) stays)) (ordered (filter (on_track t) stays) (stays_filter (on_track t) stays a)) (apart t) (light t))
+  clear_through none over = (by_track lengths stays a on).1 (λ t. clear_goes (get_or lengths t 0) (filter (on_track t) stays) (halves_of (filter (on_track t) stays))
+      (ordered (filter (on_track t) stays) (stays_filter (on_track t) stays a)) (apart t) (light t))
     where
       at_t : (t : ℕ) (b : Stay) → In b (filter (on_track t) stays) → In b stays × (b.track.0 ≡ t)
       at_t t b h = let f = filter_from (on_track t) stays b h in (f.0, eqb-true b.track.0 t f.1)
@@ -184,8 +192,10 @@ no_pairs stays = (
 
 pub no_overs : (lengths : List ℕ) (stays : List Stay) → overs_in lengths stays ≡ 0 ↔ NoneOver lengths stays
 no_overs lengths stays = (
-  λ e b h. le b (false_from_ne_true (ltb (get_or lengths b.track.0 0) (load_after stays b)) ((count_none (λ z. ltb (get_or lengths z.track.0 0) (load_after stays z)) stays).0 e b h)),
-  λ none. (count_none (λ z. ltb (get_or lengths z.track.0 0) (load_after stays z)) stays).1 (λ b h t. let gt = ltb-true (get_or lengths b.track.0 0) (load_after stays b) t in let most = none b h in omega arith),
+  λ e b h. le b (false_from_ne_true (ltb (get_or lengths b.track.0 0) (load_after stays b))
+      ((count_none (λ z. ltb (get_or lengths z.track.0 0) (load_after stays z)) stays).0 e b h)),
+  λ none. (count_none (λ z. ltb (get_or lengths z.track.0 0) (load_after stays z)) stays).1
+      (λ b h t. let gt = ltb-true (get_or lengths b.track.0 0) (load_after stays b) t in let most = none b h in omega arith),
 )
   where
     le : (b : Stay) → ltb (get_or lengths b.track.0 0) (load_after stays b) ≡ false → load_after stays b ≤ get_or lengths b.track.0 0
@@ -202,5 +212,7 @@ pairs_permuted stays others p =
 
 pub overs_permuted : (lengths : List ℕ) (stays others : List Stay) → IsPermutation stays others → overs_in lengths others ≡ overs_in lengths stays
 overs_permuted lengths stays others p =
-    sum_alike (λ (b : Stay). cond (ltb (get_or lengths b.track.0 0) (load_after others b)) 1 0) (λ (b : Stay). cond (ltb (get_or lengths b.track.0 0) (load_after stays b)) 1 0) others (λ b h. ap (λ n. cond (ltb (get_or lengths b.track.0 0) n) 1 0) (load_permuted stays others b.track.0 b.enter p))
+    sum_alike (λ (b : Stay). cond (ltb (get_or lengths b.track.0 0) (load_after others b)) 1 0)
+    (λ (b : Stay). cond (ltb (get_or lengths b.track.0 0) (load_after stays b)) 1 0) others
+    (λ b h. ap (λ n. cond (ltb (get_or lengths b.track.0 0) n) 1 0) (load_permuted stays others b.track.0 b.enter p))
     ∙ sum_by-IsPermutation (λ (b : Stay). cond (ltb (get_or lengths b.track.0 0) (load_after stays b)) 1 0) stays others p

@@ -17,7 +17,8 @@ count_insert : (f : Move → ℕ) (m : Move) (moves : List Move) → sum_by f (i
 count_insert f m [] = sum_by-cons f m []
 count_insert f m (n ∷ moves) =
     ⊎_elim (λ t. ap (λ b. sum_by f (cond b (m ∷ n ∷ moves) (n ∷ insert_by_key m moves))) t ∙ sum_by-cons f m (n ∷ moves))
-    (λ t. ap (λ b. sum_by f (cond b (m ∷ n ∷ moves) (n ∷ insert_by_key m moves))) t ∙ (let r = count_insert f m moves in omega (arith, sum_by-cons f n (insert_by_key m moves), sum_by-cons f n moves)))
+    (λ t. ap (λ b. sum_by f (cond b (m ∷ n ∷ moves) (n ∷ insert_by_key m moves))) t
+    ∙ (let r = count_insert f m moves in omega (arith, sum_by-cons f n (insert_by_key m moves), sum_by-cons f n moves)))
     (cases_Bool (key_before m.key n.key))
 
 abbrev enters : Move → ℕ
@@ -35,7 +36,13 @@ as_many (s ∷ stays) a =
     let f : enters (leave_of s) ≡ 0 = ap (λ b. cond b 1 0) a.0.leaves in
     let g : leaves (entry_of s) ≡ 0 = ap (λ b. cond (not b) 1 0) a.0.enters in
     let h : leaves (leave_of s) ≡ 1 = ap (λ b. cond (not b) 1 0) a.0.leaves in
-    omega (arith, count_insert enters (entry_of s) later, count_insert enters (leave_of s) (in_order stays), count_insert leaves (entry_of s) later, count_insert leaves (leave_of s) (in_order stays))
+    omega (
+      arith,
+      count_insert enters (entry_of s) later,
+      count_insert enters (leave_of s) (in_order stays),
+      count_insert leaves (entry_of s) later,
+      count_insert leaves (leave_of s) (in_order stays),
+    )
 
 none_on : (lengths : List ℕ) → blocks_on (empty_tracks lengths) ≡ 0
 none_on [] = refl
@@ -49,7 +56,8 @@ all_empty : (lengths : List ℕ) (tracks : List (List Standing)) → length trac
 all_empty [] [] e z = refl
 all_empty [] (l ∷ tracks) e z = absurd (omega arith)
 all_empty (n ∷ lengths) [] e z = absurd (omega arith)
-all_empty (n ∷ lengths) ([] ∷ tracks) e z = ap (λ (l : List (List Standing)). [] ∷ l) (all_empty lengths tracks (omega arith) (omega (arith, sum_by-cons (λ (bs : List Standing). length bs) [] tracks)))
+all_empty (n ∷ lengths) ([] ∷ tracks) e z = ap (λ (l : List (List Standing)). [] ∷ l)
+    (all_empty lengths tracks (omega arith) (omega (arith, sum_by-cons (λ (bs : List Standing). length bs) [] tracks)))
 all_empty (n ∷ lengths) ((b ∷ l) ∷ tracks) e z = absurd (omega (arith, sum_by-cons (λ (bs : List Standing). length bs) (b ∷ l) tracks))
 
 moves_on : (lengths : List ℕ) (stays : List Stay) → AreStays stays → AreOnTracks lengths stays → (m : Move) → In m (in_order stays) → m.track.0 < length lengths
@@ -61,7 +69,8 @@ moves_on lengths stays a on m h =
     half_on (s, true) i = on_tracks lengths stays s on i
     half_on (s, false) i = on_tracks lengths stays s on i
 
-ends : (lengths : List ℕ) (stays : List Stay) → AreStays stays → AreOnTracks lengths stays → (r : Result Through Stop) → run_of lengths stays ≡ r → IfOk r (λ t. t.tracks ≡ empty_tracks lengths)
+ends : (lengths : List ℕ) (stays : List Stay) → AreStays stays → AreOnTracks lengths stays → (r : Result Through Stop) → run_of lengths stays ≡ r
+    → IfOk r (λ t. t.tracks ≡ empty_tracks lengths)
 ends lengths stays a on (Err e) is = tt
 ends lengths stays a on (Ok t) is =
     let l = run_leaves lengths (in_order stays) (empty_tracks lengths) t (λ m h. let lt = moves_on lengths stays a on m h in omega (arith, size_empty lengths)) is in
@@ -70,7 +79,8 @@ ends lengths stays a on (Ok t) is =
 pub nothing_left : (lengths : List ℕ) (stays : List Stay) → AreStays stays → AreOnTracks lengths stays → IfOk (run_of lengths stays) (λ t. t.tracks ≡ empty_tracks lengths)
 nothing_left lengths stays a on = ends lengths stays a on (run_of lengths stays) refl
 
-pub counted : (lengths : List ℕ) (moves : List Move) (tracks : List (List Standing)) → ((m : Move) → In m moves → m.track.0 < length tracks) → IfOk (run lengths moves tracks) (λ t. blocks_on t.tracks + leaves_in moves ≡ blocks_on tracks + entries_in moves)
+pub counted : (lengths : List ℕ) (moves : List Move) (tracks : List (List Standing)) → ((m : Move) → In m moves → m.track.0 < length tracks)
+    → IfOk (run lengths moves tracks) (λ t. blocks_on t.tracks + leaves_in moves ≡ blocks_on tracks + entries_in moves)
 counted lengths moves tracks ins = by (run lengths moves tracks) refl
   where
     by : (r : Result Through Stop) → run lengths moves tracks ≡ r → IfOk r (λ t. blocks_on t.tracks + leaves_in moves ≡ blocks_on tracks + entries_in moves)

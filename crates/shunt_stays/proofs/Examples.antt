@@ -60,7 +60,11 @@ early = stay 1 500 A A 1320 1800 0 0 1 1
 abbrev late : Stay
 late = stay 2 500 A A 1800 1860 1 1 1 1
 
-one_after_the_other : run_of (500 ∷ []) (late ∷ early ∷ []) ≡ Ok (record { steps = (entry_of early, 500) ∷ (leave_of early, 0) ∷ (entry_of late, 500) ∷ (leave_of late, 0) ∷ []; tracks = [] ∷ [] })
+one_after_the_other : run_of (500 ∷ []) (late ∷ early ∷ []) ≡ Ok (record {
+  steps = (entry_of early, 500) ∷ (leave_of early, 0) ∷ (entry_of late, 500) ∷
+      (leave_of late, 0) ∷ [];
+  tracks = [] ∷ [];
+})
 one_after_the_other = refl
 
 never_crossed : pairs_in (late ∷ early ∷ []) ≡ 0
@@ -79,7 +83,11 @@ here = stay 2 500 A A 1380 1800 1 1 1 1
 two_sided : pairs_in (x ∷ there ∷ []) ≡ 0
 two_sided = refl
 
-two_sided_run : run_of (1000 ∷ []) (x ∷ there ∷ []) ≡ Ok (record { steps = (entry_of x, 500) ∷ (entry_of there, 1000) ∷ (leave_of x, 500) ∷ (leave_of there, 0) ∷ []; tracks = [] ∷ [] })
+two_sided_run : run_of (1000 ∷ []) (x ∷ there ∷ []) ≡ Ok (record {
+  steps = (entry_of x, 500) ∷ (entry_of there, 1000) ∷ (leave_of x, 500) ∷
+      (leave_of there, 0) ∷ [];
+  tracks = [] ∷ [];
+})
 two_sided_run = refl
 
 in_the_way : pairs_in (x ∷ here ∷ []) ≡ 1

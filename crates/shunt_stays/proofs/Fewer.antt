@@ -41,20 +41,29 @@ fewer room p ((s, true) ∷ halves) st go =
       (let le = go.0 in omega (arith, ap total e, filter_least length_of p (put s.side_in s st))),
       subst (λ (l : List Stay). GoesOn room (filter (keeps p) halves) l) e rest,
     ))
-    (λ t. subst (λ (l : List Half). GoesOn room l (filter p st)) (sym (filter_no (keeps p) (s, true) halves t)) (subst (λ (l : List Stay). GoesOn room (filter (keeps p) halves) l) (put_no p s.side_in s st t) rest)) (cases_Bool (p s))
+    (λ t. subst (λ (l : List Half). GoesOn room l (filter p st)) (sym (filter_no (keeps p) (s, true) halves t))
+    (subst (λ (l : List Stay). GoesOn room (filter (keeps p) halves) l) (put_no p s.side_in s st t) rest)) (cases_Bool (p s))
 fewer room p ((s, false) ∷ halves) st go =
     let rest = fewer room p halves go.0 go.2 in
-    ⊎_elim (λ t. subst (λ (l : List Half). GoesOn room l (filter p st)) (sym (filter_yes (keeps p) (s, false) halves t)) (filter p go.0, ap (filter p) go.1 ∙ put_yes p s.side_out s go.0 t, rest))
-    (λ t. subst (λ (l : List Half). GoesOn room l (filter p st)) (sym (filter_no (keeps p) (s, false) halves t)) (subst (λ (l : List Stay). GoesOn room (filter (keeps p) halves) l) (sym (ap (filter p) go.1 ∙ put_no p s.side_out s go.0 t)) rest)) (cases_Bool (p s))
+    ⊎_elim (λ t. subst (λ (l : List Half). GoesOn room l (filter p st)) (sym (filter_yes (keeps p) (s, false) halves t))
+    (filter p go.0, ap (filter p) go.1 ∙ put_yes p s.side_out s go.0 t, rest))
+    (λ t. subst (λ (l : List Half). GoesOn room l (filter p st)) (sym (filter_no (keeps p) (s, false) halves t))
+    (subst (λ (l : List Stay). GoesOn room (filter (keeps p) halves) l) (sym (ap (filter p) go.1 ∙ put_no p s.side_out s go.0 t)) rest)) (cases_Bool (p s))
 
 pub stays_filter : (p : Stay → Bool) (stays : List Stay) → AreStays stays → AreStays (filter p stays)
 stays_filter p [] a = tt
 stays_filter p (s ∷ stays) a =
-    ⊎_elim (λ t. subst AreStays (sym (filter_yes p s stays t)) (a.0, all_from (λ u. s.id ≢ u.id) (filter p stays) (λ u h. all_in (λ v. s.id ≢ v.id) stays u a.1 (filter_from p stays u h).0), stays_filter p stays a.2))
+    ⊎_elim (λ t. subst AreStays (sym (filter_yes p s stays t)) (
+      a.0,
+      all_from (λ u. s.id ≢ u.id) (filter p stays)
+          (λ u h. all_in (λ v. s.id ≢ v.id) stays u a.1 (filter_from p stays u h).0),
+      stays_filter p stays a.2,
+    ))
     (λ t. subst AreStays (sym (filter_no p s stays t)) (stays_filter p stays a.2)) (cases_Bool (p s))
 
 -- the halves of those that pass are the halves that pass
-pub halves_filter : (p : Stay → Bool) (stays part : List Stay) → AreStays stays → AreStays part → ((s : Stay) → In s part ↔ In s stays × (p s ≡ true)) → filter (keeps p) (halves_of stays) ≡ halves_of part
+pub halves_filter : (p : Stay → Bool) (stays part : List Stay) → AreStays stays → AreStays part → ((s : Stay) → In s part ↔ In s stays × (p s ≡ true))
+    → filter (keeps p) (halves_of stays) ≡ halves_of part
 halves_filter p stays part a b same =
     unique at (filter (keeps p) (halves_of stays)) (halves_of part) (ascends_filter at (keeps p) (halves_of stays) (ordered stays a).ascends) (ordered part b).ascends (λ m. (
       λ h. let f = filter_from (keeps p) (halves_of stays) m h in half_in part m ((same m.0).1 (of_stay stays m f.0, f.1)),
@@ -97,7 +106,8 @@ module _ (lengths : List ℕ) (stays : List Stay) (a : AreStays stays) (on : Are
   sized = sized_by lengths
 
   track_halves : (t : ℕ) → filter (keeps (on_track t)) (halves_of stays) ≡ halves_of (filter (on_track t) stays)
-  track_halves t = halves_filter (on_track t) stays (filter (on_track t) stays) a (stays_filter (on_track t) stays a) (λ s. (λ h. filter_from (on_track t) stays s h, λ h. filter_to (on_track t) stays s h.0 h.1))
+  track_halves t = halves_filter (on_track t) stays (filter (on_track t) stays) a (stays_filter (on_track t) stays a)
+      (λ s. (λ h. filter_from (on_track t) stays s h, λ h. filter_to (on_track t) stays s h.0 h.1))
 
   -- the run of a track alone
   abbrev pub Alone : ℕ → Type 0
@@ -105,8 +115,10 @@ module _ (lengths : List ℕ) (stays : List Stay) (a : AreStays stays) (on : Are
 
   alone : (t : ℕ) → Sees lengths (halves_of stays) (nothing lengths) t ↔ Alone t
   alone t = (
-    λ g. subst (λ (l : List Stay). GoesOn (get_or lengths t 0) (halves_of (filter (on_track t) stays)) l) (nothing_at lengths t) (subst (λ (l : List Half). GoesOn (get_or lengths t 0) l (get_or (nothing lengths) t [])) (track_halves t) g),
-    λ g. subst (λ (l : List Half). GoesOn (get_or lengths t 0) l (get_or (nothing lengths) t [])) (sym (track_halves t)) (subst (λ (l : List Stay). GoesOn (get_or lengths t 0) (halves_of (filter (on_track t) stays)) l) (sym (nothing_at lengths t)) g),
+    λ g. subst (λ (l : List Stay). GoesOn (get_or lengths t 0) (halves_of (filter (on_track t) stays)) l) (nothing_at lengths t)
+        (subst (λ (l : List Half). GoesOn (get_or lengths t 0) l (get_or (nothing lengths) t [])) (track_halves t) g),
+    λ g. subst (λ (l : List Half). GoesOn (get_or lengths t 0) l (get_or (nothing lengths) t [])) (sym (track_halves t))
+        (subst (λ (l : List Stay). GoesOn (get_or lengths t 0) (halves_of (filter (on_track t) stays)) l) (sym (nothing_at lengths t)) g),
   )
 
   same_run : run lengths (in_order stays) (empty_tracks lengths) ≡ run lengths (map move_of (halves_of stays)) (tracks_of (nothing lengths))
@@ -118,8 +130,10 @@ module _ (lengths : List ℕ) (stays : List Stay) (a : AreStays stays) (on : Are
   -- the run over all tracks goes through exactly when that of each track does
   pub by_track : GoesThrough lengths stays ↔ ((t : ℕ) → Alone t)
   by_track = (
-    λ go t. (alone t).0 (split lengths (halves_of stays) (nothing lengths) (λ m h. let lt = in_range m h in omega (arith, sized)) (blocks_all lengths stays a (halves_of stays) (nothing lengths) sized (λ m h. (of_stay stays m h, in_range m h)) none_known (subst IsOk same_run go)) t),
-    λ each. subst IsOk (sym same_run) (all_blocks lengths stays a (halves_of stays) (nothing lengths) (λ m h. of_stay stays m h) (join lengths (halves_of stays) (nothing lengths) (λ m h. let lt = in_range m h in omega (arith, sized)) (λ t. (alone t).1 (each t)))),
+    λ go t. (alone t).0 (split lengths (halves_of stays) (nothing lengths) (λ m h. let lt = in_range m h in omega (arith, sized))
+        (blocks_all lengths stays a (halves_of stays) (nothing lengths) sized (λ m h. (of_stay stays m h, in_range m h)) none_known (subst IsOk same_run go)) t),
+    λ each. subst IsOk (sym same_run) (all_blocks lengths stays a (halves_of stays) (nothing lengths) (λ m h. of_stay stays m h)
+        (join lengths (halves_of stays) (nothing lengths) (λ m h. let lt = in_range m h in omega (arith, sized)) (λ t. (alone t).1 (each t)))),
   )
 
 -- those whose id some stay of a list has
@@ -136,7 +150,8 @@ whose [] s t = absurd (false≢true t)
 whose (u ∷ part) s t = ⊎_elim (λ e. (u, inl refl, eqb-true u.id s.id e)) (λ e. let r = whose part s e in (r.0, inr r.1, r.2)) (or_cases (eqb u.id s.id) (has_id part s) t)
 
 -- of one track
-pub part_goes : (room : ℕ) (stays part : List Stay) → AreStays stays → AreStays part → ((s : Stay) → In s part → In s stays) → GoesOn room (halves_of stays) [] → GoesOn room (halves_of part) []
+pub part_goes : (room : ℕ) (stays part : List Stay) → AreStays stays → AreStays part → ((s : Stay) → In s part → In s stays) → GoesOn room (halves_of stays) []
+    → GoesOn room (halves_of part) []
 part_goes room stays part a b within go =
     subst (λ (l : List Half). GoesOn room l []) (halves_filter (has_id part) stays part a b (λ s. (
       λ h. (within s h, has_own part s h),
@@ -147,6 +162,8 @@ pub filter_within : (p : Stay → Bool) (part stays : List Stay) → ((s : Stay)
 filter_within p part stays within s h = let f = filter_from p part s h in filter_to p stays s (within s f.0) f.1
 
 -- of all tracks
-pub part_through : (lengths : List ℕ) (stays part : List Stay) → AreStays stays → AreOnTracks lengths stays → AreStays part → AreOnTracks lengths part → ((s : Stay) → In s part → In s stays) → GoesThrough lengths stays → GoesThrough lengths part
+pub part_through : (lengths : List ℕ) (stays part : List Stay) → AreStays stays → AreOnTracks lengths stays → AreStays part → AreOnTracks lengths part
+    → ((s : Stay) → In s part → In s stays) → GoesThrough lengths stays → GoesThrough lengths part
 part_through lengths stays part a on b under within go =
-    (by_track lengths part b under).1 (λ t. part_goes (get_or lengths t 0) (filter (on_track t) stays) (filter (on_track t) part) (stays_filter (on_track t) stays a) (stays_filter (on_track t) part b) (filter_within (on_track t) part stays within) ((by_track lengths stays a on).0 go t))
+    (by_track lengths part b under).1 (λ t. part_goes (get_or lengths t 0) (filter (on_track t) stays) (filter (on_track t) part) (stays_filter (on_track t) stays a)
+    (stays_filter (on_track t) part b) (filter_within (on_track t) part stays within) ((by_track lengths stays a on).0 go t))

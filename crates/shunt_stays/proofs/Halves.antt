@@ -72,21 +72,28 @@ module _ (m : Half) where
   pub in_insert : (halves : List Half) (x : Half) → In x (insert_half m halves) → (x ≡ m) ⊎ In x halves
   in_insert [] x h = h
   in_insert (n ∷ halves) x h = ⊎_elim (λ t. subst (In x) (insert_by n halves true t) h)
-      (λ t. ⊎_elim (λ e. inr (inl e)) (λ i. ⊎_elim (λ e. inl e) (λ j. inr (inr j)) (in_insert halves x i)) (subst (In x) (insert_by n halves false t) h)) (cases_Bool (ltb (at m) (at n)))
+      (λ t. ⊎_elim (λ e. inr (inl e)) (λ i. ⊎_elim (λ e. inl e) (λ j. inr (inr j)) (in_insert halves x i)) (subst (In x) (insert_by n halves false t) h))
+      (cases_Bool (ltb (at m) (at n)))
 
   insert_here : (halves : List Half) → In m (insert_half m halves)
   insert_here [] = inl refl
-  insert_here (n ∷ halves) = ⊎_elim (λ t. subst (In m) (sym (insert_by n halves true t)) (inl refl)) (λ t. subst (In m) (sym (insert_by n halves false t)) (inr (insert_here halves))) (cases_Bool (ltb (at m) (at n)))
+  insert_here (n ∷ halves) = ⊎_elim (λ t. subst (In m) (sym (insert_by n halves true t)) (inl refl))
+      (λ t. subst (In m) (sym (insert_by n halves false t)) (inr (insert_here halves))) (cases_Bool (ltb (at m) (at n)))
 
   insert_there : (halves : List Half) (x : Half) → In x halves → In x (insert_half m halves)
   insert_there [] x h = absurd h
-  insert_there (n ∷ halves) x h = ⊎_elim (λ t. subst (In x) (sym (insert_by n halves true t)) (inr h)) (λ t. subst (In x) (sym (insert_by n halves false t)) (⊎_elim (λ e. inl e) (λ i. inr (insert_there halves x i)) h)) (cases_Bool (ltb (at m) (at n)))
+  insert_there (n ∷ halves) x h = ⊎_elim (λ t. subst (In x) (sym (insert_by n halves true t)) (inr h))
+      (λ t. subst (In x) (sym (insert_by n halves false t)) (⊎_elim (λ e. inl e) (λ i. inr (insert_there halves x i)) h)) (cases_Bool (ltb (at m) (at n)))
 
   insert_ascends : (halves : List Half) → Ascends at halves → ((n : Half) → In n halves → at m ≢ at n) → Ascends at (insert_half m halves)
   insert_ascends [] a ne = (tt, tt)
   insert_ascends (n ∷ halves) a ne =
-      ⊎_elim (λ t. let lt = ltb-true _ _ t in subst (Ascends at) (sym (insert_by n halves true t)) ((lt, all_from (λ x. at m < at x) halves (λ x i. let gt : at n < at x = all_in (λ y. at n < at y) halves x a.0 i in omega arith)), a))
-      (λ t. let le = ltb-false _ _ t in let differ = ne n (inl refl) in subst (Ascends at) (sym (insert_by n halves false t)) (all_from (λ x. at n < at x) (insert_half m halves) (λ x i. ⊎_elim (λ e. omega (arith, ap at e)) (λ j. all_in (λ y. at n < at y) halves x a.0 j) (in_insert halves x i)), insert_ascends halves a.1 (λ x i. ne x (inr i))))
+      ⊎_elim (λ t. let lt = ltb-true _ _ t in subst (Ascends at) (sym (insert_by n halves true t))
+      ((lt, all_from (λ x. at m < at x) halves (λ x i. let gt : at n < at x = all_in (λ y. at n < at y) halves x a.0 i in omega arith)), a))
+      (λ t. let le = ltb-false _ _ t in let differ = ne n (inl refl) in subst (Ascends at) (sym (insert_by n halves false t)) (
+        all_from (λ x. at n < at x) (insert_half m halves) (λ x i. ⊎_elim (λ e. omega (arith, ap at e)) (λ j. all_in (λ y. at n < at y) halves x a.0 j) (in_insert halves x i)),
+        insert_ascends halves a.1 (λ x i. ne x (inr i)),
+      ))
       (cases_Bool (ltb (at m) (at n)))
 
 -- a half in order is one of a stay
@@ -99,12 +106,15 @@ of_stay (t ∷ stays) m h =
 pub entry_in : (stays : List Stay) (s : Stay) → In s stays → In (s, true) (halves_of stays)
 entry_in [] s h = absurd h
 entry_in (t ∷ stays) s (inl e) = subst (λ (z : Stay). In (z, true) (halves_of (t ∷ stays))) (sym e) (insert_here (t, true) (insert_half (t, false) (halves_of stays)))
-entry_in (t ∷ stays) s (inr h) = insert_there (t, true) (insert_half (t, false) (halves_of stays)) (s, true) (insert_there (t, false) (halves_of stays) (s, true) (entry_in stays s h))
+entry_in (t ∷ stays) s (inr h) = insert_there (t, true) (insert_half (t, false) (halves_of stays)) (s, true)
+    (insert_there (t, false) (halves_of stays) (s, true) (entry_in stays s h))
 
 pub leave_in : (stays : List Stay) (s : Stay) → In s stays → In (s, false) (halves_of stays)
 leave_in [] s h = absurd h
-leave_in (t ∷ stays) s (inl e) = subst (λ (z : Stay). In (z, false) (halves_of (t ∷ stays))) (sym e) (insert_there (t, true) (insert_half (t, false) (halves_of stays)) (t, false) (insert_here (t, false) (halves_of stays)))
-leave_in (t ∷ stays) s (inr h) = insert_there (t, true) (insert_half (t, false) (halves_of stays)) (s, false) (insert_there (t, false) (halves_of stays) (s, false) (leave_in stays s h))
+leave_in (t ∷ stays) s (inl e) = subst (λ (z : Stay). In (z, false) (halves_of (t ∷ stays))) (sym e)
+    (insert_there (t, true) (insert_half (t, false) (halves_of stays)) (t, false) (insert_here (t, false) (halves_of stays)))
+leave_in (t ∷ stays) s (inr h) = insert_there (t, true) (insert_half (t, false) (halves_of stays)) (s, false)
+    (insert_there (t, false) (halves_of stays) (s, false) (leave_in stays s h))
 
 pub half_in : (stays : List Stay) (m : Half) → In m.0 stays → In m (halves_of stays)
 half_in stays (s, true) h = entry_in stays s h
@@ -127,7 +137,8 @@ ascending (t ∷ stays) a =
     let others : (b : Bool) (n : Half) → In n (halves_of stays) → at (t, b) ≢ at n = λ b n h.
     let i = of_stay stays n h in halves_differ (t, b) n a.0 (formed stays n.0 a.2 i) (all_in (λ u. t.id ≢ u.id) stays n.0 a.1 i) in
     insert_ascends (t, true) (insert_half (t, false) (halves_of stays)) (insert_ascends (t, false) (halves_of stays) (ascending stays a.2) (others false))
-    (λ n h. ⊎_elim (λ e f. let lt = later_rank t a.0 in let is : rank t.enter ≡ rank t.leave = f ∙ ap at e in absurd (omega arith)) (λ i. others true n i) (in_insert (t, false) (halves_of stays) n h))
+    (λ n h. ⊎_elim (λ e f. let lt = later_rank t a.0 in let is : rank t.enter ≡ rank t.leave = f ∙ ap at e in absurd (omega arith)) (λ i. others true n i)
+    (in_insert (t, false) (halves_of stays) n h))
 
 distinct_stays : (stays : List Stay) → AreStays stays → Distinct stays
 distinct_stays [] a = tt
@@ -155,13 +166,16 @@ half_before (s, true) (t, false) w v = before_is s.enter t.leave w.enter_in v.le
 half_before (s, false) (t, true) w v = before_is s.leave t.enter w.leave_in v.enter_in
 half_before (s, false) (t, false) w v = before_is s.leave t.leave w.leave_in v.leave_in
 
-insert_is : (m : Half) (halves : List Half) → IsWellFormed m.0 → ((n : Half) → In n halves → IsWellFormed n.0) → insert_by_key (move_of m) (map move_of halves) ≡ map move_of (insert_half m halves)
+insert_is : (m : Half) (halves : List Half) → IsWellFormed m.0 → ((n : Half) → In n halves → IsWellFormed n.0)
+    → insert_by_key (move_of m) (map move_of halves) ≡ map move_of (insert_half m halves)
 insert_is m [] w all = refl
 insert_is m (n ∷ halves) w all =
     let t = half_before m n w (all n (inl refl)) in
     let rest = insert_is m halves w (λ x i. all x (inr i)) in
-    ⊎_elim (λ u. ap (λ b. cond b (move_of m ∷ move_of n ∷ map move_of halves) (move_of n ∷ insert_by_key (move_of m) (map move_of halves))) (t ∙ u) ∙ ap (map move_of) (sym (insert_by m n halves true u)))
-    (λ u. ap (λ b. cond b (move_of m ∷ move_of n ∷ map move_of halves) (move_of n ∷ insert_by_key (move_of m) (map move_of halves))) (t ∙ u) ∙ ap (λ (l : List Move). move_of n ∷ l) rest ∙ ap (map move_of) (sym (insert_by m n halves false u)))
+    ⊎_elim (λ u. ap (λ b. cond b (move_of m ∷ move_of n ∷ map move_of halves) (move_of n ∷ insert_by_key (move_of m) (map move_of halves))) (t ∙ u)
+    ∙ ap (map move_of) (sym (insert_by m n halves true u)))
+    (λ u. ap (λ b. cond b (move_of m ∷ move_of n ∷ map move_of halves) (move_of n ∷ insert_by_key (move_of m) (map move_of halves))) (t ∙ u)
+    ∙ ap (λ (l : List Move). move_of n ∷ l) rest ∙ ap (map move_of) (sym (insert_by m n halves false u)))
     (cases_Bool (ltb (at m) (at n)))
 
 -- the events in key order are the halves in the order of ranks
@@ -171,4 +185,5 @@ in_order_is (s ∷ stays) a =
     let all : (n : Half) → In n (halves_of stays) → IsWellFormed n.0 = λ n i. formed stays n.0 a.2 (of_stay stays n i) in
     ap (λ (l : List Move). insert_by_key (entry_of s) (insert_by_key (leave_of s) l)) (in_order_is stays a.2)
     ∙ ap (insert_by_key (entry_of s)) (insert_is (s, false) (halves_of stays) a.0 all)
-    ∙ insert_is (s, true) (insert_half (s, false) (halves_of stays)) a.0 (λ n i. ⊎_elim (λ e. subst (λ (z : Half). IsWellFormed z.0) (sym e) a.0) (λ j. all n j) (in_insert (s, false) (halves_of stays) n i))
+    ∙ insert_is (s, true) (insert_half (s, false) (halves_of stays)) a.0 (λ n i. ⊎_elim (λ e. subst (λ (z : Half). IsWellFormed z.0) (sym e) a.0) (λ j. all n j)
+    (in_insert (s, false) (halves_of stays) n i))

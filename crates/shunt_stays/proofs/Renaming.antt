@@ -63,7 +63,8 @@ less_by_steps : (m n i j a b : ℕ) → i < 2 ^ 32 → j < 2 ^ 32 → a ≡ m * 
 less_by_steps m n i j a b p q e f lt = omega arith
 
 by_slot : (k l : EventKey) → IsKey k → IsKey l → with_id 0 k ≢ with_id 0 l → ltb (rank k) (rank l) ≡ ltb (rank (with_id 0 k)) (rank (with_id 0 l))
-by_slot k l p q ne = ⊎_elim (λ e. absurd (ne (rank_tells (with_id 0 k) (with_id 0 l) (zero_key k p) (zero_key l q) e))) (λ o. ⊎_elim low high o) (cases_order (rank (with_id 0 k)) (rank (with_id 0 l)))
+by_slot k l p q ne = ⊎_elim (λ e. absurd (ne (rank_tells (with_id 0 k) (with_id 0 l) (zero_key k p) (zero_key l q) e))) (λ o. ⊎_elim low high o)
+    (cases_order (rank (with_id 0 k)) (rank (with_id 0 l)))
   where
     low : rank (with_id 0 k) < rank (with_id 0 l) → ltb (rank k) (rank l) ≡ ltb (rank (with_id 0 k)) (rank (with_id 0 l))
     low lt =
@@ -94,7 +95,8 @@ half_key (s, true) w = (w.enter_in, w.enters, refl)
 half_key (s, false) w = (w.leave_in, w.leaves, refl)
 
 -- the slots of the halves of a stay and of others
-slots_differ : (s : Stay) (stays : List Stay) (b : Bool) (n : Half) → IsWellFormed s → IsWellFormed n.0 → AllByRecursion (DifferBeforeId s) stays → In n.0 stays → slot (s, b) ≢ slot n
+slots_differ : (s : Stay) (stays : List Stay) (b : Bool) (n : Half) → IsWellFormed s → IsWellFormed n.0 → AllByRecursion (DifferBeforeId s) stays → In n.0 stays
+    → slot (s, b) ≢ slot n
 slots_differ s stays true (t, true) w v d h e = (all_in (DifferBeforeId s) stays t d h).enter e
 slots_differ s stays false (t, false) w v d h e = (all_in (DifferBeforeId s) stays t d h).leave e
 slots_differ s stays true (t, false) w v d h e = true≢false (sym w.enters ∙ ap (λ (k : EventKey). k.enters) e ∙ v.leaves)
@@ -111,7 +113,8 @@ slot_likes : (m n : Half) → Likes m n → slot m ≡ slot n
 slot_likes (s, b) (t, c) l = slot_alike s t b l.stays ∙ ap (λ (z : Bool). slot (t, z)) l.same
 
 -- halves with other ids compare alike
-tests_alike : (m x n y : Half) → IsWellFormed m.0 → IsWellFormed x.0 → IsWellFormed n.0 → IsWellFormed y.0 → Likes m n → Likes x y → slot m ≢ slot x → ltb (at m) (at x) ≡ ltb (at n) (at y)
+tests_alike : (m x n y : Half) → IsWellFormed m.0 → IsWellFormed x.0 → IsWellFormed n.0 → IsWellFormed y.0 → Likes m n → Likes x y → slot m ≢ slot x
+    → ltb (at m) (at x) ≡ ltb (at n) (at y)
 tests_alike m x n y wm wx wn wy l k ne =
     let e = slot_likes m n l in
     let f = slot_likes x y k in
@@ -135,8 +138,10 @@ zip_insert m n (x ∷ hs) [] l z t = absurd z
 zip_insert m n (x ∷ hs) (y ∷ ks) l z t =
     let e = t x y (inl refl) (inl refl) z.0 in
     let rest = zip_insert m n hs ks l z.1 (λ u v i j. t u v (inr i) (inr j)) in
-    ⊎_elim (λ b. subst (λ (a : List Half). AllZip Likes a (insert_half n (y ∷ ks))) (sym (insert_by m x hs true b)) (subst (λ (a : List Half). AllZip Likes (m ∷ x ∷ hs) a) (sym (insert_by n y ks true (sym e ∙ b))) (l, z)))
-    (λ b. subst (λ (a : List Half). AllZip Likes a (insert_half n (y ∷ ks))) (sym (insert_by m x hs false b)) (subst (λ (a : List Half). AllZip Likes (x ∷ insert_half m hs) a) (sym (insert_by n y ks false (sym e ∙ b))) (z.0, rest))) (cases_Bool (ltb (at m) (at x)))
+    ⊎_elim (λ b. subst (λ (a : List Half). AllZip Likes a (insert_half n (y ∷ ks))) (sym (insert_by m x hs true b))
+    (subst (λ (a : List Half). AllZip Likes (m ∷ x ∷ hs) a) (sym (insert_by n y ks true (sym e ∙ b))) (l, z)))
+    (λ b. subst (λ (a : List Half). AllZip Likes a (insert_half n (y ∷ ks))) (sym (insert_by m x hs false b))
+    (subst (λ (a : List Half). AllZip Likes (x ∷ insert_half m hs) a) (sym (insert_by n y ks false (sym e ∙ b))) (z.0, rest))) (cases_Bool (ltb (at m) (at x)))
 
 -- the halves of two lists that are alike are alike
 zip_halves : (stays others : List Stay) → AreStays stays → AreStays others → AllDifferBeforeId stays → AllZip Alike stays others → AllZip Likes (halves_of stays) (halves_of others)
@@ -150,7 +155,8 @@ zip_halves (s ∷ stays) (t ∷ others) a b d z =
     let found : (y : Half) → In y (halves_of others) → IsWellFormed y.0 = λ y i. formed others y.0 b.2 (of_stay others y i) in
     let differs : (e : Bool) (x : Half) → In x (halves_of stays) → slot (s, e) ≢ slot x = λ e x i. slots_differ s stays e x a.0 (known x i) d.0 (of_stay stays x i) in
     zip_insert (s, true) (t, true) (insert_half (s, false) (halves_of stays)) (insert_half (t, false) (halves_of others)) (l true)
-    (zip_insert (s, false) (t, false) (halves_of stays) (halves_of others) (l false) rest (λ x y i j k. tests_alike (s, false) x (t, false) y a.0 (known x i) b.0 (found y j) (l false) k (differs false x i)))
+    (zip_insert (s, false) (t, false) (halves_of stays) (halves_of others) (l false) rest
+    (λ x y i j k. tests_alike (s, false) x (t, false) y a.0 (known x i) b.0 (found y j) (l false) k (differs false x i)))
     (λ x y i j k. tests_alike (s, true) x (t, true) y a.0
     (⊎_elim (λ e. subst (λ (u : Half). IsWellFormed u.0) (sym e) a.0) (λ h. known x h) (in_insert (s, false) (halves_of stays) x i)) b.0
     (⊎_elim (λ e. subst (λ (u : Half). IsWellFormed u.0) (sym e) b.0) (λ h. found y h) (in_insert (t, false) (halves_of others) y j)) (l true) k
@@ -189,29 +195,35 @@ parted A t st rest z = parted_first t st rest z
 parted B t st rest z = parted_last t st rest z
 
 -- what goes on for one goes on for the other
-goes_alike : (room : ℕ) (stays : List Stay) → AllDifferBeforeId stays → (hs ks : List Half) (st su : List Stay) → AllZip Likes hs ks → AllZip Alike st su → ((m : Half) → In m hs → In m.0 stays) → ((s : Stay) → In s st → In s stays) → GoesOn room ks su → GoesOn room hs st
+goes_alike : (room : ℕ) (stays : List Stay) → AllDifferBeforeId stays → (hs ks : List Half) (st su : List Stay) → AllZip Likes hs ks → AllZip Alike st su
+    → ((m : Half) → In m hs → In m.0 stays) → ((s : Stay) → In s st → In s stays) → GoesOn room ks su → GoesOn room hs st
 goes_alike room stays d [] ks st su l z ins known go = tt
 goes_alike room stays d (m ∷ hs) [] st su l z ins known go = absurd l
 goes_alike room stays d ((s, true) ∷ hs) ((t, false) ∷ ks) st su l z ins known go = absurd (true≢false l.0.same)
 goes_alike room stays d ((s, false) ∷ hs) ((t, true) ∷ ks) st su l z ins known go = absurd (false≢true l.0.same)
 goes_alike room stays d ((s, true) ∷ hs) ((t, true) ∷ ks) st su l z ins known go =
     let a = l.0.stays in
-    let w : AllZip Alike (put s.side_in s st) (put t.side_in t su) = subst (λ (v : Side). AllZip Alike (put s.side_in s st) (put v t su)) a.side_in (zip_put s.side_in s t st su a z) in (
+    let w : AllZip Alike (put s.side_in s st) (put t.side_in t su) = subst (λ (v : Side). AllZip Alike (put s.side_in s st) (put v t su)) a.side_in
+    (zip_put s.side_in s t st su a z) in (
       let le = go.0 in omega (arith, zip_total (put s.side_in s st) (put t.side_in t su) w),
-      goes_alike room stays d hs ks (put s.side_in s st) (put t.side_in t su) l.1 w (λ m i. ins m (inr i)) (λ x i. ⊎_elim (λ e. subst (λ (u : Stay). In u stays) (sym e) (ins (s, true) (inl refl))) (λ j. known x j) (put_cases s.side_in s x st i)) go.1,
+      goes_alike room stays d hs ks (put s.side_in s st) (put t.side_in t su) l.1 w (λ m i. ins m (inr i))
+          (λ x i. ⊎_elim (λ e. subst (λ (u : Stay). In u stays) (sym e) (ins (s, true) (inl refl))) (λ j. known x j) (put_cases s.side_in s x st i)) go.1,
     )
 goes_alike room stays d ((s, false) ∷ hs) ((t, false) ∷ ks) st su l z ins known go =
     let a = l.0.stays in
     let r = parted t.side_out t st go.0 (subst (AllZip Alike st) go.1 z) in
-    let same : r.0 ≡ s = alike_one stays r.0 s d (known r.0 (subst (λ (u : List Stay). In r.0 u) (sym r.2) (put_here t.side_out r.0 r.1))) (ins (s, false) (inl refl)) (r.3.enter ∙ sym a.enter) in (
+    let same : r.0 ≡ s = alike_one stays r.0 s d (known r.0 (subst (λ (u : List Stay). In r.0 u) (sym r.2) (put_here t.side_out r.0 r.1))) (ins (s, false) (inl refl))
+    (r.3.enter ∙ sym a.enter) in (
       r.1,
       r.2 ∙ ap (λ (u : Stay). put t.side_out u r.1) same ∙ ap (λ (v : Side). put v s r.1) (sym a.side_out),
       goes_alike room stays d hs ks r.1 go.0 l.1 r.4 (λ m i. ins m (inr i)) (λ x i. known x (subst (λ (u : List Stay). In x u) (sym r.2) (put_there t.side_out r.0 x r.1 i))) go.2,
     )
 
 -- of one track
-pub alike_goes : (room : ℕ) (stays others : List Stay) → AreStays stays → AreStays others → AllDifferBeforeId stays → AllZip Alike stays others → GoesOn room (halves_of others) [] → GoesOn room (halves_of stays) []
-alike_goes room stays others a b d z go = goes_alike room stays d (halves_of stays) (halves_of others) [] [] (zip_halves stays others a b d z) tt (λ m i. of_stay stays m i) (λ s i. absurd i) go
+pub alike_goes : (room : ℕ) (stays others : List Stay) → AreStays stays → AreStays others → AllDifferBeforeId stays → AllZip Alike stays others → GoesOn room (halves_of others) []
+    → GoesOn room (halves_of stays) []
+alike_goes room stays others a b d z go = goes_alike room stays d (halves_of stays) (halves_of others) [] [] (zip_halves stays others a b d z) tt (λ m i. of_stay stays m i)
+    (λ s i. absurd i) go
 
 -- each of these is one of those, but for the id
 abbrev pub Finds : List Stay → List Stay → Type 0
@@ -246,7 +258,8 @@ are_images (s ∷ part) stays h a d =
     )
 
 -- of one track
-found_goes : (room : ℕ) (stays part : List Stay) → AreStays stays → AreStays part → AllDifferBeforeId part → Finds part stays → GoesOn room (halves_of stays) [] → GoesOn room (halves_of part) []
+found_goes : (room : ℕ) (stays part : List Stay) → AreStays stays → AreStays part → AllDifferBeforeId part → Finds part stays → GoesOn room (halves_of stays) []
+    → GoesOn room (halves_of part) []
 found_goes room stays part a b d h go =
     let w = are_images part stays h a d in
     alike_goes room part (images part stays h) b w d (zip_images part stays h) (part_goes room stays (images part stays h) a w (λ s i. (of_image part stays h s i).0) go)
@@ -254,7 +267,11 @@ found_goes room stays part a b d h go =
 differ_filter : (p : Stay → Bool) (stays : List Stay) → AllDifferBeforeId stays → AllDifferBeforeId (filter p stays)
 differ_filter p [] d = tt
 differ_filter p (s ∷ stays) d =
-    ⊎_elim (λ t. subst AllDifferBeforeId (sym (filter_yes p s stays t)) (all_from (DifferBeforeId s) (filter p stays) (λ u h. all_in (DifferBeforeId s) stays u d.0 (filter_from p stays u h).0), differ_filter p stays d.1))
+    ⊎_elim (λ t. subst AllDifferBeforeId (sym (filter_yes p s stays t)) (
+      all_from (DifferBeforeId s) (filter p stays)
+          (λ u h. all_in (DifferBeforeId s) stays u d.0 (filter_from p stays u h).0),
+      differ_filter p stays d.1,
+    ))
     (λ t. subst AllDifferBeforeId (sym (filter_no p s stays t)) (differ_filter p stays d.1)) (cases_Bool (p s))
 
 finds_filter : (t : ℕ) (part stays : List Stay) → Finds part stays → Finds (filter (on_track t) part) (filter (on_track t) stays)
@@ -267,9 +284,11 @@ pub finds_from : (part stays : List Stay) → ((s : Stay) → In s part → (t :
 finds_from part stays h s i = let f = h s i in (f.0, f.1, alike_from s f.0 f.2)
 
 -- of all tracks
-pub found_through : (lengths : List ℕ) (stays part : List Stay) → AreStays stays → AreOnTracks lengths stays → AreStays part → AreOnTracks lengths part → AllDifferBeforeId part → Finds part stays → GoesThrough lengths stays → GoesThrough lengths part
+pub found_through : (lengths : List ℕ) (stays part : List Stay) → AreStays stays → AreOnTracks lengths stays → AreStays part → AreOnTracks lengths part → AllDifferBeforeId part
+    → Finds part stays → GoesThrough lengths stays → GoesThrough lengths part
 found_through lengths stays part a on b under d h go =
-    (by_track lengths part b under).1 (λ t. found_goes (get_or lengths t 0) (filter (on_track t) stays) (filter (on_track t) part) (stays_filter (on_track t) stays a) (stays_filter (on_track t) part b) (differ_filter (on_track t) part d) (finds_filter t part stays h) ((by_track lengths stays a on).0 go t))
+    (by_track lengths part b under).1 (λ t. found_goes (get_or lengths t 0) (filter (on_track t) stays) (filter (on_track t) part) (stays_filter (on_track t) stays a)
+    (stays_filter (on_track t) part b) (differ_filter (on_track t) part d) (finds_filter t part stays h) ((by_track lengths stays a on).0 go t))
 
 -- a pair of a zip
 zip_right : (stays others : List Stay) → AllZip SameButId stays others → (t : Stay) → In t others → (s : Stay) × In s stays × SameButId s t
@@ -307,7 +326,8 @@ differ_zip (s ∷ stays) (u ∷ others) z d =
       differ_zip stays others z.1 d.1,
     )
 
-pub zip_through : (lengths : List ℕ) (stays others : List Stay) → AreStays stays → AreOnTracks lengths stays → AreStays others → AreOnTracks lengths others → AllDifferBeforeId stays → AllZip SameButId stays others → GoesThrough lengths stays ↔ GoesThrough lengths others
+pub zip_through : (lengths : List ℕ) (stays others : List Stay) → AreStays stays → AreOnTracks lengths stays → AreStays others → AreOnTracks lengths others
+    → AllDifferBeforeId stays → AllZip SameButId stays others → GoesThrough lengths stays ↔ GoesThrough lengths others
 zip_through lengths stays others a on b under d z = (
   λ go. found_through lengths stays others a on b under (differ_zip stays others z d) (found_back stays others z) go,
   λ go. found_through lengths others stays b under a on d (finds_from stays others (zip_left stays others z)) go,

@@ -57,10 +57,12 @@ module _ (room : ℕ) (stays : List Stay) (c : Stay) (halves : List Half) (st : 
   enter_step = record {
     ascends = w.ascends.1;
     begun = λ s h m k. ⊎_elim (λ e. subst (λ (z : Stay). rank z.enter < at m) (sym e) (after m k)) (λ i. w.begun s i m (inr k)) (put_cases c.side_in c s st h);
-    leaving = λ s h. ⊎_elim (λ e. subst (λ (z : Stay). In (z, false) halves) (sym e) (leave_in c c halves (w.complete c (inl refl)))) (λ i. leave_in s c halves (w.leaving s i)) (put_cases c.side_in c s st h);
+    leaving = λ s h. ⊎_elim (λ e. subst (λ (z : Stay). In (z, false) halves) (sym e) (leave_in c c halves (w.complete c (inl refl)))) (λ i. leave_in s c halves (w.leaving s i))
+        (put_cases c.side_in c s st h);
     distinct = distinct_put c.side_in c st new w.distinct;
     complete = λ s h. leave_in s c halves (w.complete s (inr h));
-    from = λ s h. ⊎_elim (λ i. inl (put_there c.side_in c s st i)) (λ k. ⊎_elim (λ e. inl (subst (λ (z : Stay). In z (put c.side_in c st)) (sym (same s c true true e)) (put_here c.side_in c st))) (λ i. inr i) k) (w.from s (inr h));
+    from = λ s h. ⊎_elim (λ i. inl (put_there c.side_in c s st i)) (λ k. ⊎_elim (λ e. inl
+        (subst (λ (z : Stay). In z (put c.side_in c st)) (sym (same s c true true e)) (put_here c.side_in c st))) (λ i. inr i) k) (w.from s (inr h));
     later = λ s h. w.later s (inr h);
     known = λ s b h. w.known s b (inr h);
     present = λ s h. ⊎_elim (λ e. subst (λ (z : Stay). In z stays) (sym e) (w.known c true (inl refl))) (λ i. w.present s i) (put_cases c.side_in c s st h);
@@ -70,12 +72,14 @@ module _ (room : ℕ) (stays : List Stay) (c : Stay) (halves : List Half) (st : 
 
   -- the load just after the entry
   load_is : total (put c.side_in c st) ≡ total_at stays (rank c.enter)
-  load_is = sum_same length_of (stands_by (rank c.enter)) stays (put c.side_in c st) w.apart enter_step.distinct (λ s. (λ h. (enter_step.present s h, here s h), λ h. back s h.0 h.1))
+  load_is = sum_same length_of (stands_by (rank c.enter)) stays (put c.side_in c st) w.apart enter_step.distinct
+      (λ s. (λ h. (enter_step.present s h, here s h), λ h. back s h.0 h.1))
     where
       here : (s : Stay) → In s (put c.side_in c st) → stands_by (rank c.enter) s ≡ true
       here s h =
           let gone : rank c.enter < rank s.leave = after (s, false) (enter_step.leaving s h) in
-          let come : rank s.enter ≤ rank c.enter = ⊎_elim (λ e. omega (arith, ap (λ (z : Stay). rank z.enter) e)) (λ i. let lt : rank s.enter < rank c.enter = w.begun s i (c, true) (inl refl) in omega arith) (put_cases c.side_in c s st h) in
+          let come : rank s.enter ≤ rank c.enter = ⊎_elim (λ e. omega (arith, ap (λ (z : Stay). rank z.enter) e))
+          (λ i. let lt : rank s.enter < rank c.enter = w.begun s i (c, true) (inl refl) in omega arith) (put_cases c.side_in c s st h) in
           grind (arith, nat_tests)
 
       back : (s : Stay) → In s stays → stands_by (rank c.enter) s ≡ true → In s (put c.side_in c st)
@@ -83,27 +87,35 @@ module _ (room : ℕ) (stays : List Stay) (c : Stay) (halves : List Half) (st : 
           let b = and_parts (leb (rank s.enter) (rank c.enter)) (ltb (rank c.enter) (rank s.leave)) t in
           let come : rank s.enter ≤ rank c.enter = leb-true _ _ b.0 in
           let gone : rank c.enter < rank s.leave = ltb-true _ _ b.1 in
-          ⊎_elim (λ i. ⊎_elim (λ j. put_there c.side_in c s st j) (λ k. ⊎_elim (λ e. subst (λ (z : Stay). In z (put c.side_in c st)) (sym (same s c true true e)) (put_here c.side_in c st)) (λ j. absurd (let gt : rank c.enter < rank s.enter = after (s, true) j in omega arith)) k) (w.from s i))
+          ⊎_elim (λ i. ⊎_elim (λ j. put_there c.side_in c s st j) (λ k. ⊎_elim (λ e. subst (λ (z : Stay). In z (put c.side_in c st)) (sym (same s c true true e))
+          (put_here c.side_in c st)) (λ j. absurd (let gt : rank c.enter < rank s.enter = after (s, true) j in omega arith)) k) (w.from s i))
           (λ k. absurd (let lt : rank s.leave < rank c.enter = k (c, true) (inl refl) in omega arith)) (w.settled s h)
 
   enter_clear : total (put c.side_in c st) ≤ room → Clear room stays halves (put c.side_in c st) → Clear room stays ((c, true) ∷ halves) st
   enter_clear fits k =
       let a = arranged_taken c.side_in c st k.arranged in record {
         arranged = a.0;
-        standing = λ s d h i x. ⊎_elim (λ e. clear_from s c (a.1 s h) (subst (λ (z : Stay). Meets s z) (same d c true true e) x)) (λ j. k.standing s d (put_there c.side_in c s st h) j x) i;
+        standing = λ s d h i x. ⊎_elim (λ e. clear_from s c (a.1 s h) (subst (λ (z : Stay). Meets s z) (same d c true true e) x))
+            (λ j. k.standing s d (put_there c.side_in c s st h) j x) i;
         coming = λ b d h i x. both b d h i x;
         loads = λ b h. ⊎_elim (λ e. omega (arith, load_is, ap (λ (z : Stay). total_at stays (rank z.enter)) (same b c true true e))) (λ i. k.loads b i) h;
       }
     where
       both : (b d : Stay) → In (b, true) ((c, true) ∷ halves) → In (d, true) ((c, true) ∷ halves) → Meets b d → ⊥
-      both b d (inl e) (inl f) x = let lt = x.after in absurd (omega (arith, ap (λ (z : Stay). rank z.enter) (same b c true true e), ap (λ (z : Stay). rank z.enter) (same d c true true f)))
+      both b d (inl e) (inl f) x = let lt = x.after in absurd (omega (
+        arith,
+        ap (λ (z : Stay). rank z.enter) (same b c true true e),
+        ap (λ (z : Stay). rank z.enter) (same d c true true f),
+      ))
       both b d (inl e) (inr j) x = k.standing c d (put_here c.side_in c st) j (subst (λ (z : Stay). Meets z d) (same b c true true e) x)
-      both b d (inr i) (inl f) x = let lt = x.after in let gt : rank c.enter < rank b.enter = after (b, true) i in absurd (omega (arith, ap (λ (z : Stay). rank z.enter) (same d c true true f)))
+      both b d (inr i) (inl f) x = let lt = x.after in let gt : rank c.enter < rank b.enter = after (b, true) i in absurd
+          (omega (arith, ap (λ (z : Stay). rank z.enter) (same d c true true f)))
       both b d (inr i) (inr j) x = k.coming b d i j x
 
   clear_enter : Clear room stays ((c, true) ∷ halves) st → Clear room stays halves (put c.side_in c st)
   clear_enter k = record {
-    arranged = arranged_put c.side_in c st k.arranged (λ s h. fits_from s c (w.begun s h (c, true) (inl refl)) (after (s, false) (leave_in s c halves (w.leaving s h))) (k.standing s c h (inl refl)));
+    arranged = arranged_put c.side_in c st k.arranged (λ s h. fits_from s c (w.begun s h (c, true) (inl refl)) (after (s, false) (leave_in s c halves (w.leaving s h)))
+        (k.standing s c h (inl refl)));
     standing = λ s d h i x. ⊎_elim (λ e. k.coming c d (inl refl) (inr i) (subst (λ (z : Stay). Meets z d) e x)) (λ j. k.standing s d j (inr i) x) (put_cases c.side_in c s st h);
     coming = λ b d h i x. k.coming b d (inr h) (inr i) x;
     loads = λ b h. k.loads b (inr h);
@@ -133,17 +145,20 @@ module _ (room : ℕ) (stays : List Stay) (s : Stay) (halves : List Half) (rest 
     later = λ t h. w.later t (inr h);
     known = λ t b h. w.known t b (inr h);
     present = λ t h. w.present t (put_there s.side_out s t rest h);
-    settled = λ t h. ⊎_elim (λ i. ⊎_elim (λ e. inr (λ m j. subst (λ (z : Stay). rank z.leave < at m) (sym (same t s false false e)) (before m j))) (λ j. inl j) i) (λ k. inr (λ m j. k m (inr j))) (w.settled t h);
+    settled = λ t h. ⊎_elim (λ i. ⊎_elim (λ e. inr (λ m j. subst (λ (z : Stay). rank z.leave < at m) (sym (same t s false false e)) (before m j))) (λ j. inl j) i)
+        (λ k. inr (λ m j. k m (inr j))) (w.settled t h);
     apart = w.apart;
   }
     where
       over : (t : Stay) → In (t, true) halves → t ≡ s → ⊥
-      over t h e = absurd (let gt : rank s.leave < rank t.enter = before (t, true) h in let lt : rank s.enter < rank s.leave = w.later s (inl refl) in omega (arith, ap (λ (z : Stay). rank z.enter) e))
+      over t h e = absurd (let gt : rank s.leave < rank t.enter = before (t, true) h in let lt : rank s.enter < rank s.leave = w.later s (inl refl) in omega
+          (arith, ap (λ (z : Stay). rank z.enter) e))
 
   leave_clear : Clear room stays halves rest → Clear room stays ((s, false) ∷ halves) (put s.side_out s rest)
   leave_clear k = record {
     arranged = arranged_put s.side_out s rest k.arranged (λ t h. leaves_first s t (before (t, false) (still t h)));
-    standing = λ t d h i x. ⊎_elim (λ e. past d (enter_in d s halves i) (subst (λ (z : Stay). Meets z d) e x)) (λ j. k.standing t d j (enter_in d s halves i) x) (put_cases s.side_out s t rest h);
+    standing = λ t d h i x. ⊎_elim (λ e. past d (enter_in d s halves i) (subst (λ (z : Stay). Meets z d) e x)) (λ j. k.standing t d j (enter_in d s halves i) x)
+        (put_cases s.side_out s t rest h);
     coming = λ b d h i x. k.coming b d (enter_in b s halves h) (enter_in d s halves i) x;
     loads = λ b h. k.loads b (enter_in b s halves h);
   }
@@ -160,26 +175,32 @@ module _ (room : ℕ) (stays : List Stay) (s : Stay) (halves : List Half) (rest 
   }
 
 -- who leaves is at the end
-ready : (stays : List Stay) (s : Stay) (halves : List Half) (st : List Stay) → Stands stays ((s, false) ∷ halves) st → Arranged st → (rest : List Stay) × (st ≡ put s.side_out s rest)
+ready : (stays : List Stay) (s : Stay) (halves : List Half) (st : List Stay) → Stands stays ((s, false) ∷ halves) st → Arranged st
+    → (rest : List Stay) × (st ≡ put s.side_out s rest)
 ready stays s halves st w a = at_end s st a w.distinct there first
   where
     there : In s st
-    there = ⊎_elim (λ i. i) (λ k. absurd (let gt : rank s.leave < rank s.enter = all_in (λ n. rank s.leave < at n) halves (s, true) w.ascends.0 (enter_in s s halves k) in let lt : rank s.enter < rank s.leave = w.later s (inl refl) in omega arith)) (w.from s (inl refl))
+    there = ⊎_elim (λ i. i) (λ k. absurd (let gt : rank s.leave < rank s.enter = all_in (λ n. rank s.leave < at n) halves (s, true) w.ascends.0
+        (enter_in s s halves k) in let lt : rank s.enter < rank s.leave = w.later s (inl refl) in omega arith)) (w.from s (inl refl))
 
     first : (t : Stay) → In t st → t ≢ s → rank s.leave < rank t.leave
     first t h ne = ⊎_elim (λ e. absurd (ne (same t s false false e))) (λ i. all_in (λ n. rank s.leave < at n) halves (t, false) w.ascends.0 i) (w.leaving t h)
 
 forward : (room : ℕ) (stays : List Stay) (halves : List Half) (st : List Stay) → Stands stays halves st → GoesOn room halves st → Clear room stays halves st
 forward room stays [] st w go = record { arranged = arranged_none st (λ s h. w.leaving s h); standing = λ s c h i x. i; coming = λ b c h i x. h; loads = λ b h. absurd h }
-forward room stays ((c, true) ∷ halves) st w go = enter_clear room stays c halves st w go.0 (forward room stays halves (put c.side_in c st) (enter_step room stays c halves st w) go.1)
+forward room stays ((c, true) ∷ halves) st w go = enter_clear room stays c halves st w go.0
+    (forward room stays halves (put c.side_in c st) (enter_step room stays c halves st w) go.1)
 forward room stays ((s, false) ∷ halves) st w go =
     let v = subst (Stands stays ((s, false) ∷ halves)) go.1 w in
     subst (Clear room stays ((s, false) ∷ halves)) (sym go.1) (leave_clear room stays s halves go.0 v (forward room stays halves go.0 (leave_step room stays s halves go.0 v) go.2))
 
 backward : (room : ℕ) (stays : List Stay) (halves : List Half) (st : List Stay) → Stands stays halves st → Clear room stays halves st → GoesOn room halves st
 backward room stays [] st w k = tt
-backward room stays ((c, true) ∷ halves) st w k =
-    (omega (arith, load_is room stays c halves st w, k.loads c (inl refl)), backward room stays halves (put c.side_in c st) (enter_step room stays c halves st w) (clear_enter room stays c halves st w k))
+backward room stays ((c, true) ∷ halves) st w k = (
+  omega (arith, load_is room stays c halves st w, k.loads c (inl refl)),
+  backward room stays halves (put c.side_in c st) (enter_step room stays c halves st w)
+      (clear_enter room stays c halves st w k),
+)
 backward room stays ((s, false) ∷ halves) st w k =
     let r = ready stays s halves st w k.arranged in
     let v = subst (Stands stays ((s, false) ∷ halves)) r.1 w in
@@ -204,12 +225,14 @@ start stays halves o = record {
     at_either s true h = (o.enters s).0 h
     at_either s false h = (o.leaves s).0 h
 
-pub goes_clear : (room : ℕ) (stays : List Stay) (halves : List Half) → InKeyOrder stays halves → GoesOn room halves [] → ((b c : Stay) → In b stays → In c stays → Meets b c → ⊥) × ((b : Stay) → In b stays → total_at stays (rank b.enter) ≤ room)
+pub goes_clear : (room : ℕ) (stays : List Stay) (halves : List Half) → InKeyOrder stays halves → GoesOn room halves []
+    → ((b c : Stay) → In b stays → In c stays → Meets b c → ⊥) × ((b : Stay) → In b stays → total_at stays (rank b.enter) ≤ room)
 goes_clear room stays halves o go =
     let k = forward room stays halves [] (start stays halves o) go in
     (λ b c h i x. k.coming b c ((o.enters b).1 h) ((o.enters c).1 i) x, λ b h. k.loads b ((o.enters b).1 h))
 
-pub clear_goes : (room : ℕ) (stays : List Stay) (halves : List Half) → InKeyOrder stays halves → ((b c : Stay) → In b stays → In c stays → Meets b c → ⊥) → ((b : Stay) → In b stays → total_at stays (rank b.enter) ≤ room) → GoesOn room halves []
+pub clear_goes : (room : ℕ) (stays : List Stay) (halves : List Half) → InKeyOrder stays halves → ((b c : Stay) → In b stays → In c stays → Meets b c → ⊥)
+    → ((b : Stay) → In b stays → total_at stays (rank b.enter) ≤ room) → GoesOn room halves []
 clear_goes room stays halves o none over =
     backward room stays halves [] (start stays halves o) (record {
       arranged = tt;

@@ -56,7 +56,8 @@ not_B A h = refl
 not_B B h = absurd (h refl)
 
 -- over plain sides and moments
-fits_clear : (i o so : Side) (lc ls : ℕ) → (i ≡ A → (lc < ls → o ≡ A) × (ls < lc → so ≡ B)) → (i ≡ B → (ls < lc → so ≡ A) × (lc < ls → o ≡ B)) → ((lc < ls) × (o ≢ i)) ⊎ ((ls < lc) × (so ≡ i)) → ⊥
+fits_clear : (i o so : Side) (lc ls : ℕ) → (i ≡ A → (lc < ls → o ≡ A) × (ls < lc → so ≡ B)) → (i ≡ B → (ls < lc → so ≡ A) × (lc < ls → o ≡ B))
+    → ((lc < ls) × (o ≢ i)) ⊎ ((ls < lc) × (so ≡ i)) → ⊥
 fits_clear A o so lc ls a b (inl x) = x.1 ((a refl).0 x.0)
 fits_clear A o so lc ls a b (inr x) = let e : so ≡ B = (a refl).1 x.0 in let f : so ≡ A = x.1 in cc
 fits_clear B o so lc ls a b (inl x) = x.1 ((b refl).1 x.0)
@@ -89,13 +90,15 @@ leaves_first s t lt = leaves_by s.side_out s t refl lt
 differ : (x s : Stay) (st : List Stay) → (In x st → ⊥) → In s st → x ≢ s
 differ x s st new h e = new (subst (λ (z : Stay). In z st) (sym e) h)
 
-first_at : (s : Stay) (st : List Stay) → s.side_out ≡ A → Arranged st → Distinct st → In s st → ((t : Stay) → In t st → t ≢ s → rank s.leave < rank t.leave) → (rest : List Stay) × (st ≡ s ∷ rest)
+first_at : (s : Stay) (st : List Stay) → s.side_out ≡ A → Arranged st → Distinct st → In s st → ((t : Stay) → In t st → t ≢ s → rank s.leave < rank t.leave)
+    → (rest : List Stay) × (st ≡ s ∷ rest)
 first_at s [] o a d h first = absurd h
 first_at s (x ∷ st) o a d (inl e) first = (st, ap (λ (z : Stay). z ∷ st) (sym e))
 first_at s (x ∷ st) o a d (inr h) first =
     let out : s.side_out ≡ B = (a.0 s h).1 (first x (inl refl) (differ x s st d.0 h)) in absurd (let e : s.side_out ≡ A = o in cc)
 
-last_at : (s : Stay) (st : List Stay) → s.side_out ≡ B → Arranged st → Distinct st → In s st → ((t : Stay) → In t st → t ≢ s → rank s.leave < rank t.leave) → (rest : List Stay) × (st ≡ rest ++ s ∷ [])
+last_at : (s : Stay) (st : List Stay) → s.side_out ≡ B → Arranged st → Distinct st → In s st → ((t : Stay) → In t st → t ≢ s → rank s.leave < rank t.leave)
+    → (rest : List Stay) × (st ≡ rest ++ s ∷ [])
 last_at s [] o a d h first = absurd h
 last_at s (x ∷ []) o a d (inl e) first = ([], ap (λ (z : Stay). z ∷ []) (sym e))
 last_at s (x ∷ []) o a d (inr h) first = absurd h
@@ -106,9 +109,11 @@ last_at s (x ∷ y ∷ st) o a d (inl e) first =
 last_at s (x ∷ y ∷ st) o a d (inr h) first =
     let rest = last_at s (y ∷ st) o a.1 d.1 h (λ t k ne. first t (inr k) ne) in (x ∷ rest.0, ap (λ (l : List Stay). x ∷ l) rest.1)
 
-end_by : (side : Side) (s : Stay) (st : List Stay) → s.side_out ≡ side → Arranged st → Distinct st → In s st → ((t : Stay) → In t st → t ≢ s → rank s.leave < rank t.leave) → (rest : List Stay) × (st ≡ put side s rest)
+end_by : (side : Side) (s : Stay) (st : List Stay) → s.side_out ≡ side → Arranged st → Distinct st → In s st → ((t : Stay) → In t st → t ≢ s → rank s.leave < rank t.leave)
+    → (rest : List Stay) × (st ≡ put side s rest)
 end_by A s st o a d h first = first_at s st o a d h first
 end_by B s st o a d h first = last_at s st o a d h first
 
-pub at_end : (s : Stay) (st : List Stay) → Arranged st → Distinct st → In s st → ((t : Stay) → In t st → t ≢ s → rank s.leave < rank t.leave) → (rest : List Stay) × (st ≡ put s.side_out s rest)
+pub at_end : (s : Stay) (st : List Stay) → Arranged st → Distinct st → In s st → ((t : Stay) → In t st → t ≢ s → rank s.leave < rank t.leave)
+    → (rest : List Stay) × (st ≡ put s.side_out s rest)
 at_end s st a d h first = end_by s.side_out s st refl a d h first

@@ -40,10 +40,15 @@ ids_distinct (s ∷ stays) a = (all_from (λ t. same_ids s t ≡ false) stays (�
 from_distinct : (stays : List Stay) → IsDistinct same_ids stays → ((s : Stay) → In s stays → IsWellFormed s) → AreStays stays
 unfolding IsDistinct
 from_distinct [] d w = tt
-from_distinct (s ∷ stays) d w = (w s (inl refl), all_from (λ t. s.id ≢ t.id) stays (λ t h. eqb-false s.id t.id (all_in (λ u. same_ids s u ≡ false) stays t d.0 h)), from_distinct stays d.1 (λ t h. w t (inr h)))
+from_distinct (s ∷ stays) d w = (
+  w s (inl refl),
+  all_from (λ t. s.id ≢ t.id) stays (λ t h. eqb-false s.id t.id (all_in (λ u. same_ids s u ≡ false) stays t d.0 h)),
+  from_distinct stays d.1 (λ t h. w t (inr h)),
+)
 
 pub stays_permuted : (stays others : List Stay) → AreStays stays → IsPermutation stays others → AreStays others
-stays_permuted stays others a p = from_distinct others (IsDistinct-IsPermutation same_ids ids_flip stays others p (ids_distinct stays a)) (λ s h. formed stays s a (of_permuted stays others s p h))
+stays_permuted stays others a p = from_distinct others (IsDistinct-IsPermutation same_ids ids_flip stays others p (ids_distinct stays a))
+    (λ s h. formed stays s a (of_permuted stays others s p h))
 
 pub order_permuted : (stays others : List Stay) → AreStays stays → IsPermutation stays others → in_order stays ≡ in_order others
 order_permuted stays others a p = order_same stays others a (stays_permuted stays others a p) (λ s. (in_permuted stays others s p, of_permuted stays others s p))
@@ -59,7 +64,8 @@ tracks_within lengths stays part on within = tracks_from lengths part (λ s h. o
 of_moves : (stays : List Stay) (m : Move) → In m (moves_of stays) → (h : Half) × In h.0 stays × (m ≡ move_of h)
 of_moves [] m h = absurd h
 of_moves (s ∷ stays) m h =
-    ⊎_elim (λ i. first i) (λ i. let r = of_moves stays m i in (r.0, inr r.1, r.2)) (in_cases (entry_of s ∷ leave_of s ∷ []) (moves_of stays) m (subst (In m) (flat_map-cons (λ (z : Stay). entry_of z ∷ leave_of z ∷ []) s stays) h))
+    ⊎_elim (λ i. first i) (λ i. let r = of_moves stays m i in (r.0, inr r.1, r.2))
+    (in_cases (entry_of s ∷ leave_of s ∷ []) (moves_of stays) m (subst (In m) (flat_map-cons (λ (z : Stay). entry_of z ∷ leave_of z ∷ []) s stays) h))
   where
     first : In m (entry_of s ∷ leave_of s ∷ []) → (h : Half) × In h.0 (s ∷ stays) × (m ≡ move_of h)
     first (inl e) = ((s, true), inl refl, e)
@@ -103,7 +109,8 @@ ranks_flip : (m n : Move) → same_rank m n ≡ same_rank n m
 ranks_flip m n = grind (arith, nat_tests)
 
 -- an event of a stay, and one of a stay with another id
-ranks_apart : (s : Stay) (stays : List Stay) (h : Half) (n : Move) → IsWellFormed s → AreStays stays → AllByRecursion (λ t. s.id ≢ t.id) stays → h.0 ≡ s → In n (moves_of stays) → same_rank (move_of h) n ≡ false
+ranks_apart : (s : Stay) (stays : List Stay) (h : Half) (n : Move) → IsWellFormed s → AreStays stays → AllByRecursion (λ t. s.id ≢ t.id) stays → h.0 ≡ s → In n (moves_of stays)
+    → same_rank (move_of h) n ≡ false
 ranks_apart s stays h n w a d e i =
     let r = of_moves stays n i in
     let k = key_in h (subst IsWellFormed (sym e) w) in
@@ -116,7 +123,10 @@ unfolding IsDistinct
 distinct_moves [] a = tt
 distinct_moves (s ∷ stays) a =
     subst (IsDistinct same_rank) (sym (flat_map-cons (λ (z : Stay). entry_of z ∷ leave_of z ∷ []) s stays)) (
-      (ne_eqb (rank s.enter) (rank s.leave) (λ f. absurd (let lt = later_rank s a.0 in omega arith)), all_from (λ n. same_rank (entry_of s) n ≡ false) (moves_of stays) (λ n h. ranks_apart s stays (s, true) n a.0 a.2 a.1 refl h)),
+      (
+        ne_eqb (rank s.enter) (rank s.leave) (λ f. absurd (let lt = later_rank s a.0 in omega arith)),
+        all_from (λ n. same_rank (entry_of s) n ≡ false) (moves_of stays) (λ n h. ranks_apart s stays (s, true) n a.0 a.2 a.1 refl h),
+      ),
       (all_from (λ n. same_rank (leave_of s) n ≡ false) (moves_of stays) (λ n h. ranks_apart s stays (s, false) n a.0 a.2 a.1 refl h), distinct_moves stays a.2),
     )
 
@@ -124,23 +134,29 @@ abbrev by_key : Move → Move → Ordering
 by_key m n = key_cmp m.key n.key
 
 sorted_tail : (m : Move) (moves : List Move) → IsSorted by_key (m ∷ moves) → IsSorted by_key moves
-sorted_tail m moves s = λ k e low high. subst (λ i. is_lt (by_key (get_or (m ∷ moves) i e) (get_or moves k e)) ≡ false) (let f : suc k + 1 ≡ suc (k + 1) = omega arith in f) (s (suc k) e (omega arith) (omega arith))
+sorted_tail m moves s = λ k e low high. subst (λ i. is_lt (by_key (get_or (m ∷ moves) i e) (get_or moves k e)) ≡ false) (let f : suc k + 1 ≡ suc (k + 1) = omega arith in f)
+    (s (suc k) e (omega arith) (omega arith))
 
 ascends_sorted : (moves : List Move) → IsSorted by_key moves → IsDistinct same_rank moves → ((m : Move) → In m moves → IsKey m.key) → Ascends when moves
 unfolding IsDistinct
 ascends_sorted [] s d q = tt
 ascends_sorted (m ∷ []) s d q = (tt, tt)
 ascends_sorted (m ∷ n ∷ moves) s d q =
-    let le : when m ≤ when n = ge_from_not_lt (when n) (when m) (ap is_lt (sym (key_cmp_is n.key m.key (q n (inr (inl refl))) (q m (inl refl)))) ∙ s 0 m (omega arith) (omega arith)) in
+    let le : when m ≤ when n = ge_from_not_lt (when n) (when m) (ap is_lt (sym (key_cmp_is n.key m.key (q n (inr (inl refl))) (q m (inl refl))))
+    ∙ s 0 m (omega arith) (omega arith)) in
     let ne = eqb-false (when m) (when n) d.0.0 in
     let lt : when m < when n = ⊎_elim (λ x. x) (λ x. absurd (ne (omega arith))) (cases_lt (when m) (when n)) in
-    let rest = ascends_sorted (n ∷ moves) (sorted_tail m (n ∷ moves) s) d.1 (λ x h. q x (inr h)) in
-    (all_from (λ x. when m < when x) (n ∷ moves) (λ x h. ⊎_elim (λ f. omega (arith, ap when f)) (λ i. let gt : when n < when x = all_in (λ y. when n < when y) moves x rest.0 i in omega arith) h), rest)
+    let rest = ascends_sorted (n ∷ moves) (sorted_tail m (n ∷ moves) s) d.1 (λ x h. q x (inr h)) in (
+      all_from (λ x. when m < when x) (n ∷ moves) (λ x h. ⊎_elim (λ f. omega (arith, ap when f))
+          (λ i. let gt : when n < when x = all_in (λ y. when n < when y) moves x rest.0 i in omega arith) h),
+      rest,
+    )
 
 -- any sort of the entries and leaves gives the events in key order
 pub sorted_is : (stays : List Stay) (moves : List Move) → AreStays stays → IsPermutation (moves_of stays) moves → IsSorted by_key moves → moves ≡ in_order stays
 sorted_is stays moves a p s =
-    unique when moves (map move_of (halves_of stays)) (ascends_sorted moves s (IsDistinct-IsPermutation same_rank ranks_flip (moves_of stays) moves p (distinct_moves stays a)) (λ m h. keyed m h)) (ascends_map (halves_of stays) (ordered stays a).ascends) (λ m. (λ h. to m h, λ h. from m h)) ∙ sym (in_order_is stays a)
+    unique when moves (map move_of (halves_of stays)) (ascends_sorted moves s (IsDistinct-IsPermutation same_rank ranks_flip (moves_of stays) moves p (distinct_moves stays a))
+    (λ m h. keyed m h)) (ascends_map (halves_of stays) (ordered stays a).ascends) (λ m. (λ h. to m h, λ h. from m h)) ∙ sym (in_order_is stays a)
   where
     was : (m : Move) → In m moves → (h : Half) × In h.0 stays × (m ≡ move_of h)
     was m h = of_moves stays m (of_permuted (moves_of stays) moves m p h)
@@ -152,4 +168,5 @@ sorted_is stays moves a p s =
     to m h = let r = was m h in subst (λ (z : Move). In z (map move_of (halves_of stays))) (sym r.2) (in_map move_of (halves_of stays) r.0 (half_in stays r.0 r.1))
 
     from : (m : Move) → In m (map move_of (halves_of stays)) → In m moves
-    from m h = let r = of_map move_of (halves_of stays) m h in subst (λ (z : Move). In z moves) (sym r.2) (in_permuted (moves_of stays) moves (move_of r.0) p (to_moves stays r.0 (of_stay stays r.0 r.1)))
+    from m h = let r = of_map move_of (halves_of stays) m h in subst (λ (z : Move). In z moves) (sym r.2)
+        (in_permuted (moves_of stays) moves (move_of r.0) p (to_moves stays r.0 (of_stay stays r.0 r.1)))

@@ -24,7 +24,8 @@ none_done (Err e) = refl
 abbrev one_more : Move → List Standing → Through → Through
 one_more m blocks t = record t { steps = (m, load blocks) ∷ t.steps }
 
-regroup : (done : List (Move × ℕ)) (m : Move) (blocks : List Standing) (r : Result Through Stop) → after_steps done (r >>= (λ t. Ok (one_more m blocks t))) ≡ after_steps (done ++ (m, load blocks) ∷ []) r
+regroup : (done : List (Move × ℕ)) (m : Move) (blocks : List Standing) (r : Result Through Stop)
+    → after_steps done (r >>= (λ t. Ok (one_more m blocks t))) ≡ after_steps (done ++ (m, load blocks) ∷ []) r
 regroup done m blocks (Ok t) = ap (λ (l : List (Move × ℕ)). Ok (record t { steps = l })) (append_one done (m, load blocks) t.steps)
 regroup done m blocks (Err e) = refl
 
@@ -32,19 +33,22 @@ abbrev first_of : List ℕ → Move → List (List Standing) → Result (List St
 first_of lengths m tracks = moved (get_or lengths m.track.0 0) m (get_or tracks m.track.0 [])
 
 -- a move that can be done is one more step
-pub step_done : (lengths : List ℕ) (done : List (Move × ℕ)) (m : Move) (moves : List Move) (tracks : List (List Standing)) (blocks : List Standing) → moved (get_or lengths m.track.0 0) m (get_or tracks m.track.0 []) ≡ Ok blocks
+pub step_done : (lengths : List ℕ) (done : List (Move × ℕ)) (m : Move) (moves : List Move) (tracks : List (List Standing)) (blocks : List Standing)
+    → moved (get_or lengths m.track.0 0) m (get_or tracks m.track.0 []) ≡ Ok blocks
     → after_steps done (run lengths (m ∷ moves) tracks) ≡ after_steps (done ++ (m, load blocks) ∷ []) (run lengths moves (set tracks m.track.0 blocks))
 step_done lengths done m moves tracks blocks e =
     ap (λ (r : Result (List Standing) Stop). after_steps done (r >>= (λ bs. run lengths moves (set tracks m.track.0 bs) >>= (λ t. Ok (one_more m bs t))))) e
     ∙ regroup done m blocks (run lengths moves (set tracks m.track.0 blocks))
 
 -- one that can't be done is the end
-pub step_stops : (lengths : List ℕ) (done : List (Move × ℕ)) (m : Move) (moves : List Move) (tracks : List (List Standing)) (e : Stop) → moved (get_or lengths m.track.0 0) m (get_or tracks m.track.0 []) ≡ Err e
+pub step_stops : (lengths : List ℕ) (done : List (Move × ℕ)) (m : Move) (moves : List Move) (tracks : List (List Standing)) (e : Stop)
+    → moved (get_or lengths m.track.0 0) m (get_or tracks m.track.0 []) ≡ Err e
     → after_steps done (run lengths (m ∷ moves) tracks) ≡ Err e
 step_stops lengths done m moves tracks stop e =
     ap (λ (r : Result (List Standing) Stop). after_steps done (r >>= (λ bs. run lengths moves (set tracks m.track.0 bs) >>= (λ t. Ok (one_more m bs t))))) e
 
-pub all_done : (lengths : List ℕ) (done : List (Move × ℕ)) (tracks : List (List Standing)) → after_steps done (run lengths [] tracks) ≡ Ok (record { steps = done; tracks = tracks })
+pub all_done : (lengths : List ℕ) (done : List (Move × ℕ)) (tracks : List (List Standing))
+    → after_steps done (run lengths [] tracks) ≡ Ok (record { steps = done; tracks = tracks })
 all_done lengths done tracks = ap (λ (l : List (Move × ℕ)). Ok (record { steps = l; tracks = tracks })) (end done)
   where
     end : (l : List (Move × ℕ)) → l ++ [] ≡ l
@@ -63,8 +67,10 @@ leaves_is room m blocks e = ap (λ b. cond b (entered room m (put_in m blocks)) 
 
 entered_was : (room : ℕ) (m : Move) (blocks after : List Standing) → entered room m blocks ≡ Ok after → (after ≡ blocks) × (load blocks ≤ room)
 entered_was room m blocks after e =
-    ⊎_elim (λ t. let f : ◌≡◌ {A = Result (List Standing) Stop} (Ok blocks) (Ok after) = sym (ap (λ b. cond b (Ok blocks) (Err (Over m (load blocks)))) t) ∙ e in (cc, leb-true (load blocks) room t))
-    (λ t. absurd (let f : ◌≡◌ {A = Result (List Standing) Stop} (Err (Over m (load blocks))) (Ok after) = sym (ap (λ b. cond b (Ok blocks) (Err (Over m (load blocks)))) t) ∙ e in cc)) (cases_Bool (leb (load blocks) room))
+    ⊎_elim (λ t. let f : ◌≡◌ {A = Result (List Standing) Stop} (Ok blocks) (Ok after) = sym (ap (λ b. cond b (Ok blocks) (Err (Over m (load blocks)))) t)
+    ∙ e in (cc, leb-true (load blocks) room t))
+    (λ t. absurd (let f : ◌≡◌ {A = Result (List Standing) Stop} (Err (Over m (load blocks))) (Ok after) = sym (ap (λ b. cond b (Ok blocks) (Err (Over m (load blocks)))) t)
+    ∙ e in cc)) (cases_Bool (leb (load blocks) room))
 
 left_was : (m : Move) (o : Option (List Standing)) (after : List Standing) → left m o ≡ Ok after → o ≡ Some after
 left_was m None after e = absurd (cc)
@@ -82,21 +88,26 @@ length_put B x xs = omega (arith, length-append xs (x ∷ []))
 pub load_kept : (room : ℕ) (m : Move) (blocks after : List Standing) → moved room m blocks ≡ Ok after → load blocks ≤ room → load after ≤ room
 load_kept room m blocks after e le =
     ⊎_elim (λ t. let w = entered_was room m (put_in m blocks) after (sym (enters_is room m blocks t) ∙ e) in let f = w.1 in omega (arith, ap load w.0))
-    (λ t. let w = without_was m.side m.key.id blocks after (left_was m (without m.side m.key.id blocks) after (sym (leaves_is room m blocks t) ∙ e)) in omega (arith, ap load w.2, load_put m.side w.0 after)) (cases_Bool m.key.enters)
+    (λ t. let w = without_was m.side m.key.id blocks after (left_was m (without m.side m.key.id blocks) after (sym (leaves_is room m blocks t) ∙ e)) in omega
+    (arith, ap load w.2, load_put m.side w.0 after)) (cases_Bool m.key.enters)
 
 -- one block more or less
-count_moved : (room : ℕ) (m : Move) (blocks after : List Standing) → moved room m blocks ≡ Ok after → length after + cond (not m.key.enters) 1 0 ≡ length blocks + cond m.key.enters 1 0
+count_moved : (room : ℕ) (m : Move) (blocks after : List Standing) → moved room m blocks ≡ Ok after
+    → length after + cond (not m.key.enters) 1 0 ≡ length blocks + cond m.key.enters 1 0
 count_moved room m blocks after e =
     ⊎_elim (λ t. let w = entered_was room m (put_in m blocks) after (sym (enters_is room m blocks t) ∙ e) in
-    subst (λ b. length after + cond (not b) 1 0 ≡ length blocks + cond b 1 0) (sym t) (omega (arith, ap (λ (l : List Standing). length l) w.0, length_put m.side (record { id = m.key.id; length = m.length }) blocks)))
+    subst (λ b. length after + cond (not b) 1 0 ≡ length blocks + cond b 1 0) (sym t)
+    (omega (arith, ap (λ (l : List Standing). length l) w.0, length_put m.side (record { id = m.key.id; length = m.length }) blocks)))
     (λ t. let w = without_was m.side m.key.id blocks after (left_was m (without m.side m.key.id blocks) after (sym (leaves_is room m blocks t) ∙ e)) in
-    subst (λ b. length after + cond (not b) 1 0 ≡ length blocks + cond b 1 0) (sym t) (omega (arith, ap (λ (l : List Standing). length l) w.2, length_put m.side w.0 after))) (cases_Bool m.key.enters)
+    subst (λ b. length after + cond (not b) 1 0 ≡ length blocks + cond b 1 0) (sym t) (omega (arith, ap (λ (l : List Standing). length l) w.2, length_put m.side w.0 after)))
+    (cases_Bool m.key.enters)
 
 ok_was : (r : Result Through Stop) (f : Through → Through) (t : Through) → (r >>= (λ x. Ok (f x))) ≡ Ok t → (x : Through) × (r ≡ Ok x) × (t ≡ f x)
 ok_was (Ok x) f t e = (x, refl, cc)
 ok_was (Err stop) f t e = absurd (cc)
 
-first_was : (r : Result (List Standing) Stop) (f : List Standing → Result Through Stop) (t : Through) → (r >>= f) ≡ Ok t → (blocks : List Standing) × (r ≡ Ok blocks) × (f blocks ≡ Ok t)
+first_was : (r : Result (List Standing) Stop) (f : List Standing → Result Through Stop) (t : Through) → (r >>= f) ≡ Ok t
+    → (blocks : List Standing) × (r ≡ Ok blocks) × (f blocks ≡ Ok t)
 first_was (Ok blocks) f t e = (blocks, refl, e)
 first_was (Err stop) f t e = absurd (cc)
 
@@ -106,7 +117,8 @@ pub record Leaves (moves : List Move) (tracks : List (List Standing)) (t : Throu
   pub sizes : length t.tracks ≡ length tracks
   pub count : blocks_on t.tracks + leaves_in moves ≡ blocks_on tracks + entries_in moves
 
-pub run_leaves : (lengths : List ℕ) (moves : List Move) (tracks : List (List Standing)) (t : Through) → ((m : Move) → In m moves → m.track.0 < length tracks) → run lengths moves tracks ≡ Ok t → Leaves moves tracks t
+pub run_leaves : (lengths : List ℕ) (moves : List Move) (tracks : List (List Standing)) (t : Through) → ((m : Move) → In m moves → m.track.0 < length tracks)
+    → run lengths moves tracks ≡ Ok t → Leaves moves tracks t
 run_leaves lengths [] tracks t ins e =
     let f : ◌≡◌ {A = Through} (record { steps = []; tracks = tracks }) t = cc in
     subst (Leaves [] tracks) f (record { steps = refl; sizes = refl; count = refl })
@@ -118,14 +130,22 @@ run_leaves lengths (m ∷ moves) tracks t ins e =
     subst (Leaves (m ∷ moves) tracks) (sym r.2) (record {
       steps = ap (λ (l : List Move). m ∷ l) rest.steps;
       sizes = rest.sizes ∙ length-set tracks m.track.0 f.0;
-      count = (let c = rest.count in omega (arith, count_moved (get_or lengths m.track.0 0) m (get_or tracks m.track.0 []) f.0 f.1, sum_by-set (λ (bs : List Standing). length bs) tracks m.track.0 f.0 [] lt, sum_by-cons (λ (n : Move). cond n.key.enters 1 0) m moves, sum_by-cons (λ (n : Move). cond (not n.key.enters) 1 0) m moves));
+      count = (let c = rest.count in omega (
+        arith,
+        count_moved (get_or lengths m.track.0 0) m (get_or tracks m.track.0 []) f.0 f.1,
+        sum_by-set (λ (bs : List Standing). length bs) tracks m.track.0 f.0 [] lt,
+        sum_by-cons (λ (n : Move). cond n.key.enters 1 0) m moves,
+        sum_by-cons (λ (n : Move). cond (not n.key.enters) 1 0) m moves,
+      ));
     })
 
 -- what a run sees of a move decides what it does
 seen_ok : (room : ℕ) (m : Move) (blocks after : List Standing) → moved room m blocks ≡ Ok after ↔ moved room (seen m) blocks ≡ Ok after
 seen_ok room m blocks after = ⊎_elim (λ t. (
-  λ e. let w = entered_was room m (put_in m blocks) after (sym (enters_is room m blocks t) ∙ e) in enters_is room (seen m) blocks t ∙ fits (seen m) w.1 ∙ ap (λ (l : List Standing). Ok l) (sym w.0),
-  λ e. let w = entered_was room (seen m) (put_in m blocks) after (sym (enters_is room (seen m) blocks t) ∙ e) in enters_is room m blocks t ∙ fits m w.1 ∙ ap (λ (l : List Standing). Ok l) (sym w.0),
+  λ e. let w = entered_was room m (put_in m blocks) after (sym (enters_is room m blocks t) ∙ e) in enters_is room (seen m) blocks t ∙ fits (seen m) w.1
+      ∙ ap (λ (l : List Standing). Ok l) (sym w.0),
+  λ e. let w = entered_was room (seen m) (put_in m blocks) after (sym (enters_is room (seen m) blocks t) ∙ e) in enters_is room m blocks t ∙ fits m w.1
+      ∙ ap (λ (l : List Standing). Ok l) (sym w.0),
 )) (λ t. (
   λ e. leaves_is room (seen m) blocks t ∙ ap (left (seen m)) (left_was m (without m.side m.key.id blocks) after (sym (leaves_is room m blocks t) ∙ e)),
   λ e. leaves_is room m blocks t ∙ ap (left m) (left_was (seen m) (without m.side m.key.id blocks) after (sym (leaves_is room (seen m) blocks t) ∙ e)),
@@ -139,11 +159,14 @@ run_seen lengths [] tracks = (λ h. h, λ h. h)
 run_seen lengths (m ∷ moves) tracks = (
   λ h. let f = run_first lengths m moves tracks h in
       let rest = (run_ok lengths m moves tracks f.0 f.1).0 h in
-      (run_ok lengths (seen m) (map seen moves) tracks f.0 ((seen_ok (get_or lengths m.track.0 0) m (get_or tracks m.track.0 []) f.0).0 f.1)).1 ((run_seen lengths moves (set tracks m.track.0 f.0)).0 rest),
+      (run_ok lengths (seen m) (map seen moves) tracks f.0 ((seen_ok (get_or lengths m.track.0 0) m (get_or tracks m.track.0 []) f.0).0 f.1)).1
+      ((run_seen lengths moves (set tracks m.track.0 f.0)).0 rest),
   λ h. let f = run_first lengths (seen m) (map seen moves) tracks h in
       let rest = (run_ok lengths (seen m) (map seen moves) tracks f.0 f.1).0 h in
-      (run_ok lengths m moves tracks f.0 ((seen_ok (get_or lengths m.track.0 0) m (get_or tracks m.track.0 []) f.0).1 f.1)).1 ((run_seen lengths moves (set tracks m.track.0 f.0)).1 rest),
+      (run_ok lengths m moves tracks f.0 ((seen_ok (get_or lengths m.track.0 0) m (get_or tracks m.track.0 []) f.0).1 f.1)).1
+      ((run_seen lengths moves (set tracks m.track.0 f.0)).1 rest),
 )
 
-pub seen_alike : (lengths : List ℕ) (moves others : List Move) (tracks : List (List Standing)) → map seen moves ≡ map seen others → IsOk (run lengths moves tracks) → IsOk (run lengths others tracks)
+pub seen_alike : (lengths : List ℕ) (moves others : List Move) (tracks : List (List Standing)) → map seen moves ≡ map seen others → IsOk (run lengths moves tracks)
+    → IsOk (run lengths others tracks)
 seen_alike lengths moves others tracks e h = (run_seen lengths others tracks).1 (subst (λ (l : List Move). IsOk (run lengths l tracks)) e ((run_seen lengths moves tracks).0 h))

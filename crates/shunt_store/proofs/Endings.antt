@@ -33,7 +33,8 @@ pub one_behind : (name target : List ℕ) (n : ℕ) → name ≡ target ++ part_
 one_behind name target n e = ap (λ x. x ++ codes ".part") e ∙ append_assoc target (part_endings n) (codes ".part") ∙ ap (λ x. target ++ x) (sym (last n))
 
 -- what is left of a name with more endings ends so too
-left : (name rest front : List ℕ) (many m : ℕ) → name ≡ rest ++ part_endings many → name ≡ front ++ part_endings ((m + 1) + many) → rest ≡ (front ++ part_endings m) ++ codes ".part"
+left : (name rest front : List ℕ) (many m : ℕ) → name ≡ rest ++ part_endings many → name ≡ front ++ part_endings ((m + 1) + many)
+    → rest ≡ (front ++ part_endings m) ++ codes ".part"
 left name rest front many m e f =
     append_cancel_right rest (front ++ part_endings (m + 1)) (part_endings many)
     (sym e ∙ f ∙ ap (λ x. front ++ x) (all_of (m + 1) many) ∙ sym (append_assoc front (part_endings (m + 1)) (part_endings many)))
@@ -41,7 +42,8 @@ left name rest front many m e f =
     ∙ sym (append_assoc front (part_endings m) (codes ".part"))
 
 -- there are no more than were found
-pub no_more : (name rest : List ℕ) (many : ℕ) → name ≡ rest ++ part_endings many → ((front : List ℕ) → rest ≢ front ++ codes ".part") → (n : ℕ) → EndsWith name (part_endings n) → n ≤ many
+pub no_more : (name rest : List ℕ) (many : ℕ) → name ≡ rest ++ part_endings many → ((front : List ℕ) → rest ≢ front ++ codes ".part") → (n : ℕ) → EndsWith name (part_endings n)
+    → n ≤ many
 no_more name rest many e never n (front, f) =
     ⊎_elim (λ less.
     let k : n ≡ ((n - many - 1) + 1) + many = omega (arith, less) in

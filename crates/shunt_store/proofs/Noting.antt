@@ -33,7 +33,8 @@ pub heard_more : (o p q : Option Entries) (bytes buffer rest new : List ℕ) (n 
     → BothTold o p (λ old now. now ≡ add_last bytes old) → BothTold p q (λ old now. now ≡ add_last (take n buffer) old) → n ≤ length buffer → new ≡ bytes ++ take n (buffer ++ rest)
     → BothTold o q (λ old now. now ≡ add_last new old)
 heard_more o p q bytes buffer rest new n r s within made =
-    both_then _ _ _ o p q r s (λ a b c e f. f ∙ ap (add_last (take n buffer)) e ∙ add_twice bytes (take n buffer) a ∙ ap (λ t. add_last t a) (sym (made ∙ ap (λ t. bytes ++ t) (take-append-le n buffer rest within))))
+    both_then _ _ _ o p q r s (λ a b c e f. f ∙ ap (add_last (take n buffer)) e ∙ add_twice bytes (take n buffer) a
+    ∙ ap (λ t. add_last t a) (sym (made ∙ ap (λ t. bytes ++ t) (take-append-le n buffer rest within))))
 
 -- the last piece had no bytes
 pub heard_end : (o p q : Option Entries) (bytes buffer : List ℕ) (n : ℕ)
@@ -49,17 +50,21 @@ first_opened told now name stage n o p same is h =
     subst (λ t. BothTold o p (AddsLast (AreFirst t name n))) same (subst (λ s. BothTold o p (AddsLast (AreFirst now (name_of s) n))) is h)
 
 -- some bytes were heard of the next piece too
-pub heard_on : (o p q : Option Entries) (bytes piece : List ℕ) → BothTold o p (λ old now. now ≡ add_last bytes old) → BothTold p q (λ old now. now ≡ add_last piece old) → BothTold o q (AddsLast (λ text. Unit {0}))
+pub heard_on : (o p q : Option Entries) (bytes piece : List ℕ) → BothTold o p (λ old now. now ≡ add_last bytes old) → BothTold p q (λ old now. now ≡ add_last piece old)
+    → BothTold o q (AddsLast (λ text. Unit {0}))
 heard_on o p q bytes piece r s = both_then _ _ _ o p q r s (λ a b c e f. (bytes ++ piece, tt, f ∙ ap (add_last piece) e ∙ add_twice bytes piece a))
 
 -- a name was begun, and then bytes of it were heard
-pub heard_whole : (o p q : Option Entries) (name text : List ℕ) → BothTold o p (λ old now. now ≡ old ++ (name, []) ∷ []) → BothTold p q (λ old now. now ≡ add_last text old) → BothTold o q (λ old now. now ≡ old ++ (name, text) ∷ [])
+pub heard_whole : (o p q : Option Entries) (name text : List ℕ) → BothTold o p (λ old now. now ≡ old ++ (name, []) ∷ []) → BothTold p q (λ old now. now ≡ add_last text old)
+    → BothTold o q (λ old now. now ≡ old ++ (name, text) ∷ [])
 heard_whole o p q name text r s = both_then _ _ _ o p q r s (λ a b c e f. f ∙ ap (add_last text) e ∙ add_begun name text a)
 
-pub heard_part : (P : List ℕ → Type 0) (o p q : Option Entries) (name : List ℕ) → BothTold o p (λ old now. now ≡ old ++ (name, []) ∷ []) → BothTold p q (AddsLast P) → BothTold o q (Adds name P)
+pub heard_part : (P : List ℕ → Type 0) (o p q : Option Entries) (name : List ℕ) → BothTold o p (λ old now. now ≡ old ++ (name, []) ∷ []) → BothTold p q (AddsLast P)
+    → BothTold o q (Adds name P)
 heard_part P o p q name r s = both_then _ _ _ o p q r s (λ a b c e f. (f.0, f.1, f.2 ∙ ap (add_last f.0) e ∙ add_begun name f.0 a))
 
-pub heard_any : (o p q : Option Entries) (name : List ℕ) → BothTold o p (λ old now. now ≡ old ++ (name, []) ∷ []) → BothTold p q (AddsLast (λ text. Unit {0})) → BothTold o q (AddsSome name)
+pub heard_any : (o p q : Option Entries) (name : List ℕ) → BothTold o p (λ old now. now ≡ old ++ (name, []) ∷ []) → BothTold p q (AddsLast (λ text. Unit {0}))
+    → BothTold o q (AddsSome name)
 heard_any o p q name r s = both_map _ _ o q (heard_part (λ text. Unit {0}) o p q name r s) (λ a b e. inr e)
 
 -- the same after a closing, at which nothing is heard
@@ -69,8 +74,10 @@ pub closed_whole : {V E : Type 0} (f : V → List ℕ) (r : Result V E) (o p q s
 closed_whole f (Err e) o p q s name begun heard same = tt
 closed_whole f (Ok v) o p q s name begun heard same = subst (λ x. BothTold o x (λ old now. now ≡ old ++ (name, f v) ∷ [])) (sym same) (heard_whole o p q name (f v) begun heard)
 
-pub closed_part : (P : List ℕ → Type 0) (o p q s : Option Entries) (name : List ℕ) → BothTold o p (λ old now. now ≡ old ++ (name, []) ∷ []) → BothTold p q (AddsLast P) → s ≡ q → BothTold o s (Adds name P)
+pub closed_part : (P : List ℕ → Type 0) (o p q s : Option Entries) (name : List ℕ) → BothTold o p (λ old now. now ≡ old ++ (name, []) ∷ []) → BothTold p q (AddsLast P) → s ≡ q
+    → BothTold o s (Adds name P)
 closed_part P o p q s name begun heard same = subst (λ x. BothTold o x (Adds name P)) (sym same) (heard_part P o p q name begun heard)
 
-pub closed_any : (o p q s : Option Entries) (name : List ℕ) → BothTold o p (λ old now. now ≡ old ++ (name, []) ∷ []) → BothTold p q (AddsLast (λ text. Unit {0})) → s ≡ q → BothTold o s (AddsSome name)
+pub closed_any : (o p q s : Option Entries) (name : List ℕ) → BothTold o p (λ old now. now ≡ old ++ (name, []) ∷ []) → BothTold p q (AddsLast (λ text. Unit {0})) → s ≡ q
+    → BothTold o s (AddsSome name)
 closed_any o p q s name begun heard same = subst (λ x. BothTold o x (AddsSome name)) (sym same) (heard_any o p q name begun heard)

@@ -32,19 +32,22 @@ Lacks name files = All (λ f. f.name.items ≢ name) files
 find_none : (files : List File) (name : List ℕ) → Lacks name files → find (slice_cmp nat_cmp) name (map entry files) ≡ None
 find_none [] name lacks = refl
 find_none (f ∷ files) name lacks =
-    ap (λ b. cond b (Some f.bytes.items) (find (slice_cmp nat_cmp) name (map entry files))) (differs name f.name.items (λ e. All-head (λ f. f.name.items ≢ name) f files lacks (sym e)))
+    ap (λ b. cond b (Some f.bytes.items) (find (slice_cmp nat_cmp) name (map entry files)))
+    (differs name f.name.items (λ e. All-head (λ f. f.name.items ≢ name) f files lacks (sym e)))
     ∙ find_none files name (All-tail (λ f. f.name.items ≢ name) f files lacks)
 
 pub named : (q name : List ℕ) → at_name q name ≡ true → q ≡ name
 named q name e = (bytes_eq-Decides q name).0 (sym (is_eq-slice_cmp q name) ∙ e)
 
-find_there : (files : List File) (i : ℕ) (f : File) (name : List ℕ) → Lacks name (take i files) → i < length files → f ≡ get_or files i f → f.name.items ≡ name → find (slice_cmp nat_cmp) name (map entry files) ≡ Some f.bytes.items
+find_there : (files : List File) (i : ℕ) (f : File) (name : List ℕ) → Lacks name (take i files) → i < length files → f ≡ get_or files i f → f.name.items ≡ name
+    → find (slice_cmp nat_cmp) name (map entry files) ≡ Some f.bytes.items
 find_there [] i f name lacks lt is here = absurd (omega arith)
 find_there (g ∷ files) zero f name lacks lt is here =
     ap (λ b. cond b (Some g.bytes.items) (find (slice_cmp nat_cmp) name (map entry files))) (equals name g.name.items (sym here ∙ ap (λ (x : File). x.name.items) is))
     ∙ ap (λ (x : File). Some x.bytes.items) (sym is)
 find_there (g ∷ files) (suc i) f name lacks lt is here =
-    ap (λ b. cond b (Some g.bytes.items) (find (slice_cmp nat_cmp) name (map entry files))) (differs name g.name.items (λ e. All-head (λ f. f.name.items ≢ name) g (take i files) lacks (sym e)))
+    ap (λ b. cond b (Some g.bytes.items) (find (slice_cmp nat_cmp) name (map entry files)))
+    (differs name g.name.items (λ e. All-head (λ f. f.name.items ≢ name) g (take i files) lacks (sym e)))
     ∙ find_there files i f name (All-tail (λ f. f.name.items ≢ name) g (take i files) lacks) (omega arith) is here
 
 pub once : {V : Type 0} (b : Bool) (x y z : V) → cond b x z ≡ cond b x (cond b y z)
@@ -57,7 +60,8 @@ apart true false x y z h = refl
 apart false true x y z h = refl
 apart false false x y z h = refl
 
-find_set : (files : List File) (i : ℕ) (f : File) (name q : List ℕ) → Lacks name (take i files) → i < length files → ((d : File) → (get_or files i d).name.items ≡ name) → f.name.items ≡ name
+find_set : (files : List File) (i : ℕ) (f : File) (name q : List ℕ) → Lacks name (take i files) → i < length files → ((d : File) → (get_or files i d).name.items ≡ name)
+    → f.name.items ≡ name
     → find (slice_cmp nat_cmp) q (map entry (set files i f)) ≡ cond (at_name q name) (Some f.bytes.items) (find (slice_cmp nat_cmp) q (map entry files))
 find_set [] i f name q lacks lt at here = absurd (omega arith)
 find_set (g ∷ files) zero f name q lacks lt at here =
@@ -76,14 +80,17 @@ same_names = slice_cmp-IsAntisymmetric nat_cmp-IsAntisymmetric
 pub absent : (files : List File) (name : List ℕ) → Lacks name files → get (files_of files) name ≡ None
 absent files name lacks = get-from_entries nat_list_cmp_total (map entry files) name ∙ find_none files name lacks
 
-pub there : (files : List File) (i : ℕ) (f : File) (name : List ℕ) → Lacks name (take i files) → i < length files → f ≡ get_or files i f → f.name.items ≡ name → get (files_of files) name ≡ Some f.bytes.items
+pub there : (files : List File) (i : ℕ) (f : File) (name : List ℕ) → Lacks name (take i files) → i < length files → f ≡ get_or files i f → f.name.items ≡ name
+    → get (files_of files) name ≡ Some f.bytes.items
 there files i f name lacks lt is here = get-from_entries nat_list_cmp_total (map entry files) name ∙ find_there files i f name lacks lt is here
 
 -- one file's bytes change
-pub changed : (files : List File) (i : ℕ) (f : File) (name : List ℕ) → Lacks name (take i files) → i < length files → ((d : File) → (get_or files i d).name.items ≡ name) → f.name.items ≡ name → files_of (set files i f) ≡ insert (files_of files) name f.bytes.items
+pub changed : (files : List File) (i : ℕ) (f : File) (name : List ℕ) → Lacks name (take i files) → i < length files → ((d : File) → (get_or files i d).name.items ≡ name)
+    → f.name.items ≡ name → files_of (set files i f) ≡ insert (files_of files) name f.bytes.items
 changed files i f name lacks lt at here = same_map nat_list_cmp_total same_names _ _ (λ q.
     get-from_entries nat_list_cmp_total (map entry (set files i f)) q ∙ find_set files i f name q lacks lt at here
-    ∙ sym (get-insert nat_list_cmp_total (files_of files) name f.bytes.items q ∙ ap (cond (at_name q name) (Some f.bytes.items)) (get-from_entries nat_list_cmp_total (map entry files) q)))
+    ∙ sym (get-insert nat_list_cmp_total (files_of files) name f.bytes.items q ∙ ap (cond (at_name q name) (Some f.bytes.items))
+    (get-from_entries nat_list_cmp_total (map entry files) q)))
 
 -- a file comes
 pub pushed : (files : List File) (f : File) (name : List ℕ) → Lacks name files → f.name.items ≡ name → files_of (files ++ f ∷ []) ≡ insert (files_of files) name f.bytes.items
@@ -97,13 +104,15 @@ same_entries (g ∷ files) zero f lt at = ap (λ (e : List ℕ × List ℕ). e �
 same_entries (g ∷ files) (suc i) f lt at = ap (λ (es : List (List ℕ × List ℕ)). entry g ∷ es) (same_entries files i f (omega arith) at)
 
 -- a file's room may change, and the files are the same
-pub unchanged : (files : List File) (i : ℕ) (f was : File) → i < length files → was ≡ get_or files i was → was.name.items ≡ f.name.items → was.bytes.items ≡ f.bytes.items → files_of (set files i f) ≡ files_of files
+pub unchanged : (files : List File) (i : ℕ) (f was : File) → i < length files → was ≡ get_or files i was → was.name.items ≡ f.name.items → was.bytes.items ≡ f.bytes.items
+    → files_of (set files i f) ≡ files_of files
 unchanged files i f was lt is name bytes =
     ap from_entries (same_entries files i f lt (λ d. ap entry (get_or_default files i d was lt ∙ sym is) ∙ ap (λ n. (n, was.bytes.items)) name ∙ ap (λ b. (f.name.items, b)) bytes))
 
 -- bytes are appended to the first file of a name
 pub appended : (files : List File) (i : ℕ) (f was : File) (name piece : List ℕ) → Lacks name (take i files) → i < length files → ((d : File) → (get_or files i d).name.items ≡ name)
-    → was ≡ get_or files i was → f.name.items ≡ was.name.items → f.bytes.items ≡ was.bytes.items ++ piece → files_of (set files i f) ≡ insert (files_of files) name (content (files_of files) name ++ piece)
+    → was ≡ get_or files i was → f.name.items ≡ was.name.items → f.bytes.items ≡ was.bytes.items ++ piece
+    → files_of (set files i f) ≡ insert (files_of files) name (content (files_of files) name ++ piece)
 appended files i f was name piece lacks lt at is same_name more =
     let here : was.name.items ≡ name = ap (λ (x : File). x.name.items) is ∙ at was in
     changed files i f name lacks lt at (same_name ∙ here)
@@ -138,7 +147,8 @@ pub name_there : (files : List File) (i : ℕ) (d : File) → i < length files �
 name_there files i d lt = sym (get_or-map (λ (f : File). f.name.items) files i d [] lt)
 
 -- where a search stopped
-pub placed : (files : List File) (i : ℕ) (name : List ℕ) → i < length files → Lacks name (take i files) → ((d : File) → i < length files → (get_or files i d).name.items ≡ name) → IsPlaceOf files name i
+pub placed : (files : List File) (i : ℕ) (name : List ℕ) → i < length files → Lacks name (take i files) → ((d : File) → i < length files → (get_or files i d).name.items ≡ name)
+    → IsPlaceOf files name i
 placed [] i name lt lacks at = absurd (omega arith)
 placed (f ∷ files) i name lt lacks at = record { within = lt; here = sym (name_there (f ∷ files) i f lt) ∙ at f lt; before = lacks }
 
@@ -171,5 +181,7 @@ behind files f name lacks here =
       before = rw (take-append_seam files (f ∷ [])) lacks;
     }
 
-pub pushed_there : (files new : List File) (f : File) (name : List ℕ) (n : ℕ) → Lacks name files → new ≡ files ++ f ∷ [] → f.name.items ≡ name → n ≡ length files → IsPlaceOf new name n
-pushed_there files new f name n lacks is here last = subst (λ fs. IsPlaceOf fs name n) (sym is) (subst (IsPlaceOf (files ++ f ∷ []) name) (sym last) (behind files f name lacks here))
+pub pushed_there : (files new : List File) (f : File) (name : List ℕ) (n : ℕ) → Lacks name files → new ≡ files ++ f ∷ [] → f.name.items ≡ name → n ≡ length files
+    → IsPlaceOf new name n
+pushed_there files new f name n lacks is here last = subst (λ fs. IsPlaceOf fs name n) (sym is)
+    (subst (IsPlaceOf (files ++ f ∷ []) name) (sym last) (behind files f name lacks here))

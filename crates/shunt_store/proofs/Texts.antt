@@ -30,7 +30,8 @@ both_same T o p same step = subst (λ q. BothTold o q T) (sym same) (at o)
     at (Some a) = step a
 
 more : (text old new newer : List ℕ) (at n : ℕ) → new ≡ old ++ take at text → newer ≡ new ++ take n (drop at text) → newer ≡ old ++ take (at + n) text
-more text old new newer at n a b = b ∙ ap (λ x. x ++ take n (drop at text)) a ∙ append_assoc old (take at text) (take n (drop at text)) ∙ ap (λ x. old ++ x) (sym (take-add at n text))
+more text old new newer at n a b = b ∙ ap (λ x. x ++ take n (drop at text)) a ∙ append_assoc old (take at text) (take n (drop at text))
+    ∙ ap (λ x. old ++ x) (sym (take-add at n text))
 
 -- what `&text[at..]` is
 abbrev pub tail : List ℕ → ℕ → List ℕ
@@ -39,17 +40,22 @@ tail text at = take (length text - at) (drop at text)
 tail_is : (text : List ℕ) (at : ℕ) → tail text at ≡ drop at text
 tail_is text at = take_all (length text - at) (drop at text) (omega (arith, length-drop at text))
 
-pub told_more : (text : List ℕ) (at n : ℕ) (o p q : Option (List ℕ)) → BothTold o p (λ old new. new ≡ old ++ take at text) → BothTold p q (λ old new. new ≡ old ++ take n (tail text at)) → BothTold o q (λ old new. new ≡ old ++ take (at + n) text)
+pub told_more : (text : List ℕ) (at n : ℕ) (o p q : Option (List ℕ)) → BothTold o p (λ old new. new ≡ old ++ take at text)
+    → BothTold p q (λ old new. new ≡ old ++ take n (tail text at)) → BothTold o q (λ old new. new ≡ old ++ take (at + n) text)
 told_more text at n o p q r s = both_then _ _ _ o p q r (subst (λ x. BothTold p q (λ old new. new ≡ old ++ take n x)) (tail_is text at) s) (λ a b c. more text a b c at n)
 
-pub told_whole : (text : List ℕ) (at : ℕ) (o p : Option (List ℕ)) → length text ≤ at → BothTold o p (λ old new. new ≡ old ++ take at text) → BothTold o p (λ old new. new ≡ old ++ text)
+pub told_whole : (text : List ℕ) (at : ℕ) (o p : Option (List ℕ)) → length text ≤ at → BothTold o p (λ old new. new ≡ old ++ take at text)
+    → BothTold o p (λ old new. new ≡ old ++ text)
 told_whole text at o p le r = subst (λ x. BothTold o p (λ old new. new ≡ old ++ x)) (take_all at text le) r
 
-pub told_front : (text : List ℕ) (at : ℕ) (o p q : Option (List ℕ)) → at ≤ length text → BothTold o p (λ old new. new ≡ old ++ take at text) → BothTold p q (AddsFront (tail text at)) → BothTold o q (AddsFront text)
-told_front text at o p q le r s = both_then _ _ _ o p q r (subst (λ x. BothTold p q (AddsFront x)) (tail_is text at) s) (λ a b c e f. (at + f.0, omega (arith, f.1, length-drop at text, le), more text a b c at f.0 e f.2))
+pub told_front : (text : List ℕ) (at : ℕ) (o p q : Option (List ℕ)) → at ≤ length text → BothTold o p (λ old new. new ≡ old ++ take at text)
+    → BothTold p q (AddsFront (tail text at)) → BothTold o q (AddsFront text)
+told_front text at o p q le r s = both_then _ _ _ o p q r (subst (λ x. BothTold p q (AddsFront x)) (tail_is text at) s)
+    (λ a b c e f. (at + f.0, omega (arith, f.1, length-drop at text, le), more text a b c at f.0 e f.2))
 
 -- what is written, after one piece more
-pub written_more : (text : List ℕ) (at n : ℕ) (o p q : Stage) → p ≡ Writing (name_of o) (text_of o ++ take at text) → q ≡ Writing (name_of p) (text_of p ++ take n (tail text at)) → q ≡ Writing (name_of o) (text_of o ++ take (at + n) text)
+pub written_more : (text : List ℕ) (at n : ℕ) (o p q : Stage) → p ≡ Writing (name_of o) (text_of o ++ take at text) → q ≡ Writing (name_of p) (text_of p ++ take n (tail text at))
+    → q ≡ Writing (name_of o) (text_of o ++ take (at + n) text)
 written_more text at n o p q e f =
     f
     ∙ ap (λ s. Writing (name_of s) (text_of s ++ take n (tail text at))) e

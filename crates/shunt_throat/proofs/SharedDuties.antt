@@ -12,8 +12,10 @@ use Rattle.shunt_drivers.specs.defs.Shared.{IsFewest}
 use Rattle.shunt_report.specs.defs.DriversTexts.{sharing_of}
 
 -- what the answer holds
-pub shared_as : (file : List ℕ) (x : Sharable) (duties : List Duty) (drivers : ℕ) (busy : Option ℕ) (written told : List ℕ) (writes : List (List ℕ × List ℕ)) → IsFewest x.night x.crew (moves_of x.night x.plan.blocks) duties drivers busy → IsRoster (moves_of x.night x.plan.blocks) duties
-    → written ≡ text_of_rows (roster_rows duties) → writes ≡ (file, written) ∷ [] → told ≡ sharing_of duties drivers busy → IsShared file x (record { outcome = outcome.Done; writes = writes; text = told })
+pub shared_as : (file : List ℕ) (x : Sharable) (duties : List Duty) (drivers : ℕ) (busy : Option ℕ) (written told : List ℕ) (writes : List (List ℕ × List ℕ))
+    → IsFewest x.night x.crew (moves_of x.night x.plan.blocks) duties drivers busy → IsRoster (moves_of x.night x.plan.blocks) duties
+    → written ≡ text_of_rows (roster_rows duties) → writes ≡ (file, written) ∷ [] → told ≡ sharing_of duties drivers busy
+    → IsShared file x (record { outcome = outcome.Done; writes = writes; text = told })
 shared_as file x duties drivers busy written told writes fewest roster rows one text = record {
   duties = duties;
   drivers = drivers;

@@ -76,7 +76,8 @@ module _ (stays : List Stay) (x : Stay) (es : List Event) (a : AreStays (x ∷ s
     }
 
 -- what stands before a place
-pub level_is : (stays : List Stay) (t : ℕ) (es : List Event) (a : AreStays stays) (k : IsKept stays t es) (m : EventKey) (q : IsKey m) (n : ℕ) (p : IsPlace es m n) → ((e : Event) → In e es → at e ≢ rank m)
+pub level_is : (stays : List Stay) (t : ℕ) (es : List Event) (a : AreStays stays) (k : IsKept stays t es) (m : EventKey) (q : IsKey m) (n : ℕ) (p : IsPlace es m n)
+    → ((e : Event) → In e es → at e ≢ rank m)
     → (s l : ℕ) → (n ≡ 0 → (s ≡ 0) × (l ≡ 0)) → ((d : Event) → 0 < n → (s ≡ (get_or es (n - 1) d).standing) × (l ≡ (get_or es (n - 1) d).load))
     → (s ≡ count_by (stands_at t m) stays) × (l ≡ load_at stays t m)
 level_is stays t [] a k m q n p ne s l first later =
@@ -92,7 +93,8 @@ level_is stays t (d ∷ ds) a k m q n p ne s l first later = ⊎_elim
     (λ e. let f = later d (omega arith) in
     let back : (n - 1) + 1 ≡ n = omega arith in
     let b = p.bound in
-    let r = level_later stays t (take n (d ∷ ds)) (drop n (d ∷ ds)) a joined m q p.before strict (take (n - 1) (d ∷ ds)) (get_or (d ∷ ds) (n - 1) d) (ap (λ j. take j (d ∷ ds)) (sym back) ∙ take_more (d ∷ ds) (n - 1) d (omega arith)) in
+    let r = level_later stays t (take n (d ∷ ds)) (drop n (d ∷ ds)) a joined m q p.before strict (take (n - 1) (d ∷ ds)) (get_or (d ∷ ds) (n - 1) d)
+    (ap (λ j. take j (d ∷ ds)) (sym back) ∙ take_more (d ∷ ds) (n - 1) d (omega arith)) in
     (f.0 ∙ sym r.0, f.1 ∙ sym r.1))
     (cases_eq n 0)
   where
@@ -110,7 +112,8 @@ put_back from to A M C es new en le order la lm is made =
     let rest : drop from es ≡ M ++ C = ap (drop from) is ∙ drop_at A (M ++ C) from la in
     let mid : take (to - from) (drop from es) ≡ M = ap (take (to - from)) rest ∙ take_at M C (to - from) lm in
     let back : drop to es ≡ C = sym (dropped_twice from to es order) ∙ ap (drop (to - from)) rest ∙ drop_at M C (to - from) lm in
-    made ∙ ap (λ l. l ++ (en ∷ (take (to - from) (drop from es) ++ (le ∷ drop to es)))) front ∙ ap (λ l. A ++ (en ∷ (l ++ (le ∷ drop to es)))) mid ∙ ap (λ l. A ++ (en ∷ (M ++ (le ∷ l)))) back
+    made ∙ ap (λ l. l ++ (en ∷ (take (to - from) (drop from es) ++ (le ∷ drop to es)))) front ∙ ap (λ l. A ++ (en ∷ (l ++ (le ∷ drop to es)))) mid
+    ∙ ap (λ l. A ++ (en ∷ (M ++ (le ∷ l)))) back
 
 -- an entry and a leave of x with these numbers
 pub record IsEntry (x : Stay) (s l own : ℕ) (e : Event) : Type 0 where
@@ -138,7 +141,8 @@ module _ (stays : List Stay) (x : Stay) (a : AreStays (x ∷ stays)) where
   has_gone : stands_at x.track.0 x.leave x ≡ false
   has_gone = no_more x w x.track.0 refl x.leave w.leave_in (omega arith)
 
-  pub entry_kept : (s l own : ℕ) (e : Event) → IsEntry x s l own e → s ≡ count_by (stands_at x.track.0 x.enter) stays → l ≡ load_at stays x.track.0 x.enter → own ≡ count_by (λ b. crosses b x) stays → IsKeptAt (x ∷ stays) x.track.0 e
+  pub entry_kept : (s l own : ℕ) (e : Event) → IsEntry x s l own e → s ≡ count_by (stands_at x.track.0 x.enter) stays → l ≡ load_at stays x.track.0 x.enter
+      → own ≡ count_by (λ b. crosses b x) stays → IsKeptAt (x ∷ stays) x.track.0 e
   entry_kept s l own e i es el eo =
       let key : key_of e ≡ x.enter = entry_at e i.is.kind ∙ ap (λ (z : Stay). z.enter) i.is.stay in record {
         stay = inl i.is.stay;
@@ -158,7 +162,8 @@ module _ (stays : List Stay) (x : Stay) (a : AreStays (x ∷ stays)) where
             i.load ∙ sym all ∙ ap (λ z. load_at (x ∷ stays) x.track.0 z) (sym key);
       }
 
-  pub leave_kept : (s l : ℕ) (e : Event) → IsLeave x s l e → s ≡ count_by (stands_at x.track.0 x.leave) stays → l ≡ load_at stays x.track.0 x.leave → IsKeptAt (x ∷ stays) x.track.0 e
+  pub leave_kept : (s l : ℕ) (e : Event) → IsLeave x s l e → s ≡ count_by (stands_at x.track.0 x.leave) stays → l ≡ load_at stays x.track.0 x.leave
+      → IsKeptAt (x ∷ stays) x.track.0 e
   leave_kept s l e i es el =
       let key : key_of e ≡ x.leave = leave_at e i.is.kind ∙ ap (λ (z : Stay). z.leave) i.is.stay in record {
         stay = inl i.is.stay;

@@ -67,7 +67,10 @@ module _ (stays : List Stay) (t : ℕ) (D E : List Event) (a : AreStays stays) (
     (before : (e : Event) → In e D → at e < rank m) (after : (e : Event) → In e E → rank m < at e) where
   -- none stands before the first event
   pub level_first : D ≡ [] → (count_by (stands_at t m) stays ≡ 0) × (load_at stays t m ≡ 0)
-  level_first empty = (sum_zero (λ s. flag (stands_at t m s)) stays (λ s h. ap flag (gone s h)), sum_zero (λ s. cond (stands_at t m s) s.length 0) stays (λ s h. ap (λ b. cond b s.length 0) (gone s h)))
+  level_first empty = (
+    sum_zero (λ s. flag (stands_at t m s)) stays (λ s h. ap flag (gone s h)),
+    sum_zero (λ s. cond (stands_at t m s) s.length 0) stays (λ s h. ap (λ b. cond b s.length 0) (gone s h)),
+  )
     where
       all_after : (e : Event) → In e (D ++ E) → rank m < at e
       all_after e h = after e (subst (λ (l : List Event). In e (l ++ E)) empty h)
@@ -81,7 +84,8 @@ module _ (stays : List Stay) (t : ℕ) (D E : List Event) (a : AreStays stays) (
   pub level_later : (front : List Event) (p : Event) → D ≡ front ++ p ∷ [] → (count_by (stands_at t m) stays ≡ p.standing) × (load_at stays t m ≡ p.load)
   level_later front p is = (
     sum_alike (λ s. flag (stands_at t m s)) (λ s. flag (stands_at t (key_of p) s)) stays (λ s h. ap flag (same s h)) ∙ sym (k.each p here).standing,
-    sum_alike (λ s. cond (stands_at t m s) s.length 0) (λ s. cond (stands_at t (key_of p) s) s.length 0) stays (λ s h. ap (λ b. cond b s.length 0) (same s h)) ∙ sym (k.each p here).load,
+    sum_alike (λ s. cond (stands_at t m s) s.length 0) (λ s. cond (stands_at t (key_of p) s) s.length 0) stays (λ s h. ap (λ b. cond b s.length 0) (same s h))
+        ∙ sym (k.each p here).load,
   )
     where
       last : In p D
@@ -108,6 +112,7 @@ module _ (stays : List Stay) (t : ℕ) (D E : List Event) (a : AreStays stays) (
           let l = has_leave stays t (D ++ E) a k s h on in
           let w = formed stays s a h in
           stands_is t m s q w
-          ∙ ap (λ b. eqb s.track.0 t && b) (sym (alike (rank s.enter) (rank s.leave) (rank m) (at p) (moved (rank s.enter) r.0 r.3 (side r.0 r.1)) (moved (rank s.leave) l.0 l.3 (side l.0 l.1)) (before p last)))
+          ∙ ap (λ b. eqb s.track.0 t && b) (sym (alike (rank s.enter) (rank s.leave) (rank m) (at p) (moved (rank s.enter) r.0 r.3 (side r.0 r.1))
+          (moved (rank s.leave) l.0 l.3 (side l.0 l.1)) (before p last)))
           ∙ sym (stands_is t (key_of p) s (key_in p (formed_at stays t (D ++ E) a k p here)) w))
           (λ off. off_track t m s off ∙ sym (off_track t (key_of p) s off)) (cases_eq s.track.0 t)

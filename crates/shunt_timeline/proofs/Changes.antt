@@ -30,16 +30,20 @@ inside m s = leb (rank s.enter) m && ltb m (rank s.leave)
 
 pub stands_is : (t : ℕ) (k : EventKey) (s : Stay) → IsKey k → IsWellFormed s → stands_at t k s ≡ (eqb s.track.0 t && inside (rank k) s)
 stands_is t k s q w =
-    ap (λ x. eqb s.track.0 t && (x && key_before k s.leave)) (ap is_le (key_cmp_is s.enter k w.enter_in q) ∙ le_is (rank s.enter) (rank k)) ∙ ap (λ x. eqb s.track.0 t && (leb (rank s.enter) (rank k) && x)) (before_is k s.leave q w.leave_in)
+    ap (λ x. eqb s.track.0 t && (x && key_before k s.leave)) (ap is_le (key_cmp_is s.enter k w.enter_in q) ∙ le_is (rank s.enter) (rank k))
+    ∙ ap (λ x. eqb s.track.0 t && (leb (rank s.enter) (rank k) && x)) (before_is k s.leave q w.leave_in)
 
-pub crosses_ranks : (b c : Stay) → IsWellFormed b → IsWellFormed c → crosses b c ≡ (eqb b.track.0 c.track.0 && met (rank b.enter) (rank b.leave) (rank c.enter) (rank c.leave) (same_side c.side_out c.side_in) (same_side b.side_out c.side_in))
+pub crosses_ranks : (b c : Stay) → IsWellFormed b → IsWellFormed c → crosses b c ≡
+    (eqb b.track.0 c.track.0 && met (rank b.enter) (rank b.leave) (rank c.enter) (rank c.leave) (same_side c.side_out c.side_in) (same_side b.side_out c.side_in))
 crosses_ranks b c w v =
     let o = same_side c.side_out c.side_in in
     let p = same_side b.side_out c.side_in in
     ap (λ x. eqb b.track.0 c.track.0 && (x && (key_before c.enter b.leave && in_the_way b c))) (before_is b.enter c.enter w.enter_in v.enter_in)
     ∙ ap (λ x. eqb b.track.0 c.track.0 && (ltb (rank b.enter) (rank c.enter) && (x && in_the_way b c))) (before_is c.enter b.leave v.enter_in w.leave_in)
-    ∙ ap (λ x. eqb b.track.0 c.track.0 && (ltb (rank b.enter) (rank c.enter) && (ltb (rank c.enter) (rank b.leave) && ((x && not o) || (key_before b.leave c.leave && p))))) (before_is c.leave b.leave v.leave_in w.leave_in)
-    ∙ ap (λ x. eqb b.track.0 c.track.0 && (ltb (rank b.enter) (rank c.enter) && (ltb (rank c.enter) (rank b.leave) && ((ltb (rank c.leave) (rank b.leave) && not o) || (x && p))))) (before_is b.leave c.leave w.leave_in v.leave_in)
+    ∙ ap (λ x. eqb b.track.0 c.track.0 && (ltb (rank b.enter) (rank c.enter) && (ltb (rank c.enter) (rank b.leave) && ((x && not o) || (key_before b.leave c.leave && p)))))
+    (before_is c.leave b.leave v.leave_in w.leave_in)
+    ∙ ap (λ x. eqb b.track.0 c.track.0 && (ltb (rank b.enter) (rank c.enter) && (ltb (rank c.enter) (rank b.leave) && ((ltb (rank c.leave) (rank b.leave) && not o) || (x && p)))))
+    (before_is b.leave c.leave w.leave_in v.leave_in)
 
 -- the key of an entry and of a leave
 pub entry_at : (e : Event) → e.enters ≡ true → key_of e ≡ e.stay.enter
@@ -91,7 +95,8 @@ early : (be bl xe xl : ℕ) (o p : Bool) → xe ≤ be → met be bl xe xl o p �
 early be bl xe xl o p le = ap (λ y. y && (ltb xe bl && ((ltb xl bl && not o) || (ltb bl xl && p)))) (let f : ltb be xe ≡ false = grind (arith, nat_tests) in f)
 
 late : (be bl xe xl : ℕ) (o p : Bool) → bl ≤ xe → met be bl xe xl o p ≡ false
-late be bl xe xl o p le = ap (λ y. ltb be xe && (y && ((ltb xl bl && not o) || (ltb bl xl && p)))) (let f : ltb xe bl ≡ false = grind (arith, nat_tests) in f) ∙ and_false (ltb be xe)
+late be bl xe xl o p le = ap (λ y. ltb be xe && (y && ((ltb xl bl && not o) || (ltb bl xl && p)))) (let f : ltb xe bl ≡ false = grind (arith, nat_tests) in f)
+    ∙ and_false (ltb be xe)
   where
     and_false : (b : Bool) → (b && false) ≡ false
     and_false true = refl
@@ -103,10 +108,12 @@ and_false false = refl
 
 -- who comes before x isn't crossed by it, nor is who comes once x has left
 pub crossed_not_yet : (x s : Stay) → IsWellFormed x → IsWellFormed s → rank s.enter ≤ rank x.enter → crosses x s ≡ false
-crossed_not_yet x s w v le = crosses_ranks x s w v ∙ ap (λ y. eqb x.track.0 s.track.0 && y) (early (rank x.enter) (rank x.leave) (rank s.enter) (rank s.leave) _ _ le) ∙ and_false (eqb x.track.0 s.track.0)
+crossed_not_yet x s w v le = crosses_ranks x s w v ∙ ap (λ y. eqb x.track.0 s.track.0 && y) (early (rank x.enter) (rank x.leave) (rank s.enter) (rank s.leave) _ _ le)
+    ∙ and_false (eqb x.track.0 s.track.0)
 
 pub crossed_no_more : (x s : Stay) → IsWellFormed x → IsWellFormed s → rank x.leave ≤ rank s.enter → crosses x s ≡ false
-crossed_no_more x s w v le = crosses_ranks x s w v ∙ ap (λ y. eqb x.track.0 s.track.0 && y) (late (rank x.enter) (rank x.leave) (rank s.enter) (rank s.leave) _ _ le) ∙ and_false (eqb x.track.0 s.track.0)
+crossed_no_more x s w v le = crosses_ranks x s w v ∙ ap (λ y. eqb x.track.0 s.track.0 && y) (late (rank x.enter) (rank x.leave) (rank s.enter) (rank s.leave) _ _ le)
+    ∙ and_false (eqb x.track.0 s.track.0)
 
 -- counts and loads with one stay more
 pub count_one : (p : Stay → Bool) (x : Stay) (stays : List Stay) → count_by p (x ∷ stays) ≡ flag (p x) + count_by p stays

@@ -40,7 +40,8 @@ cond_zero false n e = e
 
 -- what no stay off the track adds to
 pub sum_on_all : (t : ℕ) (f : Stay → ℕ) (stays : List Stay) → ((s : Stay) → In s stays → s.track.0 ≢ t → f s ≡ 0) → sum_on t f stays ≡ sum_by f stays
-sum_on_all t f stays none = sum_alike (λ s. cond (eqb s.track.0 t) (f s) 0) f stays (λ s h. ⊎_elim (λ e. ap (λ b. cond b (f s) 0) (eq-eqb s.track.0 t e)) (λ ne. zero_cond (eqb s.track.0 t) (f s) (none s h ne) ∙ sym (none s h ne)) (cases_eq s.track.0 t))
+sum_on_all t f stays none = sum_alike (λ s. cond (eqb s.track.0 t) (f s) 0) f stays
+    (λ s h. ⊎_elim (λ e. ap (λ b. cond b (f s) 0) (eq-eqb s.track.0 t e)) (λ ne. zero_cond (eqb s.track.0 t) (f s) (none s h ne) ∙ sym (none s h ne)) (cases_eq s.track.0 t))
 
 pub sum_parts : (g : Event → ℕ) (A B C : List Event) → sum_by g (A ++ (B ++ C)) ≡ sum_by g A + (sum_by g B + sum_by g C)
 sum_parts g A B C = omega (arith, sum_by-append g A (B ++ C), sum_by-append g B C)
@@ -97,7 +98,8 @@ module _ (stays : List Stay) (x : Stay) (A B C : List Event) (c : Cut stays x A 
   pub crossed_is : count_by (is_crossed x) B ≡ count_by (crosses x) stays
   crossed_is =
       sum_alike (λ e. flag (is_crossed x e)) (λ e. cond e.enters (flag (crosses x e.stay)) 0) B (λ e h. and_flag e.enters (crosses x e.stay))
-      ∙ sym (window (λ e. cond e.enters (flag (crosses x e.stay)) 0) (λ e h. entry_none e _ (λ t. ap flag (early_entry e h t))) (λ e h. entry_none e _ (λ t. ap flag (late_entry e h t))))
+      ∙ sym (window (λ e. cond e.enters (flag (crosses x e.stay)) 0) (λ e h. entry_none e _ (λ t. ap flag (early_entry e h t)))
+      (λ e h. entry_none e _ (λ t. ap flag (late_entry e h t))))
       ∙ c.kept.entries (λ s. flag (crosses x s))
       ∙ sum_on_all x.track.0 (λ s. flag (crosses x s)) stays (λ s h ne. ap flag (off_crossing x s (λ e. ne (sym e))))
 
@@ -108,7 +110,8 @@ module _ (stays : List Stay) (x : Stay) (A B C : List Event) (c : Cut stays x A 
       let first : pairs_in (x ∷ stays) ≡ f x + sum_by f stays = sum_by-cons f x stays in
       let own : f x ≡ flag (crosses x x) + count_by (crosses x) stays = count_one (crosses x) x stays in
       let none : flag (crosses x x) ≡ 0 = ap flag (not_itself x wx) in
-      let rest : sum_by f stays ≡ sum_by (λ b. flag (crosses b x)) stays + sum_by (λ b. count_by (crosses b) stays) stays = sum_plus (λ b. flag (crosses b x)) (λ b. count_by (crosses b) stays) f stays (λ b h. count_one (crosses b) x stays) in
+      let rest : sum_by f stays ≡ sum_by (λ b. flag (crosses b x)) stays + sum_by (λ b. count_by (crosses b) stays) stays = sum_plus (λ b. flag (crosses b x))
+      (λ b. count_by (crosses b) stays) f stays (λ b h. count_one (crosses b) x stays) in
       omega (arith, crossed_is)
 
   -- x stands at the events of B alone
@@ -140,37 +143,49 @@ module _ (stays : List Stay) (x : Stay) (A B C : List Event) (c : Cut stays x A 
   gets_is room e h t =
       let k = c.kept.each e (inB e h) in
       let old : e.load ≡ load_after stays e.stay = k.load ∙ ap (λ z. load_at stays x.track.0 z) (entry_at e t) ∙ ap (λ n. load_at stays n e.stay.enter) (sym (on_t e (inB e h))) in
-      let new : e.load + x.length ≡ load_after (x ∷ stays) e.stay = let w : load_after (x ∷ stays) e.stay ≡ x.length + load_after stays e.stay = load_of e.stay ∙ ap (λ b. cond b x.length 0 + load_after stays e.stay) (at_entry e (inB e h) t true (keyB e h)) in omega arith in
-      ap (λ b. flag (b && (leb e.load room && ltb room (e.load + x.length)))) t ∙ ap (λ n. flag (leb n room && ltb room (e.load + x.length))) old ∙ ap (λ n. flag (leb (load_after stays e.stay) room && ltb room n)) new
+      let new : e.load + x.length ≡ load_after (x ∷ stays) e.stay = let w : load_after (x ∷ stays) e.stay ≡ x.length + load_after stays e.stay = load_of e.stay
+      ∙ ap (λ b. cond b x.length 0 + load_after stays e.stay) (at_entry e (inB e h) t true (keyB e h)) in omega arith in
+      ap (λ b. flag (b && (leb e.load room && ltb room (e.load + x.length)))) t ∙ ap (λ n. flag (leb n room && ltb room (e.load + x.length))) old
+      ∙ ap (λ n. flag (leb (load_after stays e.stay) room && ltb room n)) new
 
   gets_at : (room : ℕ) (e : Event) → In e B → flag (gets_over x room e) ≡ cond e.enters (flag (pushed room e.stay)) 0
-  gets_at room e h = ⊎_elim (λ t. gets_is room e h t ∙ sym (ap (λ b. cond b (flag (pushed room e.stay)) 0) t)) (λ t. ap (λ b. flag (b && (leb e.load room && ltb room (e.load + x.length)))) t ∙ sym (ap (λ b. cond b (flag (pushed room e.stay)) 0) t)) (cases_Bool e.enters)
+  gets_at room e h = ⊎_elim (λ t. gets_is room e h t ∙ sym (ap (λ b. cond b (flag (pushed room e.stay)) 0) t))
+      (λ t. ap (λ b. flag (b && (leb e.load room && ltb room (e.load + x.length)))) t ∙ sym (ap (λ b. cond b (flag (pushed room e.stay)) 0) t)) (cases_Bool e.enters)
 
   pub over_is : (room : ℕ) → count_by (gets_over x room) B ≡ sum_on x.track.0 (λ s. flag (pushed room s)) stays
   over_is room =
       sum_alike (λ e. flag (gets_over x room e)) (λ e. cond e.enters (flag (pushed room e.stay)) 0) B (λ e h. gets_at room e h)
-      ∙ sym (window (λ e. cond e.enters (flag (pushed room e.stay)) 0) (λ e h. entry_none e _ (λ t. ap flag (unpushed room e.stay (at_entry e (inA e h) t false (keyA e h))))) (λ e h. entry_none e _ (λ t. ap flag (unpushed room e.stay (at_entry e (inC e h) t false (keyC e h))))))
+      ∙ sym (window (λ e. cond e.enters (flag (pushed room e.stay)) 0) (λ e h. entry_none e _ (λ t. ap flag (unpushed room e.stay (at_entry e (inA e h) t false (keyA e h)))))
+      (λ e h. entry_none e _ (λ t. ap flag (unpushed room e.stay (at_entry e (inC e h) t false (keyC e h))))))
       ∙ c.kept.entries (λ s. flag (pushed room s))
 
   -- entries over with x among them
-  pub overs_more : (lengths : List ℕ) (room : ℕ) → get_or lengths x.track.0 0 ≡ room → overs_in lengths (x ∷ stays) ≡ overs_in lengths stays + (flag (ltb room (load_after (x ∷ stays) x)) + count_by (gets_over x room) B)
+  pub overs_more : (lengths : List ℕ) (room : ℕ) → get_or lengths x.track.0 0 ≡ room
+      → overs_in lengths (x ∷ stays) ≡ overs_in lengths stays + (flag (ltb room (load_after (x ∷ stays) x)) + count_by (gets_over x room) B)
   overs_more lengths room is =
       let over : List Stay → Stay → ℕ = λ l s. flag (ltb (get_or lengths s.track.0 0) (load_after l s)) in
       let first : overs_in lengths (x ∷ stays) ≡ over (x ∷ stays) x + sum_by (over (x ∷ stays)) stays = sum_by-cons (over (x ∷ stays)) x stays in
       let own : over (x ∷ stays) x ≡ flag (ltb room (load_after (x ∷ stays) x)) = ap (λ n. flag (ltb n (load_after (x ∷ stays) x))) is in
-      let rest : sum_by (over (x ∷ stays)) stays ≡ sum_by (over stays) stays + sum_on x.track.0 (λ s. flag (pushed room s)) stays = sum_plus (over stays) (λ s. cond (eqb s.track.0 x.track.0) (flag (pushed room s)) 0) (over (x ∷ stays)) stays (λ s h. each_over s) in
+      let rest : sum_by (over (x ∷ stays)) stays ≡ sum_by (over stays) stays + sum_on x.track.0 (λ s. flag (pushed room s)) stays = sum_plus (over stays)
+      (λ s. cond (eqb s.track.0 x.track.0) (flag (pushed room s)) 0) (over (x ∷ stays)) stays (λ s h. each_over s) in
       omega (arith, over_is room)
     where
       more : (s : Stay) → load_after stays s ≤ load_after (x ∷ stays) s
       more s = omega (arith, load_of s)
 
-      each_over : (s : Stay) → flag (ltb (get_or lengths s.track.0 0) (load_after (x ∷ stays) s)) ≡ flag (ltb (get_or lengths s.track.0 0) (load_after stays s)) + cond (eqb s.track.0 x.track.0) (flag (pushed room s)) 0
+      each_over : (s : Stay) → flag (ltb (get_or lengths s.track.0 0) (load_after (x ∷ stays) s))
+          ≡ flag (ltb (get_or lengths s.track.0 0) (load_after stays s)) + cond (eqb s.track.0 x.track.0) (flag (pushed room s)) 0
       each_over s = ⊎_elim (λ e.
           let r : get_or lengths s.track.0 0 ≡ room = ap (λ n. get_or lengths n 0) e ∙ is in
-          ap (λ n. flag (ltb n (load_after (x ∷ stays) s))) r ∙ over_ways room (load_after stays s) (load_after (x ∷ stays) s) (more s) ∙ ap (λ n. flag (ltb n (load_after stays s)) + flag (pushed room s)) (sym r) ∙ ap (λ b. flag (ltb (get_or lengths s.track.0 0) (load_after stays s)) + cond b (flag (pushed room s)) 0) (sym (eq-eqb s.track.0 x.track.0 e)))
+          ap (λ n. flag (ltb n (load_after (x ∷ stays) s))) r ∙ over_ways room (load_after stays s) (load_after (x ∷ stays) s) (more s)
+          ∙ ap (λ n. flag (ltb n (load_after stays s)) + flag (pushed room s)) (sym r)
+          ∙ ap (λ b. flag (ltb (get_or lengths s.track.0 0) (load_after stays s)) + cond b (flag (pushed room s)) 0) (sym (eq-eqb s.track.0 x.track.0 e)))
           (λ ne.
-          let same : load_after (x ∷ stays) s ≡ load_after stays s = load_of s ∙ ap (λ b. cond b x.length 0 + load_after stays s) (off_track s.track.0 s.enter x (λ e. ne (sym e))) ∙ omega arith in
-          let none : cond (eqb s.track.0 x.track.0) (flag (pushed room s)) 0 ≡ 0 = zero_cond (eqb s.track.0 x.track.0) _ (ap flag (unpushed room s (off_track s.track.0 s.enter x (λ e. ne (sym e))))) in
-          let left : flag (ltb (get_or lengths s.track.0 0) (load_after (x ∷ stays) s)) ≡ flag (ltb (get_or lengths s.track.0 0) (load_after stays s)) = ap (λ n. flag (ltb (get_or lengths s.track.0 0) n)) same in
+          let same : load_after (x ∷ stays) s ≡ load_after stays s = load_of s ∙ ap (λ b. cond b x.length 0 + load_after stays s) (off_track s.track.0 s.enter x (λ e. ne (sym e)))
+          ∙ omega arith in
+          let none : cond (eqb s.track.0 x.track.0) (flag (pushed room s)) 0 ≡ 0 = zero_cond (eqb s.track.0 x.track.0) _
+          (ap flag (unpushed room s (off_track s.track.0 s.enter x (λ e. ne (sym e))))) in
+          let left : flag (ltb (get_or lengths s.track.0 0) (load_after (x ∷ stays) s))
+          ≡ flag (ltb (get_or lengths s.track.0 0) (load_after stays s)) = ap (λ n. flag (ltb (get_or lengths s.track.0 0) n)) same in
           omega arith)
           (cases_eq s.track.0 x.track.0)

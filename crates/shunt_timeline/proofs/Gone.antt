@@ -19,7 +19,8 @@ use Rattle.shunt_timeline.proofs.Ids.{ids_taken}
 use Rattle.shunt_timeline.proofs.Tracks.{at_set, lengths_set, length_lengths, length_at}
 
 -- a stay goes
-module _ (stays : List Stay) (tracks : List Track) (spare room pairs over : ℕ) (s : IsSound stays tracks spare room pairs over) (n : ℕ) (lt : n < length stays) (x : Stay) (x_is : x ≡ get_or stays n x) where
+module _ (stays : List Stay) (tracks : List Track) (spare room pairs over : ℕ) (s : IsSound stays tracks spare room pairs over) (n : ℕ) (lt : n < length stays) (x : Stay)
+    (x_is : x ≡ get_or stays n x) where
   perm : IsPermutation stays (x ∷ remove stays n)
   perm = IsPermutation-remove stays n x lt x_is
 
@@ -41,12 +42,14 @@ module _ (stays : List Stay) (tracks : List Track) (spare room pairs over : ℕ)
 
   module _ (old : Track) (is : old ≡ get_or tracks x.track.0 old) where
     pub kept_all : IsKept (x ∷ remove stays n) x.track.0 old.events.items
-    kept_all = reordered stays (x ∷ remove stays n) x.track.0 old.events.items perm (subst (λ (t : Track). IsKept stays x.track.0 t.events.items) (sym is) (s.sound.kept x.track.0 old on_track))
+    kept_all = reordered stays (x ∷ remove stays n) x.track.0 old.events.items perm
+        (subst (λ (t : Track). IsKept stays x.track.0 t.events.items) (sym is) (s.sound.kept x.track.0 old on_track))
 
     pub length_was : get_or (lengths_of tracks) x.track.0 0 ≡ old.length
     length_was = length_at tracks x.track.0 old on_track ∙ ap (λ (t : Track). t.length) (sym is)
 
-    module _ (p o : ℕ) (more_pairs : pairs_in (x ∷ remove stays n) ≡ pairs_in (remove stays n) + p) (more_over : overs_in (lengths_of tracks) (x ∷ remove stays n) ≡ overs_in (lengths_of tracks) (remove stays n) + o) where
+    module _ (p o : ℕ) (more_pairs : pairs_in (x ∷ remove stays n) ≡ pairs_in (remove stays n) + p)
+        (more_over : overs_in (lengths_of tracks) (x ∷ remove stays n) ≡ overs_in (lengths_of tracks) (remove stays n) + o) where
       pairs_were : pairs ≡ pairs_in (remove stays n) + p
       pairs_were = s.pairs_are ∙ sym (pairs_permuted stays (x ∷ remove stays n) perm) ∙ more_pairs
 
@@ -59,7 +62,8 @@ module _ (stays : List Stay) (tracks : List Track) (spare room pairs over : ℕ)
       pub over_less : o ≤ over
       over_less = let e = over_were in omega arith
 
-      module _ (after : Track) (same : after.length ≡ old.length) (room_same : vec_capacity after.events ≡ vec_capacity old.events) (kept : IsKept (remove stays n) x.track.0 after.events.items) where
+      module _ (after : Track) (same : after.length ≡ old.length) (room_same : vec_capacity after.events ≡ vec_capacity old.events)
+          (kept : IsKept (remove stays n) x.track.0 after.events.items) where
         pub lengths_left : lengths_of (set tracks x.track.0 after) ≡ lengths_of tracks
         lengths_left = lengths_set tracks x.track.0 after old on_track (same ∙ ap (λ (t : Track). t.length) is)
 
@@ -68,18 +72,22 @@ module _ (stays : List Stay) (tracks : List Track) (spare room pairs over : ℕ)
 
         all_kept : (t : ℕ) (d : Track) → t < length (set tracks x.track.0 after) → IsKept (remove stays n) t (get_or (set tracks x.track.0 after) t d).events.items
         all_kept = at_set (λ t z. IsKept (remove stays n) t z.events.items) tracks x.track.0 after on_track kept
-            (λ t d l ne. without (remove stays n) x t (get_or tracks t d).events.items (λ e. ne (sym e)) (reordered stays (x ∷ remove stays n) t (get_or tracks t d).events.items perm (s.sound.kept t d l)))
+            (λ t d l ne. without (remove stays n) x t (get_or tracks t d).events.items (λ e. ne (sym e))
+            (reordered stays (x ∷ remove stays n) t (get_or tracks t d).events.items perm (s.sound.kept t d l)))
 
-        all_room : (t : ℕ) (d : Track) → t < length (set tracks x.track.0 after) → 2 * (length (remove stays n) + (spare + 1)) ≤ vec_capacity (get_or (set tracks x.track.0 after) t d).events
+        all_room : (t : ℕ) (d : Track) → t < length (set tracks x.track.0 after) → 2 * (length (remove stays n) + (spare + 1)) ≤ vec_capacity
+            (get_or (set tracks x.track.0 after) t d).events
         all_room = at_set (λ t z. 2 * (length (remove stays n) + (spare + 1)) ≤ vec_capacity z.events) tracks x.track.0 after on_track
-            (let r : 2 * (length stays + spare) ≤ vec_capacity old.events = subst (λ (t : Track). 2 * (length stays + spare) ≤ vec_capacity t.events) (sym is) (s.sound.room x.track.0 old on_track) in let c = count in omega arith)
+            (let r : 2 * (length stays + spare) ≤ vec_capacity old.events = subst (λ (t : Track). 2 * (length stays + spare) ≤ vec_capacity t.events) (sym is)
+            (s.sound.room x.track.0 old on_track) in let c = count in omega arith)
             (λ t d l ne. let r = s.sound.room t d l in let c = count in omega arith)
 
         pub went : (room' : ℕ) → room' ≡ room → IsSound (remove stays n) (set tracks x.track.0 after) (spare + 1) room' (pairs - p) (over - o)
         went room' same_room = record {
           sound = record {
             formed = with_gone.2;
-            placed = subst (λ (l : List ℕ). AreOnTracks l (remove stays n)) (sym lengths_left) (All-tail (λ u. u.track.0 < length (lengths_of tracks)) x (remove stays n) placed_all);
+            placed = subst (λ (l : List ℕ). AreOnTracks l (remove stays n)) (sym lengths_left)
+                (All-tail (λ u. u.track.0 < length (lengths_of tracks)) x (remove stays n) placed_all);
             sorted = ids_taken stays n s.sound.sorted;
             few = let f = s.sound.few in let c = count in omega arith;
             kept = all_kept;
@@ -88,5 +96,6 @@ module _ (stays : List Stay) (tracks : List Track) (spare room pairs over : ℕ)
           fits = let f = s.fits in let c = count in omega arith;
           small = let f = s.small in let c = count in omega arith;
           pairs_are = let e = pairs_were in omega arith;
-          over_are = let e = over_were in let r : overs_in (lengths_of (set tracks x.track.0 after)) (remove stays n) ≡ overs_in (lengths_of tracks) (remove stays n) = ap (λ l. overs_in l (remove stays n)) lengths_left in omega arith;
+          over_are = let e = over_were in let r : overs_in (lengths_of (set tracks x.track.0 after)) (remove stays n)
+              ≡ overs_in (lengths_of tracks) (remove stays n) = ap (λ l. overs_in l (remove stays n)) lengths_left in omega arith;
         }

@@ -15,7 +15,8 @@ id_of s = s.id
 
 module _ (xs : List Stay) (id : ℕ) where
   pub parted_ids : Ascends id_of xs → IsPartitionedBy (λ s. ltb s.id id) xs
-  parted_ids a i j d le lt t = let later = ltb-true (get_or xs j d).id id t in let up : (get_or xs i d).id ≤ (get_or xs j d).id = ascends_at id_of xs i j d a le lt in lt-ltb (get_or xs i d).id id (omega arith)
+  parted_ids a i j d le lt t = let later = ltb-true (get_or xs j d).id id t in let up : (get_or xs i d).id ≤ (get_or xs j d).id = ascends_at id_of xs i j d a le lt in lt-ltb
+      (get_or xs i d).id id (omega arith)
 
   module _ (n : ℕ) (point : IsPartitionPoint (λ s. ltb s.id id ≡ true) (λ s. ltb s.id id ≡ false) xs n) where
     pub ids_before : (s : Stay) → In s (take n xs) → s.id < id
@@ -25,7 +26,8 @@ module _ (xs : List Stay) (id : ℕ) where
     ids_after s h = let p = in_drop n xs s h in subst (λ (z : Stay). id ≤ z.id) p.3 (ltb-false (get_or xs p.0 s).id id (point.1 p.0 s p.1 p.2))
 
 -- where the id isn't at its place, it is nowhere
-pub nowhere : (xs : List Stay) (id n : ℕ) → Ascends id_of xs → n ≤ length xs → ((s : Stay) → In s (take n xs) → s.id < id) → ((s : Stay) → In s (drop n xs) → id ≤ s.id) → ((d : Stay) → n < length xs → (get_or xs n d).id ≢ id) → All (λ s. s.id ≢ id) xs
+pub nowhere : (xs : List Stay) (id n : ℕ) → Ascends id_of xs → n ≤ length xs → ((s : Stay) → In s (take n xs) → s.id < id) → ((s : Stay) → In s (drop n xs) → id ≤ s.id)
+    → ((d : Stay) → n < length xs → (get_or xs n d).id ≢ id) → All (λ s. s.id ≢ id) xs
 nowhere xs id n a bound before after ne k d lt is = ⊎_elim
     (λ l. let b = before (get_or xs k d) l in absurd (omega arith))
     (λ r. let p = in_drop n xs (get_or xs k d) r in
@@ -47,10 +49,12 @@ nowhere xs id n a bound before after ne k d lt is = ⊎_elim
     default (y ∷ xs) (suc n) d e lt = default xs n d e (omega arith)
 
 -- a new id at its place
-pub ids_put : (xs : List Stay) (x : Stay) (n : ℕ) → Ascends id_of xs → ((s : Stay) → In s (take n xs) → s.id < x.id) → ((s : Stay) → In s (drop n xs) → x.id < s.id) → Ascends id_of (insert xs n x)
+pub ids_put : (xs : List Stay) (x : Stay) (n : ℕ) → Ascends id_of xs → ((s : Stay) → In s (take n xs) → s.id < x.id) → ((s : Stay) → In s (drop n xs) → x.id < s.id)
+    → Ascends id_of (insert xs n x)
 ids_put xs x n a before after =
     let parts : Ascends id_of (take n xs ++ drop n xs) = subst (λ (l : List Stay). Ascends id_of l) (sym (take-append-drop n xs)) a in
-    ascends_joined id_of (take n xs) (x ∷ drop n xs) (ascends_front id_of (take n xs) (drop n xs) parts) (all_from (λ y. x.id < y.id) (drop n xs) after, ascends_back id_of (take n xs) (drop n xs) parts)
+    ascends_joined id_of (take n xs) (x ∷ drop n xs) (ascends_front id_of (take n xs) (drop n xs) parts)
+    (all_from (λ y. x.id < y.id) (drop n xs) after, ascends_back id_of (take n xs) (drop n xs) parts)
     (λ u v h j. let p = before u h in ⊎_elim (λ e. omega (arith, ap id_of e)) (λ k. let q = after v k in omega arith) j)
 
 drop_in : {X : Type 0} (n : ℕ) (xs : List X) (x : X) → In x (drop (suc n) xs) → In x (drop n xs)

@@ -40,7 +40,8 @@ few_events stays x es a few k = let n = length_kept stays x.track.0 es a.2 (omeg
 pub small_events : (stays : List Stay) (x : Stay) (es : List Event) → AreStays (x ∷ stays) → length stays < 65536 → IsKept stays x.track.0 es → (e : Event) → In e es → IsSmall e
 small_events stays x es a few k = small_kept stays x.track.0 es a.2 (omega arith) k
 
-module _ (x : Stay) (es now : List Event) (arrival : Arrival) (met : Met) (room : ℕ) (h : Came x es now arrival met room) (stays : List Stay) (a : AreStays (x ∷ stays)) (k : IsKept stays x.track.0 es) where
+module _ (x : Stay) (es now : List Event) (arrival : Arrival) (met : Met) (room : ℕ) (h : Came x es now arrival met room) (stays : List Stay) (a : AreStays (x ∷ stays))
+    (k : IsKept stays x.track.0 es) where
   p : IsPlace es x.enter arrival.from
   p = subst (λ (l : List Event). IsPlace l x.enter arrival.from) h.same h.from
 
@@ -65,11 +66,13 @@ module _ (x : Stay) (es now : List Event) (arrival : Arrival) (met : Met) (room 
   pub left_fits : met.left ≤ arrival.before.standing
   left_fits = let n = left_within stays x (take arrival.from es) mid (drop arrival.to es) cut arrival.before.standing before.standing in omega (arith, h.left)
 
-  module _ (en le : Event) (i : IsEntry x arrival.before.standing arrival.before.load (met.blocked + cond (same_side x.side_out x.side_in) 0 (arrival.before.standing - met.left)) en)
+  module _ (en le : Event) (i : IsEntry x arrival.before.standing arrival.before.load
+      (met.blocked + cond (same_side x.side_out x.side_in) 0 (arrival.before.standing - met.left)) en)
       (o : IsLeave x arrival.others.standing arrival.others.load le) where
     own : met.blocked + cond (same_side x.side_out x.side_in) 0 (arrival.before.standing - met.left) ≡ count_by (λ b. crosses b x) stays
     own = own_is stays x (take arrival.from es) mid (drop arrival.to es) cut arrival.before.standing _ before.standing
-        (ap (λ n. n + cond (same_side x.side_out x.side_in) 0 (arrival.before.standing - met.left)) h.blocked ∙ ap (λ n. count_by (has_blocked x) mid + cond (same_side x.side_out x.side_in) 0 (arrival.before.standing - n)) h.left)
+        (ap (λ n. n + cond (same_side x.side_out x.side_in) 0 (arrival.before.standing - met.left)) h.blocked
+        ∙ ap (λ n. count_by (has_blocked x) mid + cond (same_side x.side_out x.side_in) 0 (arrival.before.standing - n)) h.left)
 
     en_kept : IsKeptAt (x ∷ stays) x.track.0 en
     en_kept = entry_kept stays x a arrival.before.standing arrival.before.load _ en i before.standing before.load own
@@ -81,19 +84,25 @@ module _ (x : Stay) (es now : List Event) (arrival : Arrival) (met : Met) (room 
         → new ≡ take arrival.from after ++ (en ∷ (take (arrival.to - arrival.from) (drop arrival.from after) ++ (le ∷ drop arrival.to after))) → IsKept (x ∷ stays) x.track.0 new
     kept_new after new raised_is made =
         let b = q.bound in
-        let lm : length (map (raised x) mid) ≡ arrival.to - arrival.from = length-map mid (raised x) ∙ length-take-le (arrival.to - arrival.from) (drop arrival.from es) (omega (arith, length-drop arrival.from es)) in
+        let lm : length (map (raised x) mid) ≡ arrival.to - arrival.from = length-map mid (raised x)
+        ∙ length-take-le (arrival.to - arrival.from) (drop arrival.from es) (omega (arith, length-drop arrival.from es)) in
         let is : new ≡ five (take arrival.from es) en (map (raised x) mid) le (drop arrival.to es) =
-        put_back arrival.from arrival.to (take arrival.from es) (map (raised x) mid) (drop arrival.to es) after new en le h.order (length-take-le arrival.from es p.bound) lm raised_is made in
+        put_back arrival.from arrival.to (take arrival.from es) (map (raised x) mid) (drop arrival.to es) after new en le h.order
+        (length-take-le arrival.from es p.bound) lm raised_is made in
         subst (λ (l : List Event). IsKept (x ∷ stays) x.track.0 l) (sym is) (inserted stays x (take arrival.from es) mid (drop arrival.to es) cut en le i.is o.is en_kept le_kept)
 
     pub pairs_new : pairs_in (x ∷ stays) ≡ pairs_in stays + (en.crossings + met.crossed)
-    pairs_new = pairs_more stays x (take arrival.from es) mid (drop arrival.to es) cut ∙ ap (λ n. pairs_in stays + n) (let e = i.crossings in let f = h.crossed in let g = own in omega arith)
+    pairs_new = pairs_more stays x (take arrival.from es) mid (drop arrival.to es) cut
+        ∙ ap (λ n. pairs_in stays + n) (let e = i.crossings in let f = h.crossed in let g = own in omega arith)
 
     load_new : load_after (x ∷ stays) x ≡ en.load
     load_new = sym (en_kept.load ∙ ap (λ z. load_at (x ∷ stays) x.track.0 z) (entry_at en i.is.kind ∙ ap (λ (z : Stay). z.enter) i.is.stay))
 
     pub overs_new : (lengths : List ℕ) → get_or lengths x.track.0 0 ≡ room → overs_in lengths (x ∷ stays) ≡ overs_in lengths stays + (met.over + flag (ltb room en.load))
-    overs_new lengths is = overs_more stays x (take arrival.from es) mid (drop arrival.to es) cut lengths room is ∙ ap (λ n. overs_in lengths stays + n) (let f : flag (ltb room (load_after (x ∷ stays) x)) ≡ flag (ltb room en.load) = ap (λ n. flag (ltb room n)) load_new in omega (arith, h.over))
+    overs_new lengths is = overs_more stays x (take arrival.from es) mid (drop arrival.to es) cut lengths room is
+        ∙ ap (λ n. overs_in lengths stays + n) (let f : flag (ltb room (load_after (x ∷ stays) x))
+        ≡ flag (ltb room en.load) = ap (λ n. flag (ltb room n)) load_new in omega (arith, h.over))
 
     pub entry_small : length stays < 65536 → en.crossings ≤ 65536
-    entry_small few = let n : count_by (λ b. crosses b en.stay) (x ∷ stays) ≤ length (x ∷ stays) = count_by-le-length (λ b. crosses b en.stay) (x ∷ stays) in let e = en_kept.crossings i.is.kind in let s : length (x ∷ stays) ≡ length stays + 1 = omega arith in omega arith
+    entry_small few = let n : count_by (λ b. crosses b en.stay) (x ∷ stays) ≤ length (x ∷ stays) = count_by-le-length (λ b. crosses b en.stay)
+        (x ∷ stays) in let e = en_kept.crossings i.is.kind in let s : length (x ∷ stays) ≡ length stays + 1 = omega arith in omega arith

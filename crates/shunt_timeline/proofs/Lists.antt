@@ -13,7 +13,8 @@ sum_alike f g (x ∷ xs) e = let first = e x (inl refl) in let rest = sum_alike 
 
 pub sum_plus : {X : Type 0} (f g h : X → ℕ) (xs : List X) → ((x : X) → In x xs → h x ≡ f x + g x) → sum_by h xs ≡ sum_by f xs + sum_by g xs
 sum_plus f g h [] e = refl
-sum_plus f g h (x ∷ xs) e = let first = e x (inl refl) in let rest = sum_plus f g h xs (λ y i. e y (inr i)) in omega (arith, sum_by-cons f x xs, sum_by-cons g x xs, sum_by-cons h x xs)
+sum_plus f g h (x ∷ xs) e = let first = e x (inl refl) in let rest = sum_plus f g h xs (λ y i. e y (inr i)) in omega
+    (arith, sum_by-cons f x xs, sum_by-cons g x xs, sum_by-cons h x xs)
 
 pub sum_zero : {X : Type 0} (f : X → ℕ) (xs : List X) → ((x : X) → In x xs → f x ≡ 0) → sum_by f xs ≡ 0
 sum_zero f [] e = refl
@@ -56,8 +57,10 @@ ascends_apart f (z ∷ xs) ys x y a (inr h) i = ascends_apart f xs ys x y a.1 h 
 
 pub ascends_joined : {X : Type 0} (f : X → ℕ) (xs ys : List X) → Ascends f xs → Ascends f ys → ((x y : X) → In x xs → In y ys → f x < f y) → Ascends f (xs ++ ys)
 ascends_joined f [] ys a b h = b
-ascends_joined f (x ∷ xs) ys a b h =
-    (all_from (λ y. f x < f y) (xs ++ ys) (λ y i. ⊎_elim (λ l. all_in (λ z. f x < f z) xs y a.0 l) (λ r. h x y (inl refl) r) (in_cases xs ys y i)), ascends_joined f xs ys a.1 b (λ u v i j. h u v (inr i) j))
+ascends_joined f (x ∷ xs) ys a b h = (
+  all_from (λ y. f x < f y) (xs ++ ys) (λ y i. ⊎_elim (λ l. all_in (λ z. f x < f z) xs y a.0 l) (λ r. h x y (inl refl) r) (in_cases xs ys y i)),
+  ascends_joined f xs ys a.1 b (λ u v i j. h u v (inr i) j),
+)
 
 pub ascends_map : {X : Type 0} (f : X → ℕ) (g : X → X) (xs : List X) → ((x : X) → f (g x) ≡ f x) → Ascends f xs → Ascends f (map g xs)
 ascends_map {X} f g xs same a = go xs a

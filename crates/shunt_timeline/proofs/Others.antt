@@ -33,7 +33,8 @@ beside stays x t events ne k = record {
 pub without : (stays : List Stay) (x : Stay) (t : ℕ) (events : List Event) → x.track.0 ≢ t → IsKept (x ∷ stays) t events → IsKept stays t events
 without stays x t events ne k = record {
   ascends = k.ascends;
-  each = λ e h. let i = k.each e h in aside_kept stays x t e (off_track t (key_of e) x ne) (λ u. off_crossing x e.stay (λ s. ne (s ∙ i.track))) (⊎_elim (λ s. absurd (ne (ap (λ (z : Stay). z.track.0) (sym s) ∙ i.track))) (λ j. j) i.stay) i;
+  each = λ e h. let i = k.each e h in aside_kept stays x t e (off_track t (key_of e) x ne) (λ u. off_crossing x e.stay (λ s. ne (s ∙ i.track)))
+      (⊎_elim (λ s. absurd (ne (ap (λ (z : Stay). z.track.0) (sym s) ∙ i.track))) (λ j. j) i.stay) i;
   entries = λ f. k.entries f ∙ sum_by-cons (λ s. cond (eqb s.track.0 t) (f s) 0) x stays ∙ ap (λ n. n + sum_on t f stays) (off f) ∙ omega arith;
   leaves = λ f. k.leaves f ∙ sum_by-cons (λ s. cond (eqb s.track.0 t) (f s) 0) x stays ∙ ap (λ n. n + sum_on t f stays) (off f) ∙ omega arith;
 }

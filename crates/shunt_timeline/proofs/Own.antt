@@ -80,12 +80,16 @@ module _ (stays : List Stay) (x : Stay) (A B C : List Event) (c : Cut stays x A 
   leaves_apart s h e = ids s h (sym ((wx stays x A B C c).leave_id) ∙ sym (ids_apart s.leave x.leave (ws s h).leave_in.id (wx stays x A B C c).leave_in.id e) ∙ (ws s h).leave_id)
 
   -- leaves among B are of stays that part
-  leaving : (p : Stay → Bool) (q : Event → Bool) → ((e : Event) → In e B → e.enters ≡ false → flag (q e) ≡ flag (part e.stay && p e.stay)) → ((e : Event) → In e B → e.enters ≡ true → flag (q e) ≡ 0) → count_by q B ≡ sum_on x.track.0 (λ s. flag (part s && p s)) stays
+  leaving : (p : Stay → Bool) (q : Event → Bool) → ((e : Event) → In e B → e.enters ≡ false → flag (q e) ≡ flag (part e.stay && p e.stay))
+      → ((e : Event) → In e B → e.enters ≡ true → flag (q e) ≡ 0) → count_by q B ≡ sum_on x.track.0 (λ s. flag (part s && p s)) stays
   leaving p q is none =
-      sum_alike (λ e. flag (q e)) g B (λ e h. ⊎_elim (λ t. none e h t ∙ sym (ap (λ b. cond b 0 (flag (part e.stay && p e.stay))) t)) (λ t. is e h t ∙ sym (ap (λ b. cond b 0 (flag (part e.stay && p e.stay))) t)) (cases_Bool e.enters))
+      sum_alike (λ e. flag (q e)) g B (λ e h. ⊎_elim (λ t. none e h t ∙ sym (ap (λ b. cond b 0 (flag (part e.stay && p e.stay))) t))
+      (λ t. is e h t ∙ sym (ap (λ b. cond b 0 (flag (part e.stay && p e.stay))) t)) (cases_Bool e.enters))
       ∙ sym (window stays x A B C c g
-      (λ e h. leave_none stays x A B C c e _ (λ t. let lt = c.before e h in let r = leave_rank stays x A B C c e t in gone e (no_part (rank e.stay.enter) (rank e.stay.leave) xe xl (omega arith))))
-      (λ e h. leave_none stays x A B C c e _ (λ t. let lt = c.after e h in let r = leave_rank stays x A B C c e t in gone e (no_part_late (rank e.stay.enter) (rank e.stay.leave) xe xl (omega arith)))))
+      (λ e h. leave_none stays x A B C c e _ (λ t. let lt = c.before e h in let r = leave_rank stays x A B C c e t in gone e
+      (no_part (rank e.stay.enter) (rank e.stay.leave) xe xl (omega arith))))
+      (λ e h. leave_none stays x A B C c e _ (λ t. let lt = c.after e h in let r = leave_rank stays x A B C c e t in gone e
+      (no_part_late (rank e.stay.enter) (rank e.stay.leave) xe xl (omega arith)))))
       ∙ c.kept.leaves (λ s. flag (part s && p s))
     where
       g : Event → ℕ
@@ -100,30 +104,37 @@ module _ (stays : List Stay) (x : Stay) (A B C : List Event) (c : Cut stays x A 
       let a = c.since e h in
       let b = c.until e h in
       let r = leave_rank stays x A B C c e t in
-      ap (λ z. not z && key_before e.stay.enter x.enter) t ∙ before_is e.stay.enter x.enter w.enter_in (wx stays x A B C c).enter_in ∙ sym (part_is (rank e.stay.enter) (rank e.stay.leave) xe xl (omega arith) (omega arith))
+      ap (λ z. not z && key_before e.stay.enter x.enter) t ∙ before_is e.stay.enter x.enter w.enter_in (wx stays x A B C c).enter_in
+      ∙ sym (part_is (rank e.stay.enter) (rank e.stay.leave) xe xl (omega arith) (omega arith))
 
   and_true : (b : Bool) → (b && true) ≡ b
   and_true true = refl
   and_true false = refl
 
   left_is : count_by (has_left x) B ≡ sum_on x.track.0 (λ s. flag (part s && true)) stays
-  left_is = leaving (λ s. true) (has_left x) (λ e h t. ap flag (left_at e h t ∙ sym (and_true (part e.stay)))) (λ e h t. ap (λ z. flag (not z && key_before e.stay.enter x.enter)) t)
+  left_is = leaving (λ s. true) (has_left x) (λ e h t. ap flag (left_at e h t ∙ sym (and_true (part e.stay))))
+      (λ e h t. ap (λ z. flag (not z && key_before e.stay.enter x.enter)) t)
 
   blocked_is : count_by (has_blocked x) B ≡ sum_on x.track.0 (λ s. flag (part s && by s)) stays
-  blocked_is = leaving by (has_blocked x) (λ e h t. ap (λ z. flag (z && by e.stay)) (left_at e h t)) (λ e h t. ap (λ z. flag ((not z && key_before e.stay.enter x.enter) && by e.stay)) t)
+  blocked_is = leaving by (has_blocked x) (λ e h t. ap (λ z. flag (z && by e.stay)) (left_at e h t))
+      (λ e h t. ap (λ z. flag ((not z && key_before e.stay.enter x.enter) && by e.stay)) t)
 
   -- who stands at x's entry covers it or parts
   standing_is : count_by (stands_at x.track.0 x.enter) stays ≡ sum_on x.track.0 (λ s. flag (cover s)) stays + sum_on x.track.0 (λ s. flag (part s && true)) stays
-  standing_is = sum_plus (λ s. cond (eqb s.track.0 x.track.0) (flag (cover s)) 0) (λ s. cond (eqb s.track.0 x.track.0) (flag (part s && true)) 0) (λ s. flag (stands_at x.track.0 x.enter s)) stays (λ s h.
+  standing_is = sum_plus (λ s. cond (eqb s.track.0 x.track.0) (flag (cover s)) 0) (λ s. cond (eqb s.track.0 x.track.0) (flag (part s && true)) 0)
+      (λ s. flag (stands_at x.track.0 x.enter s)) stays (λ s h.
       ap flag (stands_is x.track.0 x.enter s (wx stays x A B C c).enter_in (ws s h))
       ∙ and_flag (eqb s.track.0 x.track.0) (inside xe s)
-      ∙ ap (λ n. cond (eqb s.track.0 x.track.0) n 0) (standing_ways (rank s.enter) (rank s.leave) xe xl (enters_apart s h) (leaves_apart s h) ∙ ap (λ b. flag (cover s) + flag b) (sym (and_true (part s))))
+      ∙ ap (λ n. cond (eqb s.track.0 x.track.0) n 0) (standing_ways (rank s.enter) (rank s.leave) xe xl (enters_apart s h) (leaves_apart s h)
+      ∙ ap (λ b. flag (cover s) + flag b) (sym (and_true (part s))))
       ∙ times (eqb s.track.0 x.track.0) (flag (cover s)) (flag (part s && true)))
 
   crossing_is : count_by (λ b. crosses b x) stays ≡ sum_on x.track.0 (λ s. flag (part s && by s)) stays + cond out 0 (sum_on x.track.0 (λ s. flag (cover s)) stays)
   crossing_is =
-      let rest : sum_by (λ s. cond out 0 (cond (eqb s.track.0 x.track.0) (flag (cover s)) 0)) stays ≡ cond out 0 (sum_on x.track.0 (λ s. flag (cover s)) stays) = sum_cond out (λ s. cond (eqb s.track.0 x.track.0) (flag (cover s)) 0) stays in
-      sum_plus (λ s. cond (eqb s.track.0 x.track.0) (flag (part s && by s)) 0) (λ s. cond out 0 (cond (eqb s.track.0 x.track.0) (flag (cover s)) 0)) (λ s. flag (crosses s x)) stays (λ s h.
+      let rest : sum_by (λ s. cond out 0 (cond (eqb s.track.0 x.track.0) (flag (cover s)) 0)) stays
+      ≡ cond out 0 (sum_on x.track.0 (λ s. flag (cover s)) stays) = sum_cond out (λ s. cond (eqb s.track.0 x.track.0) (flag (cover s)) 0) stays in
+      sum_plus (λ s. cond (eqb s.track.0 x.track.0) (flag (part s && by s)) 0) (λ s. cond out 0 (cond (eqb s.track.0 x.track.0) (flag (cover s)) 0))
+      (λ s. flag (crosses s x)) stays (λ s h.
       ap flag (crosses_ranks s x (ws s h) (wx stays x A B C c))
       ∙ and_flag (eqb s.track.0 x.track.0) (met (rank s.enter) (rank s.leave) xe xl out (by s))
       ∙ ap (λ n. cond (eqb s.track.0 x.track.0) n 0) (own_ways (rank s.enter) (rank s.leave) xe xl out (by s))
@@ -135,7 +146,8 @@ module _ (stays : List Stay) (x : Stay) (A B C : List Event) (c : Cut stays x A 
   pub left_within : (standing : ℕ) → standing ≡ count_by (stands_at x.track.0 x.enter) stays → count_by (has_left x) B ≤ standing
   left_within n e = omega (arith, left_is, standing_is)
 
-  pub own_is : (standing own : ℕ) → standing ≡ count_by (stands_at x.track.0 x.enter) stays → own ≡ count_by (has_blocked x) B + cond out 0 (standing - count_by (has_left x) B) → own ≡ count_by (λ b. crosses b x) stays
+  pub own_is : (standing own : ℕ) → standing ≡ count_by (stands_at x.track.0 x.enter) stays → own ≡ count_by (has_blocked x) B + cond out 0 (standing - count_by (has_left x) B)
+      → own ≡ count_by (λ b. crosses b x) stays
   own_is n own e is =
       let rest : n - count_by (has_left x) B ≡ sum_on x.track.0 (λ s. flag (cover s)) stays = omega (arith, left_is, standing_is) in
       is ∙ ap (λ m. count_by (has_blocked x) B + cond out 0 m) rest ∙ omega (arith, blocked_is, crossing_is)

@@ -44,16 +44,21 @@ three {X} zero (suc to) (x ∷ xs) le =
     ap (λ (l : List X). x ∷ l) (three zero to xs (omega arith) ∙ ap (λ n. take n xs ++ drop to xs) f) ∙ ap (λ n. take n (x ∷ xs) ++ drop to xs) (sym e)
 three (suc from) zero xs le = absurd (omega arith)
 three (suc from) (suc to) [] le = front_none (suc to - suc from)
-three {X} (suc from) (suc to) (x ∷ xs) le = let e : suc to - suc from ≡ to - from = omega arith in ap (λ (l : List X). x ∷ l) (three from to xs (omega arith) ∙ ap (λ n. take from xs ++ (take n (drop from xs) ++ drop to xs)) (sym e))
+three {X} (suc from) (suc to) (x ∷ xs) le = let e : suc to - suc from ≡ to - from = omega arith in ap (λ (l : List X). x ∷ l)
+    (three from to xs (omega arith) ∙ ap (λ n. take from xs ++ (take n (drop from xs) ++ drop to xs)) (sym e))
 
 -- the place to that is put into first stays where it is when from is
-pub put_two : {X : Type 0} (from to : ℕ) (xs : List X) (x y : X) → from ≤ to → to ≤ length xs → insert (insert xs to y) from x ≡ take from xs ++ x ∷ (take (to - from) (drop from xs) ++ y ∷ drop to xs)
+pub put_two : {X : Type 0} (from to : ℕ) (xs : List X) (x y : X) → from ≤ to → to ≤ length xs
+    → insert (insert xs to y) from x ≡ take from xs ++ x ∷ (take (to - from) (drop from xs) ++ y ∷ drop to xs)
 put_two {X} zero to xs x y le within = let e : to - 0 ≡ to = omega arith in ap (λ n. x ∷ (take n xs ++ y ∷ drop to xs)) (sym e)
 put_two (suc from) zero xs x y le within = absurd (omega arith)
 put_two (suc from) (suc to) [] x y le within = absurd (omega arith)
-put_two {X} (suc from) (suc to) (z ∷ xs) x y le within = let e : suc to - suc from ≡ to - from = omega arith in ap (λ (l : List X). z ∷ l) (put_two from to xs x y (omega arith) (omega arith) ∙ ap (λ n. take from xs ++ x ∷ (take n (drop from xs) ++ y ∷ drop to xs)) (sym e))
+put_two {X} (suc from) (suc to) (z ∷ xs) x y le within = let e : suc to - suc from
+    ≡ to - from = omega arith in ap (λ (l : List X). z ∷ l) (put_two from to xs x y (omega arith) (omega arith)
+    ∙ ap (λ n. take from xs ++ x ∷ (take n (drop from xs) ++ y ∷ drop to xs)) (sym e))
 
-pub take_two : {X : Type 0} (from to : ℕ) (xs : List X) → from < to → to < length xs → remove (remove xs to) from ≡ take from xs ++ (take (to - (from + 1)) (drop (from + 1) xs) ++ drop (to + 1) xs)
+pub take_two : {X : Type 0} (from to : ℕ) (xs : List X) → from < to → to < length xs
+    → remove (remove xs to) from ≡ take from xs ++ (take (to - (from + 1)) (drop (from + 1) xs) ++ drop (to + 1) xs)
 take_two from to [] lt within = absurd (omega arith)
 take_two from zero (z ∷ xs) lt within = absurd (omega arith)
 take_two zero (suc to) (z ∷ xs) lt within =
@@ -65,16 +70,27 @@ take_two {X} (suc from) (suc to) (z ∷ xs) lt within =
     let f : suc to + 1 ≡ suc (to + 1) = omega arith in
     let g : suc from + 1 ≡ suc (from + 1) = omega arith in
     ap (λ (l : List X). z ∷ l) (take_two from to xs (omega arith) (omega arith))
-    ∙ sym (ap (λ n. z ∷ (take from xs ++ (take n (drop (suc from + 1) (z ∷ xs)) ++ drop (suc to + 1) (z ∷ xs)))) e ∙ ap (λ n. z ∷ (take from xs ++ (take (to - (from + 1)) (drop n (z ∷ xs)) ++ drop (suc to + 1) (z ∷ xs)))) g ∙ ap (λ n. z ∷ (take from xs ++ (take (to - (from + 1)) (drop (from + 1) xs) ++ drop n (z ∷ xs)))) f)
+    ∙ sym (ap (λ n. z ∷ (take from xs ++ (take n (drop (suc from + 1) (z ∷ xs)) ++ drop (suc to + 1) (z ∷ xs)))) e
+    ∙ ap (λ n. z ∷ (take from xs ++ (take (to - (from + 1)) (drop n (z ∷ xs)) ++ drop (suc to + 1) (z ∷ xs)))) g
+    ∙ ap (λ n. z ∷ (take from xs ++ (take (to - (from + 1)) (drop (from + 1) xs) ++ drop n (z ∷ xs)))) f)
 
 -- a list whose middle was written over
 pub length_written : {X : Type 0} (f : X → X) (from to : ℕ) (xs : List X) → from ≤ to → length (take from xs ++ (map f (take (to - from) (drop from xs)) ++ drop to xs)) ≡ length xs
 length_written f from to xs le =
     let m = take (to - from) (drop from xs) in
-    omega (arith, ap length (three from to xs le), length-append (take from xs) (m ++ drop to xs), length-append m (drop to xs), length-append (take from xs) (map f m ++ drop to xs), length-append (map f m) (drop to xs), length-map m f)
+    omega (
+      arith,
+      ap length (three from to xs le),
+      length-append (take from xs) (m ++ drop to xs),
+      length-append m (drop to xs),
+      length-append (take from xs) (map f m ++ drop to xs),
+      length-append (map f m) (drop to xs),
+      length-map m f,
+    )
 
 pub written : {X : Type 0} (f : X → X) (from to n : ℕ) (es now new : List X) → from ≤ to → n ≡ length es → now ≡ es → new ≡ map f (take (to - from) (drop from now))
-    → take n ((take from now ++ (new ++ drop (to - from) (drop from now))) ++ drop (length (take from now ++ (new ++ drop (to - from) (drop from now)))) es) ≡ take from es ++ (map f (take (to - from) (drop from es)) ++ drop to es)
+    → take n ((take from now ++ (new ++ drop (to - from) (drop from now))) ++ drop (length (take from now ++ (new ++ drop (to - from) (drop from now)))) es) ≡ take from es
+    ++ (map f (take (to - from) (drop from es)) ++ drop to es)
 written f from to n es now new le len same made =
     let all : take from now ++ (new ++ drop (to - from) (drop from now)) ≡ take from es ++ (map f (take (to - from) (drop from es)) ++ drop to es) =
     ap (λ l. take from now ++ (l ++ drop (to - from) (drop from now))) made

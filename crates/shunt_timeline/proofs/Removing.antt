@@ -71,7 +71,8 @@ module _ (stays : List Stay) (x : Stay) (es : List Event) (a : AreStays (x ∷ s
         λ d.
             let o = of_key (get_or es n d) (in_place es n d f.0) x.enter a.0.enter_in a.0.enter_id (f.1 d) in record {
               stay = o.0;
-              kind = ⊎_elim (λ t. t) (λ t. absurd (true≢false (sym a.0.enters ∙ ap (λ (z : EventKey). z.enters) (sym o.1 ∙ leave_at (get_or es n d) t ∙ ap (λ (s : Stay). s.leave) o.0) ∙ a.0.leaves))) (cases_Bool (get_or es n d).enters);
+              kind = ⊎_elim (λ t. t) (λ t. absurd (true≢false (sym a.0.enters ∙ ap (λ (z : EventKey). z.enters)
+                  (sym o.1 ∙ leave_at (get_or es n d) t ∙ ap (λ (s : Stay). s.leave) o.0) ∙ a.0.leaves))) (cases_Bool (get_or es n d).enters);
             },
       )
 
@@ -83,7 +84,8 @@ module _ (stays : List Stay) (x : Stay) (es : List Event) (a : AreStays (x ∷ s
         λ d.
             let o = of_key (get_or es n d) (in_place es n d f.0) x.leave a.0.leave_in a.0.leave_id (f.1 d) in record {
               stay = o.0;
-              kind = ⊎_elim (λ t. absurd (true≢false (sym a.0.enters ∙ ap (λ (z : EventKey). z.enters) (sym (sym o.1 ∙ entry_at (get_or es n d) t ∙ ap (λ (s : Stay). s.enter) o.0)) ∙ a.0.leaves))) (λ t. t) (cases_Bool (get_or es n d).enters);
+              kind = ⊎_elim (λ t. absurd (true≢false (sym a.0.enters ∙ ap (λ (z : EventKey). z.enters) (sym (sym o.1 ∙ entry_at (get_or es n d) t ∙ ap (λ (s : Stay). s.enter) o.0))
+                  ∙ a.0.leaves))) (λ t. t) (cases_Bool (get_or es n d).enters);
             },
       )
 
@@ -91,20 +93,24 @@ module _ (stays : List Stay) (x : Stay) (es : List Event) (a : AreStays (x ∷ s
   places_apart from to p q =
       let d : Event = (has_entry (x ∷ stays) x.track.0 es a k x (inl refl) refl).0 in
       let le = places_in_order es x.enter x.leave from to p q (later_rank x a.0) in
-      ⊎_elim (λ e. absurd (true≢false (sym ((entry_found from p).1 d).kind ∙ ap (λ n. (get_or es n d).enters) e ∙ ((leave_found to q).1 d).kind))) (λ ne. omega arith) (cases_eq from to)
+      ⊎_elim (λ e. absurd (true≢false (sym ((entry_found from p).1 d).kind ∙ ap (λ n. (get_or es n d).enters) e ∙ ((leave_found to q).1 d).kind))) (λ ne. omega arith)
+      (cases_eq from to)
 
-pub five_of : {X : Type 0} (from to : ℕ) (xs : List X) (d : X) → from < to → to < length xs → xs ≡ take from xs ++ (get_or xs from d ∷ (take (to - (from + 1)) (drop (from + 1) xs) ++ (get_or xs to d ∷ drop (to + 1) xs)))
+pub five_of : {X : Type 0} (from to : ℕ) (xs : List X) (d : X) → from < to → to < length xs
+    → xs ≡ take from xs ++ (get_or xs from d ∷ (take (to - (from + 1)) (drop (from + 1) xs) ++ (get_or xs to d ∷ drop (to + 1) xs)))
 five_of from to [] d lt within = absurd (omega arith)
 five_of from zero (z ∷ xs) d lt within = absurd (omega arith)
 five_of {X} zero (suc to) (z ∷ xs) d lt within =
     let e : suc to - (0 + 1) ≡ to = omega arith in
     let f : suc to + 1 ≡ suc (to + 1) = omega arith in
-    ap (λ (l : List X). z ∷ l) (cut_at to xs d (omega arith)) ∙ sym (ap (λ n. z ∷ (take n xs ++ (get_or xs to d ∷ drop (suc to + 1) (z ∷ xs)))) e ∙ ap (λ n. z ∷ (take to xs ++ (get_or xs to d ∷ drop n (z ∷ xs)))) f)
+    ap (λ (l : List X). z ∷ l) (cut_at to xs d (omega arith)) ∙ sym (ap (λ n. z ∷ (take n xs ++ (get_or xs to d ∷ drop (suc to + 1) (z ∷ xs)))) e
+    ∙ ap (λ n. z ∷ (take to xs ++ (get_or xs to d ∷ drop n (z ∷ xs)))) f)
   where
     cut_at : {Y : Type 0} (n : ℕ) (ys : List Y) (d : Y) → n < length ys → ys ≡ take n ys ++ (get_or ys n d ∷ drop (n + 1) ys)
     cut_at n [] d lt = absurd (omega arith)
     cut_at zero (y ∷ ys) d lt = refl
-    cut_at {Y} (suc n) (y ∷ ys) d lt = let e : suc n + 1 ≡ suc (n + 1) = omega arith in ap (λ (l : List Y). y ∷ l) (cut_at n ys d (omega arith)) ∙ sym (ap (λ m. y ∷ (take n ys ++ (get_or ys n d ∷ drop m (y ∷ ys)))) e)
+    cut_at {Y} (suc n) (y ∷ ys) d lt = let e : suc n + 1 ≡ suc (n + 1) = omega arith in ap (λ (l : List Y). y ∷ l) (cut_at n ys d (omega arith))
+        ∙ sym (ap (λ m. y ∷ (take n ys ++ (get_or ys n d ∷ drop m (y ∷ ys)))) e)
 five_of {X} (suc from) (suc to) (z ∷ xs) d lt within =
     let e : suc to - (suc from + 1) ≡ to - (from + 1) = omega arith in
     let f : suc to + 1 ≡ suc (to + 1) = omega arith in
@@ -124,7 +130,8 @@ pub record Went (x : Stay) (es gone after : List Event) (from to : ℕ) (entry :
   pub crossed : met.crossed ≡ count_by (is_crossed x) (map (lowered x) (take (to - 1 - from) (drop from gone)))
   pub over : met.over ≡ count_by (gets_over x room) (map (lowered x) (take (to - 1 - from) (drop from gone)))
 
-module _ (x : Stay) (es gone after : List Event) (from to : ℕ) (entry : Event) (met : Met) (room : ℕ) (h : Went x es gone after from to entry met room) (stays : List Stay) (a : AreStays (x ∷ stays)) (k : IsKept (x ∷ stays) x.track.0 es) where
+module _ (x : Stay) (es gone after : List Event) (from to : ℕ) (entry : Event) (met : Met) (room : ℕ) (h : Went x es gone after from to entry met room) (stays : List Stay)
+    (a : AreStays (x ∷ stays)) (k : IsKept (x ∷ stays) x.track.0 es) where
   abbrev A : List Event
   A = take from es
 
@@ -177,7 +184,8 @@ module _ (x : Stay) (es gone after : List Event) (from to : ℕ) (entry : Event)
   end = ap (drop (to - 1)) joined ∙ drop_at (A ++ B) C (to - 1) (let p = apart in omega (arith, length-append A B, la, lb))
 
   is : after ≡ A ++ (map (lowered x) B ++ C)
-  is = h.made ∙ ap (λ l. l ++ (map (lowered x) (take (to - 1 - from) (drop from gone)) ++ drop (to - 1) gone)) front ∙ ap (λ l. A ++ (map (lowered x) l ++ drop (to - 1) gone)) mid ∙ ap (λ l. A ++ (map (lowered x) B ++ l)) end
+  is = h.made ∙ ap (λ l. l ++ (map (lowered x) (take (to - 1 - from) (drop from gone)) ++ drop (to - 1) gone)) front ∙ ap (λ l. A ++ (map (lowered x) l ++ drop (to - 1) gone)) mid
+      ∙ ap (λ l. A ++ (map (lowered x) B ++ l)) end
 
   c : Cut stays x A (map (lowered x) B) C
   c = cut stays x A B C entry le a k' i o
@@ -213,21 +221,33 @@ module _ (x : Stay) (es gone after : List Event) (from to : ℕ) (entry : Event)
 -- the other events are among all
 pub gone_in : {X : Type 0} (from to : ℕ) (es gone : List X) (x : X) → gone ≡ take from es ++ (take (to - (from + 1)) (drop (from + 1) es) ++ drop (to + 1) es) → In x gone → In x es
 gone_in from to es gone x left h = ⊎_elim (λ l. in_front from es x l)
-    (λ r. ⊎_elim (λ l. in_rest (from + 1) es x (in_front (to - (from + 1)) (drop (from + 1) es) x l)) (λ l. in_rest (to + 1) es x l) (in_cases (take (to - (from + 1)) (drop (from + 1) es)) (drop (to + 1) es) x r))
+    (λ r. ⊎_elim (λ l. in_rest (from + 1) es x (in_front (to - (from + 1)) (drop (from + 1) es) x l)) (λ l. in_rest (to + 1) es x l)
+    (in_cases (take (to - (from + 1)) (drop (from + 1) es)) (drop (to + 1) es) x r))
     (in_cases (take from es) (take (to - (from + 1)) (drop (from + 1) es) ++ drop (to + 1) es) x (subst (λ l. In x l) left h))
 
-pub gone_length : {X : Type 0} (from to : ℕ) (es gone : List X) → from < to → to < length es → gone ≡ take from es ++ (take (to - (from + 1)) (drop (from + 1) es) ++ drop (to + 1) es) → length gone + 2 ≡ length es
+pub gone_length : {X : Type 0} (from to : ℕ) (es gone : List X) → from < to → to < length es
+    → gone ≡ take from es ++ (take (to - (from + 1)) (drop (from + 1) es) ++ drop (to + 1) es) → length gone + 2 ≡ length es
 gone_length from to es gone lt within left =
-    omega (arith, ap length left, length-append (take from es) (take (to - (from + 1)) (drop (from + 1) es) ++ drop (to + 1) es), length-append (take (to - (from + 1)) (drop (from + 1) es)) (drop (to + 1) es), length-take-le from es (omega arith), length-drop (to + 1) es, length-take-le (to - (from + 1)) (drop (from + 1) es) (omega (arith, length-drop (from + 1) es)))
+    omega (
+      arith,
+      ap length left,
+      length-append (take from es) (take (to - (from + 1)) (drop (from + 1) es) ++ drop (to + 1) es),
+      length-append (take (to - (from + 1)) (drop (from + 1) es)) (drop (to + 1) es),
+      length-take-le from es (omega arith),
+      length-drop (to + 1) es,
+      length-take-le (to - (from + 1)) (drop (from + 1) es) (omega (arith, length-drop (from + 1) es)),
+    )
 
-pub small_before : (stays : List Stay) (x : Stay) (es : List Event) → AreStays (x ∷ stays) → length stays < 65536 → IsKept (x ∷ stays) x.track.0 es → (e : Event) → In e es → IsSmall e
+pub small_before : (stays : List Stay) (x : Stay) (es : List Event) → AreStays (x ∷ stays) → length stays < 65536 → IsKept (x ∷ stays) x.track.0 es → (e : Event) → In e es
+    → IsSmall e
 small_before stays x es a few k = small_kept (x ∷ stays) x.track.0 es a (let n : length (x ∷ stays) ≡ length stays + 1 = omega arith in omega arith) k
 
 pub few_before : (stays : List Stay) (x : Stay) (es : List Event) → AreStays (x ∷ stays) → length stays < 65536 → IsKept (x ∷ stays) x.track.0 es → length es ≤ 131072
 few_before stays x es a few k = let n : length (x ∷ stays) ≡ length stays + 1 = omega arith in let m = length_kept (x ∷ stays) x.track.0 es a (omega arith) k in omega arith
 
 pub lowered_within : {X : Type 0} (p : X → Bool) (f : X → X) (from n m : ℕ) (xs : List X) → length xs ≤ 131072 → m ≡ count_by p (map f (take n (drop from xs))) → m ≤ 131072
-lowered_within p f from n m xs few is = let w = take_within n (drop from xs) in omega (arith, count_by-le-length p (map f (take n (drop from xs))), length-map (take n (drop from xs)) f, length-drop from xs)
+lowered_within p f from n m xs few is = let w = take_within n (drop from xs) in omega
+    (arith, count_by-le-length p (map f (take n (drop from xs))), length-map (take n (drop from xs)) f, length-drop from xs)
   where
     take_within : {Y : Type 0} (n : ℕ) (ys : List Y) → length (take n ys) ≤ length ys
     take_within zero ys = omega arith

@@ -37,11 +37,13 @@ record Fills (station : Station) (before : ℕ) (t : Train) (more : ℕ) (u : Tr
   kinds : All (λ k. k.0 < length station.types) u.units
   room : before + length u.units ≤ 160
 
-units_fill : (n : ℕ) (station : Station) (before : ℕ) (t : Train) (row : List (List ℕ)) (k more : ℕ) (u : Train) → All (λ k. k.0 < length station.types) t.units → before + length t.units ≤ 160
+units_fill : (n : ℕ) (station : Station) (before : ℕ) (t : Train) (row : List (List ℕ)) (k more : ℕ) (u : Train) → All (λ k. k.0 < length station.types) t.units
+    → before + length t.units ≤ 160
     → answer n (units_from station before t row k more) ≡ Ok u → Fills station before t more u
 unfolding units_from unit_of
 units_fill n station before t row k zero u kinds room e =
-    subst (Fills station before t zero) (says n (units_from station before t row k zero) u e).1 (record { name = refl; minute = refl; origin = refl; many = omega arith; kinds = kinds; room = room })
+    subst (Fills station before t zero) (says n (units_from station before t row k zero) u e).1
+    (record { name = refl; minute = refl; origin = refl; many = omega arith; kinds = kinds; room = room })
 units_fill n station before t row k (suc more) u kinds room e =
     let place = position (λ x. bytes_eq x.name (at row k)) station.types in
     let a = next _ _ _ u e in
@@ -49,7 +51,8 @@ units_fill n station before t row k (suc more) u kinds room e =
     let kind : TypeId = record { 0 = unwrap_or place 0 } in
     let lt = (position-Some (λ x. bytes_eq x.name (at row k)) station.types (unwrap_or place 0) (record { name = []; length = 0; turn = 0 }) (there 0 place a.0)).0 in
     let less = ltb-true (before + length t.units) 160 b.0 in
-    let f = units_fill n station before (record t { units = t.units ++ kind ∷ [] }) row (k + 1) more u (All-push (λ k. k.0 < length station.types) t.units kind kinds lt) (omega (arith, less, length-append t.units (kind ∷ []))) b.1 in
+    let f = units_fill n station before (record t { units = t.units ++ kind ∷ [] }) row (k + 1) more u (All-push (λ k. k.0 < length station.types) t.units kind kinds lt)
+    (omega (arith, less, length-append t.units (kind ∷ []))) b.1 in
     record { name = f.name; minute = f.minute; origin = f.origin; many = omega (arith, f.many, length-append t.units (kind ∷ [])); kinds = f.kinds; room = f.room }
 
 -- what is stated of one more train
@@ -62,7 +65,8 @@ pub record Adds (station : Station) (trains : List Train) (t : Train) : Type 0 w
 stands_at : (t : Train) (o : Origin) → t.origin ≡ o → is_standing t ≡ is_standing (empty_train [] 0 o)
 stands_at t o is = ap (λ o. is_standing (empty_train [] 0 o)) is
 
-filled : (station : Station) (trains : List Train) (t u : Train) (more : ℕ) → length trains < 100 → IsName t.name → has_train trains t.name ≡ false → t.minute < 2880 → IsOrigin station t.origin → t.units ≡ [] → 1 ≤ more → more ≤ 8
+filled : (station : Station) (trains : List Train) (t u : Train) (more : ℕ) → length trains < 100 → IsName t.name → has_train trains t.name ≡ false → t.minute < 2880
+    → IsOrigin station t.origin → t.units ≡ [] → 1 ≤ more → more ≤ 8
     → Fills station (unit_count trains) t more u → Adds station trains u
 filled station trains t u more room name new minute place none some few f = record {
   room = room;
@@ -78,7 +82,8 @@ filled station trains t u more room name new minute place none some few f = reco
   units = f.room;
 }
 
-moving_adds : (n : ℕ) (station : Station) (trains : List Train) (row : List (List ℕ)) (t : Train) → unit_count trains ≤ 160 → answer n (moving_of station trains row) ≡ Ok t → Adds station trains t × (is_standing t ≡ false)
+moving_adds : (n : ℕ) (station : Station) (trains : List Train) (row : List (List ℕ)) (t : Train) → unit_count trains ≤ 160 → answer n (moving_of station trains row) ≡ Ok t
+    → Adds station trains t × (is_standing t ≡ false)
 unfolding moving_of
 moving_adds n station trains row t units e =
     let place = position (λ x. bytes_eq x (at row 4)) station.platforms in
@@ -92,11 +97,13 @@ moving_adds n station trains row t units e =
     let f = units_fill n station (unit_count trains) bare row 5 (length row - 4) t (All-nil (λ k. k.0 < length station.types)) (omega (arith, units)) p.1 in
     let w = within 5 12 (length row) a.0 in
     let lt = (position-Some (λ x. bytes_eq x (at row 4)) station.platforms (unwrap_or place 0) [] (there 0 place p.0)).0 in (
-      filled station trains bare t (length row - 4) (ltb-true _ _ b.0) (name_from (at row 2) c.0) (not-true _ d.0) (minute_small (at row 3) _ (there 0 (minute_of (at row 3)) m.0)) lt refl (omega (arith, w.0)) (omega (arith, w.1)) f,
+      filled station trains bare t (length row - 4) (ltb-true _ _ b.0) (name_from (at row 2) c.0) (not-true _ d.0)
+          (minute_small (at row 3) _ (there 0 (minute_of (at row 3)) m.0)) lt refl (omega (arith, w.0)) (omega (arith, w.1)) f,
       stands_at t bare.origin f.origin,
     )
 
-standing_adds : (n : ℕ) (station : Station) (trains : List Train) (row : List (List ℕ)) (t : Train) → unit_count trains ≤ 160 → answer n (standing_of station trains row) ≡ Ok t → Adds station trains t × (is_standing t ≡ true) × (t.minute ≡ 0)
+standing_adds : (n : ℕ) (station : Station) (trains : List Train) (row : List (List ℕ)) (t : Train) → unit_count trains ≤ 160 → answer n (standing_of station trains row) ≡ Ok t
+    → Adds station trains t × (is_standing t ≡ true) × (t.minute ≡ 0)
 unfolding standing_of
 standing_adds n station trains row t units e =
     let place = position (λ x. bytes_eq x.name (at row 3)) station.tracks in
@@ -108,8 +115,10 @@ standing_adds n station trains row t units e =
     let bare : Train = empty_train (at row 2) 0 (origin.Track (record { 0 = unwrap_or place 0 })) in
     let f = units_fill n station (unit_count trains) bare row 4 (length row - 3) t (All-nil (λ k. k.0 < length station.types)) (omega (arith, units)) p.1 in
     let w = within 4 11 (length row) a.0 in
-    let lt = (position-Some (λ x. bytes_eq x.name (at row 3)) station.tracks (unwrap_or place 0) (record { name = []; length = 0; side_a = true; side_b = true }) (there 0 place p.0)).0 in (
-      filled station trains bare t (length row - 3) (ltb-true _ _ b.0) (name_from (at row 2) c.0) (not-true _ d.0) (omega arith) lt refl (omega (arith, w.0)) (omega (arith, w.1)) f,
+    let lt = (position-Some (λ x. bytes_eq x.name (at row 3)) station.tracks (unwrap_or place 0) (record { name = []; length = 0; side_a = true; side_b = true })
+    (there 0 place p.0)).0 in (
+      filled station trains bare t (length row - 3) (ltb-true _ _ b.0) (name_from (at row 2) c.0) (not-true _ d.0) (omega arith) lt refl (omega (arith, w.0))
+          (omega (arith, w.1)) f,
       stands_at t bare.origin f.origin,
       f.minute,
     )
@@ -141,9 +150,11 @@ moves_last : (trains : List Train) (t : Train) → StandingFirst trains → is_s
 moves_last trains t first moves =
     let p = is_standing in
     let q = λ (t : Train). not (is_standing t) in
-    let stand : filter p (trains ++ t ∷ []) ≡ filter p trains = filter-append p trains (t ∷ []) ∙ ap (λ b. filter p trains ++ cond b (t ∷ []) []) moves ∙ append-nil (filter p trains) in
+    let stand : filter p (trains ++ t ∷ []) ≡ filter p trains = filter-append p trains (t ∷ []) ∙ ap (λ b. filter p trains ++ cond b (t ∷ []) []) moves
+    ∙ append-nil (filter p trains) in
     let come : filter q (trains ++ t ∷ []) ≡ filter q trains ++ t ∷ [] = filter-append q trains (t ∷ []) ∙ ap (λ b. filter q trains ++ cond (not b) (t ∷ []) []) moves in
-    sym (ap (λ ts. ts ++ filter q (trains ++ t ∷ [])) stand ∙ ap (λ ts. filter p trains ++ ts) come ∙ sym (append_assoc (filter p trains) (filter q trains) (t ∷ [])) ∙ ap (λ ts. ts ++ t ∷ []) (sym first))
+    sym (ap (λ ts. ts ++ filter q (trains ++ t ∷ [])) stand ∙ ap (λ ts. filter p trains ++ ts) come ∙ sym (append_assoc (filter p trains) (filter q trains) (t ∷ []))
+    ∙ ap (λ ts. ts ++ t ∷ []) (sym first))
 
 -- what the records so far state is well formed; where none moves yet, all stand
 pub record IsListed (station : Station) (s : Listed) : Type 0 where
@@ -176,7 +187,8 @@ first_formed station s row e =
 alone : {A B : Type 0} (n : ℕ) (m : Judged A) (more : A → B) (y : B) → answer n (m >>= (λ t. only (more t))) ≡ Ok y → (answer n m ≡ Ok m.value) × (more m.value ≡ y)
 alone n m more y e = let all = says n (m >>= (λ t. only (more t))) y e in (answered n m m.value (hold_first m.checks [] all.0, refl), all.1)
 
-stand_keeps : (n : ℕ) (station : Station) (s t : Listed) (row : List (List ℕ)) → IsListed station s → s.moving ≡ false → answer n (stand_of station s row) ≡ Ok t → IsListed station t
+stand_keeps : (n : ℕ) (station : Station) (s t : Listed) (row : List (List ℕ)) → IsListed station s → s.moving ≡ false → answer n (stand_of station s row) ≡ Ok t
+    → IsListed station t
 unfolding stand_of
 stand_keeps n station s t row f still e =
     let m = standing_of station s.arrive row in
@@ -227,10 +239,12 @@ unfolding later_of
 later_keeps n station s t row f e =
     in_either n (is_word row (codes "arrive")) _ _ t (IsListed station t) (λ w. arrive_keeps n station s t row f)
     (in_either n (is_word row (codes "depart")) _ _ t (IsListed station t) (λ w. depart_keeps n station s t row f)
-    (in_either n (may_stand s && is_word row (codes "stand")) _ _ t (IsListed station t) (λ w. stand_keeps n station s t row f (not-true _ (and_parts _ _ (and_parts _ _ w).0).1)) (λ e. absurd cc))) e
+    (in_either n (may_stand s && is_word row (codes "stand")) _ _ t (IsListed station t) (λ w. stand_keeps n station s t row f (not-true _ (and_parts _ _ (and_parts _ _ w).0).1))
+    (λ e. absurd cc))) e
 
 pub all_formed : (station : Station) (s : Listed) → IsListed station s → IsTimetable station (timetable_of s)
 all_formed station s f = record { arrive = f.arrive; depart = f.depart; first = f.first; at_start = f.at_start; from_platform = f.from_platform }
 
 pub timetable_formed : (station : Station) (rows : List (List (List ℕ))) (t : Timetable) → reading (timetable_format station) rows ≡ Ok t → IsTimetable station t
-timetable_formed station = formed (timetable_format station) (IsListed station) (IsTimetable station) (first_formed station) (λ n s u row f is. later_keeps n station s u row f is) (all_formed station)
+timetable_formed station = formed (timetable_format station) (IsListed station) (IsTimetable station) (first_formed station) (λ n s u row f is. later_keeps n station s u row f is)
+    (all_formed station)

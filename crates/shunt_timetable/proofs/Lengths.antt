@@ -20,14 +20,16 @@ use Rattle.shunt_rows.proofs.Named.{name_at}
 use Rattle.shunt_rows.proofs.Plain.{plain_name}
 use Rattle.shunt_rows.proofs.Texts.{texts_join}
 
-units_wide : (station : Station) (units : List TypeId) → IsStation station → All (λ k. k.0 < length station.types) units → width (map (λ k. slice_index_or (type_names station) k.0 []) units) ≤ 17 * length units
+units_wide : (station : Station) (units : List TypeId) → IsStation station → All (λ k. k.0 < length station.types) units
+    → width (map (λ k. slice_index_or (type_names station) k.0 []) units) ≤ 17 * length units
 units_wide station [] s h = omega arith
 units_wide station (k ∷ units) s h =
     let name = name_at (λ t. t.name) station.types k.0 (λ i d l. (s.types i d l).name) (h 0 k (omega arith)) in
     let more = units_wide station units s (All-tail (λ k. k.0 < length station.types) k units h) in
     omega (arith, more, name.1)
 
-moving_wide : (station : Station) (word : List ℕ) → IsStation station → IsName word → length word ≤ 6 → (t : Train) → IsTrain station t → length (text_of_row (moving_row station word t)) ≤ 47 + 17 * length t.units
+moving_wide : (station : Station) (word : List ℕ) → IsStation station → IsName word → length word ≤ 6 → (t : Train) → IsTrain station t
+    → length (text_of_row (moving_row station word t)) ≤ 47 + 17 * length t.units
 moving_wide station word s w short t h =
     let row = row_width (moving_row station word t) (moving_plain station word s w t h) in
     let units = units_wide station t.units s h.kinds in
@@ -43,13 +45,21 @@ standing_wide station s t h =
     let place = (place_is_name station t.origin s h.origin).1 in
     omega (arith, row, units, name, place)
 
-rows_wide : (station : Station) (row : Train → List (List ℕ)) (ts : List Train) → ((t : Train) → IsTrain station t → length (text_of_row (row t)) ≤ 47 + 17 * length t.units) → All (IsTrain station) ts
+rows_wide : (station : Station) (row : Train → List (List ℕ)) (ts : List Train) → ((t : Train) → IsTrain station t → length (text_of_row (row t)) ≤ 47 + 17 * length t.units)
+    → All (IsTrain station) ts
     → length (text_of_rows (map row ts)) ≤ 47 * length ts + 17 * unit_count ts
 rows_wide station row [] f h = omega arith
 rows_wide station row (t ∷ ts) f h =
     let one = f t (h 0 t (omega arith)) in
     let more = rows_wide station row ts f (All-tail (IsTrain station) t ts h) in
-    omega (arith, one, more, ap length (flat_map-cons text_of_row (row t) (map row ts)), length-append (text_of_row (row t)) (text_of_rows (map row ts)), sum_by-cons (λ u. length u.units) t ts)
+    omega (
+      arith,
+      one,
+      more,
+      ap length (flat_map-cons text_of_row (row t) (map row ts)),
+      length-append (text_of_row (row t)) (text_of_rows (map row ts)),
+      sum_by-cons (λ u. length u.units) t ts,
+    )
 
 first_wide : length (text_of_row first_row) ≡ 12
 first_wide = row_width first_row (omega arith, (plain_name (codes "timetable") (name_from (codes "timetable") refl), (plain_name (codes "2") (name_from (codes "2") refl), tt)))
@@ -62,8 +72,10 @@ timetable_wide station t s h =
     let b = map (moving_row station (codes "arrive")) come in
     let c = map (moving_row station (codes "depart")) t.depart in
     let one = rows_wide station (standing_row station) stand (standing_wide station s) (All-filter is_standing (IsTrain station) t.arrive h.arrive.each) in
-    let two = rows_wide station (moving_row station (codes "arrive")) come (moving_wide station (codes "arrive") s (name_from (codes "arrive") refl) (omega arith)) (All-filter (λ r. not (is_standing r)) (IsTrain station) t.arrive h.arrive.each) in
-    let three = rows_wide station (moving_row station (codes "depart")) t.depart (moving_wide station (codes "depart") s (name_from (codes "depart") refl) (omega arith)) h.depart.each in
+    let two = rows_wide station (moving_row station (codes "arrive")) come (moving_wide station (codes "arrive") s (name_from (codes "arrive") refl) (omega arith))
+    (All-filter (λ r. not (is_standing r)) (IsTrain station) t.arrive h.arrive.each) in
+    let three = rows_wide station (moving_row station (codes "depart")) t.depart (moving_wide station (codes "depart") s (name_from (codes "depart") refl) (omega arith))
+    h.depart.each in
     let many : length t.arrive ≡ length stand + length come = ap length h.first ∙ length-append stand come in
     let units : unit_count t.arrive ≡ unit_count stand + unit_count come = ap unit_count h.first ∙ sum_by-append (λ u. length u.units) stand come in
     let few = h.arrive.few in

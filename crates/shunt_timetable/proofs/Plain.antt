@@ -29,7 +29,8 @@ pub place_is_name : (station : Station) (o : Origin) → IsStation station → I
 place_is_name station (origin.Platform p) s lt = s.platforms p.0 [] lt
 place_is_name station (origin.Track k) s lt = name_at (λ t. t.name) station.tracks k.0 (λ i d l. (s.tracks i d l).name) lt
 
-units_plain : (station : Station) (units : List TypeId) → IsStation station → All (λ k. k.0 < length station.types) units → AllByRecursion IsPlainField (map (λ k. slice_index_or (type_names station) k.0 []) units)
+units_plain : (station : Station) (units : List TypeId) → IsStation station → All (λ k. k.0 < length station.types) units
+    → AllByRecursion IsPlainField (map (λ k. slice_index_or (type_names station) k.0 []) units)
 units_plain station [] s h = tt
 units_plain station (k ∷ units) s h = (
   plain_name _ (name_at (λ t. t.name) station.types k.0 (λ i d l. (s.types i d l).name) (h 0 k (omega arith))),
@@ -37,17 +38,37 @@ units_plain station (k ∷ units) s h = (
 )
 
 pub moving_plain : (station : Station) (word : List ℕ) → IsStation station → IsName word → (t : Train) → IsTrain station t → IsPlainRow (moving_row station word t)
-moving_plain station word s w t h = (omega arith, (plain_name word w, (plain_name t.name h.name, (plain_minute t.minute h.minute, (plain_name (place_name station t.origin) (place_is_name station t.origin s h.origin), units_plain station t.units s h.kinds)))))
+moving_plain station word s w t h = (
+  omega arith,
+  (
+    plain_name word w,
+    (
+      plain_name t.name h.name,
+      (plain_minute t.minute h.minute, (plain_name (place_name station t.origin) (place_is_name station t.origin s h.origin), units_plain station t.units s h.kinds)),
+    ),
+  ),
+)
 
 pub standing_plain : (station : Station) → IsStation station → (t : Train) → IsTrain station t → IsPlainRow (standing_row station t)
-standing_plain station s t h = (omega arith, (plain_name (codes "stand") (name_from (codes "stand") refl), (plain_name t.name h.name, (plain_name (place_name station t.origin) (place_is_name station t.origin s h.origin), units_plain station t.units s h.kinds))))
+standing_plain station s t h = (
+  omega arith,
+  (
+    plain_name (codes "stand") (name_from (codes "stand") refl),
+    (plain_name t.name h.name, (plain_name (place_name station t.origin) (place_is_name station t.origin s h.origin), units_plain station t.units s h.kinds)),
+  ),
+)
 
 timetable_plain : (station : Station) (t : Timetable) → IsStation station → IsTimetable station t → ArePlain (rows_of station t)
 timetable_plain station t s h =
-    let a = plain_map (IsTrain station) (standing_row station) (filter is_standing t.arrive) (standing_plain station s) (All-filter is_standing (IsTrain station) t.arrive h.arrive.each) in
-    let b = plain_map (IsTrain station) (moving_row station (codes "arrive")) (filter (λ r. not (is_standing r)) t.arrive) (moving_plain station (codes "arrive") s (name_from (codes "arrive") refl)) (All-filter (λ r. not (is_standing r)) (IsTrain station) t.arrive h.arrive.each) in
-    let c = plain_map (IsTrain station) (moving_row station (codes "depart")) t.depart (moving_plain station (codes "depart") s (name_from (codes "depart") refl)) h.depart.each in
-    ((omega arith, (plain_name (codes "timetable") (name_from (codes "timetable") refl), (plain_name (codes "2") (name_from (codes "2") refl), tt))), plain_more _ _ (plain_more _ _ a b) c)
+    let a = plain_map (IsTrain station) (standing_row station) (filter is_standing t.arrive) (standing_plain station s)
+    (All-filter is_standing (IsTrain station) t.arrive h.arrive.each) in
+    let b = plain_map (IsTrain station) (moving_row station (codes "arrive")) (filter (λ r. not (is_standing r)) t.arrive)
+    (moving_plain station (codes "arrive") s (name_from (codes "arrive") refl)) (All-filter (λ r. not (is_standing r)) (IsTrain station) t.arrive h.arrive.each) in
+    let c = plain_map (IsTrain station) (moving_row station (codes "depart")) t.depart
+    (moving_plain station (codes "depart") s (name_from (codes "depart") refl)) h.depart.each in (
+      (omega arith, (plain_name (codes "timetable") (name_from (codes "timetable") refl), (plain_name (codes "2") (name_from (codes "2") refl), tt))),
+      plain_more _ _ (plain_more _ _ a b) c,
+    )
 
 abbrev wrote : List ℕ → Written
 wrote text = record { text = text; row = [] }
@@ -68,14 +89,18 @@ timetable_written station t x y z w a b c d h hx hy hz h0 h1 h2 h3 h4 =
     let all = text_of_rows (first_row ∷ (stand ++ (come ++ (go ++ [])))) in
     let i2 = h2 ∙ ap (λ l. wrote (a.text ++ text_of_rows (map (standing_row station) (filter is_standing l)))) hx in
     let i3 = h3 ∙ ap (λ l. wrote (b.text ++ text_of_rows (map (moving_row station (codes "arrive")) (filter moves l)))) hy in
-    let i4 = h4 ∙ ap (λ l. wrote (c.text ++ text_of_rows (map (moving_row station (codes "depart")) l))) (ap (filter moves) hz ∙ filter_whole moves t.depart (λ k e lt. ap not (h.from_platform k e lt))) in
+    let i4 = h4 ∙ ap (λ l. wrote (c.text ++ text_of_rows (map (moving_row station (codes "depart")) l)))
+    (ap (filter moves) hz ∙ filter_whole moves t.depart (λ k e lt. ap not (h.from_platform k e lt))) in
     sym (append-nil d.text)
-    ∙ rows_written c d go [] all i4 (rows_written b c come (go ++ []) all i3 (rows_written a b stand (come ++ (go ++ [])) all i2 (row_written w a first_row (stand ++ (come ++ (go ++ []))) all h1 (ap (λ (v : Written). v.text ++ all) h0))))
+    ∙ rows_written c d go [] all i4 (rows_written b c come (go ++ []) all i3 (rows_written a b stand (come ++ (go ++ [])) all i2
+    (row_written w a first_row (stand ++ (come ++ (go ++ []))) all h1 (ap (λ (v : Written). v.text ++ all) h0))))
     ∙ ap (λ l. text_of_rows (first_row ∷ (stand ++ (come ++ l)))) (append-nil go)
     ∙ ap (λ l. text_of_rows (first_row ∷ l)) (sym (append_assoc stand come go))
 
-pub rows_read : (station : Station) (t : Timetable) (text bytes : List ℕ) → IsStation station → IsTimetable station t → text ≡ text_of_rows (rows_of station t) → ReadsBack text bytes → records_of bytes ≡ rows_of station t
+pub rows_read : (station : Station) (t : Timetable) (text bytes : List ℕ) → IsStation station → IsTimetable station t → text ≡ text_of_rows (rows_of station t)
+    → ReadsBack text bytes → records_of bytes ≡ rows_of station t
 rows_read station t text bytes s h is back = back (rows_of station t) (timetable_plain station t s h) is
 
-pub timetable_read : (station : Station) (t : Timetable) (text bytes : List ℕ) → IsStation station → IsTimetable station t → text ≡ text_of_rows (rows_of station t) → ReadsBack text bytes → reading (timetable_format station) (records_of bytes) ≡ Ok t
+pub timetable_read : (station : Station) (t : Timetable) (text bytes : List ℕ) → IsStation station → IsTimetable station t → text ≡ text_of_rows (rows_of station t)
+    → ReadsBack text bytes → reading (timetable_format station) (records_of bytes) ≡ Ok t
 timetable_read station t text bytes s h is back = ap (reading (timetable_format station)) (rows_read station t text bytes s h is back) ∙ timetable_again station t s h

@@ -45,7 +45,8 @@ field_of (f ∷ row) (suc k) x rest e =
     (r.0, ap (λ i. drop i (f ∷ row)) (let s : suc k + 1 ≡ suc (k + 1) = omega arith in s) ∙ r.1)
 
 -- a thing of a list is found by its name
-found_named : {X : Type 0} (name : X → List ℕ) (xs : List X) (k : ℕ) (d : X) (text : List ℕ) → AreDistinct (map name xs) → k < length xs → text ≡ slice_index_or (map name xs) k [] → position (λ x. bytes_eq (name x) text) xs ≡ Some k
+found_named : {X : Type 0} (name : X → List ℕ) (xs : List X) (k : ℕ) (d : X) (text : List ℕ) → AreDistinct (map name xs) → k < length xs → text ≡ slice_index_or (map name xs) k []
+    → position (λ x. bytes_eq (name x) text) xs ≡ Some k
 found_named name xs k d text h lt is =
     found_there name xs text k d h (slice_get-get_or (map name xs) k [] (omega (arith, length-map xs name)) ∙ ap Some (sym is))
 
@@ -53,7 +54,8 @@ found_named name xs k d text h lt is =
 abbrev of_parts : List ℕ → ℕ → Origin → List TypeId → Train
 of_parts name minute o units = record { name = name; minute = minute; origin = o; units = units }
 
-units_again : (n : ℕ) (station : Station) (before : ℕ) (name : List ℕ) (minute : ℕ) (o : Origin) (done coming : List TypeId) (row : List (List ℕ)) (j : ℕ) → AreDistinct (type_names station)
+units_again : (n : ℕ) (station : Station) (before : ℕ) (name : List ℕ) (minute : ℕ) (o : Origin) (done coming : List TypeId) (row : List (List ℕ)) (j : ℕ)
+    → AreDistinct (type_names station)
     → drop j row ≡ map (λ k. slice_index_or (type_names station) k.0 []) coming → All (λ k. k.0 < length station.types) coming → before + length done + length coming ≤ 160
     → answer n (units_from station before (of_parts name minute o done) row (j + 1) (length coming)) ≡ Ok (of_parts name minute o (done ++ coming))
 unfolding units_from unit_of
@@ -62,18 +64,22 @@ units_again n station before name minute o done (kind ∷ coming) row j h e kind
     let f = field_of row j (slice_index_or (type_names station) kind.0 []) (map (λ k. slice_index_or (type_names station) k.0 []) coming) e in
     let here : at row (j + 1) ≡ slice_index_or (type_names station) kind.0 [] = ap (λ i. slice_index_or row i []) (let s : j + 1 - 1 ≡ j = omega arith in s) ∙ f.0 in
     let place = position (λ x. bytes_eq x.name (at row (j + 1))) station.types in
-    let is : place ≡ Some kind.0 = found_named (λ x. x.name) station.types kind.0 (record { name = []; length = 0; turn = 0 }) (at row (j + 1)) h (kinds 0 kind (omega arith)) here in
+    let is : place ≡ Some kind.0 = found_named (λ x. x.name) station.types kind.0 (record { name = []; length = 0; turn = 0 }) (at row (j + 1)) h
+    (kinds 0 kind (omega arith)) here in
     let value : unwrap_or place 0 ≡ kind.0 = ap (λ x. unwrap_or x 0) is in
-    let more = units_again n station before name minute o (done ++ kind ∷ []) coming row (j + 1) h f.1 (All-tail (λ k. k.0 < length station.types) kind coming kinds) (omega (arith, room, length-append done (kind ∷ []))) in
+    let more = units_again n station before name minute o (done ++ kind ∷ []) coming row (j + 1) h f.1 (All-tail (λ k. k.0 < length station.types) kind coming kinds)
+    (omega (arith, room, length-append done (kind ∷ []))) in
     passes_on _ _ _ _ (ap is_some is)
     (passes_on _ _ _ _ (lt-ltb _ _ (omega (arith, room)))
-    (subst (λ k. answer n (units_from station before (of_parts name minute o (done ++ record { 0 = k } ∷ [])) row (j + 1 + 1) (length coming)) ≡ Ok (of_parts name minute o (done ++ kind ∷ coming))) (sym value)
+    (subst (λ k. answer n (units_from station before (of_parts name minute o (done ++ record { 0 = k } ∷ [])) row (j + 1 + 1) (length coming))
+    ≡ Ok (of_parts name minute o (done ++ kind ∷ coming))) (sym value)
     (more ∙ ap (λ u. Ok (of_parts name minute o u)) (append_assoc done (kind ∷ []) coming))))
 
 many_units : (station : Station) (t : Train) → length (unit_names station t) ≡ length t.units
 many_units station t = length-map t.units (λ k. slice_index_or (type_names station) k.0 [])
 
-moving_parts : (n : ℕ) (station : Station) (trains : List Train) (word name : List ℕ) (minute : ℕ) (p : PlatformId) (units : List TypeId) → IsStation station → Adds station trains (of_parts name minute (origin.Platform p) units)
+moving_parts : (n : ℕ) (station : Station) (trains : List Train) (word name : List ℕ) (minute : ℕ) (p : PlatformId) (units : List TypeId) → IsStation station
+    → Adds station trains (of_parts name minute (origin.Platform p) units)
     → answer n (moving_of station trains (moving_row station word (of_parts name minute (origin.Platform p) units))) ≡ Ok (of_parts name minute (origin.Platform p) units)
 unfolding moving_of
 moving_parts n station trains word name minute p units s a =
@@ -82,7 +88,8 @@ moving_parts n station trains word name minute p units s a =
     let place = position (λ x. bytes_eq x (at row 4)) station.platforms in
     let some = a.train.some in
     let few = a.train.few in
-    let is : place ≡ Some p.0 = found_named (λ x. x) station.platforms p.0 [] (at row 4) (subst AreDistinct (sym (map-id station.platforms)) s.platform_names) a.train.origin (ap (λ l. slice_index_or l p.0 []) (sym (map-id station.platforms))) in
+    let is : place ≡ Some p.0 = found_named (λ x. x) station.platforms p.0 [] (at row 4) (subst AreDistinct (sym (map-id station.platforms)) s.platform_names) a.train.origin
+    (ap (λ l. slice_index_or l p.0 []) (sym (map-id station.platforms))) in
     let value : unwrap_or place 0 ≡ p.0 = ap (λ x. unwrap_or x 0) is in
     let time : minute_of (minute_text minute) ≡ Some minute = read_again minute a.train.minute in
     let now : unwrap_or (minute_of (minute_text minute)) 0 ≡ minute = ap (λ x. unwrap_or x 0) time in
@@ -99,7 +106,8 @@ moving_parts n station trains word name minute p units s a =
     ∙ ap (λ w. answer n (units_from station (unit_count trains) (empty_train name minute (origin.Platform p)) row 5 w)) wide
     ∙ all))))))
 
-standing_parts : (n : ℕ) (station : Station) (trains : List Train) (name : List ℕ) (k : TrackId) (units : List TypeId) → IsStation station → Adds station trains (of_parts name 0 (origin.Track k) units)
+standing_parts : (n : ℕ) (station : Station) (trains : List Train) (name : List ℕ) (k : TrackId) (units : List TypeId) → IsStation station
+    → Adds station trains (of_parts name 0 (origin.Track k) units)
     → answer n (standing_of station trains (standing_row station (of_parts name 0 (origin.Track k) units))) ≡ Ok (of_parts name 0 (origin.Track k) units)
 unfolding standing_of
 standing_parts n station trains name k units s a =
@@ -108,7 +116,8 @@ standing_parts n station trains name k units s a =
     let place = position (λ x. bytes_eq x.name (at row 3)) station.tracks in
     let some = a.train.some in
     let few = a.train.few in
-    let is : place ≡ Some k.0 = found_named (λ x. x.name) station.tracks k.0 (record { name = []; length = 0; side_a = true; side_b = true }) (at row 3) s.track_names a.train.origin refl in
+    let is : place ≡ Some k.0 = found_named (λ x. x.name) station.tracks k.0 (record { name = []; length = 0; side_a = true; side_b = true })
+    (at row 3) s.track_names a.train.origin refl in
     let value : unwrap_or place 0 ≡ k.0 = ap (λ x. unwrap_or x 0) is in
     let all = units_again n station (unit_count trains) name 0 (origin.Track k) [] units row 3 s.type_names refl a.train.kinds (let u = a.units in omega (arith, u)) in
     let wide : length row - 3 ≡ length units = omega (arith, many) in
@@ -122,7 +131,8 @@ standing_parts n station trains name k units s a =
     ∙ all)))))
 
 -- one train is read again from its row
-moving_again : (n : ℕ) (station : Station) (trains : List Train) (word : List ℕ) (t : Train) → IsStation station → Adds station trains t → is_standing t ≡ false → answer n (moving_of station trains (moving_row station word t)) ≡ Ok t
+moving_again : (n : ℕ) (station : Station) (trains : List Train) (word : List ℕ) (t : Train) → IsStation station → Adds station trains t → is_standing t ≡ false
+    → answer n (moving_of station trains (moving_row station word t)) ≡ Ok t
 moving_again n station trains word t s a moves = by t.origin refl
   where
     by : (o : Origin) → t.origin ≡ o → answer n (moving_of station trains (moving_row station word t)) ≡ Ok t
@@ -131,13 +141,15 @@ moving_again n station trains word t s a moves = by t.origin refl
         (moving_parts n station trains word t.name t.minute p t.units s (subst (λ o. Adds station trains (of_parts t.name t.minute o t.units)) is a))
     by (origin.Track k) is = absurd (true≢false (sym (ap (λ o. is_standing (of_parts t.name t.minute o t.units)) is) ∙ moves))
 
-standing_again : (n : ℕ) (station : Station) (trains : List Train) (t : Train) → IsStation station → Adds station trains t → is_standing t ≡ true → t.minute ≡ 0 → answer n (standing_of station trains (standing_row station t)) ≡ Ok t
+standing_again : (n : ℕ) (station : Station) (trains : List Train) (t : Train) → IsStation station → Adds station trains t → is_standing t ≡ true → t.minute ≡ 0
+    → answer n (standing_of station trains (standing_row station t)) ≡ Ok t
 standing_again n station trains t s a stands start = by t.origin refl
   where
     by : (o : Origin) → t.origin ≡ o → answer n (standing_of station trains (standing_row station t)) ≡ Ok t
     by (origin.Track k) is =
         subst (λ o. answer n (standing_of station trains (standing_row station (of_parts t.name t.minute o t.units))) ≡ Ok (of_parts t.name t.minute o t.units)) (sym is)
-        (subst (λ m. answer n (standing_of station trains (standing_row station (of_parts t.name m (origin.Track k) t.units))) ≡ Ok (of_parts t.name m (origin.Track k) t.units)) (sym start)
+        (subst (λ m. answer n (standing_of station trains (standing_row station (of_parts t.name m (origin.Track k) t.units))) ≡ Ok (of_parts t.name m (origin.Track k) t.units))
+        (sym start)
         (standing_parts n station trains t.name k t.units s
         (subst (λ m. Adds station trains (of_parts t.name m (origin.Track k) t.units)) start (subst (λ o. Adds station trains (of_parts t.name t.minute o t.units)) is a))))
     by (origin.Platform p) is = absurd (true≢false (sym stands ∙ ap (λ o. is_standing (of_parts t.name t.minute o t.units)) is))
@@ -150,7 +162,8 @@ adds station all done t coming f e =
     record {
       room = omega (arith, few, ap length e, length-append done (t ∷ coming));
       train = of_middle (IsTrain station) all done coming t f.each e;
-      new = not_before (λ u. u.name) (λ u. bytes_eq u.name t.name) done coming t (λ u. by_name t.name u.name) (subst (λ (l : List Train). AreDistinct (map (λ u. u.name) l)) e f.names);
+      new = not_before (λ u. u.name) (λ u. bytes_eq u.name t.name) done coming t (λ u. by_name t.name u.name)
+          (subst (λ (l : List Train). AreDistinct (map (λ u. u.name) l)) e f.names);
       units = omega (arith, units, ap unit_count e, sum_by-append (λ u. length u.units) done (t ∷ coming), sum_by-cons (λ u. length u.units) t coming);
     }
 
@@ -166,24 +179,32 @@ moves_on : (b : Bool) (done : List Train) (t : Train) → moves_after b (done ++
 moves_on b [] t = refl
 moves_on b (u ∷ done) t = refl
 
-stand_next : (station : Station) (stand come : List Train) → IsStation station → AreTrains station (stand ++ come) → All (λ r. is_standing r ≡ true) stand → All (λ r. r.minute ≡ 0) stand
-    → (n : ℕ) (done : List Train) (t : Train) (coming : List Train) → stand ≡ done ++ t ∷ coming → answer n (later_of station (listed done [] false) (standing_row station t)) ≡ Ok (listed (done ++ t ∷ []) [] false)
+stand_next : (station : Station) (stand come : List Train) → IsStation station → AreTrains station (stand ++ come) → All (λ r. is_standing r ≡ true) stand
+    → All (λ r. r.minute ≡ 0) stand
+    → (n : ℕ) (done : List Train) (t : Train) (coming : List Train) → stand ≡ done ++ t ∷ coming
+    → answer n (later_of station (listed done [] false) (standing_row station t)) ≡ Ok (listed (done ++ t ∷ []) [] false)
 unfolding later_of
 stand_next station stand come s f stands start n done t coming e =
-    let one = standing_again n station done t s (adds station (stand ++ come) done t (coming ++ come) f (ap (λ l. l ++ come) e ∙ append_assoc done (t ∷ coming) come)) (of_middle (λ r. is_standing r ≡ true) stand done coming t stands e) (of_middle (λ r. r.minute ≡ 0) stand done coming t start e) in
+    let one = standing_again n station done t s (adds station (stand ++ come) done t (coming ++ come) f (ap (λ l. l ++ come) e ∙ append_assoc done (t ∷ coming) come))
+    (of_middle (λ r. is_standing r ≡ true) stand done coming t stands e) (of_middle (λ r. r.minute ≡ 0) stand done coming t start e) in
     stand_ok n station (listed done [] false) (listed done [] false) (standing_row station t) t done (done ++ t ∷ []) refl refl refl one
 
 arrive_next : (station : Station) (stand come : List Train) → IsStation station → AreTrains station (stand ++ come) → All (λ r. is_standing r ≡ false) come
-    → (n : ℕ) (done : List Train) (t : Train) (coming : List Train) → come ≡ done ++ t ∷ coming → answer n (later_of station (listed (stand ++ done) [] (moves_after false done)) (moving_row station (codes "arrive") t)) ≡ Ok (listed (stand ++ (done ++ t ∷ [])) [] (moves_after false (done ++ t ∷ [])))
+    → (n : ℕ) (done : List Train) (t : Train) (coming : List Train) → come ≡ done ++ t ∷ coming
+    → answer n (later_of station (listed (stand ++ done) [] (moves_after false done)) (moving_row station (codes "arrive") t))
+    ≡ Ok (listed (stand ++ (done ++ t ∷ [])) [] (moves_after false (done ++ t ∷ [])))
 unfolding later_of
 arrive_next station stand come s f moves n done t coming e =
     let before = listed (stand ++ done) [] (moves_after false done) in
-    let one = moving_again n station (stand ++ done) (codes "arrive") t s (adds station (stand ++ come) (stand ++ done) t coming f (ap (λ l. stand ++ l) e ∙ sym (append_assoc stand done (t ∷ coming)))) (of_middle (λ r. is_standing r ≡ false) come done coming t moves e) in
+    let one = moving_again n station (stand ++ done) (codes "arrive") t s (adds station (stand ++ come) (stand ++ done) t coming f
+    (ap (λ l. stand ++ l) e ∙ sym (append_assoc stand done (t ∷ coming)))) (of_middle (λ r. is_standing r ≡ false) come done coming t moves e) in
     arrive_ok n station before before (moving_row station (codes "arrive") t) t (stand ++ done) (stand ++ (done ++ t ∷ [])) refl refl (sym (append_assoc stand done (t ∷ []))) one
     ∙ ap (λ b. Ok (listed (stand ++ (done ++ t ∷ [])) [] b)) (sym (moves_on false done t))
 
 depart_next : (station : Station) (arrive depart : List Train) (b : Bool) → IsStation station → AreTrains station depart → All (λ r. is_standing r ≡ false) depart
-    → (n : ℕ) (done : List Train) (t : Train) (coming : List Train) → depart ≡ done ++ t ∷ coming → answer n (later_of station (listed arrive done (moves_after b done)) (moving_row station (codes "depart") t)) ≡ Ok (listed arrive (done ++ t ∷ []) (moves_after b (done ++ t ∷ [])))
+    → (n : ℕ) (done : List Train) (t : Train) (coming : List Train) → depart ≡ done ++ t ∷ coming
+    → answer n (later_of station (listed arrive done (moves_after b done)) (moving_row station (codes "depart") t))
+    ≡ Ok (listed arrive (done ++ t ∷ []) (moves_after b (done ++ t ∷ [])))
 unfolding later_of
 depart_next station arrive depart b s f moves n done t coming e =
     let before = listed arrive done (moves_after b done) in
@@ -226,6 +247,7 @@ timetable_again station t s h =
     (section_then f (standing_row station) (λ l. listed l [] false) stand end _ (stand_next station stand come s all stands start)
     (λ n. subst (λ l. reads f (listed l [] false) n (b ++ c) ≡ Ok end) (append-nil stand)
     (section_then f (moving_row station (codes "arrive")) (λ l. listed (stand ++ l) [] (moves_after false l)) come end _ (arrive_next station stand come s all moves)
-    (λ k. section f (moving_row station (codes "depart")) (λ l. listed (stand ++ come) l (moves_after m l)) t.depart (depart_next station (stand ++ come) t.depart m s h.depart h.from_platform) k [] t.depart refl) n)) 2)
+    (λ k. section f (moving_row station (codes "depart")) (λ l. listed (stand ++ come) l (moves_after m l)) t.depart
+    (depart_next station (stand ++ come) t.depart m s h.depart h.from_platform) k [] t.depart refl) n)) 2)
     refl
     ∙ ap (λ l. Ok (of_lists l t.depart)) (sym h.first)

@@ -12,7 +12,8 @@ use Rattle.shunt_rows.proofs.InOrder.{in_if, no_word_up, Ascends, none_left, one
 use Rattle.shunt_rows.proofs.Readings.{tells}
 use Rattle.shunt_timetable.specs.defs.TimetableFormat.{Listed, first_of, unit_of, units_from, standing_of, moving_of, stand_of, arrive_of, depart_of, may_stand, later_of, timetable_format}
 
-units_up : (station : Station) (before : ℕ) (t : Train) (row : List (List ℕ)) (k more least : ℕ) → least ≤ 12 * k + 6 → Ascends least (units_from station before t row k more).checks
+units_up : (station : Station) (before : ℕ) (t : Train) (row : List (List ℕ)) (k more least : ℕ) → least ≤ 12 * k + 6
+    → Ascends least (units_from station before t row k more).checks
 unfolding units_from unit_of
 units_up station before t row k zero least le = none_left
 units_up station before t row k (suc more) least le =

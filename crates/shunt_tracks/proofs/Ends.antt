@@ -8,7 +8,8 @@ use Rattle.shunt_stays.proofs.Steps.{load_kept, leaves_is}
 use Rattle.shunt_tracks.specs.declared.blocks.Block.{Block}
 use Rattle.shunt_tracks.specs.defs.Blocks.{standing, blocks_of}
 
-pub last_taken : (id : ℕ) (blocks : List Block) (k : ℕ) (d : Block) → k + 1 ≡ length blocks → (get_or blocks k d).id ≡ id → without_last id (blocks_of blocks) ≡ Some (blocks_of (take k blocks))
+pub last_taken : (id : ℕ) (blocks : List Block) (k : ℕ) (d : Block) → k + 1 ≡ length blocks → (get_or blocks k d).id ≡ id
+    → without_last id (blocks_of blocks) ≡ Some (blocks_of (take k blocks))
 last_taken id [] k d n e = absurd (omega arith)
 last_taken id (b ∷ []) zero d n e = ap (λ t. cond t (Some []) None) (eq-eqb b.id id e)
 last_taken id (b ∷ []) (suc k) d n e = absurd (omega arith)

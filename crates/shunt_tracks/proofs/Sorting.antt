@@ -35,7 +35,8 @@ moves_are (s ∷ stays) =
     ∙ ap (λ (l : List Move). entry_of s ∷ leave_of s ∷ l) (moves_are stays)
     ∙ sym (flat_map-cons (λ (z : Stay). entry_of z ∷ leave_of z ∷ []) s stays)
 
-sorted_map : (cmp : Due → Due → Ordering) (dues : List Due) → ((d e : Due) → is_lt (cmp d e) ≡ false → is_lt (key_cmp d.key e.key) ≡ false) → IsSorted cmp dues → IsSorted by_key (map move_of dues)
+sorted_map : (cmp : Due → Due → Ordering) (dues : List Due) → ((d e : Due) → is_lt (cmp d e) ≡ false → is_lt (key_cmp d.key e.key) ≡ false) → IsSorted cmp dues
+    → IsSorted by_key (map move_of dues)
 sorted_map cmp dues finer s = λ k m low high.
     let z : Due = record { key = m.key; track = m.track; side = m.side; length = m.length } in
     let lt : k + 1 < length dues = omega (arith, length-map dues move_of) in
@@ -45,9 +46,12 @@ sorted_map cmp dues finer s = λ k m low high.
     ∙ ap (λ (n : Move). is_lt (by_key (move_of (get_or dues (k + 1) z)) n)) here
     ∙ finer (get_or dues (k + 1) z) (get_or dues k z) (s k z low lt)
 
-pub sorted_moves : (cmp : Due → Due → Ordering) (stays : List Stay) (dues sorted : List Due) → AreStays stays → ((d e : Due) → is_lt (cmp d e) ≡ false → is_lt (key_cmp d.key e.key) ≡ false) → dues ≡ flat_map dues_of stays → IsPermutation dues sorted → IsSorted cmp sorted → map move_of sorted ≡ in_order stays
+pub sorted_moves : (cmp : Due → Due → Ordering) (stays : List Stay) (dues sorted : List Due) → AreStays stays
+    → ((d e : Due) → is_lt (cmp d e) ≡ false → is_lt (key_cmp d.key e.key) ≡ false) → dues ≡ flat_map dues_of stays → IsPermutation dues sorted → IsSorted cmp sorted
+    → map move_of sorted ≡ in_order stays
 sorted_moves cmp stays dues sorted a finer e p s =
-    sorted_is stays (map move_of sorted) a (subst (λ (l : List Move). IsPermutation l (map move_of sorted)) (ap (map move_of) e ∙ moves_are stays) (IsPermutation-map move_of dues sorted p)) (sorted_map cmp sorted finer s)
+    sorted_is stays (map move_of sorted) a (subst (λ (l : List Move). IsPermutation l (map move_of sorted)) (ap (map move_of) e ∙ moves_are stays)
+    (IsPermutation-map move_of dues sorted p)) (sorted_map cmp sorted finer s)
 
 -- a move among others
 behind : (m n l : Move) (moves more : List Move) → (In n more → (n ≡ m) ⊎ In n moves) → In n (l ∷ more) → (n ≡ m) ⊎ In n (l ∷ moves)

@@ -34,10 +34,12 @@ pub record TextLaws : Type 0 where
 
 module _ (laws : TextLaws) (night : Night) (of_night : IsInstance night) where
   pub plan_back : (p : Plan) → IsPlanInRange night p → stated_plan night (plan_file night p) ≡ Ok p
-  plan_back p is = let short = laws.plan_short night p of_night is in stated_again word.Plan (plan_format night) (plan_file night p) p (omega (arith, short)) (laws.plan_again night p of_night is).value
+  plan_back p is = let short = laws.plan_short night p of_night is in stated_again word.Plan (plan_format night) (plan_file night p) p (omega (arith, short))
+      (laws.plan_again night p of_night is).value
 
   pub certificate_back : (c : Certificate) → IsCertificate night c → stated_certificate night (certificate_file night c) ≡ Ok c
-  certificate_back c is = let short = text_short night c of_night is in stated_again word.Certificate (certificate_format night) (certificate_file night c) c (omega (arith, short)) (laws.certificate_again night c of_night is).value
+  certificate_back c is = let short = text_short night c of_night is in stated_again word.Certificate (certificate_format night) (certificate_file night c) c (omega (arith, short))
+      (laws.certificate_again night c of_night is).value
 
 -- ---- names that differ
 
@@ -84,7 +86,8 @@ module _ (ns : List (List ℕ)) (p k : List ℕ) (names : AreNames (ns ++ p ∷ 
   left = finmap.insert (finmap.insert a k certificate) p plan
 
   pub input_kept : (n : List ℕ) → In n ns → content left n ≡ content a n
-  input_kept n w = put_other (finmap.insert a k certificate) p plan n (names_apart ns (p ∷ k ∷ []) n p names w (inl refl)) ∙ put_other a k certificate n (names_apart ns (p ∷ k ∷ []) n k names w (inr (inl refl)))
+  input_kept n w = put_other (finmap.insert a k certificate) p plan n (names_apart ns (p ∷ k ∷ []) n p names w (inl refl))
+      ∙ put_other a k certificate n (names_apart ns (p ∷ k ∷ []) n k names w (inr (inl refl)))
 
   pub plan_there : content left p ≡ plan
   plan_there = put_here (finmap.insert a k certificate) p plan
@@ -99,13 +102,15 @@ module _ (ns : List (List ℕ)) (p k : List ℕ) (names : AreNames (ns ++ p ∷ 
 abbrev pub checkable : Night → Plan → Certificate → Checkable
 checkable night plan certificate = record { night = night; plan = plan; certificate = certificate }
 
-check_is : (s t p k : List ℕ) (night : Night) (plan : Plan) (certificate : Certificate) → stated_night s t ≡ Ok night → stated_plan night p ≡ Ok plan → stated_certificate night k ≡ Ok certificate → stated_check s t p k ≡ Ok (checkable night plan certificate)
+check_is : (s t p k : List ℕ) (night : Night) (plan : Plan) (certificate : Certificate) → stated_night s t ≡ Ok night → stated_plan night p ≡ Ok plan
+    → stated_certificate night k ≡ Ok certificate → stated_check s t p k ≡ Ok (checkable night plan certificate)
 unfolding stated_check
 check_is s t p k night plan certificate a b d =
     ap (λ r. then_stated r (λ (x : Night × Plan). then_stated (stated_certificate x.0 k) (λ c. Ok (checkable x.0 x.1 c)))) (plans_are s t p night plan a b)
     ∙ ap (λ r. then_stated r (λ c. Ok (checkable night plan c))) d
 
-module _ (laws : TextLaws) (s t p k : List ℕ) (names : AreNames (s ∷ t ∷ p ∷ k ∷ [])) (a : Files) (night : Night) (of_night : IsInstance night) (plan : Plan) (c : Certificate) where
+module _ (laws : TextLaws) (s t p k : List ℕ) (names : AreNames (s ∷ t ∷ p ∷ k ∷ [])) (a : Files) (night : Night) (of_night : IsInstance night) (plan : Plan)
+    (c : Certificate) where
   abbrev here : Files
   here = with_both p k night plan c a
 

@@ -39,20 +39,23 @@ pub record NightLaws : Type 0 where
 
 module _ (laws : NightLaws) (station : Station) (timetable : Timetable) (of_station : IsStation station) (of_timetable : IsTimetable station timetable) where
   station_back : stated_station (station_file station) ≡ Ok station
-  station_back = let short = laws.station_short station of_station in stated_again word.Station station_format (station_file station) station (omega (arith, short)) (laws.station_again station of_station).value
+  station_back = let short = laws.station_short station of_station in stated_again word.Station station_format (station_file station) station (omega (arith, short))
+      (laws.station_again station of_station).value
 
   timetable_back : stated_timetable station (timetable_file station timetable) ≡ Ok timetable
   timetable_back =
       let short = laws.timetable_short station timetable of_station of_timetable in
       let text = timetable_file station timetable in
-      stated_again word.Timetable (timetable_format station) text timetable (omega (arith, short)) (timetable_read station timetable text text of_station of_timetable refl (λ rows plain e. ap records_of e ∙ laws.rows_again rows plain))
+      stated_again word.Timetable (timetable_format station) text timetable (omega (arith, short))
+      (timetable_read station timetable text text of_station of_timetable refl (λ rows plain e. ap records_of e ∙ laws.rows_again rows plain))
 
   night_back : stated_night (station_file station) (timetable_file station timetable) ≡ Ok (night_of station timetable)
   night_back =
       ap (λ r. then_stated r (λ s. then_stated (stated_timetable s (timetable_file station timetable)) (λ t. Ok (night_of s t)))) station_back
       ∙ ap (λ r. then_stated r (λ t. Ok (night_of station t))) timetable_back
 
-  pub night_held : (s t : List ℕ) (files : Files) → s ≢ t → files ≡ night_files s t station timetable → HasMatching (night_of station timetable) [] [] → IsNightIn s t files (night_of station timetable)
+  pub night_held : (s t : List ℕ) (files : Files) → s ≢ t → files ≡ night_files s t station timetable → HasMatching (night_of station timetable) [] []
+      → IsNightIn s t files (night_of station timetable)
   night_held s t files apart is matching =
       let a = finmap.empty in
       let first = station_put s t apart a (station_file station) (timetable_file station timetable) in
@@ -69,7 +72,8 @@ module _ (laws : NightLaws) (station : Station) (timetable : Timetable) (of_stat
 
 -- ---- the plan and the certificate
 
-pub proved_in : (laws : TextLaws) (s t p k : List ℕ) (names : AreNames (s ∷ t ∷ p ∷ k ∷ [])) (files after : Files) (night : Night) → IsNightIn s t files night → (most : ℕ) (plan : Plan) (c : Certificate) → AreFit night most plan c → after ≡ with_both p k night plan c files
+pub proved_in : (laws : TextLaws) (s t p k : List ℕ) (names : AreNames (s ∷ t ∷ p ∷ k ∷ [])) (files after : Files) (night : Night) → IsNightIn s t files night
+    → (most : ℕ) (plan : Plan) (c : Certificate) → AreFit night most plan c → after ≡ with_both p k night plan c files
     → IsProvedIn s t p k after (checkable night plan c)
 proved_in laws s t p k names files after night is most plan c fit e = subst (λ (f : Files). IsProvedIn s t p k f (checkable night plan c)) (sym e) (record {
   stated = check_left laws s t p k names files night is.formed plan c is.stated fit.in_range fit.statable;
@@ -115,7 +119,8 @@ same_reply v w x y e f = ap (λ (l : List (List ℕ × List ℕ)). done_with l x
 
 pub answer_is : (number units most : ℕ) (s t p k : List ℕ) (names : AreNames (s ∷ t ∷ p ∷ k ∷ [])) (files after : Files) (line told text : List ℕ) (writes : List (List ℕ × List ℕ))
     → files ≡ night_files s t (station_of number units) (made_timetable number units) → line ≡ made_line number units → text ≡ line ++ told → writes ≡ held_files s t p k after
-    → ((plan : Plan) × (c : Certificate) × AreFit (made_night number units) most plan c × (after ≡ with_both p k (made_night number units) plan c files) × (told ≡ rehearsal_of (made_night number units) plan c))
+    → ((plan : Plan) × (c : Certificate) × AreFit (made_night number units) most plan c × (after ≡ with_both p k (made_night number units) plan c files)
+    × (told ≡ rehearsal_of (made_night number units) plan c))
     → IsTried number units most s t p k (done_with writes text)
 answer_is number units most s t p k names files after line told text writes start first whole wrote (plan, c, fit, end, second) =
     let night = made_night number units in
@@ -137,7 +142,8 @@ answer_is number units most s t p k names files after line told text writes star
 pub same_files : (s t : List ℕ) (a b : Station) (x y : Timetable) → a ≡ b → x ≡ y → night_files s t a x ≡ night_files s t b y
 same_files s t a b x y e f = ap (λ (z : Station). night_files s t z x) e ∙ ap (night_files s t b) f
 
-pub same_line : (number units : ℕ) (a b : Station) (x y : Timetable) → a ≡ b → x ≡ y → trial_line number units (length x.arrive) (length x.depart) (length a.tracks) ≡ trial_line number units (length y.arrive) (length y.depart) (length b.tracks)
+pub same_line : (number units : ℕ) (a b : Station) (x y : Timetable) → a ≡ b → x ≡ y
+    → trial_line number units (length x.arrive) (length x.depart) (length a.tracks) ≡ trial_line number units (length y.arrive) (length y.depart) (length b.tracks)
 same_line number units a b x y e f =
     ap (λ (z : Station). trial_line number units (length x.arrive) (length x.depart) (length z.tracks)) e
     ∙ ap (λ (z : Timetable). trial_line number units (length z.arrive) (length z.depart) (length b.tracks)) f

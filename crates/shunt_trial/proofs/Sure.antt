@@ -78,7 +78,8 @@ module _ (files : Files) (s t : List ℕ) (most : ℕ) (p k : List ℕ) (night :
       let ok : stated_night (content h.0 s) (content h.0 t) ≡ Ok night = subst (λ (f : Files). stated_night (content f s) (content f t) ≡ Ok night) same is.stated in
       sought r (subst (λ x. Decided x (IsSought most p k) r) ok h.2)
 
-  pub plan_sure : (stored : Option Entries) (new : Known) (r : Result Answer Halt) → (IsErrOf r halt.Fault → ⊥) → Leads (IsPlannedOver (Some files) s t most p k) (known (Some files) stored) new r → IsSure r
+  pub plan_sure : (stored : Option Entries) (new : Known) (r : Result Answer Halt) → (IsErrOf r halt.Fault → ⊥)
+      → Leads (IsPlannedOver (Some files) s t most p k) (known (Some files) stored) new r → IsSure r
   plan_sure stored new (Ok a) fault leads = tt
   plan_sure stored new (Err (halt.Input text)) fault leads =
       let plan = planned_over (with_first leads.first (refusal text.items)) leads.reply in
@@ -87,16 +88,19 @@ module _ (files : Files) (s t : List ℕ) (most : ℕ) (p k : List ℕ) (night :
   plan_sure stored new (Err halt.Memory) fault leads = tt
 
   -- it was written behind its certificate, and told
-  pub plan_found : (before now : Option Entries) (mid after : Files) (r : Result Answer Halt) (a : Answer) → r ≡ Ok a → Leads (IsPlannedOver (Some files) s t most p k) (known (Some files) before) (known (Some mid) now) r → after ≡ written (map pair_of a.writes.items) mid
+  pub plan_found : (before now : Option Entries) (mid after : Files) (r : Result Answer Halt) (a : Answer) → r ≡ Ok a
+      → Leads (IsPlannedOver (Some files) s t most p k) (known (Some files) before) (known (Some mid) now) r → after ≡ written (map pair_of a.writes.items) mid
       → (plan : Plan) × (c : Certificate) × AreFit night most plan c × (after ≡ with_both p k night plan c files) × (a.text.items ≡ plan_of plan c.bound (length c.nodes))
   plan_found before now mid after r a ok leads put =
-      let led : HasFirst (IsPlannedOver (Some files) s t most p k) (known (Some files) before) (known (Some mid) now) (reply_of a) = subst (λ (x : Result Answer Halt). Leads (IsPlannedOver (Some files) s t most p k) (known (Some files) before) (known (Some mid) now) x) ok leads in
+      let led : HasFirst (IsPlannedOver (Some files) s t most p k) (known (Some files) before) (known (Some mid) now) (reply_of a) = subst
+      (λ (x : Result Answer Halt). Leads (IsPlannedOver (Some files) s t most p k) (known (Some files) before) (known (Some mid) now) x) ok leads in
       let found = planned_over (with_first led.first (reply_of a)) led.reply in
       let wrote : mid ≡ written led.first files = led.files in (
         found.plan,
         found.certificate,
         record { in_range = found.in_range; statable = found.statable; meet = found.meet },
-        put ∙ ap (written (map pair_of a.writes.items)) wrote ∙ sym (written-append led.first (map pair_of a.writes.items) files) ∙ ap (λ (q : Reply). written q.writes files) found.reply,
+        put ∙ ap (written (map pair_of a.writes.items)) wrote ∙ sym (written-append led.first (map pair_of a.writes.items) files)
+            ∙ ap (λ (q : Reply). written q.writes files) found.reply,
         ap (λ (q : Reply). q.text) found.reply,
       )
 
@@ -104,7 +108,8 @@ module _ (files : Files) (s t : List ℕ) (most : ℕ) (p k : List ℕ) (night :
 
 -- that a plan has no finding exactly when it is feasible and states its cost
 abbrev pub FoundNone : Type 0
-FoundNone = (night : Night) (plan : Plan) → IsInstance night → AreInRange night plan.blocks → (plan_findings night plan ≡ []) ↔ IsFeasible night plan.blocks × (plan.cost ≡ total_cost night plan.blocks)
+FoundNone = (night : Night) (plan : Plan) → IsInstance night → AreInRange night plan.blocks
+    → (plan_findings night plan ≡ []) ↔ IsFeasible night plan.blocks × (plan.cost ≡ total_cost night plan.blocks)
 
 no_input_found : (fs : List Finding) → outcome.Input ≡ audit_outcome fs → ⊥
 no_input_found [] e = let h : outcome.Input ≡ outcome.Done = e in cc
@@ -133,7 +138,8 @@ module _ (files : Files) (s t p k : List ℕ) (x : Checkable) (is : IsProvedIn s
   AuditedOver r = (fs : Files) × Agrees (Some files) fs × Decided (plans_in s t p fs) IsAudited r
 
   audited : (r : Reply) → AuditedOver r → IsAudited (x.night, x.plan) r
-  audited r (fs, same, told) = subst (λ (y : Result (Night × Plan) (List ℕ)). Decided y IsAudited r) its_plan (subst (λ (f : Files). Decided (plans_in s t p f) IsAudited r) (sym same) told)
+  audited r (fs, same, told) = subst (λ (y : Result (Night × Plan) (List ℕ)). Decided y IsAudited r) its_plan
+      (subst (λ (f : Files). Decided (plans_in s t p f) IsAudited r) (sym same) told)
 
   pub audit_keeps : (now : Files) (before after : Option Entries) (r : Result Answer Halt) → Leads AuditedOver (known (Some files) before) (known (Some now) after) r → now ≡ files
   audit_keeps now before after (Ok a) leads =
@@ -153,7 +159,8 @@ module _ (files : Files) (s t p k : List ℕ) (x : Checkable) (is : IsProvedIn s
   audit_sure old new (Err halt.Fault) fault leads = absurd (fault refl)
   audit_sure old new (Err halt.Memory) fault leads = tt
 
-  pub audit_told : FoundNone → (old new : Known) (r : Result Answer Halt) (a : Answer) → r ≡ Ok a → Leads AuditedOver old new r → a.text.items ≡ findings_of x.night [] (total_cost x.night x.plan.blocks)
+  pub audit_told : FoundNone → (old new : Known) (r : Result Answer Halt) (a : Answer) → r ≡ Ok a → Leads AuditedOver old new r
+      → a.text.items ≡ findings_of x.night [] (total_cost x.night x.plan.blocks)
   audit_told law old new r a ok leads =
       let led : HasFirst AuditedOver old new (reply_of a) = subst (λ (y : Result Answer Halt). Leads AuditedOver old new y) ok leads in
       let its = audited (with_first led.first (reply_of a)) led.reply in
@@ -165,7 +172,8 @@ module _ (files : Files) (s t p k : List ℕ) (x : Checkable) (is : IsProvedIn s
 
 -- that a verdict accepts exactly the certificates that are accepted
 abbrev pub Judges : Type 0
-Judges = (night : Night) (pins : List Block) (plan : Plan) (c : Certificate) (v : Verdict) → IsInstance night → IsPlanInRange night plan → Keeps plan.blocks pins → IsCertificate night c → (c.version ≡ Stacks → AreUsable night pins) → IsVerdict night pins plan c v → Accepts v ↔ IsAccepted night pins plan.blocks plan.cost c
+Judges = (night : Night) (pins : List Block) (plan : Plan) (c : Certificate) (v : Verdict) → IsInstance night → IsPlanInRange night plan → Keeps plan.blocks pins
+    → IsCertificate night c → (c.version ≡ Stacks → AreUsable night pins) → IsVerdict night pins plan c v → Accepts v ↔ IsAccepted night pins plan.blocks plan.cost c
 
 no_input_told : (v : Verdict) → outcome.Input ≡ check_outcome v → ⊥
 no_input_told (verdict.Accepted bound) e = let h : outcome.Input ≡ outcome.Done = e in cc
@@ -183,7 +191,8 @@ module _ (files : Files) (s t p k : List ℕ) (x : Checkable) (is : IsProvedIn s
   -- over the files of the store
   abbrev CheckedOver : Reply → Type 0
   CheckedOver r = (fs : Files) × Agrees (Some files) fs
-      × Decided (then_stated (plans_in s t p fs) (λ y. then_stated (stated_certificate y.0 (content fs k)) (λ c. Ok (y, c)))) (λ (v : (Night × Plan) × Certificate). IsChecked (record { night = v.0.0; plan = v.0.1; certificate = v.1 })) r
+      × Decided (then_stated (plans_in s t p fs) (λ y. then_stated (stated_certificate y.0 (content fs k)) (λ c. Ok (y, c))))
+      (λ (v : (Night × Plan) × Certificate). IsChecked (record { night = v.0.0; plan = v.0.1; certificate = v.1 })) r
 
   checked : (r : Reply) → CheckedOver r → IsChecked x r
   unfolding stated_check
@@ -210,11 +219,13 @@ module _ (files : Files) (s t p k : List ℕ) (x : Checkable) (is : IsProvedIn s
   check_sure old new (Err halt.Fault) fault leads = absurd (fault refl)
   check_sure old new (Err halt.Memory) fault leads = tt
 
-  pub check_told : Judges → (old new : Known) (r : Result Answer Halt) (a : Answer) → r ≡ Ok a → Leads CheckedOver old new r → a.text.items ≡ verdict_of x.night x.certificate (verdict.Accepted x.certificate.bound)
+  pub check_told : Judges → (old new : Known) (r : Result Answer Halt) (a : Answer) → r ≡ Ok a → Leads CheckedOver old new r
+      → a.text.items ≡ verdict_of x.night x.certificate (verdict.Accepted x.certificate.bound)
   check_told law old new r a ok leads =
       let led : HasFirst CheckedOver old new (reply_of a) = subst (λ (y : Result Answer Halt). Leads CheckedOver old new y) ok leads in
       let its = checked (with_first led.first (reply_of a)) led.reply in
-      let accepts = (law x.night [] x.plan x.certificate its.verdict is.formed is.in_range (keeps_none x.plan.blocks) is.statable (λ e. usable_none x.night) its.told).1 is.proved in
+      let accepts = (law x.night [] x.plan x.certificate its.verdict is.formed is.in_range (keeps_none x.plan.blocks) is.statable (λ e. usable_none x.night) its.told).1
+      is.proved in
       ap (λ (q : Reply). q.text) its.reply ∙ ap (verdict_of x.night x.certificate) (bound_told x its.verdict its.told accepts)
 
 -- ---- one step after another

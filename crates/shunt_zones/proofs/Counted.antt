@@ -30,7 +30,8 @@ abbrev load_from : ℕ → Option ℕ → ℕ → ZoneLoad
 load_from n o k = record { moves = n; busiest = o; most = k }
 
 -- the loads of one more zone
-pub one_load : (moves : List Passing) (zone : ℕ) (minutes : List ℕ) (count most : ℕ) (busiest : Option ℕ) (loads more : List ZoneLoad) → minutes ≡ minutes_over zone moves → count ≡ length minutes → busiest ≡ busiest_of minutes → most ≡ most_of minutes
+pub one_load : (moves : List Passing) (zone : ℕ) (minutes : List ℕ) (count most : ℕ) (busiest : Option ℕ) (loads more : List ZoneLoad) → minutes ≡ minutes_over zone moves
+    → count ≡ length minutes → busiest ≡ busiest_of minutes → most ≡ most_of minutes
     → loads ≡ map (λ z. load_of (minutes_over z moves)) (range_with_len 0 zone) → more ≡ loads ++ record { moves = count; busiest = busiest; most = most } ∷ []
     → more ≡ map (λ z. load_of (minutes_over z moves)) (range_with_len 0 (zone + 1))
 one_load moves zone minutes count most busiest loads more are a b c so grown =

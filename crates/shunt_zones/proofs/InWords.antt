@@ -137,7 +137,8 @@ may_is k l e =
 is_may : (k l : EventKey) → MayMeet k l → may_meet k l ≡ true
 is_may k l may =
     and_from _ _ (eq-eqb k.minute l.minute may.0)
-    (not_from (is_one_train k l) (λ one. let both = both_true (if k.enters then l.enters else not l.enters) (k.train == l.train) one in may.1 (alike_is k.enters l.enters both.0) (eqb-true k.train l.train both.1)))
+    (not_from (is_one_train k l) (λ one. let both = both_true (if k.enters then l.enters else not l.enters) (k.train == l.train) one in may.1 (alike_is k.enters l.enters both.0)
+    (eqb-true k.train l.train both.1)))
 
 -- ---- the meet of two moves
 
@@ -152,7 +153,8 @@ map_some : (e f : Event) (o : Option ℕ) (m : Meet) → option_map (meet e f) o
 map_some e f None m is = absurd (none-some m is)
 map_some e f (Some z) m is = (z, refl, sym (some_same (meet e f z) m is))
 
-met_is : (night : Night) (zones : Zones) (e f : Event) (m : Meet) → meet_of (passing_of night zones e) (passing_of night zones f) ≡ Some m → (z : ℕ) × (m ≡ meet e f z) × MeetIn night zones e f z
+met_is : (night : Night) (zones : Zones) (e f : Event) (m : Meet) → meet_of (passing_of night zones e) (passing_of night zones f) ≡ Some m
+    → (z : ℕ) × (m ≡ meet e f z) × MeetIn night zones e f z
 met_is night zones e f m is =
     let both = if_some (may_meet e.key f.key) _ m is in
     let some = map_some e f (shared_zone (zones_of night zones e) (zones_of night zones f)) m both.1 in
@@ -205,15 +207,18 @@ among night zones (e ∷ moves) m i =
         let met = met_is night zones e of.0 m (ap (meet_of (passing_of night zones e)) (sym of.2) ∙ some.2) in
         subst (Meets night zones (e ∷ moves)) (sym met.1) (inl (refl, of.1), met.2)
 
-from : (night : Night) (zones : Zones) (moves : List Event) (e f : Event) (z : ℕ) → Before e f moves → MeetIn night zones e f z → In (meet e f z) (meets_among (map (passing_of night zones) moves))
+from : (night : Night) (zones : Zones) (moves : List Event) (e f : Event) (z : ℕ) → Before e f moves → MeetIn night zones e f z
+    → In (meet e f z) (meets_among (map (passing_of night zones) moves))
 from night zones [] e f z before is = absurd before
 from night zones (g ∷ moves) e f z (inl here) is =
     in_left (filter_map (meet_of (passing_of night zones g)) (map (passing_of night zones) moves)) (meets_among (map (passing_of night zones) moves)) (meet e f z)
     (to_some (meet_of (passing_of night zones g)) (map (passing_of night zones) moves) (passing_of night zones f) (meet e f z) (in_map (passing_of night zones) moves f here.1)
     (ap (λ h. meet_of (passing_of night zones h) (passing_of night zones f)) (sym here.0) ∙ is_met night zones e f z is))
 from night zones (g ∷ moves) e f z (inr later) is =
-    in_right (filter_map (meet_of (passing_of night zones g)) (map (passing_of night zones) moves)) (meets_among (map (passing_of night zones) moves)) (meet e f z) (from night zones moves e f z later is)
+    in_right (filter_map (meet_of (passing_of night zones g)) (map (passing_of night zones) moves)) (meets_among (map (passing_of night zones) moves)) (meet e f z)
+    (from night zones moves e f z later is)
 
-pub all_meets : (night : Night) (zones : Zones) (plan : Plan) (m : Meet) → In m (meets_in night zones plan) ↔ (Before m.first m.second (moves_of night plan.blocks) × MeetIn night zones m.first m.second m.zone)
+pub all_meets : (night : Night) (zones : Zones) (plan : Plan) (m : Meet) → In m (meets_in night zones plan) ↔
+    (Before m.first m.second (moves_of night plan.blocks) × MeetIn night zones m.first m.second m.zone)
 unfolding meets_in passings_of
 all_meets night zones plan m = (among night zones (moves_of night plan.blocks) m, λ h. from night zones (moves_of night plan.blocks) m.first m.second m.zone h.0 h.1)

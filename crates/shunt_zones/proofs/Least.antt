@@ -34,15 +34,18 @@ one_zone other own i d least lt =
     let rest = drop (i + 1) own in
     let now = ap (λ l. lesser least (least_of (filter (has_zone other) l))) (drop_more own i d lt) in
     ⊎_elim
-    (λ t. ap (λ o. lesser o (left other own (i + 1))) (cond-true (has_zone other x) (lesser least (Some x)) least t) ∙ lesser_more least (Some x) (left other own (i + 1)) ∙ ap (λ l. lesser least (least_of l)) (sym (filter_yes (has_zone other) x rest t)) ∙ sym now)
-    (λ f. ap (λ o. lesser o (left other own (i + 1))) (cond-false (has_zone other x) (lesser least (Some x)) least f) ∙ ap (λ l. lesser least (least_of l)) (sym (filter_no (has_zone other) x rest f)) ∙ sym now)
+    (λ t. ap (λ o. lesser o (left other own (i + 1))) (cond-true (has_zone other x) (lesser least (Some x)) least t) ∙ lesser_more least (Some x) (left other own (i + 1))
+    ∙ ap (λ l. lesser least (least_of l)) (sym (filter_yes (has_zone other) x rest t)) ∙ sym now)
+    (λ f. ap (λ o. lesser o (left other own (i + 1))) (cond-false (has_zone other x) (lesser least (Some x)) least f)
+    ∙ ap (λ l. lesser least (least_of l)) (sym (filter_no (has_zone other) x rest f)) ∙ sym now)
     (cases_Bool (has_zone other x))
 
 -- the moves after one
 pub later_is : (moves : List Passing) (k : ℕ) → take (length moves - k) (drop k moves) ≡ drop k moves
 later_is moves k = take_all (length moves - k) (drop k moves) (omega (arith, length-drop k moves))
 
-pub one_move : (moves later : List Passing) (i : ℕ) (first d : Passing) (meets more : List Meet) → i < length moves → first ≡ get_or moves i d → later ≡ drop (i + 1) moves → more ≡ meets ++ filter_map (meet_of first) later
+pub one_move : (moves later : List Passing) (i : ℕ) (first d : Passing) (meets more : List Meet) → i < length moves → first ≡ get_or moves i d → later ≡ drop (i + 1) moves
+    → more ≡ meets ++ filter_map (meet_of first) later
     → more ++ meets_among (drop (i + 1) moves) ≡ meets ++ meets_among (drop i moves)
 one_move moves later i first d meets more lt at is grown =
     let met = filter_map (meet_of (get_or moves i d)) (drop (i + 1) moves) in

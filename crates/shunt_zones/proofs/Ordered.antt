@@ -52,7 +52,8 @@ moves_are (s ∷ stays) =
     ∙ ap (λ (l : List Move). entry_of s ∷ leave_of s ∷ l) (moves_are stays)
     ∙ sym (flat_map-cons (λ (z : Stay). entry_of z ∷ leave_of z ∷ []) s stays)
 
-sorted_map : (cmp : Due → Due → Ordering) (dues : List Due) → ((d e : Due) → is_lt (cmp d e) ≡ false → is_lt (key_cmp d.key e.key) ≡ false) → IsSorted cmp dues → IsSorted by_key (map move_of dues)
+sorted_map : (cmp : Due → Due → Ordering) (dues : List Due) → ((d e : Due) → is_lt (cmp d e) ≡ false → is_lt (key_cmp d.key e.key) ≡ false) → IsSorted cmp dues
+    → IsSorted by_key (map move_of dues)
 sorted_map cmp dues finer s = λ k m low high.
     let z : Due = record { key = m.key; track = m.track; side = m.side; length = m.length } in
     let lt : k + 1 < length dues = omega (arith, length-map dues move_of) in
@@ -62,9 +63,12 @@ sorted_map cmp dues finer s = λ k m low high.
     ∙ ap (λ (n : Move). is_lt (by_key (move_of (get_or dues (k + 1) z)) n)) here
     ∙ finer (get_or dues (k + 1) z) (get_or dues k z) (s k z low lt)
 
-pub sorted_moves : (cmp : Due → Due → Ordering) (stays : List Stay) (dues sorted : List Due) → AreStays stays → ((d e : Due) → is_lt (cmp d e) ≡ false → is_lt (key_cmp d.key e.key) ≡ false) → dues ≡ flat_map dues_of stays → IsPermutation dues sorted → IsSorted cmp sorted → map move_of sorted ≡ in_order stays
+pub sorted_moves : (cmp : Due → Due → Ordering) (stays : List Stay) (dues sorted : List Due) → AreStays stays
+    → ((d e : Due) → is_lt (cmp d e) ≡ false → is_lt (key_cmp d.key e.key) ≡ false) → dues ≡ flat_map dues_of stays → IsPermutation dues sorted → IsSorted cmp sorted
+    → map move_of sorted ≡ in_order stays
 sorted_moves cmp stays dues sorted a finer e p s =
-    sorted_is stays (map move_of sorted) a (subst (λ (l : List Move). IsPermutation l (map move_of sorted)) (ap (map move_of) e ∙ moves_are stays) (IsPermutation-map move_of dues sorted p)) (sorted_map cmp sorted finer s)
+    sorted_is stays (map move_of sorted) a (subst (λ (l : List Move). IsPermutation l (map move_of sorted)) (ap (map move_of) e ∙ moves_are stays)
+    (IsPermutation-map move_of dues sorted p)) (sorted_map cmp sorted finer s)
 
 -- ---- the stay of a block
 
@@ -72,7 +76,8 @@ stands_when : (soon : Bool) (t s : Stay) → (if soon then None else Some t) ≡
 stands_when true t s e = absurd (none-some _ e)
 stands_when false t s e = cc
 
-stay_is : (night : Night) (b : Block) (o : Option Park) (s : Stay) → IsOnTrack night.station o → stay_with night b o ≡ Some s → (k : Park) × (k.track.0 < length night.station.tracks) × (s ≡ parked_stay night b k)
+stay_is : (night : Night) (b : Block) (o : Option Park) (s : Stay) → IsOnTrack night.station o → stay_with night b o ≡ Some s
+    → (k : Park) × (k.track.0 < length night.station.tracks) × (s ≡ parked_stay night b k)
 stay_is night b None s on e = absurd (none-some _ e)
 stay_is night b (Some k) s on e = (k, on, stands_when (is_too_soon night (shape_of b)) (parked_stay night b k) s e)
 
@@ -81,15 +86,19 @@ stay_is night b (Some k) s on e = (k, on, stands_when (is_too_soon night (shape_
 abbrev no_train : Train
 no_train = record { name = []; minute = 0; origin = origin.Platform (record { 0 = 0 }); units = [] }
 
-entry_is : (night : Night) (b : Block) (k : Park) → IsOrderedNight night → IsWithinTrains night b → k.track.0 < length night.station.tracks → IsMoveOf night (event_of (entry_of (parked_stay night b k)))
+entry_is : (night : Night) (b : Block) (k : Park) → IsOrderedNight night → IsWithinTrains night b → k.track.0 < length night.station.tracks
+    → IsMoveOf night (event_of (entry_of (parked_stay night b k)))
 entry_is night b k f w on = record { train = w.runs.arr; own = refl; minute = (f.timetable.arrive.each b.arr.0 no_train w.runs.arr).minute; track = on }
 
-leave_is : (night : Night) (b : Block) (k : Park) → IsOrderedNight night → IsWithinTrains night b → k.track.0 < length night.station.tracks → IsMoveOf night (event_of (leave_of (parked_stay night b k)))
+leave_is : (night : Night) (b : Block) (k : Park) → IsOrderedNight night → IsWithinTrains night b → k.track.0 < length night.station.tracks
+    → IsMoveOf night (event_of (leave_of (parked_stay night b k)))
 leave_is night b k f w on = record { train = w.runs.dep; own = refl; minute = (f.timetable.depart.each b.dep.0 no_train w.runs.dep).minute; track = on }
 
 half_is : (night : Night) (b : Block) (h : Half) → IsOrderedNight night → IsWithinTrains night b → stay_of night b ≡ Some h.0 → IsMoveOf night (event_of (half_move h))
-half_is night b (s, true) f w e = let p = stay_is night b b.park s w.track e in subst (λ (t : Stay). IsMoveOf night (event_of (entry_of t))) (sym p.2) (entry_is night b p.0 f w p.1)
-half_is night b (s, false) f w e = let p = stay_is night b b.park s w.track e in subst (λ (t : Stay). IsMoveOf night (event_of (leave_of t))) (sym p.2) (leave_is night b p.0 f w p.1)
+half_is night b (s, true) f w e = let p = stay_is night b b.park s w.track e in subst (λ (t : Stay). IsMoveOf night (event_of (entry_of t))) (sym p.2)
+    (entry_is night b p.0 f w p.1)
+half_is night b (s, false) f w e = let p = stay_is night b b.park s w.track e in subst (λ (t : Stay). IsMoveOf night (event_of (leave_of t))) (sym p.2)
+    (leave_is night b p.0 f w p.1)
 
 each_one : {X : Type 0} (P : X → Type 0) (xs : List X) (x : X) → All P xs → In x xs → P x
 each_one P xs x all i = let c = in_to xs x i in subst P c.2 (all c.0 x c.1)
@@ -99,7 +108,8 @@ pub record StayLaws : Type 0 where
   pub stays : (night : Night) (blocks : List Block) → IsInstance night → AreInRange night blocks → AreStays (stays_of night blocks)
   pub from : (night : Night) (blocks : List Block) (s : Stay) → In s (stays_of night blocks) → (b : Block) × In b blocks × (stay_of night b ≡ Some s)
 
-event_is : (laws : StayLaws) (night : Night) (blocks : List Block) → IsInstance night → AreInRange night blocks → (m : Move) → In m (in_order (stays_of night blocks)) → IsMoveOf night (event_of m)
+event_is : (laws : StayLaws) (night : Night) (blocks : List Block) → IsInstance night → AreInRange night blocks → (m : Move) → In m (in_order (stays_of night blocks))
+    → IsMoveOf night (event_of m)
 event_is laws night blocks is range m there =
     let stays = stays_of night blocks in
     let h = of_map half_move (halves_of stays) m (subst (In m) (in_order_is stays (laws.stays night blocks is range)) there) in
@@ -121,7 +131,8 @@ either_long false xs ys n e f = f
 
 inserted_long : (m : Move) (moves : List Move) → length (insert_by_key m moves) ≡ length moves + 1
 inserted_long m [] = refl
-inserted_long m (n ∷ moves) = either_long (key_before m.key n.key) (m ∷ n ∷ moves) (n ∷ insert_by_key m moves) (length (n ∷ moves) + 1) (omega arith) (omega (arith, inserted_long m moves))
+inserted_long m (n ∷ moves) = either_long (key_before m.key n.key) (m ∷ n ∷ moves) (n ∷ insert_by_key m moves) (length (n ∷ moves) + 1) (omega arith)
+    (omega (arith, inserted_long m moves))
 
 events_long : (stays : List Stay) → length (in_order stays) ≡ 2 * length stays
 events_long [] = refl
@@ -143,14 +154,16 @@ few_events night blocks range =
 
 -- ---- the moves among the events
 
-pub events_are : (night : Night) (blocks : List Block) (dues seen : List Due) → seen ≡ dues → map move_of dues ≡ in_order (stays_of night blocks) → map event_of (map move_of seen) ≡ events_of night blocks
+pub events_are : (night : Night) (blocks : List Block) (dues seen : List Due) → seen ≡ dues → map move_of dues ≡ in_order (stays_of night blocks)
+    → map event_of (map move_of seen) ≡ events_of night blocks
 unfolding events_of
 events_are night blocks dues seen same sorted = ap (λ l. map event_of (map move_of l)) same ∙ ap (map event_of) sorted
 
 abbrev moves : Night → Event → Bool
 moves night e = not (is_of_standing night e.key)
 
-pub moves_from : (night : Night) (blocks others : List Block) (events seen : List Event) → seen ≡ events → events ≡ events_of night others → others ≡ blocks → filter (moves night) seen ≡ moves_in night blocks
+pub moves_from : (night : Night) (blocks others : List Block) (events seen : List Event) → seen ≡ events → events ≡ events_of night others → others ≡ blocks
+    → filter (moves night) seen ≡ moves_in night blocks
 unfolding moves_in
 moves_from night blocks others events seen same are of = ap (filter (moves night)) (same ∙ are ∙ ap (events_of night) of)
 
@@ -173,6 +186,7 @@ passings_in_time night zones all each = λ k d lt.
     let r = of_map (passing_of night zones) all (get_or of k d) (in_place of k d lt) in
     subst (λ (p : Passing). p.event.key.minute < 2880) (sym r.2) (each_one (IsMoveOf night) all r.0 each r.1).minute
 
-pub passings_are : (night : Night) (zones : Zones) (blocks : List Block) (all seen : List Event) → seen ≡ all → all ≡ moves_in night blocks → map (passing_of night zones) seen ≡ passings_of night zones blocks
+pub passings_are : (night : Night) (zones : Zones) (blocks : List Block) (all seen : List Event) → seen ≡ all → all ≡ moves_in night blocks
+    → map (passing_of night zones) seen ≡ passings_of night zones blocks
 unfolding passings_of
 passings_are night zones blocks all seen same are = ap (map (passing_of night zones)) (same ∙ are)

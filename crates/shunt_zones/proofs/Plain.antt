@@ -29,7 +29,13 @@ track_named s f o zones is = name_at (λ (t : Track). t.name) s.tracks o.track.0
 plain_over : (s : Station) (z : Zones) → IsStation s → IsZones s z → (o : Over) → IsOver s (length z.names) o → IsPlainRow (over_row s z.names o)
 plain_over s z f g o is = (
   omega arith,
-  (plain_word (codes "over") refl refl, (plain_name _ (platform_named s f o (length z.names) is), (plain_name _ (track_named s f o (length z.names) is), (plain_side o.side, (plain_name _ (g.names o.zone [] is.zone), tt))))),
+  (
+    plain_word (codes "over") refl refl,
+    (
+      plain_name _ (platform_named s f o (length z.names) is),
+      (plain_name _ (track_named s f o (length z.names) is), (plain_side o.side, (plain_name _ (g.names o.zone [] is.zone), tt))),
+    ),
+  ),
 )
 
 -- the records of zones are plain

@@ -93,4 +93,5 @@ events_rise (m ∷ all) r = AllPairs-cons NotLater (event_of m) (map event_of al
 
 pub moves_rise : (night : Night) (blocks : List Block) → AllPairs NotLater (moves_of night blocks)
 unfolding moves_of events_of
-moves_rise night blocks = AllPairs-filter NotLater (λ e. not (is_of_standing night e.key)) (map event_of (in_order (stays_of night blocks))) (events_rise (in_order (stays_of night blocks)) (order_rises (stays_of night blocks)))
+moves_rise night blocks = AllPairs-filter NotLater (λ e. not (is_of_standing night e.key)) (map event_of (in_order (stays_of night blocks)))
+    (events_rise (in_order (stays_of night blocks)) (order_rises (stays_of night blocks)))

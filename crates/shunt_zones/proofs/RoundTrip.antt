@@ -50,7 +50,8 @@ zone_read s z f n xs y zs e =
     holding n m.checks m.value (refl, (fewer z.names xs zs y 64 f.few e, (name_read y is, (ap not new, tt))))
 
 -- a thing of a list is found by its name
-found_named : {X : Type 0} (name : X → List ℕ) (xs : List X) (k : ℕ) (d : X) → AreDistinct (map name xs) → k < length xs → position (λ x. bytes_eq (name x) (slice_index_or (map name xs) k [])) xs ≡ Some k
+found_named : {X : Type 0} (name : X → List ℕ) (xs : List X) (k : ℕ) (d : X) → AreDistinct (map name xs) → k < length xs
+    → position (λ x. bytes_eq (name x) (slice_index_or (map name xs) k [])) xs ≡ Some k
 found_named name xs k d h lt = found_there name xs (slice_index_or (map name xs) k []) k d h (slice_get-get_or (map name xs) k [] (omega (arith, lt, length-map xs name)))
 
 -- the same of names

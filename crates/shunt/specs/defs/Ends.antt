@@ -51,7 +51,14 @@ pub record Seen : Type 0 where
   pub sink_faults : ℕ
 
 abbrev pub seen : {S O : Type 0} → Option Files → (S → Option Entries) → (S → ℕ) → (O → Option (List ℕ)) → (O → ℕ) → S → O → Seen
-seen files stored store_faults output sink_faults store out = record { files = files; stored = stored store; store_faults = store_faults store; output = output out; sink_faults = sink_faults out }
+seen files stored store_faults output sink_faults store out = record {
+  files = files;
+  stored = stored store;
+  store_faults = store_faults store;
+  output = output out;
+  sink_faults =
+      sink_faults out;
+}
 
 -- what of it is known of files
 abbrev pub known_of : Seen → Known

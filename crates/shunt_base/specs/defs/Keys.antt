@@ -9,7 +9,8 @@ use Rattle.shunt_base.specs.declared.keys.Stay.{Stay}
 
 -- the order of the fields, one after the other
 abbrev pub key_cmp : EventKey → EventKey → Ordering
-key_cmp k l = ordering_then (nat_cmp k.minute l.minute) (ordering_then (bool_cmp k.enters l.enters) (ordering_then (nat_cmp k.train l.train) (ordering_then (nat_cmp k.place l.place) (nat_cmp k.id l.id))))
+key_cmp k l = ordering_then (nat_cmp k.minute l.minute) (ordering_then (bool_cmp k.enters l.enters)
+    (ordering_then (nat_cmp k.train l.train) (ordering_then (nat_cmp k.place l.place) (nat_cmp k.id l.id))))
 
 abbrev pub IsBefore : EventKey → EventKey → Type 0
 IsBefore k l = key_cmp k l ≡ Less

@@ -39,7 +39,8 @@ position_price night v = cond ((position_at night v).place == 1) 0 night.station
 
 -- the opening cost: that of the pins, and of each other unit as an unparked block of its own
 abbrev pub opening_cost : Night → List Block → ℕ
-opening_cost night pins = total_cost night pins + (sum_below (unit_total night) (λ u. cond (times_unit night pins u == 0) (unit_price night u) 0) + sum_below (position_total night) (λ v. cond (times_position night pins v == 0) (position_price night v) 0))
+opening_cost night pins = total_cost night pins + (sum_below (unit_total night) (λ u. cond (times_unit night pins u == 0) (unit_price night u) 0) + sum_below (position_total night)
+    (λ v. cond (times_position night pins v == 0) (position_price night v) 0))
 
 -- an unparked block of one unit
 pub record IsSingle (b : Block) : Type 0 where
@@ -48,7 +49,15 @@ pub record IsSingle (b : Block) : Type 0 where
 
 -- a unit as an unparked block of its own, at a position
 abbrev pub single : Night → ℕ → ℕ → Block
-single night u v = record { id = u + 1; arr = (unit_at night u).train; p = (unit_at night u).place; n = 1; dep = (position_at night v).train; q = (position_at night v).place; park = None }
+single night u v = record {
+  id = u + 1;
+  arr = (unit_at night u).train;
+  p = (unit_at night u).place;
+  n = 1;
+  dep = (position_at night v).train;
+  q = (position_at night v).place;
+  park = None;
+}
 
 -- the units below n that no pin has, each as an unparked block of its own at the position that the list gives it
 abbrev pub singles_below : Night → List Block → List ℕ → ℕ → List Block

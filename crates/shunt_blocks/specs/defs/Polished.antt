@@ -17,4 +17,5 @@ with_option block option blocks = map {A = Block} (λ b. if b.id == block.id the
 pub record IsPolished (night : Night) (pins blocks : List Block) : Type 0 where
   pub feasible : IsFeasible night blocks
   pub keeps : Keeps blocks pins
-  pub least : (b : Block) (option : Option Park) → In b blocks → (IsKept pins b → ⊥) → IsOption night (shape_of b) option → IsFeasible night (with_option b option blocks) → total_cost night blocks ≤ total_cost night (with_option b option blocks)
+  pub least : (b : Block) (option : Option Park) → In b blocks → (IsKept pins b → ⊥) → IsOption night (shape_of b) option → IsFeasible night (with_option b option blocks)
+      → total_cost night blocks ≤ total_cost night (with_option b option blocks)

@@ -43,7 +43,16 @@ leave_key night b = record { minute = leave_minute night (shape_of b); enters = 
 
 -- the stay of a block on the track where it is parked
 abbrev pub parked_stay : Night → Block → Park → Stay
-parked_stay night b k = record { id = b.id; track = k.track; side_in = k.side_in; side_out = k.side_out; enter = enter_key night b; leave = leave_key night b; length = block_length night b }
+parked_stay night b k = record {
+  id = b.id;
+  track = k.track;
+  side_in = k.side_in;
+  side_out = k.side_out;
+  enter = enter_key night b;
+  leave = leave_key night b;
+  length = block_length
+      night b;
+}
 
 -- the same with the option apart, where the block isn't too soon
 abbrev pub stay_with : Night → Block → Option Park → Option Stay

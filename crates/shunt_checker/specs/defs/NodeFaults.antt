@@ -87,15 +87,19 @@ pub record IsMissing (version : Version) (night : Night) (start : List Block) (n
 
 -- something is wrong with a node, and it is told so, with these values
 abbrev pub IsNodeFault : Night → List Block → Certificate → ℕ → NodeFault → Reason → Type 0
-IsNodeFault night start c k NotThere r = (choice : Choice) × ((node_at c.nodes k).choice ≡ Some choice) × (IsThere night start c.nodes k choice → ⊥) × (r ≡ reason.ChildNotThere choice)
+IsNodeFault night start c k NotThere r = (choice : Choice) × ((node_at c.nodes k).choice ≡ Some choice) × (IsThere night start c.nodes k choice → ⊥)
+    × (r ≡ reason.ChildNotThere choice)
 IsNodeFault night start c k Twice r = (choice : Choice) × ((node_at c.nodes k).choice ≡ Some choice) × HasTwin c.nodes k choice × (r ≡ reason.ChildTwice choice)
 IsNodeFault night start c k NotLean r = (bound : ℤ) × IsNotLean c.version night start c.nodes k bound × (r ≡ reason.ChildNotLean bound (pos (best_before night start c.nodes k)))
 IsNodeFault night start c k OtherKind r = IsOtherKind (node_at c.nodes k).kind (next_of (masks_of night (path_at night start c.nodes k))) × (r ≡ reason.WrongKind)
 IsNodeFault night start c k (Broken m d) r = ((node_at c.nodes k).kind ≢ Whole) × IsBroken c.version night (path_at night start c.nodes k) (duals_at c.nodes k) m d ×
     (r ≡ reason.DualBroken (chosen 0 d) (weight_with night (case_at (duals_at c.nodes k) m) d.shape d.option) (duals_over night (case_at (duals_at c.nodes k) m).duals d.shape))
-IsNodeFault night start c k LowLeaf r = ((node_at c.nodes k).kind ≡ Leaf) × (bound : ℤ) × IsLow c.version night (path_at night start c.nodes k) (duals_at c.nodes k) c.bound bound × (r ≡ reason.LeafLow bound (pos c.bound))
-IsNodeFault night start c k LowWhole r = ((node_at c.nodes k).kind ≡ Whole) × (total_cost night (path_at night start c.nodes k) < c.bound) × (r ≡ reason.WholeLow (pos (total_cost night (path_at night start c.nodes k))) (pos c.bound))
-IsNodeFault night start c k (Missing d) r = ((node_at c.nodes k).kind ≡ Branch) × (choice : Choice) × (d ≡ choice_from night (path_at night start c.nodes k) choice) × (bound : ℤ) × IsMissing c.version night start c.nodes k c.bound d bound × (r ≡ reason.ChildMissing choice bound)
+IsNodeFault night start c k LowLeaf r = ((node_at c.nodes k).kind ≡ Leaf) × (bound : ℤ) × IsLow c.version night (path_at night start c.nodes k) (duals_at c.nodes k) c.bound bound
+    × (r ≡ reason.LeafLow bound (pos c.bound))
+IsNodeFault night start c k LowWhole r = ((node_at c.nodes k).kind ≡ Whole) × (total_cost night (path_at night start c.nodes k) < c.bound)
+    × (r ≡ reason.WholeLow (pos (total_cost night (path_at night start c.nodes k))) (pos c.bound))
+IsNodeFault night start c k (Missing d) r = ((node_at c.nodes k).kind ≡ Branch) × (choice : Choice) × (d ≡ choice_from night (path_at night start c.nodes k) choice) × (bound : ℤ)
+    × IsMissing c.version night start c.nodes k c.bound d bound × (r ≡ reason.ChildMissing choice bound)
 
 -- the order of what is looked at
 abbrev pub node_rank : NodeFault → ℕ
@@ -110,7 +114,8 @@ node_rank (Missing d) = 7
 
 -- by the first unit, then by the number of units, departing train and place, then by option
 abbrev pub EarlierChoice : Night → PathChoice → PathChoice → Type 0
-EarlierChoice night d e = (unit_from night d.shape < unit_from night e.shape) ⊎ ((unit_from night d.shape ≡ unit_from night e.shape) × (LaterBefore d.shape e.shape ⊎ ((d.shape ≡ e.shape) × OptionBefore d.option e.option)))
+EarlierChoice night d e = (unit_from night d.shape < unit_from night e.shape) ⊎ ((unit_from night d.shape ≡ unit_from night e.shape)
+    × (LaterBefore d.shape e.shape ⊎ ((d.shape ≡ e.shape) × OptionBefore d.option e.option)))
 
 -- of broken duals by case and then by choice, of choices that aren't listed by choice
 abbrev pub EarlierPlace : Night → NodeFault → NodeFault → Type 0

@@ -26,7 +26,8 @@ JudgesBelow night c k path from to r = (start : List Block) → path ≡ path_at
 
 -- the reason that is told first of a node's choice and bound, where this is the best cost before it, or that there is none
 abbrev pub JudgesChild : Night → Certificate → ℕ → List Block → ℕ → Option Reason → Type 0
-JudgesChild night c k path best r = (start : List Block) → path ≡ path_at night start c.nodes (parent c.nodes k) → best ≡ best_before night start c.nodes k → Passes night start c k 4 r
+JudgesChild night c k path best r = (start : List Block) → path ≡ path_at night start c.nodes (parent c.nodes k) → best ≡ best_before night start c.nodes k
+    → Passes night start c k 4 r
 
 -- where the first is the path of a node's parent, the second is the node's
 abbrev pub Leads : Night → Certificate → ℕ → List Block → List Block → Type 0

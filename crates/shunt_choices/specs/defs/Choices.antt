@@ -72,7 +72,8 @@ shapes_of night covered u = flat_map (shapes_of_length night covered u) (range_w
 
 -- a track with its pairs of sides
 abbrev pub parks_on : ℕ → List Park
-parks_on t = record { track = record { 0 = t }; side_in = A; side_out = A } ∷ record { track = record { 0 = t }; side_in = A; side_out = B } ∷ record { track = record { 0 = t }; side_in = B; side_out = A } ∷ record { track = record { 0 = t }; side_in = B; side_out = B } ∷ []
+parks_on t = record { track = record { 0 = t }; side_in = A; side_out = A } ∷ record { track = record { 0 = t }; side_in = A; side_out = B } ∷
+    record { track = record { 0 = t }; side_in = B; side_out = A } ∷ record { track = record { 0 = t }; side_in = B; side_out = B } ∷ []
 
 -- each track of that many with its pairs of sides
 abbrev pub parks_below : ℕ → List Park

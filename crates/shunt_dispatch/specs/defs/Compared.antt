@@ -55,7 +55,8 @@ pub record HasComparison (x : Comparable) (r : Reply) : Type 0 where
   pub other_none : ArePlanFindings x.night x.other []
   pub comparison : Comparison
   pub told : IsComparison x.night x.plan.blocks x.other.blocks comparison
-  pub reply : r ≡ says (compared_outcome comparison.changes comparison.regrouped) (comparison_of x.night comparison (total_cost x.night x.plan.blocks) (total_cost x.night x.other.blocks))
+  pub reply : r ≡ says (compared_outcome comparison.changes comparison.regrouped)
+      (comparison_of x.night comparison (total_cost x.night x.plan.blocks) (total_cost x.night x.other.blocks))
 
 -- the answer of `compare` on two plans
 abbrev pub IsCompared : Comparable → Reply → Type 0

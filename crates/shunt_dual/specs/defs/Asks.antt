@@ -42,11 +42,13 @@ pub record AreCostsWith (night : Night) (s : Shape) (option : Option Park) (old 
   pub long : length old ≡ 60 → length new ≡ 60
   pub less : (t : ℕ) → slice_index_or new t 0 ≤ slice_index_or old t 0
   pub room : (k : Park) → option ≡ Some k → length old ≡ 60 → HasRoom night s option → slice_index_or new k.track.0 0 ≤ cost_with night s option
-  pub one : (t : ℕ) → (slice_index_or new t 0 ≡ slice_index_or old t 0) ⊎ ((k : Park) × (option ≡ Some k) × (k.track.0 ≡ t) × HasRoom night s (Some k) × (slice_index_or new t 0 ≡ cost_with night s (Some k)))
+  pub one : (t : ℕ) → (slice_index_or new t 0 ≡ slice_index_or old t 0) ⊎ ((k : Park) × (option ≡ Some k) × (k.track.0 ≡ t) × HasRoom night s (Some k)
+      × (slice_index_or new t 0 ≡ cost_with night s (Some k)))
 
 -- the cost of a shape on a track: unparked, or parked there in a way that has room
 abbrev pub IsCostOn : Night → Shape → ℕ → ℕ → Type 0
-IsCostOn night s t cost = (cost ≡ cost_with night s None) ⊎ ((k : Park) × IsOption night s (Some k) × HasRoom night s (Some k) × (k.track.0 ≡ t) × (cost ≡ cost_with night s (Some k)))
+IsCostOn night s t cost = (cost ≡ cost_with night s None) ⊎ ((k : Park) × IsOption night s (Some k) × HasRoom night s (Some k) × (k.track.0 ≡ t)
+    × (cost ≡ cost_with night s (Some k)))
 
 -- for each track a cost of a shape, at most that of each way to park it there that has room: it is the cost of such a way, or unparked
 pub record AreCosts (night : Night) (s : Shape) (costs : List ℕ) : Type 0 where

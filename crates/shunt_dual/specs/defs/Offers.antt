@@ -33,4 +33,5 @@ offered night o k = o.worth -ℤ pos (weight_at night o.charges o.shape (Some k)
 -- offers of some of these shapes, with each shape whose values come to more than it weighs in some way to park
 pub record AreOffers (night : Night) (d : Duals) (shapes : List Shape) (offers : List Offer) : Type 0 where
   pub each : (o : Offer) → In o offers → In o.shape shapes × IsOffer night d o × IsSmallOffer night o
-  pub all : (s : Shape) (k : Park) → In s shapes → IsParkable night s k → pos (weight_of night d.prices s (Some k)) <ℤ duals_over night d s → (o : Offer) × In o offers × (o.shape ≡ s)
+  pub all : (s : Shape) (k : Park) → In s shapes → IsParkable night s k → pos (weight_of night d.prices s (Some k)) <ℤ duals_over night d s
+      → (o : Offer) × In o offers × (o.shape ≡ s)

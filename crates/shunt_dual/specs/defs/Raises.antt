@@ -68,7 +68,8 @@ IsTried night path by track train old (Some step) = IsRaise night path by track 
 
 -- no price step for a track and a train has a higher sum
 abbrev pub NoneHigher : Night → List Block → ℕ → ℕ → Duals → Type 0
-NoneHigher night path track train old = (new : Duals) (step : IsPriceStep night path old new) → step.track ≡ track → step.train ≡ train → duals_sum night path new ≤ℤ duals_sum night path old
+NoneHigher night path track train old = (new : Duals) (step : IsPriceStep night path old new) → step.track ≡ track → step.train ≡ train
+    → duals_sum night path new ≤ℤ duals_sum night path old
 
 -- duals as they were, where no step for a track and a train has a higher sum, or others with a higher sum
 pub record AreImproved (night : Night) (path : List Block) (track train : ℕ) (old new : Duals) : Type 0 where
@@ -86,4 +87,5 @@ pub record AreHigher (night : Night) (path : List Block) (old new : Duals) : Typ
 pub record AreSwept (night : Night) (path : List Block) (given : Duals) (k : ℕ) (now : Duals) : Type 0 where
   pub good : AreGood night path now
   pub kept : Keeps given now
-  pub either : ((now ≡ given) × ((i : ℕ) → i < k → NoneHigher night path (i / length night.arrive) (i % length night.arrive) given)) ⊎ (duals_sum night path given <ℤ duals_sum night path now)
+  pub either : ((now ≡ given) × ((i : ℕ) → i < k → NoneHigher night path (i / length night.arrive) (i % length night.arrive) given))
+      ⊎ (duals_sum night path given <ℤ duals_sum night path now)

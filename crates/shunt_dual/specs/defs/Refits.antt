@@ -32,4 +32,5 @@ pub record IsUnitRefit (asks : List Ask) (covered : List Bool) (u : ℕ) (old ne
 -- values in which the units below n have got theirs, one after the other, and by how much they have risen in all
 abbrev pub AreUnitsRefit : List Ask → List Bool → ℕ → List ℤ → List ℤ → ℤ → Type 0
 AreUnitsRefit asks covered zero old new risen = (new ≡ old) × (risen ≡ pos 0)
-AreUnitsRefit asks covered (suc n) old new risen = (mid : List ℤ) × (before : ℤ) × AreUnitsRefit asks covered n old mid before × IsUnitRefit asks covered n mid new × (risen ≡ before +ℤ (slice_index_or new n (pos 0) -ℤ slice_index_or mid n (pos 0)))
+AreUnitsRefit asks covered (suc n) old new risen = (mid : List ℤ) × (before : ℤ) × AreUnitsRefit asks covered n old mid before × IsUnitRefit asks covered n mid new
+    × (risen ≡ before +ℤ (slice_index_or new n (pos 0) -ℤ slice_index_or mid n (pos 0)))

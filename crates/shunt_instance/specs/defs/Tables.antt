@@ -54,7 +54,8 @@ pub record AreEntries (night : Night) (units : List TrainUnit) (positions : List
   pub leave_list : leaves ≡ map (leaves_of night.depart) positions
 
 -- all tables of a night, whose trains are well formed and in their order
-pub record AreTables (night : Night) (units : List TrainUnit) (positions : List Position) (ready leaves first_units first_positions : List ℕ) (costs : List (Option ℕ)) (named pairs : List Bool) (arr_names dep_names tracks : List (List ℕ)) : Type 0 where
+pub record AreTables (night : Night) (units : List TrainUnit) (positions : List Position) (ready leaves first_units first_positions : List ℕ) (costs : List (Option ℕ))
+    (named pairs : List Bool) (arr_names dep_names tracks : List (List ℕ)) : Type 0 where
   pub formed : IsOrderedNight night
   pub entries : AreEntries night units positions ready leaves
   pub units_before : AreFirsts night.arrive first_units

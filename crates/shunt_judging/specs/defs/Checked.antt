@@ -25,7 +25,8 @@ pub record Checkable : Type 0 where
 -- those that a station file, a timetable file, a plan file and a certificate file state, or the line for the first of them that isn't
 -- accepted
 unfoldable pub stated_check : List ℕ → List ℕ → List ℕ → List ℕ → Result Checkable (List ℕ)
-stated_check s t p k = then_stated (stated_plans s t p) (λ x. then_stated (stated_certificate x.0 k) (λ certificate. Ok (record { night = x.0; plan = x.1; certificate = certificate })))
+stated_check s t p k = then_stated (stated_plans s t p) (λ x. then_stated (stated_certificate x.0 k)
+    (λ certificate. Ok (record { night = x.0; plan = x.1; certificate = certificate })))
 
 -- the same of what the files of these names hold
 abbrev pub check_in : List ℕ → List ℕ → List ℕ → List ℕ → Files → Result Checkable (List ℕ)

@@ -28,7 +28,8 @@ pub record PinChecked : Type 0 where
 
 -- a plan file and a certificate file over a night and pins in it, or the line for the first of them that isn't accepted
 abbrev pub stated_over_pins : Night → List Block → List ℕ → List ℕ → Result PinChecked (List ℕ)
-stated_over_pins night pins p k = then_stated (stated_plan night p) (λ plan. then_stated (stated_certificate night k) (λ certificate. Ok (record { night = night; pins = pins; plan = plan; certificate = certificate })))
+stated_over_pins night pins p k = then_stated (stated_plan night p) (λ plan. then_stated (stated_certificate night k)
+    (λ certificate. Ok (record { night = night; pins = pins; plan = plan; certificate = certificate })))
 
 -- those that a station file, a timetable file, a pins file, a plan file and a certificate file state, or the line for the first of them
 -- that isn't accepted

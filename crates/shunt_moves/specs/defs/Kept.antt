@@ -105,7 +105,8 @@ pub record IsKept (night : Night) (blocks : List Block) (held : Holding) (units 
 -- how timelines change as a stay comes, where there is one
 abbrev pub Comes : Option Stay → Holding → Holding → Type 0
 Comes None before after = after ≡ before
-Comes (Some t) before after = IsPermutation (t ∷ before.stays) after.stays × (length after.stays ≡ length before.stays + 1) × (after.lengths ≡ before.lengths) × (after.spare + 1 ≡ before.spare)
+Comes (Some t) before after = IsPermutation (t ∷ before.stays) after.stays × (length after.stays ≡ length before.stays + 1) × (after.lengths ≡ before.lengths)
+    × (after.spare + 1 ≡ before.spare)
 
 -- how they change as the stay of an id is taken away
 pub record Removed (id : ℕ) (gone : Option Stay) (before after : Holding) : Type 0 where

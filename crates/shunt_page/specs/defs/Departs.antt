@@ -25,7 +25,11 @@ seat_of night blocks v = record { fillings = flat_map (filling_at night v) block
 
 -- the departing train with a number, with its positions in their order
 abbrev pub depart_of : Night → List Block → ℕ → DepartRow
-depart_of night blocks d = record { train = train_told night.station (train_at night.depart d); seats = map (λ k. seat_of night blocks (first_position night d + k)) (range_with_len 0 (length (train_at night.depart d).units)) }
+depart_of night blocks d = record {
+  train = train_told night.station (train_at night.depart d);
+  seats = map (λ k. seat_of night blocks (first_position night d + k))
+      (range_with_len 0 (length (train_at night.depart d).units));
+}
 
 abbrev pub departs_of : Night → List Block → List DepartRow
 departs_of night blocks = map (depart_of night blocks) (range_with_len 0 (length night.depart))

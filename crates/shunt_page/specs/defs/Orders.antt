@@ -18,7 +18,16 @@ train_of night o b = if o.enters then arrive_told night b else depart_told night
 
 -- an order of a block, where so much stood before it
 abbrev pub row_of : Night → List Stood → Order → Block → OrderRow
-row_of night stood o b = record { order = o; units = units_told night b; train = train_of night o b; track = slice_index_or (track_names night.station) o.track.0 []; beside = beside stood o; load = load_on o.track.0 (after stood o); length = slice_index (track_lengths night.station) o.track.0 }
+row_of night stood o b = record {
+  order = o;
+  units = units_told night b;
+  train = train_of night o b;
+  track = slice_index_or
+      (track_names night.station) o.track.0 [];
+  beside = beside stood o;
+  load = load_on o.track.0 (after stood o);
+  length = slice_index (track_lengths night.station) o.track.0;
+}
 
 -- the order of the block that has its id
 abbrev pub row_with : Night → List Stood → Order → Option Block → List OrderRow

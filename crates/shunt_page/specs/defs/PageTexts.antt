@@ -8,7 +8,8 @@ use Rattle.shunt_page.specs.defs.RowTexts.{fact_row, finding_item, already_rows,
 
 -- how things look
 unfoldable pub style_a : List ℕ
-style_a = codes "<style>:root{color-scheme:light dark;--ground:#fff;--ink:#1c1c1c;--soft:#595959;--line:#c8ccd0;--head:#eef1f4;--lit:#fff3b0;--bad:#b00020;--link:#0b57a4}\n" ++ codes "@media screen and (prefers-color-scheme:dark){:root{--ground:#15181c;--ink:#e4e4e4;--soft:#a8a8a8;--line:#3f464d;--head:#22272d;--lit:#4a4210;--bad:#ff8a80;--link:#8cc4ff}}\n"
+style_a = codes "<style>:root{color-scheme:light dark;--ground:#fff;--ink:#1c1c1c;--soft:#595959;--line:#c8ccd0;--head:#eef1f4;--lit:#fff3b0;--bad:#b00020;--link:#0b57a4}\n"
+    ++ codes "@media screen and (prefers-color-scheme:dark){:root{--ground:#15181c;--ink:#e4e4e4;--soft:#a8a8a8;--line:#3f464d;--head:#22272d;--lit:#4a4210;--bad:#ff8a80;--link:#8cc4ff}}\n"
 
 -- how things look
 unfoldable pub style_b : List ℕ
@@ -36,11 +37,13 @@ script_b = codes "function meets(a,b){if(a.block&&b.block)return a.block===b.blo
 
 -- what lights the bar and the train of an order, and the other way round
 unfoldable pub script_c : List ℕ
-script_c = codes "function light(e){var at=e.target.closest&&e.target.closest('[data-block],[data-arrive],[data-depart]')\n" ++ codes "on.forEach(function(x){x.classList.remove('lit')});on=[]\n"
+script_c = codes "function light(e){var at=e.target.closest&&e.target.closest('[data-block],[data-arrive],[data-depart]')\n"
+    ++ codes "on.forEach(function(x){x.classList.remove('lit')});on=[]\n"
 
 -- what lights the bar and the train of an order, and the other way round
 unfoldable pub script_d : List ℕ
-script_d = codes "if(at)all.forEach(function(x){if(x===at||meets(at.dataset,x.dataset)){x.classList.add('lit');on.push(x)}})}\n" ++ codes "document.addEventListener('mouseover',light);document.addEventListener('focusin',light)})()</script>\n"
+script_d = codes "if(at)all.forEach(function(x){if(x===at||meets(at.dataset,x.dataset)){x.classList.add('lit');on.push(x)}})}\n"
+    ++ codes "document.addEventListener('mouseover',light);document.addEventListener('focusin',light)})()</script>\n"
 
 -- what lights the bar and the train of an order, and the other way round
 unfoldable pub script : List ℕ
@@ -118,11 +121,13 @@ head_part station = title_part station ++ style ++ heading_part station
 
 -- how many units, blocks, blocks without a stay and findings there are
 unfoldable pub counts_part : Page → List ℕ
-counts_part p = counts_start ++ fact_row (codes "units") p.units ++ fact_row (codes "blocks") p.blocks ++ fact_row (codes "blocks not on a track") (length p.loose) ++ fact_row (codes "findings") (length p.findings)
+counts_part p = counts_start ++ fact_row (codes "units") p.units ++ fact_row (codes "blocks") p.blocks ++ fact_row (codes "blocks not on a track") (length p.loose)
+    ++ fact_row (codes "findings") (length p.findings)
 
 -- what the blocks cost, and what is stated of it
 unfoldable pub parts_part : Page → List ℕ
-parts_part p = costs_start ++ fact_row (codes "splits") p.parts.splits ++ fact_row (codes "couplings") p.parts.couplings ++ fact_row (codes "ways in") p.parts.ways_in ++ fact_row (codes "ways out") p.parts.ways_out ++ fact_row (codes "unparked blocks") p.parts.unparked
+parts_part p = costs_start ++ fact_row (codes "splits") p.parts.splits ++ fact_row (codes "couplings") p.parts.couplings ++ fact_row (codes "ways in") p.parts.ways_in
+    ++ fact_row (codes "ways out") p.parts.ways_out ++ fact_row (codes "unparked blocks") p.parts.unparked
 
 unfoldable pub costs_part : Page → List ℕ
 costs_part p = parts_part p ++ fact_row (codes "together") p.cost ++ fact_row (codes "stated by the plan") p.stated ++ facts_end

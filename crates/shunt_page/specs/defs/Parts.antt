@@ -13,10 +13,24 @@ unparked_cost night (Some k) = 0
 
 -- what a block costs, in parts
 abbrev pub block_parts : Night → Block → Parts
-block_parts night b = record { splits = cond (b.p == 1) 0 night.station.split; couplings = cond (b.q == 1) 0 night.station.couple; ways_in = unwrap_or (way_in night b) 0; ways_out = unwrap_or (way_out night b) 0; unparked = unparked_cost night b.park }
+block_parts night b = record {
+  splits = cond (b.p == 1) 0 night.station.split;
+  couplings = cond (b.q == 1) 0 night.station.couple;
+  ways_in = unwrap_or
+      (way_in night b) 0;
+  ways_out = unwrap_or (way_out night b) 0;
+  unparked = unparked_cost night b.park;
+}
 
 abbrev pub added : Parts → Parts → Parts
-added a b = record { splits = a.splits + b.splits; couplings = a.couplings + b.couplings; ways_in = a.ways_in + b.ways_in; ways_out = a.ways_out + b.ways_out; unparked = a.unparked + b.unparked }
+added a b = record {
+  splits = a.splits + b.splits;
+  couplings = a.couplings + b.couplings;
+  ways_in = a.ways_in + b.ways_in;
+  ways_out = a.ways_out + b.ways_out;
+  unparked = a.unparked
+      + b.unparked;
+}
 
 abbrev pub nothing : Parts
 nothing = record { splits = 0; couplings = 0; ways_in = 0; ways_out = 0; unparked = 0 }

@@ -20,7 +20,12 @@ type_names s = map (λ t. t.name) s.types
 
 -- the unit with a number, by its train, its place there and its type
 abbrev pub unit_told : Night → ℕ → UnitTold
-unit_told night u = record { train = (train_at night.arrive (unit_at night u).train.0).name; place = (unit_at night u).place; kind = slice_index_or (type_names night.station) (unit_at night u).kind.0 [] }
+unit_told night u = record {
+  train = (train_at night.arrive (unit_at night u).train.0).name;
+  place = (unit_at night u).place;
+  kind = slice_index_or (type_names night.station)
+      (unit_at night u).kind.0 [];
+}
 
 -- the units of a block
 abbrev pub units_told : Night → Block → List UnitTold

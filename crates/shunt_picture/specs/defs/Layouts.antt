@@ -55,7 +55,8 @@ IsLeftOf from t u = end_of from t ≤ x_of from u.minute
 pub record AreTrainRows (from : ℕ) (trains : List TrainMark) (rows : List ℕ) : Type 0 where
   pub count : length rows ≡ length trains
   pub low : All (λ r. r < length trains) rows
-  pub apart : (i j : ℕ) (d : TrainMark) → i < j → j < length trains → slice_index rows i ≡ slice_index rows j → IsLeftOf from (slice_index_or trains i d) (slice_index_or trains j d)
+  pub apart : (i j : ℕ) (d : TrainMark) → i < j → j < length trains → slice_index rows i ≡ slice_index rows j
+      → IsLeftOf from (slice_index_or trains i d) (slice_index_or trains j d)
 
 -- from top to bottom: the legend, the lines of arriving and of departing trains, the hours, the lanes, and the list of blocks without a
 -- stay; each begins where the one before it ends

@@ -56,7 +56,18 @@ fault_places kind bare twice = places_text kind bare ++ places_text (kind + 1) t
 
 -- a train, with the places that findings of a kind and of the next one tell of
 abbrev pub mark_of : Train → List ℕ → ℕ → List ℕ → List ℕ → TrainMark
-mark_of t place kind bare twice = record { name = t.name; place = place; stands = is_standing t; minute = t.minute; kinds = t.units; bare = bare; twice = twice; words = train_words t.name place t.units; marks = fault_places kind bare twice }
+mark_of t place kind bare twice = record {
+  name = t.name;
+  place = place;
+  stands = is_standing t;
+  minute = t.minute;
+  kinds = t.units;
+  bare = bare;
+  twice = twice;
+  words = train_words
+      t.name place t.units;
+  marks = fault_places kind bare twice;
+}
 
 -- the same of a train whose first unit or position has a number
 abbrev pub train_mark : Station → List Finding → Train → ℕ → ℕ → TrainMark

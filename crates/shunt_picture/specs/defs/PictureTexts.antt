@@ -95,7 +95,8 @@ kind_number entry = record { 0 = entry % 256 }
 
 -- the colour of a type with its letter
 unfoldable pub swatch_text : ℕ → ℕ → TypeId → List ℕ
-swatch_text x y number = rectangle (codes "bar k") (colour (number ∷ [])) (record { x = x; y = y - 11; width = 18; height = 13 }) ++ words_at (codes "on") 7 (x + 5) y (letter number ∷ [])
+swatch_text x y number = rectangle (codes "bar k") (colour (number ∷ [])) (record { x = x; y = y - 11; width = 18; height = 13 })
+    ++ words_at (codes "on") 7 (x + 5) y (letter number ∷ [])
 
 -- a type at a place: its colour with its letter, its name and its length
 unfoldable pub kind_in : ℕ → ℕ → TypeId → Kind → List ℕ
@@ -173,7 +174,8 @@ train_title kinds arrives t = train_group arrives t.name ++ train_when arrives t
 
 -- a train at a place
 unfoldable pub train_in : List Kind → ℕ → ℕ → Bool → TrainMark → List ℕ
-train_in kinds x y arrives t = train_title kinds arrives t ++ tick_text x y ++ words_at (codes "label") 7 (x + 3) (y + 11) t.words ++ words_at (codes "mark") 7 (x + 3 + wide 7 t.words) (y + 11) t.marks ++ codes "</g>\n"
+train_in kinds x y arrives t = train_title kinds arrives t ++ tick_text x y ++ words_at (codes "label") 7 (x + 3) (y + 11) t.words
+    ++ words_at (codes "mark") 7 (x + 3 + wide 7 t.words) (y + 11) t.marks ++ codes "</g>\n"
 
 -- a train at its minute
 unfoldable pub train_text : List Kind → ℕ → ℕ → Bool → TrainMark → List ℕ
@@ -199,7 +201,8 @@ loose_mark x y kinds = rectangle (codes "bar k") (colour kinds) (record { x = x;
 
 -- a loose block at a place
 unfoldable pub loose_in : List Kind → ℕ → ℕ → Loose → List ℕ
-loose_in kinds x y l = loose_title kinds l ++ loose_mark x y l.told.kinds ++ words_at (codes "mark") 7 (x + 15) y l.marks ++ words_at (codes "label") 7 (x + 15 + wide 7 l.marks) y l.words ++ codes "</g>\n"
+loose_in kinds x y l = loose_title kinds l ++ loose_mark x y l.told.kinds ++ words_at (codes "mark") 7 (x + 15) y l.marks
+    ++ words_at (codes "label") 7 (x + 15 + wide 7 l.marks) y l.words ++ codes "</g>\n"
 
 unfoldable pub loose_text : List Kind → ℕ → ℕ → ℕ → ℕ → Loose → List ℕ
 loose_text kinds room columns top entry l = loose_in kinds (entry_x room columns entry) (entry_y columns top entry) l

@@ -8,11 +8,13 @@ attribute name value = codes " " ++ name ++ codes "='" ++ decimal value ++ codes
 
 -- a rectangle of a class with a number
 unfoldable pub rectangle : List ℕ → ℕ → Area → List ℕ
-rectangle class number a = codes "<rect class='" ++ class ++ decimal number ++ codes "'" ++ attribute (codes "x") a.x ++ attribute (codes "y") a.y ++ attribute (codes "width") a.width ++ attribute (codes "height") a.height ++ codes "/>\n"
+rectangle class number a = codes "<rect class='" ++ class ++ decimal number ++ codes "'" ++ attribute (codes "x") a.x ++ attribute (codes "y") a.y
+    ++ attribute (codes "width") a.width ++ attribute (codes "height") a.height ++ codes "/>\n"
 
 -- a line to the right and then down
 unfoldable pub stroke : List ℕ → Area → List ℕ
-stroke class a = codes "<path class='" ++ class ++ codes "' d='M" ++ decimal a.x ++ codes " " ++ decimal a.y ++ codes "h" ++ decimal a.width ++ codes "v" ++ decimal a.height ++ codes "'/>\n"
+stroke class a = codes "<path class='" ++ class ++ codes "' d='M" ++ decimal a.x ++ codes " " ++ decimal a.y ++ codes "h" ++ decimal a.width ++ codes "v" ++ decimal a.height
+    ++ codes "'/>\n"
 
 -- how wide words are drawn, with that many pixels for a byte: the text itself says so, whatever letters a browser has
 abbrev pub wide : ℕ → List ℕ → ℕ

@@ -42,7 +42,17 @@ faults_of findings id = filter (is_marked findings id) (range_with_len 5 6)
 
 -- a block's id, its trains with its first places there, its types, its length, its cost and its findings
 abbrev pub told_of : Night → List Finding → Block → Told
-told_of night findings b = record { id = b.id; arr = (train_at night.arrive b.arr.0).name; p = b.p; dep = (train_at night.depart b.dep.0).name; q = b.q; kinds = kinds_of night b; length = block_length night b; cost = block_cost night b; faults = faults_of findings b.id }
+told_of night findings b = record {
+  id = b.id;
+  arr = (train_at night.arrive b.arr.0).name;
+  p = b.p;
+  dep = (train_at night.depart b.dep.0).name;
+  q = b.q;
+  kinds = kinds_of night b;
+  length = block_length night b;
+  cost = block_cost night b;
+  faults = faults_of findings b.id;
+}
 
 -- the name of the track on which a block is parked
 abbrev pub track_name : Night → Option Park → Option (List ℕ)

@@ -40,7 +40,8 @@ faults_words faults = flat_map fault_text faults
 
 -- what a finding of a kind of 5 to 10 says
 abbrev pub fault_word : ℕ → List ℕ
-fault_word fault = if fault == 5 then codes "wrong type" else if fault == 6 then codes "too soon" else if fault == 7 then codes "no route in" else if fault == 8 then codes "no route out" else if fault == 9 then codes "crossing" else codes "too long"
+fault_word fault = if fault == 5 then codes "wrong type" else if fault == 6 then codes "too soon" else if fault == 7 then codes "no route in" else if fault == 8 then codes
+    "no route out" else if fault == 9 then codes "crossing" else codes "too long"
 
 -- each of them in a line of its own
 unfoldable pub fault_line : ℕ → List ℕ

@@ -26,7 +26,8 @@ most_surcharge multiplier from to = int_max (multiplier *ℤ pos from) (multipli
 -- the sum at a path of a case that speaks of plans with this many unparked blocks or more: the weights of the path's blocks and the
 -- values of the uncovered units and positions, less what prices and surcharge come to at most
 abbrev pub sum_at : Night → List Block → ℕ → Case → ℤ
-sum_at night path from c = sum_z (weight night c) path +ℤ (uncovered_alphas night (masks_of night path) c.duals +ℤ uncovered_betas night (masks_of night path) c.duals) -ℤ pos (paid_at_most night c.duals.prices) -ℤ most_surcharge c.multiplier from c.to
+sum_at night path from c = sum_z (weight night c) path +ℤ (uncovered_alphas night (masks_of night path) c.duals +ℤ uncovered_betas night (masks_of night path) c.duals) -ℤ pos
+    (paid_at_most night c.duals.prices) -ℤ most_surcharge c.multiplier from c.to
 
 -- the sum of the case with a number
 abbrev pub case_sum : Night → List Block → List Case → ℕ → ℤ

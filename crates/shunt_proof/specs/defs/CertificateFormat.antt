@@ -102,7 +102,8 @@ node_room begun = must (nat_lt begun 5000) 1 kinds.Limit
 
 -- what a word says of a node
 unfoldable pub kind_of : List ℕ → Option NodeKind
-kind_of text = if bytes_eq text (codes "branch") then Some shows.Branch else if bytes_eq text (codes "leaf") then Some shows.Leaf else if bytes_eq text (codes "whole") then Some shows.Whole else None
+kind_of text = if bytes_eq text (codes "branch") then Some shows.Branch else if bytes_eq text (codes "leaf") then Some shows.Leaf else if bytes_eq text
+    (codes "whole") then Some shows.Whole else None
 
 -- what a word says of a node's duals: `none` of a whole one; of the others `new`, or `same` below the root
 abbrev pub is_whole : NodeKind → Bool

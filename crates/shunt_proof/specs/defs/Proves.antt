@@ -56,7 +56,8 @@ pub record IsPlaced (night : Night) (start : List Block) (nodes : List Node) (k 
 -- a node shows L, and each of its children is placed and proves L
 pub data ProvesIn (version : Version) (night : Night) (start : List Block) (nodes : List Node) (L : ℤ) : ℕ → Type 0 where
   by_tree : (k : ℕ) → ShowsIn version night (path_at night start nodes k) (duals_at nodes k) (node_at nodes k).kind (IsListed night start nodes k) L
-      → ((j : ℕ) → IsChildOf nodes k j → IsPlaced night start nodes j) → ((j : ℕ) → IsChildOf nodes k j → ProvesIn version night start nodes L j) → ProvesIn version night start nodes L k
+      → ((j : ℕ) → IsChildOf nodes k j → IsPlaced night start nodes j) → ((j : ℕ) → IsChildOf nodes k j → ProvesIn version night start nodes L j)
+      → ProvesIn version night start nodes L k
 
 -- a node is locally right for L: it is placed where it isn't the root, and shows L
 pub record IsRightIn (version : Version) (night : Night) (start : List Block) (nodes : List Node) (k : ℕ) (L : ℤ) : Type 0 where

@@ -49,7 +49,8 @@ nodes_read night end (suc n) bytes = nodes_of (reading (certificate_format night
 
 -- whether the version is read, these are that many nodes with that many cases, and the bytes their text
 abbrev pub is_text : Version → Night → Option (ℕ × ℕ) → ℕ → ℕ → List ℕ → List Node → Bool
-is_text version night end count cases bytes nodes = nat_le (number_of version) newest && (length nodes == count && (case_total nodes == cases && bytes_eq bytes (file_text version night end nodes)))
+is_text version night end count cases bytes nodes = nat_le (number_of version) newest &&
+    (length nodes == count && (case_total nodes == cases && bytes_eq bytes (file_text version night end nodes)))
 
 abbrev pub told_where : Bool → List Node → Option (List Node)
 told_where b nodes = if b then Some nodes else None

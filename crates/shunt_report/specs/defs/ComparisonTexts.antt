@@ -41,7 +41,8 @@ regrouped_line night b = codes "block " ++ (train_at night.arrive b.arr.0).name 
 
 -- `changed U blocks B cost C other D`
 abbrev pub compared_line : Comparison → ℕ → ℕ → List ℕ
-compared_line c cost other = codes "changed " ++ decimal (length c.changes) ++ codes " blocks " ++ decimal (length c.regrouped) ++ codes " cost " ++ decimal cost ++ codes " other " ++ decimal other ++ codes "\n"
+compared_line c cost other = codes "changed " ++ decimal (length c.changes) ++ codes " blocks " ++ decimal (length c.regrouped) ++ codes " cost " ++ decimal cost ++ codes " other "
+    ++ decimal other ++ codes "\n"
 
 -- a line for each change, a line for each regrouped block, and that line
 unfoldable pub comparison_of : Night → Comparison → ℕ → ℕ → List ℕ

@@ -25,7 +25,8 @@ cost_line cost bound nodes = end_word cost bound ++ codes " cost " ++ decimal co
 
 -- `blocks N parked P unparked U splits S couples C`
 abbrev pub blocks_line : List Block → List ℕ
-blocks_line blocks = codes "blocks " ++ decimal (length blocks) ++ codes " parked " ++ decimal (parked_in blocks) ++ codes " unparked " ++ decimal (unparked_in blocks) ++ codes " splits " ++ decimal (splits_in blocks) ++ codes " couples " ++ decimal (couples_in blocks) ++ codes "\n"
+blocks_line blocks = codes "blocks " ++ decimal (length blocks) ++ codes " parked " ++ decimal (parked_in blocks) ++ codes " unparked " ++ decimal (unparked_in blocks)
+    ++ codes " splits " ++ decimal (splits_in blocks) ++ codes " couples " ++ decimal (couples_in blocks) ++ codes "\n"
 
 -- both lines, with the cost that the plan states
 unfoldable pub plan_of : Plan → ℕ → ℕ → List ℕ

@@ -43,8 +43,10 @@ type_name night kind = slice_index_or (map (λ t. t.name) night.station.types) k
 
 -- `no matching type NAME arrive A depart D`, or `no matching type NAME by HH:MM need N have H`
 unfoldable pub shortage_of : Night → Shortage → List ℕ
-shortage_of night (Balance kind arrive depart) = codes "no matching type " ++ type_name night kind ++ codes " arrive " ++ decimal arrive ++ codes " depart " ++ decimal depart ++ codes "\n"
-shortage_of night (ByMinute kind minute need have) = codes "no matching type " ++ type_name night kind ++ codes " by " ++ minute_text minute ++ codes " need " ++ decimal need ++ codes " have " ++ decimal have ++ codes "\n"
+shortage_of night (Balance kind arrive depart) = codes "no matching type " ++ type_name night kind ++ codes " arrive " ++ decimal arrive ++ codes " depart " ++ decimal depart
+    ++ codes "\n"
+shortage_of night (ByMinute kind minute need have) = codes "no matching type " ++ type_name night kind ++ codes " by " ++ minute_text minute ++ codes " need " ++ decimal need
+    ++ codes " have " ++ decimal have ++ codes "\n"
 
 -- the word for a file
 abbrev pub file_word : FileWord → List ℕ
@@ -63,4 +65,5 @@ file_word word.Sheet = codes "sheet"
 -- `input FILE record R field F kind K` at a first fault, or `input FILE too long`
 unfoldable pub input_of : FileWord → Option RowFault → List ℕ
 input_of file None = codes "input " ++ file_word file ++ codes " too long\n"
-input_of file (Some fault) = codes "input " ++ file_word file ++ codes " record " ++ decimal fault.row ++ codes " field " ++ decimal fault.field ++ codes " kind " ++ decimal (kind_number fault.kind) ++ codes "\n"
+input_of file (Some fault) = codes "input " ++ file_word file ++ codes " record " ++ decimal fault.row ++ codes " field " ++ decimal fault.field ++ codes " kind "
+    ++ decimal (kind_number fault.kind) ++ codes "\n"

@@ -121,5 +121,6 @@ end_word cost bound = if bound == cost then codes "optimal" else codes "unfinish
 
 -- `accepted cost C bound B nodes N` and `optimal` or `unfinished`, or `rejected record R reason K` and the words behind it
 unfoldable pub verdict_of : Night → Certificate → Verdict → List ℕ
-verdict_of night c (verdict.Accepted bound) = codes "accepted cost " ++ decimal c.cost ++ codes " bound " ++ decimal bound ++ codes " nodes " ++ decimal (length c.nodes) ++ codes " " ++ end_word c.cost bound ++ codes "\n"
+verdict_of night c (verdict.Accepted bound) = codes "accepted cost " ++ decimal c.cost ++ codes " bound " ++ decimal bound ++ codes " nodes " ++ decimal (length c.nodes)
+    ++ codes " " ++ end_word c.cost bound ++ codes "\n"
 verdict_of night c (verdict.Rejected row r) = codes "rejected record " ++ decimal row ++ codes " reason " ++ decimal (reason_number r) ++ reason_words night r ++ codes "\n"

@@ -14,7 +14,8 @@ pub record IsMeetOf (zones : Zones) (m : Meet) : Type 0 where
 
 -- `meet HH:MM MOVE ID MOVE ID ZONE`
 abbrev pub meet_line : Zones → Meet → List ℕ
-meet_line zones m = codes "meet " ++ minute_text m.first.key.minute ++ codes " " ++ move_words m.first.key.enters m.first.key.id ++ codes " " ++ move_words m.second.key.enters m.second.key.id ++ codes " " ++ slice_index_or zones.names m.zone [] ++ codes "\n"
+meet_line zones m = codes "meet " ++ minute_text m.first.key.minute ++ codes " " ++ move_words m.first.key.enters m.first.key.id ++ codes " "
+    ++ move_words m.second.key.enters m.second.key.id ++ codes " " ++ slice_index_or zones.names m.zone [] ++ codes "\n"
 
 -- ` busiest HH:MM K`, where moves pass
 abbrev pub busiest_words : Option ℕ → ℕ → List ℕ

@@ -22,7 +22,8 @@ goes_on n (Err (Over m load)) rest = answers.Over n load
 -- these orders one after the other, of which the first has this number, up to the first that can't be done
 abbrev pub follow_from : List ℕ → ℕ → List Order → List (List Standing) → Followed
 follow_from lengths n [] tracks = answers.Through (blocks_on tracks)
-follow_from lengths n (o ∷ orders) tracks = goes_on n (moved (slice_index lengths o.track.0) (move_of o) (slice_index_or tracks o.track.0 [])) (λ blocks. follow_from lengths (n + 1) orders (slice_set tracks o.track.0 blocks))
+follow_from lengths n (o ∷ orders) tracks = goes_on n (moved (slice_index lengths o.track.0) (move_of o) (slice_index_or tracks o.track.0 []))
+    (λ blocks. follow_from lengths (n + 1) orders (slice_set tracks o.track.0 blocks))
 
 -- orders that are followed on the station's tracks, from empty tracks on
 unfoldable pub followed : Station → List Order → Followed

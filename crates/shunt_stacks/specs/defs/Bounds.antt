@@ -23,7 +23,8 @@ pub record IsStackSum (night : Night) (path : List Block) (cases : List Case) (k
 -- how far the gain of a block's stack falls if the block comes to a path; nothing where it is of no stack
 abbrev pub IsFall : Night → List Block → Block → Case → Option Stack → ℤ → Type 0
 IsFall night path b c None fall = fall ≡ pos 0
-IsFall night path b c (Some stack) fall = (before : ℤ) × (after : ℤ) × IsStackGain night path c stack before × IsStackGain night (path ++ b ∷ []) c stack after × (fall ≡ before -ℤ after)
+IsFall night path b c (Some stack) fall = (before : ℤ) × (after : ℤ) × IsStackGain night path c stack before × IsStackGain night (path ++ b ∷ []) c stack after
+    × (fall ≡ before -ℤ after)
 
 -- the sum of a block that comes to a path, in the case with a number: the sum with stacks at the path, with what the gain of the
 -- block's stack falls, less the gain of the block

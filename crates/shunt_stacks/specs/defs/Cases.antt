@@ -11,7 +11,8 @@ use Rattle.shunt_stacks.specs.defs.Stacks.{stack_of}
 
 -- no free shape with an option of no stack that has room weighs less in a case than its duals
 pub record HoldsBesideStacks (night : Night) (covered : Masks) (c : Case) : Type 0 where
-  pub holds : (s : Shape) (park : Option Park) → IsFreeBlock night covered s park → stack_of park ≡ None → HasRoom night s park → duals_over night c.duals s ≤ℤ weight_with night c s park
+  pub holds : (s : Shape) (park : Option Park) → IsFreeBlock night covered s park → stack_of park ≡ None → HasRoom night s park
+      → duals_over night c.duals s ≤ℤ weight_with night c s park
 
 -- the cases with stacks hold at a path
 abbrev pub StackCasesHold : Night → List Block → List Case → Type 0

@@ -29,6 +29,8 @@ pub record IsAround (night : Night) (events : ℕ) (entry leave : ℕ → ℕ) (
   pub to : ℕ
   pub left : ℕ
   pub around : Option ℤ
-  pub path_gain : best_of night events entry leave c stack path blocks 0 events (track_length night stack.track.0) ≡ plus around (best_of night events entry leave c stack path blocks (entry u) to left)
-  pub choice_gain : (b : Block) → BeginsAt night path stack u b → best_of night events entry leave c stack (path ++ b ∷ []) (apart_of night b blocks) 0 events (track_length night stack.track.0)
+  pub path_gain : best_of night events entry leave c stack path blocks 0 events (track_length night stack.track.0)
+      ≡ plus around (best_of night events entry leave c stack path blocks (entry u) to left)
+  pub choice_gain : (b : Block) → BeginsAt night path stack u b → best_of night events entry leave c stack (path ++ b ∷ []) (apart_of night b blocks) 0 events
+      (track_length night stack.track.0)
       ≡ plus around (best_with (best_of night events entry leave c stack path blocks) to left (span_of night entry leave (λ z. pos 0) b))

@@ -23,7 +23,8 @@ departs night v = (train_at night.depart (position_at night v).train.0).minute
 
 -- the one position leaves before the other: its train comes first, or it has a later place in the same train
 abbrev pub LeavesBefore : Night → ℕ → ℕ → Type 0
-LeavesBefore night v w = ((position_at night v).train.0 < (position_at night w).train.0) ⊎ (((position_at night v).train.0 ≡ (position_at night w).train.0) × ((position_at night w).place < (position_at night v).place))
+LeavesBefore night v w = ((position_at night v).train.0 < (position_at night w).train.0)
+    ⊎ (((position_at night v).train.0 ≡ (position_at night w).train.0) × ((position_at night w).place < (position_at night v).place))
 
 -- numbers of the units' entries and of the positions' leaves, which rise in the order of events: units enter in the order of their own
 -- numbers, and of one minute leaves come before entries

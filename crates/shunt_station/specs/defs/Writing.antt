@@ -66,7 +66,8 @@ cost_row s = codes "cost" ∷ decimal s.split ∷ decimal s.couple ∷ decimal s
 
 -- the records of a station: its name, types, platforms, tracks, routes and permits, each list in its own order, and the costs
 abbrev pub rows_of : Station → List (List (List ℕ))
-rows_of s = head_row s ∷ (map type_row s.types ++ (map platform_row s.platforms ++ (map track_row s.tracks ++ (map (route_row s) s.routes ++ (map (permit_row s) s.permits ++ cost_row s ∷ [])))))
+rows_of s = head_row s ∷ (map type_row s.types ++ (map platform_row s.platforms ++
+    (map track_row s.tracks ++ (map (route_row s) s.routes ++ (map (permit_row s) s.permits ++ cost_row s ∷ [])))))
 
 -- the records of a text are those of the station, and state it
 pub record ReadsAsStation (s : Station) (text : List ℕ) : Type 0 where

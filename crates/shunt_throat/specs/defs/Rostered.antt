@@ -26,7 +26,8 @@ pub record Rosterable : Type 0 where
 -- those that a station file, a timetable file, a plan file, a crew file and a roster file state, or the line for the first of them
 -- that isn't accepted
 unfoldable pub stated_rostering : List ℕ → List ℕ → List ℕ → List ℕ → List ℕ → Result Rosterable (List ℕ)
-stated_rostering s t p c d = then_stated (stated_sharing s t p c) (λ x. then_stated (stated_roster x.night x.plan d) (λ duties. Ok (record { night = x.night; plan = x.plan; crew = x.crew; duties = duties })))
+stated_rostering s t p c d = then_stated (stated_sharing s t p c) (λ x. then_stated (stated_roster x.night x.plan d)
+    (λ duties. Ok (record { night = x.night; plan = x.plan; crew = x.crew; duties = duties })))
 
 -- the same of what the files of these names hold
 abbrev pub rostering_in : List ℕ → List ℕ → List ℕ → List ℕ → List ℕ → Files → Result Rosterable (List ℕ)

@@ -39,11 +39,13 @@ timetable_file station timetable = text_of_rows (timetable_rows.rows_of station 
 -- `trial NUMBER units U arrive A depart D tracks T`
 unfoldable pub trial_line : ℕ → ℕ → ℕ → ℕ → ℕ → List ℕ
 trial_line number units arrive depart tracks =
-    codes "trial " ++ decimal number ++ codes " units " ++ decimal units ++ codes " arrive " ++ decimal arrive ++ codes " depart " ++ decimal depart ++ codes " tracks " ++ decimal tracks ++ codes "\n"
+    codes "trial " ++ decimal number ++ codes " units " ++ decimal units ++ codes " arrive " ++ decimal arrive ++ codes " depart " ++ decimal depart ++ codes " tracks "
+    ++ decimal tracks ++ codes "\n"
 
 -- the line of a made night
 abbrev pub made_line : ℕ → ℕ → List ℕ
-made_line number units = trial_line number units (length (made_timetable number units).arrive) (length (made_timetable number units).depart) (length (station_of number units).tracks)
+made_line number units = trial_line number units (length (made_timetable number units).arrive) (length (made_timetable number units).depart)
+    (length (station_of number units).tracks)
 
 -- what is told of a plan and a certificate: the lines of the plan, that it has no findings, and that the certificate is accepted
 abbrev pub rehearsal_of : Night → Plan → Certificate → List ℕ

@@ -18,8 +18,10 @@ files-init g c = record {
 
 pub files-preserved : goal.files-preserved
 files-preserved g c = let i = c.files.invariant in record {
-  told = next_of c.args.writes.now c.files.write-index c.write-item.result _ _ _ _ _ _ c.files-test.true c.write-item.is c.as_str.ensures.value c.deref.ensures.value i.told c.in_ok-write_all_to.ensures.ok;
-  stored = next_stored c.args.writes.now c.files.write-index c.write-item.result _ _ _ _ _ _ c.files-test.true c.write-item.is c.as_str.ensures.value c.deref.ensures.value i.stored c.in_ok-write_all_to.ensures.stored;
+  told = next_of c.args.writes.now c.files.write-index c.write-item.result _ _ _ _ _ _ c.files-test.true c.write-item.is c.as_str.ensures.value c.deref.ensures.value i.told
+      c.in_ok-write_all_to.ensures.ok;
+  stored = next_stored c.args.writes.now c.files.write-index c.write-item.result _ _ _ _ _ _ c.files-test.true c.write-item.is c.as_str.ensures.value c.deref.ensures.value i.stored
+      c.in_ok-write_all_to.ensures.stored;
   heard = c.in_ok-write_all_to.ensures.heard ∙ i.heard;
   stage = search rules;
   later = search rules;

@@ -19,7 +19,8 @@ pub reply-requires-in-Follow-clause-names : goal.reply-requires-in-Follow-clause
 reply-requires-in-Follow-clause-names g c = inputs_named _ _ (ap call_of c.in-Follow.is) c.requires.names
 
 pub returns-in-Follow-clause-leads : goal.returns-in-Follow-clause-leads
-returns-in-Follow-clause-leads g c = λ view seen. asked _ _ _ view _ _ _ (ap call_of c.in-Follow.is) (c.reply-in-Follow.ensures.leads view seen) (λ reply a. (a.0, a.1, followed_over a.0 _ _ reply a.2))
+returns-in-Follow-clause-leads g c = λ view seen. asked _ _ _ view _ _ _ (ap call_of c.in-Follow.is) (c.reply-in-Follow.ensures.leads view seen)
+    (λ reply a. (a.0, a.1, followed_over a.0 _ _ reply a.2))
 
 pub returns-in-Follow-clause-first : goal.returns-in-Follow-clause-first
 returns-in-Follow-clause-first g c = first_of _ _ _ _ (ap call_of c.in-Follow.is) c.reply-in-Follow.ensures.first
@@ -55,7 +56,8 @@ pub reply-requires-in-Check-clause-names : goal.reply-requires-in-Check-clause-n
 reply-requires-in-Check-clause-names g c = inputs_named _ _ (ap call_of c.in-Check.is) c.requires.names
 
 pub returns-in-Check-clause-leads : goal.returns-in-Check-clause-leads
-returns-in-Check-clause-leads g c = λ view seen. asked _ _ _ view _ _ _ (ap call_of c.in-Check.is) (c.reply-in-Check.ensures.leads view seen) (λ reply a. (a.0, a.1, checked_over a.0 _ _ _ _ reply a.2))
+returns-in-Check-clause-leads g c = λ view seen. asked _ _ _ view _ _ _ (ap call_of c.in-Check.is) (c.reply-in-Check.ensures.leads view seen)
+    (λ reply a. (a.0, a.1, checked_over a.0 _ _ _ _ reply a.2))
 
 pub returns-in-Check-clause-first : goal.returns-in-Check-clause-first
 returns-in-Check-clause-first g c = first_of _ _ _ _ (ap call_of c.in-Check.is) c.reply-in-Check.ensures.first
@@ -64,7 +66,8 @@ pub reply-requires-in-Compare-clause-names : goal.reply-requires-in-Compare-clau
 reply-requires-in-Compare-clause-names g c = inputs_named _ _ (ap call_of c.in-Compare.is) c.requires.names
 
 pub returns-in-Compare-clause-leads : goal.returns-in-Compare-clause-leads
-returns-in-Compare-clause-leads g c = λ view seen. asked _ _ _ view _ _ _ (ap call_of c.in-Compare.is) (c.reply-in-Compare.ensures.leads view seen) (λ reply a. (a.0, a.1, compared_over a.0 _ _ _ _ reply a.2))
+returns-in-Compare-clause-leads g c = λ view seen. asked _ _ _ view _ _ _ (ap call_of c.in-Compare.is) (c.reply-in-Compare.ensures.leads view seen)
+    (λ reply a. (a.0, a.1, compared_over a.0 _ _ _ _ reply a.2))
 
 pub returns-in-Compare-clause-first : goal.returns-in-Compare-clause-first
 returns-in-Compare-clause-first g c = first_of _ _ _ _ (ap call_of c.in-Compare.is) c.reply-in-Compare.ensures.first
@@ -73,7 +76,8 @@ pub reply-requires-in-Zones-clause-names : goal.reply-requires-in-Zones-clause-n
 reply-requires-in-Zones-clause-names g c = inputs_named _ _ (ap call_of c.in-Zones.is) c.requires.names
 
 pub returns-in-Zones-clause-leads : goal.returns-in-Zones-clause-leads
-returns-in-Zones-clause-leads g c = λ view seen. asked _ _ _ view _ _ _ (ap call_of c.in-Zones.is) (c.reply-in-Zones.ensures.leads view seen) (λ reply a. (a.0, a.1, passed_over a.0 _ _ _ _ reply a.2))
+returns-in-Zones-clause-leads g c = λ view seen. asked _ _ _ view _ _ _ (ap call_of c.in-Zones.is) (c.reply-in-Zones.ensures.leads view seen)
+    (λ reply a. (a.0, a.1, passed_over a.0 _ _ _ _ reply a.2))
 
 pub returns-in-Zones-clause-first : goal.returns-in-Zones-clause-first
 returns-in-Zones-clause-first g c = first_of _ _ _ _ (ap call_of c.in-Zones.is) c.reply-in-Zones.ensures.first
@@ -109,7 +113,8 @@ pub reply-requires-in-Upgrade-clause-names : goal.reply-requires-in-Upgrade-clau
 reply-requires-in-Upgrade-clause-names g c = inputs_named _ _ (ap call_of c.in-Upgrade.is) c.requires.names
 
 pub returns-in-Upgrade-clause-leads : goal.returns-in-Upgrade-clause-leads
-returns-in-Upgrade-clause-leads g c = λ view seen. asked _ _ _ view _ _ _ (ap call_of c.in-Upgrade.is) (c.reply-in-Upgrade.ensures.leads view seen) (λ reply a. (a.0, a.1, upgraded_over a.0 _ _ _ _ reply a.2))
+returns-in-Upgrade-clause-leads g c = λ view seen. asked _ _ _ view _ _ _ (ap call_of c.in-Upgrade.is) (c.reply-in-Upgrade.ensures.leads view seen)
+    (λ reply a. (a.0, a.1, upgraded_over a.0 _ _ _ _ reply a.2))
 
 pub returns-in-Upgrade-clause-first : goal.returns-in-Upgrade-clause-first
 returns-in-Upgrade-clause-first g c = first_of _ _ _ _ (ap call_of c.in-Upgrade.is) c.reply-in-Upgrade.ensures.first
@@ -118,7 +123,8 @@ pub reply-requires-in-Drivers-clause-names : goal.reply-requires-in-Drivers-clau
 reply-requires-in-Drivers-clause-names g c = inputs_named _ _ (ap call_of c.in-Drivers.is) c.requires.names
 
 pub returns-in-Drivers-clause-leads : goal.returns-in-Drivers-clause-leads
-returns-in-Drivers-clause-leads g c = λ view seen. asked _ _ _ view _ _ _ (ap call_of c.in-Drivers.is) (c.reply-in-Drivers.ensures.leads view seen) (λ reply a. (a.0, a.1, shared_over a.0 _ _ _ _ _ reply a.2))
+returns-in-Drivers-clause-leads g c = λ view seen. asked _ _ _ view _ _ _ (ap call_of c.in-Drivers.is) (c.reply-in-Drivers.ensures.leads view seen)
+    (λ reply a. (a.0, a.1, shared_over a.0 _ _ _ _ _ reply a.2))
 
 pub returns-in-Drivers-clause-first : goal.returns-in-Drivers-clause-first
 returns-in-Drivers-clause-first g c = first_of _ _ _ _ (ap call_of c.in-Drivers.is) c.reply-in-Drivers.ensures.first
@@ -127,7 +133,8 @@ pub reply-requires-in-Roster-clause-names : goal.reply-requires-in-Roster-clause
 reply-requires-in-Roster-clause-names g c = inputs_named _ _ (ap call_of c.in-Roster.is) c.requires.names
 
 pub returns-in-Roster-clause-leads : goal.returns-in-Roster-clause-leads
-returns-in-Roster-clause-leads g c = λ view seen. asked _ _ _ view _ _ _ (ap call_of c.in-Roster.is) (c.reply-in-Roster.ensures.leads view seen) (λ reply a. (a.0, a.1, rostered_over a.0 _ _ _ _ _ reply a.2))
+returns-in-Roster-clause-leads g c = λ view seen. asked _ _ _ view _ _ _ (ap call_of c.in-Roster.is) (c.reply-in-Roster.ensures.leads view seen)
+    (λ reply a. (a.0, a.1, rostered_over a.0 _ _ _ _ _ reply a.2))
 
 pub returns-in-Roster-clause-first : goal.returns-in-Roster-clause-first
 returns-in-Roster-clause-first g c = first_of _ _ _ _ (ap call_of c.in-Roster.is) c.reply-in-Roster.ensures.first
@@ -136,7 +143,8 @@ pub reply-requires-in-CheckPinned-clause-names : goal.reply-requires-in-CheckPin
 reply-requires-in-CheckPinned-clause-names g c = inputs_named _ _ (ap call_of c.in-CheckPinned.is) c.requires.names
 
 pub returns-in-CheckPinned-clause-leads : goal.returns-in-CheckPinned-clause-leads
-returns-in-CheckPinned-clause-leads g c = λ view seen. asked _ _ _ view _ _ _ (ap call_of c.in-CheckPinned.is) (c.reply-in-CheckPinned.ensures.leads view seen) (λ reply a. (a.0, a.1, pin_checked_over a.0 _ _ _ _ _ reply a.2))
+returns-in-CheckPinned-clause-leads g c = λ view seen. asked _ _ _ view _ _ _ (ap call_of c.in-CheckPinned.is) (c.reply-in-CheckPinned.ensures.leads view seen)
+    (λ reply a. (a.0, a.1, pin_checked_over a.0 _ _ _ _ _ reply a.2))
 
 pub returns-in-CheckPinned-clause-first : goal.returns-in-CheckPinned-clause-first
 returns-in-CheckPinned-clause-first g c = first_of _ _ _ _ (ap call_of c.in-CheckPinned.is) c.reply-in-CheckPinned.ensures.first
@@ -145,7 +153,8 @@ pub reply-requires-in-Replay-clause-names : goal.reply-requires-in-Replay-clause
 reply-requires-in-Replay-clause-names g c = inputs_named _ _ (ap call_of c.in-Replay.is) c.requires.names
 
 pub returns-in-Replay-clause-leads : goal.returns-in-Replay-clause-leads
-returns-in-Replay-clause-leads g c = λ view seen. asked _ _ _ view _ _ _ (ap call_of c.in-Replay.is) (c.reply-in-Replay.ensures.leads view seen) (λ reply a. (a.0, a.1, replayed_over a.0 _ _ _ _ _ reply a.2))
+returns-in-Replay-clause-leads g c = λ view seen. asked _ _ _ view _ _ _ (ap call_of c.in-Replay.is) (c.reply-in-Replay.ensures.leads view seen)
+    (λ reply a. (a.0, a.1, replayed_over a.0 _ _ _ _ _ reply a.2))
 
 pub returns-in-Replay-clause-first : goal.returns-in-Replay-clause-first
 returns-in-Replay-clause-first g c = first_of _ _ _ _ (ap call_of c.in-Replay.is) c.reply-in-Replay.ensures.first

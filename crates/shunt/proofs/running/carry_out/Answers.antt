@@ -38,7 +38,8 @@ returns-in-Err-Input-clause-ends g c = λ before after are.
     let start = known (S.told c.args.store.now) (S.stored c.args.store.now) in
     let mid = known (S.told c.answer_to.new.store) (S.stored c.answer_to.new.store) in
     let leads = e.leads before (view_still _ _ _ _ before d.ensures.heard (view_of t u before after are)) in
-    known_ends t u old new before after refl refl refl refl call _ are (delivered call before _ start mid _ _ _ _ new _ e.cause.later (led_input (IsReplyOver call before) start mid _ _ _ c.in-Err-Input.field-0-is c.refused.ensures leads) d.ensures.ends)
+    known_ends t u old new before after refl refl refl refl call _ are (delivered call before _ start mid _ _ _ _ new _ e.cause.later
+    (led_input (IsReplyOver call before) start mid _ _ _ c.in-Err-Input.field-0-is c.refused.ensures leads) d.ensures.ends)
 
 pub returns-in-Err-Fault-clause-ends : goal.returns-in-Err-Fault-clause-ends
 returns-in-Err-Fault-clause-ends g c = λ before after are.

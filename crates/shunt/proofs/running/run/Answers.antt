@@ -4,7 +4,8 @@ use Rattle.shunt.proofs.Ending.{ends_of, heard_by}
 use Rattle.shunt.proofs.running.run.Goals as goal
 
 pub returns-in-Some-clause-ends : goal.returns-in-Some-clause-ends
-returns-in-Some-clause-ends g c = λ d spells before after are. ends_of _ _ _ d _ _ _ (ap texts c.deref.ensures.value) c.in-Some.ensures.some (c.carry_out.ensures.ends before after are) spells
+returns-in-Some-clause-ends g c = λ d spells before after are. ends_of _ _ _ d _ _ _ (ap texts c.deref.ensures.value) c.in-Some.ensures.some
+    (c.carry_out.ensures.ends before after are) spells
 
 pub returns-in-Some-clause-heard : goal.returns-in-Some-clause-heard
 returns-in-Some-clause-heard g c = λ d spells. heard_by _ _ _ d _ _ (ap texts c.deref.ensures.value) c.in-Some.ensures.some c.carry_out.ensures.heard spells

@@ -6,4 +6,5 @@ use Rattle.shunt_audit.specs.defs.Listed.{too_long_at}
 use Rattle.shunt_audit.proofs.clashes.add_too_longs.Given as goal
 
 abbrev pub invariant-loop-stay : goal.invariant-loop-stay
-invariant-loop-stay l = l.findings.items ≡ l.initial.findings.items ++ flat_map (λ s. too_long_at (track_lengths l.instance.station) s (load_after l.stays s)) (take l.stay-index l.stays)
+invariant-loop-stay l = l.findings.items ≡ l.initial.findings.items ++ flat_map (λ s. too_long_at (track_lengths l.instance.station) s (load_after l.stays s))
+    (take l.stay-index l.stays)

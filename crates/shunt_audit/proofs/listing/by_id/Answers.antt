@@ -11,4 +11,5 @@ returns c =
     let keys = answers_always _ _ _ (λ f a r g h. search rules) in
     let rises = IsNonDecreasingBy-from_sort id_of _ (c.in_ok-sort_by_key.ensures.sorted id_of keys) in
     let given = c.in_ok-blocks.ensures.items in
-    subst (λ (bs : List Block). c.sort_by_key.new.self.items ≡ by_id bs) given (sorted_is c.in_ok-blocks.blocks.items c.sort_by_key.new.self.items (subst (λ (bs : List Block). AreDistinct (map id_of bs)) (sym given) c.requires) c.sort_by_key.ensures.permutation rises)
+    subst (λ (bs : List Block). c.sort_by_key.new.self.items ≡ by_id bs) given (sorted_is c.in_ok-blocks.blocks.items c.sort_by_key.new.self.items
+    (subst (λ (bs : List Block). AreDistinct (map id_of bs)) (sym given) c.requires) c.sort_by_key.ensures.permutation rises)

@@ -16,33 +16,41 @@ use Rattle.shunt_audit.proofs.Stated.{blocks_numbered, blocks_found}
 use Rattle.shunt_audit.proofs.listing.findings_of.Goals as goal
 
 pub add_faults-requires : goal.add_faults-requires
-add_faults-requires c = subst (λ (bs : List Block). All (IsInRange c.args.instance.now) bs) (sym (c.deref.ensures.value ∙ c.in_ok-sorted.ensures)) (sorted_range c.args.instance.now c.args.blocks.now c.requires).each
+add_faults-requires c = subst (λ (bs : List Block). All (IsInRange c.args.instance.now) bs) (sym (c.deref.ensures.value ∙ c.in_ok-sorted.ensures))
+    (sorted_range c.args.instance.now c.args.blocks.now c.requires).each
 
 pub stays_of-requires : goal.stays_of-requires
-stays_of-requires c = subst (λ (bs : List Block). All (IsInRange c.args.instance.now) bs) (sym (c.deref-2.ensures.value ∙ c.in_ok-sorted.ensures)) (sorted_range c.args.instance.now c.args.blocks.now c.requires).each
+stays_of-requires c = subst (λ (bs : List Block). All (IsInRange c.args.instance.now) bs) (sym (c.deref-2.ensures.value ∙ c.in_ok-sorted.ensures))
+    (sorted_range c.args.instance.now c.args.blocks.now c.requires).each
 
 pub add_clashes-requires-clause-stays : goal.add_clashes-requires-clause-stays
 add_clashes-requires-clause-stays c =
     subst AreStays (sym (c.deref-3.ensures.value ∙ c.in_ok-stays.ensures.exact ∙ ap (stays_of c.args.instance.now) (c.deref-2.ensures.value ∙ c.in_ok-sorted.ensures)))
-    (c.stays_of_blocks.ensures.stays c.args.instance.now (by_id c.args.blocks.now) c.station.ensures.formed (c.stays_of_blocks.ensures.in_range c.args.instance.now (by_id c.args.blocks.now) (sorted_range c.args.instance.now c.args.blocks.now c.requires)))
+    (c.stays_of_blocks.ensures.stays c.args.instance.now (by_id c.args.blocks.now) c.station.ensures.formed
+    (c.stays_of_blocks.ensures.in_range c.args.instance.now (by_id c.args.blocks.now) (sorted_range c.args.instance.now c.args.blocks.now c.requires)))
 
 pub add_clashes-requires-clause-tracks : goal.add_clashes-requires-clause-tracks
 add_clashes-requires-clause-tracks c =
-    subst (AreOnTracks (track_lengths c.args.instance.now.station)) (sym (c.deref-3.ensures.value ∙ c.in_ok-stays.ensures.exact ∙ ap (stays_of c.args.instance.now) (c.deref-2.ensures.value ∙ c.in_ok-sorted.ensures)))
-    (c.stays_of_blocks.ensures.tracks c.args.instance.now (by_id c.args.blocks.now) (c.stays_of_blocks.ensures.in_range c.args.instance.now (by_id c.args.blocks.now) (sorted_range c.args.instance.now c.args.blocks.now c.requires)))
+    subst (AreOnTracks (track_lengths c.args.instance.now.station)) (sym (c.deref-3.ensures.value ∙ c.in_ok-stays.ensures.exact
+    ∙ ap (stays_of c.args.instance.now) (c.deref-2.ensures.value ∙ c.in_ok-sorted.ensures)))
+    (c.stays_of_blocks.ensures.tracks c.args.instance.now (by_id c.args.blocks.now)
+    (c.stays_of_blocks.ensures.in_range c.args.instance.now (by_id c.args.blocks.now) (sorted_range c.args.instance.now c.args.blocks.now c.requires)))
 
 pub add_clashes-requires-clause-few : goal.add_clashes-requires-clause-few
 add_clashes-requires-clause-few c =
-    subst (λ (ss : List Stay). length ss ≤ 65536) (sym (c.deref-3.ensures.value ∙ c.in_ok-stays.ensures.exact ∙ ap (stays_of c.args.instance.now) (c.deref-2.ensures.value ∙ c.in_ok-sorted.ensures)))
+    subst (λ (ss : List Stay). length ss ≤ 65536) (sym (c.deref-3.ensures.value ∙ c.in_ok-stays.ensures.exact
+    ∙ ap (stays_of c.args.instance.now) (c.deref-2.ensures.value ∙ c.in_ok-sorted.ensures)))
     (omega (arith, few_stays c.args.instance.now (by_id c.args.blocks.now) (sorted_range c.args.instance.now c.args.blocks.now c.requires)))
 
 pub returns-clause-exact : goal.returns-clause-exact
 returns-clause-exact c =
-    together c.args.instance.now c.args.blocks.now c.in_ok-sorted.sorted.items c.in_ok-stays.stays.items c.new-findings.result.items c.add_covers.new.findings.items c.add_faults.new.findings.items c.add_clashes.new.findings.items
+    together c.args.instance.now c.args.blocks.now c.in_ok-sorted.sorted.items c.in_ok-stays.stays.items c.new-findings.result.items c.add_covers.new.findings.items
+    c.add_faults.new.findings.items c.add_clashes.new.findings.items
     c.in_ok-sorted.ensures (c.in_ok-stays.ensures.exact ∙ ap (stays_of c.args.instance.now) c.deref-2.ensures.value) c.new-findings.ensures.items
     c.in_ok-add_covers.ensures
     (c.in_ok-add_faults.ensures ∙ ap (λ (bs : List Block). c.add_covers.new.findings.items ++ block_findings c.args.instance.now bs) c.deref.ensures.value)
-    (c.in_ok-add_clashes.ensures ∙ ap (λ (ss : List Stay). c.add_faults.new.findings.items ++ clash_findings (track_lengths c.args.instance.now.station) ss) c.deref-3.ensures.value)
+    (c.in_ok-add_clashes.ensures ∙ ap (λ (ss : List Stay). c.add_faults.new.findings.items
+    ++ clash_findings (track_lengths c.args.instance.now.station) ss) c.deref-3.ensures.value)
 
 pub returns-clause-none : goal.returns-clause-none
 returns-clause-none c =

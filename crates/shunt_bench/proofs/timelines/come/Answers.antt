@@ -7,5 +7,7 @@ use Rattle.shunt_bench.proofs.timelines.come.Goals as goal
 
 pub returns-clause-above : goal.returns-clause-above
 returns-clause-above c =
-    let old : All (λ (s : Stay). s.id < c.args.stay.id + 1) c.args.timelines.now.stays = λ k d lt. let h : (get_or c.args.timelines.now.stays k d).id < c.args.stay.id = c.requires.above k d lt in omega arith in
-    All-permutation (λ (s : Stay). s.id < c.args.stay.id + 1) (c.args.stay ∷ c.args.timelines.now.stays) c.insert.new.self.stays c.insert.ensures.stays (All-cons (λ (s : Stay). s.id < c.args.stay.id + 1) c.args.stay c.args.timelines.now.stays (omega arith) old)
+    let old : All (λ (s : Stay). s.id < c.args.stay.id + 1) c.args.timelines.now.stays = λ k d lt. let h :
+    (get_or c.args.timelines.now.stays k d).id < c.args.stay.id = c.requires.above k d lt in omega arith in
+    All-permutation (λ (s : Stay). s.id < c.args.stay.id + 1) (c.args.stay ∷ c.args.timelines.now.stays) c.insert.new.self.stays c.insert.ensures.stays
+    (All-cons (λ (s : Stay). s.id < c.args.stay.id + 1) c.args.stay c.args.timelines.now.stays (omega arith) old)

@@ -7,8 +7,10 @@ use Rattle.shunt_checker.proofs.bounding.cases_bound.Goals as goal
 
 pub loop-k-init : goal.loop-k-init
 loop-k-init c =
-    subst (IsLeastBelow c.args.instance.now c.args.path.now.blocks c.args.cases.now 0) (sym (to_z-of_z w64 c.case_bound-least.result (record { sfits = c.case_bound-least.type_inv })))
-    (last_first c.args.instance.now c.args.path.now.blocks c.args.cases.now (c.len-last.result - 1) c.case_bound-least.result (omega (arith, c.len-last.ensures.value, c.len-last.ensures.some)) c.case_bound-least.ensures)
+    subst (IsLeastBelow c.args.instance.now c.args.path.now.blocks c.args.cases.now 0)
+    (sym (to_z-of_z w64 c.case_bound-least.result (record { sfits = c.case_bound-least.type_inv })))
+    (last_first c.args.instance.now c.args.path.now.blocks c.args.cases.now (c.len-last.result - 1) c.case_bound-least.result
+    (omega (arith, c.len-last.ensures.value, c.len-last.ensures.some)) c.case_bound-least.ensures)
 
 pub returns : goal.returns
 returns c = all_of c.args.instance.now c.args.path.now.blocks c.args.cases.now c.loop-k.k _ (omega (arith, c.loop-k-test.false, c.len-last.ensures.value)) c.loop-k.invariant

@@ -12,4 +12,5 @@ returns-clause-exact c =
     small_seen c.max.result (subst (IsWithin 159999999999840) (sym is) (most_within c.args.multiplier c.args.from c.args.to m c.requires.from c.requires.to)) ∙ is
 
 pub returns-clause-small : goal.returns-clause-small
-returns-clause-small c = subst (IsWithin 159999999999840) (sym (returns-clause-exact c)) (most_within c.args.multiplier c.args.from c.args.to c.requires.multiplier c.requires.from c.requires.to)
+returns-clause-small c = subst (IsWithin 159999999999840) (sym (returns-clause-exact c))
+    (most_within c.args.multiplier c.args.from c.args.to c.requires.multiplier c.requires.from c.requires.to)

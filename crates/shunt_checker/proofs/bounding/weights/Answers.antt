@@ -22,6 +22,7 @@ loop-block-preserved c =
     let i = c.loop-block.block-index in
     record {
       exact = sum_more (weight c.args.instance.now c.args.case.now) c.args.blocks.now i no_block _ lt
-          (joined _ (to_z w64 c.loop-block.total-bits) c.weight-total.result _ _ (omega (arith, ints, w.low, w.high, t.low, t.high, short, lt)) c.loop-block.invariant.exact c.weight-total.ensures.exact);
+          (joined _ (to_z w64 c.loop-block.total-bits) c.weight-total.result _ _ (omega (arith, ints, w.low, w.high, t.low, t.high, short, lt)) c.loop-block.invariant.exact
+          c.weight-total.ensures.exact);
       small = wider_more i 23040939999999999 (to_z w64 c.loop-block.total-bits) c.weight-total.result _ (omega (arith, ints, w.low, w.high, t.low, t.high, short, lt)) w t;
     }

@@ -23,8 +23,10 @@ first_fault-requires c = (
       (
         c.in_ok-path.ensures.pins ∙ sym (length_permutation c.args.pins.now c.in_ok-path.path.blocks c.in_ok-path.ensures.same),
         (
-          runs_from (c.starts.ensures.partial c.args.instance.now c.args.pins.now c.in_ok-path.path.blocks c.units.ensures.formed c.requires.pins (record { same = c.in_ok-path.ensures.same; rises = c.in_ok-path.ensures.order })),
-          each_from (c.starts.ensures.partial c.args.instance.now c.args.pins.now c.in_ok-path.path.blocks c.units.ensures.formed c.requires.pins (record { same = c.in_ok-path.ensures.same; rises = c.in_ok-path.ensures.order })),
+          runs_from (c.starts.ensures.partial c.args.instance.now c.args.pins.now c.in_ok-path.path.blocks c.units.ensures.formed c.requires.pins
+              (record { same = c.in_ok-path.ensures.same; rises = c.in_ok-path.ensures.order })),
+          each_from (c.starts.ensures.partial c.args.instance.now c.args.pins.now c.in_ok-path.path.blocks c.units.ensures.formed c.requires.pins
+              (record { same = c.in_ok-path.ensures.same; rises = c.in_ok-path.ensures.order })),
         ),
       ),
     ),
@@ -50,24 +52,30 @@ row_of-end-requires-clause-few c = subst (λ (ns : List Node). length ns ≤ 500
 
 pub returns-in-Some : goal.returns-in-Some
 returns-in-Some c =
-    of_plan c.args.instance.now c.args.pins.now c.args.plan.now c.args.certificate.now c.in_ok-path.path.blocks (record { same = c.in_ok-path.ensures.same; rises = c.in_ok-path.ensures.order })
+    of_plan c.args.instance.now c.args.pins.now c.args.plan.now c.args.certificate.now c.in_ok-path.path.blocks
+    (record { same = c.in_ok-path.ensures.same; rises = c.in_ok-path.ensures.order })
     c.in_ok-finding.finding c.in_ok-finding.ensures c.in-Some.fault c.in-Some.is
 
 pub returns-in-Some-found : goal.returns-in-Some-found
 returns-in-Some-found c =
-    of_node c.args.instance.now c.args.pins.now c.args.plan.now c.args.certificate.now c.in_ok-path.path.blocks (record { same = c.in_ok-path.ensures.same; rises = c.in_ok-path.ensures.order })
+    of_node c.args.instance.now c.args.pins.now c.args.plan.now c.args.certificate.now c.in_ok-path.path.blocks
+    (record { same = c.in_ok-path.ensures.same; rises = c.in_ok-path.ensures.order })
     c.in_ok-finding.finding c.in_ok-finding.ensures c.in_default.is c.in_ok-found.found c.in_ok-found.ensures c.in-Some-found.fault c.row_of-row.result c.in-Some-found.is
     (subst (λ (ns : List Node). c.row_of-row.result ≡ row_of ns c.in-Some-found.fault.node) c.as_slice-nodes.ensures c.row_of-row.ensures)
 
 pub returns-in-Some-wrong : goal.returns-in-Some-wrong
 returns-in-Some-wrong c =
-    of_end c.args.instance.now c.args.pins.now c.args.plan.now c.args.certificate.now c.in_ok-path.path.blocks (record { same = c.in_ok-path.ensures.same; rises = c.in_ok-path.ensures.order })
-    c.in_ok-finding.finding c.in_ok-finding.ensures c.in_default.is c.in_ok-found.found c.in_ok-found.ensures c.in_default-found.is c.cost_reason-wrong.result c.plan_cost.result c.plan_cost.ensures.exact
+    of_end c.args.instance.now c.args.pins.now c.args.plan.now c.args.certificate.now c.in_ok-path.path.blocks
+    (record { same = c.in_ok-path.ensures.same; rises = c.in_ok-path.ensures.order })
+    c.in_ok-finding.finding c.in_ok-finding.ensures c.in_default.is c.in_ok-found.found c.in_ok-found.ensures c.in_default-found.is c.cost_reason-wrong.result c.plan_cost.result
+    c.plan_cost.ensures.exact
     c.row_of-end.result c.in-Some-wrong.reason c.in-Some-wrong.is c.cost_reason-wrong.ensures.some
     (subst (λ (ns : List Node). c.row_of-end.result ≡ row_of ns (length ns)) c.as_slice-nodes.ensures c.row_of-end.ensures)
 
 pub returns : goal.returns
 returns c =
-    accepted c.args.instance.now c.args.pins.now c.args.plan.now c.args.certificate.now c.in_ok-path.path.blocks (record { same = c.in_ok-path.ensures.same; rises = c.in_ok-path.ensures.order })
-    c.in_ok-finding.finding c.in_ok-finding.ensures c.in_default.is c.in_ok-found.found c.in_ok-found.ensures c.in_default-found.is c.cost_reason-wrong.result c.plan_cost.result c.plan_cost.ensures.exact
+    accepted c.args.instance.now c.args.pins.now c.args.plan.now c.args.certificate.now c.in_ok-path.path.blocks
+    (record { same = c.in_ok-path.ensures.same; rises = c.in_ok-path.ensures.order })
+    c.in_ok-finding.finding c.in_ok-finding.ensures c.in_default.is c.in_ok-found.found c.in_ok-found.ensures c.in_default-found.is c.cost_reason-wrong.result c.plan_cost.result
+    c.plan_cost.ensures.exact
     c.in_default-wrong.is c.cost_reason-wrong.ensures.none

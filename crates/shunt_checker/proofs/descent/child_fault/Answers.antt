@@ -38,11 +38,13 @@ is_twice-requires-clause-child c =
 
 pub returns-in-Some-misplaced-clause-found : goal.returns-in-Some-misplaced-clause-found
 returns-in-Some-misplaced-clause-found c =
-    there_told c.args.instance.now c.args.certificate.now c.args.k c.args.path.now.blocks c.args.best c.in_ok-misplaced.misplaced c.in-Some-misplaced.reason c.in-Some-misplaced.is c.in_ok-misplaced.ensures.found
+    there_told c.args.instance.now c.args.certificate.now c.args.k c.args.path.now.blocks c.args.best c.in_ok-misplaced.misplaced c.in-Some-misplaced.reason c.in-Some-misplaced.is
+    c.in_ok-misplaced.ensures.found
 
 pub returns-then-is_twice-clause-found : goal.returns-then-is_twice-clause-found
 returns-then-is_twice-clause-found c =
-    twice_told c.args.instance.now c.args.certificate.now c.args.k c.in-Some.choice (sym c.choice_of.ensures ∙ c.in-Some.is) c.args.path.now.blocks c.args.best c.in_ok-misplaced.misplaced c.in_default-misplaced.is c.in_ok-misplaced.ensures.found
+    twice_told c.args.instance.now c.args.certificate.now c.args.k c.in-Some.choice
+    (sym c.choice_of.ensures ∙ c.in-Some.is) c.args.path.now.blocks c.args.best c.in_ok-misplaced.misplaced c.in_default-misplaced.is c.in_ok-misplaced.ensures.found
     c.is_twice.result c.is_twice.ensures c.if-is_twice.true
 
 pub step_bound-requires-clause-some : goal.step_bound-requires-clause-some
@@ -56,7 +58,8 @@ step_bound-requires-clause-more c = (c.args.path.now.blocks, had c.in_ok-misplac
 pub returns-clause-leads : goal.returns-clause-leads
 returns-clause-leads c =
     on_none c.lean_reason.result _ (subst (Leads c.args.instance.now c.args.certificate.now c.args.k c.args.path.now.blocks) (sym c.step_bound.ensures.kept)
-    (led c.args.instance.now c.args.certificate.now c.args.k c.args.path.now.blocks c.there_fault.new.path.blocks c.in_ok-misplaced.misplaced c.in_default-misplaced.is c.in_ok-misplaced.ensures.leads))
+    (led c.args.instance.now c.args.certificate.now c.args.k c.args.path.now.blocks c.there_fault.new.path.blocks c.in_ok-misplaced.misplaced c.in_default-misplaced.is
+    c.in_ok-misplaced.ensures.leads))
 
 pub returns-clause-through : goal.returns-clause-through
 returns-clause-through c =
@@ -72,11 +75,13 @@ pub returns-clause-found : goal.returns-clause-found
 returns-clause-found c =
     let night = c.args.instance.now in
     let cert = c.args.certificate.now in
-    child_judged night cert c.args.k c.in-Some.choice (sym c.choice_of.ensures ∙ c.in-Some.is) c.args.path.now.blocks c.args.best c.in_ok-misplaced.misplaced c.in_default-misplaced.is c.in_ok-misplaced.ensures.found
+    child_judged night cert c.args.k c.in-Some.choice (sym c.choice_of.ensures ∙ c.in-Some.is) c.args.path.now.blocks c.args.best c.in_ok-misplaced.misplaced
+    c.in_default-misplaced.is c.in_ok-misplaced.ensures.found
     c.is_twice.result c.is_twice.ensures c.if-is_twice.false c.there_fault.new.path.blocks
     (led night cert c.args.k c.args.path.now.blocks c.there_fault.new.path.blocks c.in_ok-misplaced.misplaced c.in_default-misplaced.is c.in_ok-misplaced.ensures.leads)
     c.args.cases.now c.args.above c.requires.duals c.requires.above
     (λ start. c.parents.ensures.path night start cert.nodes c.args.k c.requires.nodes c.requires.some c.requires.there)
     (λ path longer cs x y is so. c.bounds_by_version.ensures.one_step cert.version night path longer cs x y is so)
-    _ (λ front b e. subst (IsStepBoundIn cert.version night front c.there_fault.new.path.blocks c.args.cases.now) (sym (seen_word c.in_ok-bound.bound c.in_ok-bound.ensures.word)) (c.in_ok-bound.ensures.bound front b e))
+    _ (λ front b e. subst (IsStepBoundIn cert.version night front c.there_fault.new.path.blocks c.args.cases.now) (sym (seen_word c.in_ok-bound.bound c.in_ok-bound.ensures.word))
+    (c.in_ok-bound.ensures.bound front b e))
     c.requires.some c.lean_reason.result c.lean_reason.ensures.some c.lean_reason.ensures.none

@@ -10,25 +10,31 @@ use Rattle.shunt_checker.proofs.descent.there_fault.Goals as goal
 pub returns-then-not-there-clause-found : goal.returns-then-not-there-clause-found
 returns-then-not-there-clause-found c =
     let night = c.args.instance.now in
-    not_there night c.args.certificate.now c.args.k c.args.choice c.requires.choice (λ start. c.parents.ensures.path night start c.args.certificate.now.nodes c.args.k c.requires.nodes c.requires.some c.requires.there) c.args.path.now.blocks
+    not_there night c.args.certificate.now c.args.k c.args.choice c.requires.choice
+    (λ start. c.parents.ensures.path night start c.args.certificate.now.nodes c.args.k c.requires.nodes c.requires.some c.requires.there) c.args.path.now.blocks
     c.is_there-there.result c.is_there-there.ensures c.if-not-there.true
 
 pub returns-then-not-through-clause-found : goal.returns-then-not-through-clause-found
 returns-then-not-through-clause-found c =
     let night = c.args.instance.now in
-    not_through night c.args.certificate.now c.args.k c.args.choice c.requires.choice (λ start. c.parents.ensures.path night start c.args.certificate.now.nodes c.args.k c.requires.nodes c.requires.some c.requires.there) c.args.path.now.blocks
-    c.is_there-there.result c.is_there-there.ensures c.push_choice.new.path.blocks c.push_choice.ensures.blocks c.in_ok-through.through c.in_ok-through.ensures c.if-not-through.true
+    not_through night c.args.certificate.now c.args.k c.args.choice c.requires.choice
+    (λ start. c.parents.ensures.path night start c.args.certificate.now.nodes c.args.k c.requires.nodes c.requires.some c.requires.there) c.args.path.now.blocks
+    c.is_there-there.result c.is_there-there.ensures c.push_choice.new.path.blocks c.push_choice.ensures.blocks c.in_ok-through.through c.in_ok-through.ensures
+    c.if-not-through.true
 
 pub returns-clause-found : goal.returns-clause-found
 returns-clause-found c =
     let night = c.args.instance.now in
-    all_there night c.args.certificate.now c.args.k c.args.choice c.requires.choice (λ start. c.parents.ensures.path night start c.args.certificate.now.nodes c.args.k c.requires.nodes c.requires.some c.requires.there) c.args.path.now.blocks
-    c.is_there-there.result c.is_there-there.ensures c.push_choice.new.path.blocks c.push_choice.ensures.blocks c.in_ok-through.through c.in_ok-through.ensures c.if-not-there.false c.if-not-through.false
+    all_there night c.args.certificate.now c.args.k c.args.choice c.requires.choice
+    (λ start. c.parents.ensures.path night start c.args.certificate.now.nodes c.args.k c.requires.nodes c.requires.some c.requires.there) c.args.path.now.blocks
+    c.is_there-there.result c.is_there-there.ensures c.push_choice.new.path.blocks c.push_choice.ensures.blocks c.in_ok-through.through c.in_ok-through.ensures c.if-not-there.false
+    c.if-not-through.false
 
 pub returns-clause-leads : goal.returns-clause-leads
 returns-clause-leads c =
     let night = c.args.instance.now in
-    leads night c.args.certificate.now c.args.k c.args.choice c.requires.choice (λ start. c.parents.ensures.path night start c.args.certificate.now.nodes c.args.k c.requires.nodes c.requires.some c.requires.there) c.args.path.now.blocks
+    leads night c.args.certificate.now c.args.k c.args.choice c.requires.choice (λ start.
+    c.parents.ensures.path night start c.args.certificate.now.nodes c.args.k c.requires.nodes c.requires.some c.requires.there) c.args.path.now.blocks
     c.is_there-there.result c.is_there-there.ensures c.push_choice.new.path.blocks c.push_choice.ensures.blocks c.in_ok-through.through c.in_ok-through.ensures
 
 pub returns-clause-more : goal.returns-clause-more
@@ -38,5 +44,6 @@ returns-clause-more c = record {
   is = c.push_choice.ensures.blocks;
   through = c.in_ok-through.ensures.0 c.if-not-through.false;
   each = subst (λ (bs : List Block). All (IsBlockButId c.args.instance.now) bs) (sym c.push_choice.ensures.blocks)
-      (longer_each c.args.instance.now c.args.path.now.blocks (choice_from c.args.instance.now c.args.path.now.blocks c.args.choice) (c.is_there-there.ensures.0 c.if-not-there.false) c.requires.each);
+      (longer_each c.args.instance.now c.args.path.now.blocks (choice_from c.args.instance.now c.args.path.now.blocks c.args.choice)
+      (c.is_there-there.ensures.0 c.if-not-there.false) c.requires.each);
 }

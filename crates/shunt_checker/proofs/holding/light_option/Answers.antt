@@ -14,7 +14,8 @@ use Rattle.shunt_checker.proofs.holding.light_option.Goals as goal
 
 pub returns-then-sum-unparked : goal.returns-then-sum-unparked
 returns-then-sum-unparked c =
-    let t = below (to_z w64 (of_z w64 (to_z w64 (1000 * c.cost_with-unparked.result) +ℤ to_z w64 (of_z w64 c.args.case.now.multiplier)))) (to_z w64 (of_z w64 c.sum_over-sum.result)) c.if-sum-unparked.true in
+    let t = below (to_z w64 (of_z w64 (to_z w64 (1000 * c.cost_with-unparked.result) +ℤ to_z w64 (of_z w64 c.args.case.now.multiplier))))
+    (to_z w64 (of_z w64 c.sum_over-sum.result)) c.if-sum-unparked.true in
     let w = c.cost_with-unparked.ensures in
     let s = c.sum_over-sum.ensures.small in
     let m = c.requires.case.multiplier in
@@ -23,7 +24,8 @@ returns-then-sum-unparked c =
 
 pub returns : goal.returns
 returns c =
-    let f = not_below (to_z w64 (of_z w64 (to_z w64 (1000 * c.cost_with-unparked.result) +ℤ to_z w64 (of_z w64 c.args.case.now.multiplier)))) (to_z w64 (of_z w64 c.sum_over-sum.result)) c.if-sum-unparked.false in
+    let f = not_below (to_z w64 (of_z w64 (to_z w64 (1000 * c.cost_with-unparked.result) +ℤ to_z w64 (of_z w64 c.args.case.now.multiplier))))
+    (to_z w64 (of_z w64 c.sum_over-sum.result)) c.if-sum-unparked.false in
     let w = c.cost_with-unparked.ensures in
     let s = c.sum_over-sum.ensures.small in
     let m = c.requires.case.multiplier in
@@ -32,4 +34,5 @@ returns c =
     subst (Finds (IsLightShape c.args.version c.args.instance.now c.args.case.now c.args.shape) (EarlierChoice c.args.instance.now)) (sym c.offered.ensures)
     (light_among c.args.version c.args.instance.now c.args.case.now c.args.shape x (seen ∙ c.sum_over-sum.ensures.exact)
     (omega (arith, ints, f, w.exact, w.small, s.low, s.high, m.low, m.high)) c.light_parked-park.result
-    (subst (λ (ps : List Price). Finds (IsLightParked c.args.version c.args.instance.now ps c.args.shape x) ParkBefore c.light_parked-park.result) c.as_slice-prices.ensures c.light_parked-park.ensures))
+    (subst (λ (ps : List Price). Finds (IsLightParked c.args.version c.args.instance.now ps c.args.shape x) ParkBefore c.light_parked-park.result) c.as_slice-prices.ensures
+    c.light_parked-park.ensures))

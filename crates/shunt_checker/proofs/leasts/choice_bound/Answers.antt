@@ -15,8 +15,12 @@ returns-then-not-has_open_first-clause-is c =
     let b = c.args.block.now in
     subst (IsChoiceBound night path b cases) (sym (to_z-of_z w64 c.rounded_up-bound.result (record { sfits = c.rounded_up-bound.type_inv })))
     (as_choice_bound night path b cases c.rounded_up-bound.result
-    (alone cases (path ++ b ∷ []) (IsChoiceSum night path b cases) (c.len-last.result - 1) c.in_ok-late.late c.rounded_up-bound.result c.requires.cases.few (let value = c.len-last.ensures.value in let some = c.len-last.ensures.some in omega (arith, value, some))
-    (shut_by cases (path ++ b ∷ []) c.unparked_with-unparked.result c.has_open_first.result (unparked_more path b c.unparked_on.result c.unparked_with-unparked.result c.unparked_on.ensures.exact c.unparked_with-unparked.ensures) c.has_open_first.ensures c.if-not-has_open_first.true) c.in_ok-late.ensures.exact (subst (λ (z : ℤ). IsBoundOf z c.rounded_up-bound.result) (seen_sum c.in_ok-late.late c.in_ok-late.ensures.small) c.rounded_up-bound.ensures)))
+    (alone cases (path ++ b ∷ []) (IsChoiceSum night path b cases) (c.len-last.result - 1) c.in_ok-late.late c.rounded_up-bound.result c.requires.cases.few
+    (let value = c.len-last.ensures.value in let some = c.len-last.ensures.some in omega (arith, value, some))
+    (shut_by cases (path ++ b ∷ []) c.unparked_with-unparked.result c.has_open_first.result
+    (unparked_more path b c.unparked_on.result c.unparked_with-unparked.result c.unparked_on.ensures.exact c.unparked_with-unparked.ensures) c.has_open_first.ensures
+    c.if-not-has_open_first.true) c.in_ok-late.ensures.exact (subst (λ (z : ℤ). IsBoundOf z c.rounded_up-bound.result)
+    (seen_sum c.in_ok-late.late c.in_ok-late.ensures.small) c.rounded_up-bound.ensures)))
 
 pub returns-clause-is : goal.returns-clause-is
 returns-clause-is c =
@@ -24,7 +28,9 @@ returns-clause-is c =
     let path = c.args.path.now.blocks in
     let cases = c.args.cases.now in
     let b = c.args.block.now in
-    let opens = opens_by cases (path ++ b ∷ []) c.unparked_with-unparked.result c.has_open_first.result (unparked_more path b c.unparked_on.result c.unparked_with-unparked.result c.unparked_on.ensures.exact c.unparked_with-unparked.ensures) c.has_open_first.ensures c.if-not-has_open_first.false in
+    let opens = opens_by cases (path ++ b ∷ []) c.unparked_with-unparked.result c.has_open_first.result
+    (unparked_more path b c.unparked_on.result c.unparked_with-unparked.result c.unparked_on.ensures.exact c.unparked_with-unparked.ensures) c.has_open_first.ensures
+    c.if-not-has_open_first.false in
     let second : c.len-last.result - 1 ≡ 1 = (let value = c.len-last.ensures.value in let few = c.requires.cases.few in let many = opens.0 in omega (arith, value, few, many)) in
     let one = to_z-of_z w64 c.rounded_up.result (record { sfits = c.rounded_up.type_inv }) in
     let other = to_z-of_z w64 c.rounded_up-bound.result (record { sfits = c.rounded_up-bound.type_inv }) in
@@ -32,8 +38,12 @@ returns-clause-is c =
     let last = c.lesser.ensures.second in
     subst (IsChoiceBound night path b cases) (sym (to_z-of_z w64 c.lesser.result (record { sfits = c.lesser.type_inv })))
     (as_choice_bound night path b cases c.lesser.result
-    (both cases (path ++ b ∷ []) (IsChoiceSum night path b cases) c.in_ok-early.early c.in_ok-late.late c.rounded_up.result c.rounded_up-bound.result c.lesser.result c.requires.cases.few opens c.in_ok-early.ensures.exact
-    (subst (λ (n : ℕ). IsChoiceSum night path b cases n c.in_ok-late.late) second c.in_ok-late.ensures.exact) (subst (λ (z : ℤ). IsBoundOf z c.rounded_up.result) (seen_sum c.in_ok-early.early c.in_ok-early.ensures.small) c.rounded_up.ensures) (subst (λ (z : ℤ). IsBoundOf z c.rounded_up-bound.result) (seen_sum c.in_ok-late.late c.in_ok-late.ensures.small) c.rounded_up-bound.ensures) (omega (arith, ints, first, one)) (omega (arith, ints, last, other))
+    (both cases (path ++ b ∷ []) (IsChoiceSum night path b cases) c.in_ok-early.early c.in_ok-late.late c.rounded_up.result c.rounded_up-bound.result c.lesser.result
+    c.requires.cases.few opens c.in_ok-early.ensures.exact
+    (subst (λ (n : ℕ). IsChoiceSum night path b cases n c.in_ok-late.late) second c.in_ok-late.ensures.exact)
+    (subst (λ (z : ℤ). IsBoundOf z c.rounded_up.result) (seen_sum c.in_ok-early.early c.in_ok-early.ensures.small) c.rounded_up.ensures)
+    (subst (λ (z : ℤ). IsBoundOf z c.rounded_up-bound.result) (seen_sum c.in_ok-late.late c.in_ok-late.ensures.small) c.rounded_up-bound.ensures)
+    (omega (arith, ints, first, one)) (omega (arith, ints, last, other))
     (⊎_elim (λ e. inl (omega (arith, ints, e, one))) (λ e. inr (omega (arith, ints, e, other))) c.lesser.ensures.either)))
 
 pub returns-clause-word : goal.returns-clause-word

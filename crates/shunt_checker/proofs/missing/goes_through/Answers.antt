@@ -22,4 +22,5 @@ runs_placed-requires-clause-apart c =
 
 pub returns : goal.returns
 returns c =
-    subst (λ (bs : List Block). IfOk c.runs_placed.result (λ b. IsTrue b ↔ RunsThrough c.args.instance.now (placed bs))) (c.deref.ensures.value ∙ c.in_ok-blocks.ensures) c.runs_placed.ensures
+    subst (λ (bs : List Block). IfOk c.runs_placed.result (λ b. IsTrue b ↔ RunsThrough c.args.instance.now (placed bs)))
+    (c.deref.ensures.value ∙ c.in_ok-blocks.ensures) c.runs_placed.ensures

@@ -16,19 +16,22 @@ is_missed-requires-clause-track c =
 pub loop-number-preserved : goal.loop-number-preserved
 loop-number-preserved c =
     let b = c.args.branch.now in
-    option_passed c.args.instance.now (IsMissed Prices c.args.instance.now b.path.now.blocks b.cases.now b.nodes.now b.node b.stated) c.args.shape c.loop-number.number c.option_at-park.result c.option_at-park.ensures
+    option_passed c.args.instance.now (IsMissed Prices c.args.instance.now b.path.now.blocks b.cases.now b.nodes.now b.node b.stated) c.args.shape c.loop-number.number
+    c.option_at-park.result c.option_at-park.ensures
     c.loop-number.invariant (against c.in_ok-missed.missed _ c.in_ok-missed.ensures c.if-missed.false)
 
 pub returns-then-missed : goal.returns-then-missed
 returns-then-missed c =
     let b = c.args.branch.now in
-    option_found c.args.instance.now (IsMissed Prices c.args.instance.now b.path.now.blocks b.cases.now b.nodes.now b.node b.stated) c.args.shape c.loop-number.number c.option_at-park.result c.option_at-park.ensures
+    option_found c.args.instance.now (IsMissed Prices c.args.instance.now b.path.now.blocks b.cases.now b.nodes.now b.node b.stated) c.args.shape c.loop-number.number
+    c.option_at-park.result c.option_at-park.ensures
     c.loop-number.invariant (c.in_ok-missed.ensures.0 c.if-missed.true)
 
 pub returns : goal.returns
 returns c =
     let b = c.args.branch.now in
-    all_passed (IsOneOfShape (IsMissed Prices c.args.instance.now b.path.now.blocks b.cases.now b.nodes.now b.node b.stated) c.args.shape) (EarlierChoice c.args.instance.now) number_of c.loop-number.number
+    all_passed (IsOneOfShape (IsMissed Prices c.args.instance.now b.path.now.blocks b.cases.now b.nodes.now b.node b.stated) c.args.shape)
+    (EarlierChoice c.args.instance.now) number_of c.loop-number.number
     (λ x h.
     let at : number_of x < 4 * length c.args.instance.now.station.tracks + 1 = number_within c.args.instance.now x.shape x.option h.holds.option in
     let past = c.loop-number-test.false in

@@ -11,7 +11,8 @@ pub get-case-requires : goal.get-case-requires
 get-case-requires c = subst (λ (m : ℕ). m < length c.args.cases.now) (sym c.case_in.ensures) c.requires.there
 
 pub weight-cost-requires-clause-case : goal.weight-cost-requires-clause-case
-weight-cost-requires-clause-case c = got_is c.args.instance.now c.args.cases.now c.case_in.result c.get-case.result.now c.get-case.ensures (subst (λ (m : ℕ). m < length c.args.cases.now) (sym c.case_in.ensures) c.requires.there) c.requires.cases
+weight-cost-requires-clause-case c = got_is c.args.instance.now c.args.cases.now c.case_in.result c.get-case.result.now c.get-case.ensures
+    (subst (λ (m : ℕ). m < length c.args.cases.now) (sym c.case_in.ensures) c.requires.there) c.requires.cases
 
 pub weight-cost-requires-clause-within : goal.weight-cost-requires-clause-within
 weight-cost-requires-clause-within c = subst (IsWithinTrains c.args.instance.now) (sym c.block_in-block.ensures) (record {
@@ -21,12 +22,14 @@ weight-cost-requires-clause-within c = subst (IsWithinTrains c.args.instance.now
 
 pub sum_over-sum-requires-clause-duals : goal.sum_over-sum-requires-clause-duals
 sum_over-sum-requires-clause-duals c =
-    let is = got_is c.args.instance.now c.args.cases.now c.case_in.result c.get-case.result.now c.get-case.ensures (subst (λ (m : ℕ). m < length c.args.cases.now) (sym c.case_in.ensures) c.requires.there) c.requires.cases in
+    let is = got_is c.args.instance.now c.args.cases.now c.case_in.result c.get-case.result.now c.get-case.ensures
+    (subst (λ (m : ℕ). m < length c.args.cases.now) (sym c.case_in.ensures) c.requires.there) c.requires.cases in
     is.duals
 
 pub sum_over-sum-requires-clause-within : goal.sum_over-sum-requires-clause-within
 sum_over-sum-requires-clause-within c =
-    subst (AreRunsWithin c.args.instance.now) (sym c.shape_in-shape.ensures) (subst (λ (d : PathChoice). AreRunsWithin c.args.instance.now d.shape) (sym c.offer_in-offer.ensures) c.requires.within)
+    subst (AreRunsWithin c.args.instance.now) (sym c.shape_in-shape.ensures) (subst (λ (d : PathChoice). AreRunsWithin c.args.instance.now d.shape)
+    (sym c.offer_in-offer.ensures) c.requires.within)
 
 pub returns : goal.returns
 returns c =

@@ -16,7 +16,8 @@ pub branch_fault-requires-clause-kind : goal.branch_fault-requires-clause-kind
 branch_fault-requires-clause-kind c = sym c.kind_of.ensures ∙ c.in-Branch.is
 
 pub returns-in-Some-clause-found : goal.returns-in-Some-clause-found
-returns-in-Some-clause-found c = told c.args.instance.now c.args.certificate.now c.args.k c.args.path.now.blocks 5 6 8 c.in_ok-broken.broken c.in-Some.reason c.in-Some.is c.in_ok-broken.ensures
+returns-in-Some-clause-found c = told c.args.instance.now c.args.certificate.now c.args.k c.args.path.now.blocks 5 6 8 c.in_ok-broken.broken c.in-Some.reason c.in-Some.is
+    c.in_ok-broken.ensures
 
 pub returns-in-Leaf-clause-found : goal.returns-in-Leaf-clause-found
 returns-in-Leaf-clause-found c =

@@ -21,5 +21,6 @@ found_at-requires-clause-unit c = next_in c.args.instance.now c.args.branch.now.
 pub returns : goal.returns
 returns c =
     let b = c.args.branch.now in
-    subst (λ (m : Masks). IfOk c.found_at.result (Finds (IsOneAt c.args.instance.now m (IsMissed Stacks c.args.instance.now b.path.now.blocks b.cases.now b.nodes.now b.node b.stated) c.args.u) (EarlierChoice c.args.instance.now)))
+    subst (λ (m : Masks). IfOk c.found_at.result (Finds (IsOneAt c.args.instance.now m
+    (IsMissed Stacks c.args.instance.now b.path.now.blocks b.cases.now b.nodes.now b.node b.stated) c.args.u) (EarlierChoice c.args.instance.now)))
     c.covered.ensures c.found_at.ensures

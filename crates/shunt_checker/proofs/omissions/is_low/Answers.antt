@@ -10,7 +10,8 @@ use Rattle.shunt_checker.proofs.Lonely.{low_last, low_shut, low_first}
 use Rattle.shunt_checker.proofs.omissions.is_low.Goals as goal
 
 pub is_low_in-requires-clause-opens : goal.is_low_in-requires-clause-opens
-is_low_in-requires-clause-opens c = opens_end c.args.branch.now.cases.now (longer_by c.args.branch.now.path.now.blocks c.args.offer) c.args.branch.now.last c.requires.branch.last_is
+is_low_in-requires-clause-opens c = opens_end c.args.branch.now.cases.now (longer_by c.args.branch.now.path.now.blocks c.args.offer) c.args.branch.now.last
+    c.requires.branch.last_is
 
 pub is_low_in-requires-2-clause-opens : goal.is_low_in-requires-2-clause-opens
 is_low_in-requires-2-clause-opens c =
@@ -18,21 +19,25 @@ is_low_in-requires-2-clause-opens c =
     let path = b.path.now.blocks in
     opens_zero b.cases.now (longer_by path c.args.offer) (opens_by b.cases.now (longer_by path c.args.offer) c.unparked_with-unparked.result c.has_open_first.result
     (unparked_more path (chosen (length path + 1) c.args.offer) b.unparked c.unparked_with-unparked.result c.requires.branch.unparked
-    (subst (λ (o : Option Park). c.unparked_with-unparked.result ≡ b.unparked + cond (is_none o) 1 0) c.park_in.ensures c.unparked_with-unparked.ensures)) c.has_open_first.ensures c.if-not-has_open_first.false)
+    (subst (λ (o : Option Park). c.unparked_with-unparked.result ≡ b.unparked + cond (is_none o) 1 0) c.park_in.ensures c.unparked_with-unparked.ensures)) c.has_open_first.ensures
+    c.if-not-has_open_first.false)
 
 pub returns-then-low : goal.returns-then-low
 returns-then-low c =
     let b = c.args.branch.now in
-    low_last c.args.instance.now b.path.now.blocks b.cases.now b.stated c.args.offer b.last c.requires.branch.cases.few c.requires.branch.last_is c.in_ok-low.low c.in_ok-low.ensures c.if-low.true
+    low_last c.args.instance.now b.path.now.blocks b.cases.now b.stated c.args.offer b.last c.requires.branch.cases.few c.requires.branch.last_is c.in_ok-low.low
+    c.in_ok-low.ensures c.if-low.true
 
 pub returns-then-not-has_open_first : goal.returns-then-not-has_open_first
 returns-then-not-has_open_first c =
     let b = c.args.branch.now in
     let path = b.path.now.blocks in
-    low_shut c.args.instance.now path b.cases.now b.stated c.args.offer b.last c.requires.branch.cases.few c.requires.branch.last_is c.in_ok-low.low c.in_ok-low.ensures c.if-low.false
+    low_shut c.args.instance.now path b.cases.now b.stated c.args.offer b.last c.requires.branch.cases.few c.requires.branch.last_is c.in_ok-low.low c.in_ok-low.ensures
+    c.if-low.false
     (shut_by b.cases.now (longer_by path c.args.offer) c.unparked_with-unparked.result c.has_open_first.result
     (unparked_more path (chosen (length path + 1) c.args.offer) b.unparked c.unparked_with-unparked.result c.requires.branch.unparked
-    (subst (λ (o : Option Park). c.unparked_with-unparked.result ≡ b.unparked + cond (is_none o) 1 0) c.park_in.ensures c.unparked_with-unparked.ensures)) c.has_open_first.ensures c.if-not-has_open_first.true)
+    (subst (λ (o : Option Park). c.unparked_with-unparked.result ≡ b.unparked + cond (is_none o) 1 0) c.park_in.ensures c.unparked_with-unparked.ensures)) c.has_open_first.ensures
+    c.if-not-has_open_first.true)
 
 pub returns : goal.returns
 returns c =
@@ -42,5 +47,6 @@ returns c =
     IfOk-weaker c.is_low_in-2.result
     (λ (t : Bool). IsTrue t ↔ IsLowIn Stacks night path b.cases.now b.stated 0 c.args.offer)
     (λ (t : Bool). IsTrue t ↔ IsLowBy Stacks night path b.cases.now b.stated c.args.offer)
-    (λ t test. low_first night path b.cases.now b.stated c.args.offer b.last c.requires.branch.cases.few c.requires.branch.last_is c.in_ok-low.low c.in_ok-low.ensures c.if-low.false t test)
+    (λ t test. low_first night path b.cases.now b.stated c.args.offer b.last c.requires.branch.cases.few c.requires.branch.last_is c.in_ok-low.low c.in_ok-low.ensures
+    c.if-low.false t test)
     c.is_low_in-2.ensures

@@ -20,7 +20,8 @@ returns c =
     let b = c.args.branch.now in
     let path = b.path.now.blocks in
     let cases = b.cases.now in
-    low_at night path cases b.stated c.args.offer (λ k x y is so. c.one_gain.ensures.choice_sum night path (chosen (length path + 1) c.args.offer) cases k x y is so) c.args.k c.args.lone c.in_ok-fall.fall _ c.is_below.result
+    low_at night path cases b.stated c.args.offer (λ k x y is so. c.one_gain.ensures.choice_sum night path (chosen (length path + 1) c.args.offer) cases k x y is so) c.args.k
+    c.args.lone c.in_ok-fall.fall _ c.is_below.result
     c.requires.opens c.requires.lone
     (subst (λ (x : Block). IsFall night path x (case_at cases c.args.k) (stack_of x.park) c.in_ok-fall.fall) c.next_block-block.ensures c.in_ok-fall.ensures.exact)
     (seen_with c.args.lone c.in_ok-fall.fall c.requires.small c.in_ok-fall.ensures.small) c.is_below.ensures

@@ -17,7 +17,8 @@ returns c =
     let of = c.requires.branch.path in
     let free = subst (λ (m : Masks). IsFreeBlock night m c.args.offer.shape c.args.offer.option) of.covered c.requires.free in
     λ f h. near night path cases b.stated c.args.offer
-    (λ x stack before after was now. c.bounds_rise.ensures.falls night path (chosen (length path + 1) c.args.offer) x stack before after c.units.ensures.formed (within_all night path of.each) of.apart free was now)
+    (λ x stack before after was now. c.bounds_rise.ensures.falls night path (chosen (length path + 1) c.args.offer) x stack before after c.units.ensures.formed
+    (within_all night path of.each) of.apart free was now)
     (λ k x y is so. c.one_gain.ensures.sum night path cases k x y is so)
     b.last c.args.early c.args.late c.requires.branch.cases.few c.requires.branch.last_is c.requires.early c.requires.late c.is_below.result c.is_below-2.result
     (subst (λ (z : ℤ). IsTrue c.is_below.result ↔ ((z +ℤ pos 1000) ≤ℤ pos (1000 * b.stated))) (seen_lone c.args.late c.requires.late_small) c.is_below.ensures) c.if-is_below.false

@@ -15,7 +15,8 @@ returns-then-not-is_near c =
 pub returns-then-has_child : goal.returns-then-has_child
 returns-then-has_child c =
     let b = c.args.branch.now in
-    listed Stacks c.args.instance.now b.path.now.blocks b.cases.now b.nodes.now b.node b.stated (offer_of c.args.shape c.args.park) c.said.result c.said.ensures c.has_child.result c.has_child.ensures c.if-has_child.true
+    listed Stacks c.args.instance.now b.path.now.blocks b.cases.now b.nodes.now b.node b.stated
+    (offer_of c.args.shape c.args.park) c.said.result c.said.ensures c.has_child.result c.has_child.ensures c.if-has_child.true
 
 pub returns : goal.returns
 returns c =
@@ -25,5 +26,6 @@ returns c =
     IfOk-weaker c.is_low.result
     (λ (t : Bool). IsTrue t ↔ IsLowBy Stacks night b.path.now.blocks b.cases.now b.stated offer)
     (λ (t : Bool). IsTrue t ↔ IsMissed Stacks night b.path.now.blocks b.cases.now b.nodes.now b.node b.stated offer)
-    (λ t low. omitted_is night b.path.now.blocks b.cases.now b.nodes.now b.node b.stated offer c.requires.free.option c.said.result c.said.ensures c.has_child.result c.has_child.ensures c.if-has_child.false (c.in_ok-through.ensures.0 c.if-not-through.false) t low)
+    (λ t low. omitted_is night b.path.now.blocks b.cases.now b.nodes.now b.node b.stated offer c.requires.free.option c.said.result c.said.ensures c.has_child.result
+    c.has_child.ensures c.if-has_child.false (c.in_ok-through.ensures.0 c.if-not-through.false) t low)
     c.is_low.ensures

@@ -12,7 +12,8 @@ returns-clause-exact c =
     let s = c.requires.small in
     let w = c.weight_of-weight.ensures.small in
     let g = c.requires.gains.small in
-    lone_is c.args.instance.now c.args.path.now.blocks c.args.cases.now c.args.k c.get-case.result.now c.args.shape c.args.park c.args.whole c.weight_of-weight.result c.args.gains.now.over _
+    lone_is c.args.instance.now c.args.path.now.blocks c.args.cases.now c.args.k c.get-case.result.now c.args.shape c.args.park c.args.whole c.weight_of-weight.result
+    c.args.gains.now.over _
     (got c.args.cases.now c.args.k c.get-case.result.now c.get-case.ensures) c.requires.whole c.weight_of-weight.ensures.exact c.requires.gains.over
     (omega (arith, ints, s.low, s.high, w.low, w.high, g.low, g.high))
 

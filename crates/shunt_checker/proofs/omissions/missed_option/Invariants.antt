@@ -6,4 +6,5 @@ use Rattle.shunt_checker.proofs.Options.{number_of}
 use Rattle.shunt_checker.proofs.omissions.missed_option.Given as goal
 
 abbrev pub invariant-loop-number : goal.invariant-loop-number
-invariant-loop-number l = HoldsNotBelow (IsOneOfShape (IsMissed Stacks l.fn.instance l.fn.branch.path.now.blocks l.fn.branch.cases.now l.fn.branch.nodes.now l.fn.branch.node l.fn.branch.stated) l.fn.shape) number_of l.number
+invariant-loop-number l = HoldsNotBelow (IsOneOfShape (IsMissed Stacks l.fn.instance l.fn.branch.path.now.blocks l.fn.branch.cases.now l.fn.branch.nodes.now l.fn.branch.node
+    l.fn.branch.stated) l.fn.shape) number_of l.number

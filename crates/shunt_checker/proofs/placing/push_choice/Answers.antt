@@ -7,7 +7,8 @@ use Rattle.shunt_checker.proofs.placing.push_choice.Goals as goal
 
 pub unreachable-requires : goal.unreachable-requires
 unreachable-requires c =
-    some_next c.args.instance.now c.args.path.now c.requires.path (choice_from c.args.instance.now c.args.path.now.blocks c.args.choice) c.requires.there (sym c.next_unit.ensures ∙ c.in_default.is)
+    some_next c.args.instance.now c.args.path.now c.requires.path (choice_from c.args.instance.now c.args.path.now.blocks c.args.choice) c.requires.there
+    (sym c.next_unit.ensures ∙ c.in_default.is)
 
 pub offer_at-offer-requires : goal.offer_at-offer-requires
 offer_at-offer-requires c = next_in c.args.instance.now c.args.path.now c.in-Some.u c.requires.path (sym c.next_unit.ensures ∙ c.in-Some.is)
@@ -22,4 +23,5 @@ push_offer-requires-clause-there c =
 
 pub returns-clause-blocks : goal.returns-clause-blocks
 returns-clause-blocks c =
-    longer_is c.args.instance.now c.args.path.now c.requires.path c.in-Some.u (sym c.next_unit.ensures ∙ c.in-Some.is) c.args.choice c.offer_at-offer.result c.push_offer.new.path.blocks c.offer_at-offer.ensures.exact c.push_offer.ensures.blocks
+    longer_is c.args.instance.now c.args.path.now c.requires.path c.in-Some.u (sym c.next_unit.ensures
+    ∙ c.in-Some.is) c.args.choice c.offer_at-offer.result c.push_offer.new.path.blocks c.offer_at-offer.ensures.exact c.push_offer.ensures.blocks

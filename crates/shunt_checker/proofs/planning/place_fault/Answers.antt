@@ -5,7 +5,8 @@ use Rattle.shunt_checker.proofs.Badness.{once_more}
 use Rattle.shunt_checker.proofs.planning.place_fault.Goals as goal
 
 pub loop-v-preserved : goal.loop-v-preserved
-loop-v-preserved c = once_more (IsPlaceFault c.args.instance.now c.args.blocks.now) (times_position c.args.instance.now c.args.blocks.now) c.loop-v.v (λ x h. h.other) c.loop-v.invariant
+loop-v-preserved c = once_more (IsPlaceFault c.args.instance.now c.args.blocks.now) (times_position c.args.instance.now c.args.blocks.now) c.loop-v.v
+    (λ x h. h.other) c.loop-v.invariant
     (omega (arith, c.times_position.ensures, c.if-times_position-ne1.false))
 
 pub returns : goal.returns

@@ -9,4 +9,5 @@ no_block = record { id = 0; arr = record { 0 = 0 }; p = 0; n = 0; dep = record {
 
 pub loop-k-preserved : goal.loop-k-preserved
 unfolding no_block
-loop-k-preserved c = c.in_ok-push.ensures.items ∙ placed_more c.args.blocks.now c.loop-k.k no_block c.loop-k.numbered.items (c.loop-k.k + 1) c.loop-k-test.true c.loop-k.invariant (omega arith)
+loop-k-preserved c = c.in_ok-push.ensures.items ∙ placed_more c.args.blocks.now c.loop-k.k no_block c.loop-k.numbered.items (c.loop-k.k + 1) c.loop-k-test.true c.loop-k.invariant
+    (omega arith)

@@ -22,6 +22,8 @@ returns g c =
     (Finds (IsOneFrom night covered holds c.args.u c.args.n c.args.dep c.args.q) (EarlierChoice night))
     (λ r f. one_in night (λ s k within lt. c.places.ensures.unit night s k within lt) covered holds c.args.u c.args.n c.args.dep c.args.q
     (subst (λ (x : TrainUnit). IsUnitAt night c.args.u x) is c.unit-unit.ensures.facts)
-    (subst (λ (x : TrainUnit). IsFreeShape night covered (unit_from night (record { arr = x.train; p = x.place; n = c.args.n; dep = record { 0 = c.args.dep }; q = c.args.q })) (record { arr = x.train; p = x.place; n = c.args.n; dep = record { 0 = c.args.dep }; q = c.args.q })) is
+    (subst (λ (x : TrainUnit). IsFreeShape night covered (unit_from night (record { arr = x.train; p = x.place; n = c.args.n; dep = record { 0 = c.args.dep }; q = c.args.q }))
+    (record { arr = x.train; p = x.place; n = c.args.n; dep = record { 0 = c.args.dep }; q = c.args.q })) is
     (c.is_free.ensures.0 c.if-not-is_free.false)) r f)
-    (subst (λ (x : TrainUnit). IfOk c.first_option.result (Finds (IsOneOfShape holds (record { arr = x.train; p = x.place; n = c.args.n; dep = record { 0 = c.args.dep }; q = c.args.q })) (EarlierChoice night))) is c.first_option.ensures)
+    (subst (λ (x : TrainUnit). IfOk c.first_option.result (Finds (IsOneOfShape holds
+    (record { arr = x.train; p = x.place; n = c.args.n; dep = record { 0 = c.args.dep }; q = c.args.q })) (EarlierChoice night))) is c.first_option.ensures)

@@ -12,5 +12,6 @@ returns-clause-exact c =
 
 pub returns-clause-small : goal.returns-clause-small
 returns-clause-small c =
-    subst (IsWithin 4100000000000000000) (sym (seen_choice c.stack_sum-whole.result c.in_ok-fall.fall c.gain_in-gain.result c.stack_sum-whole.ensures.small c.in_ok-fall.ensures.small c.gain_in-gain.ensures.small))
+    subst (IsWithin 4100000000000000000) (sym (seen_choice c.stack_sum-whole.result c.in_ok-fall.fall c.gain_in-gain.result c.stack_sum-whole.ensures.small
+    c.in_ok-fall.ensures.small c.gain_in-gain.ensures.small))
     (choice_within c.stack_sum-whole.result c.in_ok-fall.fall c.gain_in-gain.result c.stack_sum-whole.ensures.small c.in_ok-fall.ensures.small c.gain_in-gain.ensures.small)

@@ -16,7 +16,8 @@ returns-clause-exact c =
     let sum : c.sum_over-sum.result ≡ duals_over night (case_at c.args.cases.now c.args.k).duals (shape_of b) =
     subst (λ (x : Case). c.sum_over-sum.result ≡ duals_over night x.duals (shape_of b)) (sym case)
     (subst (λ (s : Shape). c.sum_over-sum.result ≡ duals_over night c.get-case.result.now.duals s) c.shape_of.ensures c.sum_over-sum.ensures.exact) in
-    let weighs : c.weight.result ≡ weight night (case_at c.args.cases.now c.args.k) b = subst (λ (x : Case). c.weight.result ≡ weight night x b) (sym case) c.weight.ensures.exact in
+    let weighs : c.weight.result ≡ weight night (case_at c.args.cases.now c.args.k) b = subst (λ (x : Case). c.weight.result ≡ weight night x b)
+    (sym case) c.weight.ensures.exact in
     let s = c.sum_over-sum.ensures.small in
     let w = c.weight.ensures.small in
     omega (arith, ints, sum, weighs, s.low, s.high, w.low, w.high)

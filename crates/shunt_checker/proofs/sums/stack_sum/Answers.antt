@@ -10,7 +10,8 @@ returns-clause-exact c =
     let path = c.args.path.now.blocks in
     let s = c.case_sum.ensures.small in
     let t = c.total.ensures.small night path (case_at c.args.cases.now c.args.k) c.requires.counted in
-    stack_sum_is night path c.args.cases.now c.args.k c.case_sum.result c.total.result _ c.case_sum.ensures.exact (c.total.ensures.exact night path (case_at c.args.cases.now c.args.k) c.requires.counted)
+    stack_sum_is night path c.args.cases.now c.args.k c.case_sum.result c.total.result _ c.case_sum.ensures.exact
+    (c.total.ensures.exact night path (case_at c.args.cases.now c.args.k) c.requires.counted)
     (omega (arith, ints, s.low, s.high, t.low, t.high))
 
 pub returns-clause-small : goal.returns-clause-small

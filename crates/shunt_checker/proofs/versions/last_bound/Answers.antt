@@ -21,13 +21,16 @@ choice_bound-bound-requires-clause-through c =
     (λ blocks others w a wo ao part runs. c.ids_do_not_matter.ensures.placed_part night blocks others c.units.ensures.formed w a wo ao part runs)
 
 pub choice_bound-bound-requires-clause-each : goal.choice_bound-bound-requires-clause-each
-choice_bound-bound-requires-clause-each c = front_each c.args.instance.now c.args.path.now c.pop.new.self c.in-Some.block c.in-Some.ensures.some.1 c.requires.path c.pop.ensures.of c.requires.more
+choice_bound-bound-requires-clause-each c = front_each c.args.instance.now c.args.path.now c.pop.new.self c.in-Some.block c.in-Some.ensures.some.1 c.requires.path c.pop.ensures.of
+    c.requires.more
 
 pub choice_bound-bound-requires-clause-free : goal.choice_bound-bound-requires-clause-free
-choice_bound-bound-requires-clause-free c = last_free c.args.instance.now c.args.path.now c.pop.new.self c.in-Some.block c.in-Some.ensures.some.1 c.requires.path c.pop.ensures.of c.requires.more
+choice_bound-bound-requires-clause-free c = last_free c.args.instance.now c.args.path.now c.pop.new.self c.in-Some.block c.in-Some.ensures.some.1 c.requires.path c.pop.ensures.of
+    c.requires.more
 
 pub push-requires-clause-in_range : goal.push-requires-clause-in_range
-push-requires-clause-in_range c = last_in c.args.instance.now c.args.path.now c.pop.new.self c.in-Some.block c.in-Some.ensures.some.1 c.requires.path c.pop.ensures.of c.requires.more
+push-requires-clause-in_range c = last_in c.args.instance.now c.args.path.now c.pop.new.self c.in-Some.block c.in-Some.ensures.some.1 c.requires.path c.pop.ensures.of
+    c.requires.more
 
 pub push-requires-clause-next : goal.push-requires-clause-next
 push-requires-clause-next c = last_next c.args.instance.now c.args.path.now c.pop.new.self c.in-Some.block c.in-Some.ensures.some.1 c.requires.path c.pop.ensures.of c.requires.more

@@ -13,7 +13,8 @@ returns-then-not-is_whole-clause-exact c =
 
 pub returns-then-cost-best-clause-exact : goal.returns-then-cost-best-clause-exact
 returns-then-cost-best-clause-exact c =
-    best_whole (node_at c.args.certificate.now.nodes c.args.k).kind c.path_cost-cost.result c.path_cost-cost.result (total_cost c.args.instance.now c.args.path.now.blocks) c.args.best
+    best_whole (node_at c.args.certificate.now.nodes c.args.k).kind c.path_cost-cost.result c.path_cost-cost.result
+    (total_cost c.args.instance.now c.args.path.now.blocks) c.args.best
     (sym c.kind_of.ensures ∙ c.is_whole.ensures.0 c.if-not-is_whole.false) (let lt = c.if-cost-best.true in omega (arith, lt)) c.path_cost-cost.ensures.exact
 
 pub returns-else-cost-best-clause-exact : goal.returns-else-cost-best-clause-exact

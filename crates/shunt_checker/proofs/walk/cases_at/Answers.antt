@@ -12,7 +12,8 @@ own_cases-requires-clause-there c = subst (λ (ns : List Node). c.args.owner < l
 
 pub own_cases-requires-clause-own : goal.own_cases-requires-clause-own
 own_cases-requires-clause-own c =
-    subst (λ (ns : List Node). AreOwn (node_at ns c.args.owner).duals) (sym c.as_slice.ensures) (are_own (node_at c.args.certificate.now.nodes c.args.owner).duals (duals_at c.args.certificate.now.nodes c.args.j) c.requires.own)
+    subst (λ (ns : List Node). AreOwn (node_at ns c.args.owner).duals) (sym c.as_slice.ensures)
+    (are_own (node_at c.args.certificate.now.nodes c.args.owner).duals (duals_at c.args.certificate.now.nodes c.args.j) c.requires.own)
 
 pub returns : goal.returns
 returns c =

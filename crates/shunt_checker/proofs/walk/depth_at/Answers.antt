@@ -14,5 +14,6 @@ pub returns-clause-small : goal.returns-clause-small
 returns-clause-small c =
     let fits : FitsNode c.args.instance.now (node_at c.args.certificate.now.nodes c.args.k) = c.requires.nodes.each c.args.k _ c.requires.there in
     let few : depth_at c.args.certificate.now.nodes c.args.k ≤ 160 = fits.depth in
-    let is : c.depth_of.result ≡ depth_at c.args.certificate.now.nodes c.args.k = subst (λ (ns : List Node). c.depth_of.result ≡ depth_at ns c.args.k) c.as_slice.ensures c.depth_of.ensures.exact in
+    let is : c.depth_of.result ≡ depth_at c.args.certificate.now.nodes c.args.k = subst
+    (λ (ns : List Node). c.depth_of.result ≡ depth_at ns c.args.k) c.as_slice.ensures c.depth_of.ensures.exact in
     omega (arith, few, is)

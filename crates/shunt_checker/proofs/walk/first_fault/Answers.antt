@@ -44,9 +44,12 @@ loop-k-preserved g c =
     let k = c.loop-k.k in
     let walk = c.loop-k.invariant in
     let told = none_settled night g.start c.args.certificate.now k c.node_fault.new.path c.in_ok-found.found c.in_default.is c.in_ok-found.ensures in
-    let lt : depth_at nodes k < length c.loop-k.frames = (let exact = c.depth_at-depth.ensures.exact in let small = c.depth_at-depth.ensures.small in let long = walk.long in omega (arith, exact, small, long)) in
-    subst (λ (d : ℕ). IsWalk night g.start c.args.certificate.now (k + 1) c.node_fault.new.path (set c.loop-k.frames d (record { node = k; owner = c.owner_of-owner.result })) c.best_after-after.result) (sym c.depth_at-depth.ensures.exact)
-    (walked night g.start c.args.certificate.now k c.loop-k.path c.node_fault.new.path c.loop-k.frames c.loop-k.best c.best_after-after.result c.owner_of-owner.result walk told.1 c.owner_of-owner.ensures lt
+    let lt : depth_at nodes k < length c.loop-k.frames = (let exact = c.depth_at-depth.ensures.exact in let small = c.depth_at-depth.ensures.small in let long = walk.long in omega
+    (arith, exact, small, long)) in
+    subst (λ (d : ℕ). IsWalk night g.start c.args.certificate.now (k + 1) c.node_fault.new.path
+    (set c.loop-k.frames d (record { node = k; owner = c.owner_of-owner.result })) c.best_after-after.result) (sym c.depth_at-depth.ensures.exact)
+    (walked night g.start c.args.certificate.now k c.loop-k.path c.node_fault.new.path c.loop-k.frames c.loop-k.best c.best_after-after.result c.owner_of-owner.result walk told.1
+    c.owner_of-owner.ensures lt
     c.best_after-after.ensures.exact c.best_after-after.ensures.small told.0)
 
 pub returns-in-Some : goal.returns-in-Some

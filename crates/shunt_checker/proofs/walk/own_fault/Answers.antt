@@ -24,11 +24,13 @@ shown_fault-requires-clause-cases c =
     (λ whole. against c.is_whole.result (c.kind_of.result ≡ Whole) c.is_whole.ensures c.if-is_whole.false (c.kind_of.ensures ∙ whole)))
 
 pub returns-in-Some-clause-found : goal.returns-in-Some-clause-found
-returns-in-Some-clause-found c = told c.args.instance.now c.args.certificate.now c.args.k c.args.path.now.blocks 4 5 8 c.kind_fault-other.result c.in-Some.reason c.in-Some.is c.kind_fault-other.ensures
+returns-in-Some-clause-found c = told c.args.instance.now c.args.certificate.now c.args.k c.args.path.now.blocks 4 5 8 c.kind_fault-other.result c.in-Some.reason c.in-Some.is
+    c.kind_fault-other.ensures
 
 pub returns-then-is_whole-clause-found : goal.returns-then-is_whole-clause-found
 returns-then-is_whole-clause-found c =
-    joined c.args.instance.now c.args.certificate.now c.args.k c.args.path.now.blocks 4 5 8 c.kind_fault-other.result c.whole_fault.result c.in_default.is c.kind_fault-other.ensures c.whole_fault.ensures
+    joined c.args.instance.now c.args.certificate.now c.args.k c.args.path.now.blocks 4 5 8 c.kind_fault-other.result c.whole_fault.result c.in_default.is
+    c.kind_fault-other.ensures c.whole_fault.ensures
 
 pub returns-then-is_whole-clause-kept : goal.returns-then-is_whole-clause-kept
 returns-then-is_whole-clause-kept c = on_none c.whole_fault.result (c.args.path.now ≡ c.args.path.now) refl

@@ -10,14 +10,16 @@ pub frame_above-requires-clause-deep : goal.frame_above-requires-clause-deep
 frame_above-requires-clause-deep c =
     let nodes = c.args.certificate.now.nodes in
     let fits : FitsNode c.args.instance.now (node_at nodes c.args.k) = c.requires.nodes.each c.args.k _ c.requires.there in
-    same_deep c.args.instance.now (node_at nodes c.args.k).depth (node_at nodes c.args.k).kind (node_at nodes c.args.k).duals (c.has_same.ensures.0 c.if-not-has_same.false) fits.duals
+    same_deep c.args.instance.now (node_at nodes c.args.k).depth (node_at nodes c.args.k).kind (node_at nodes c.args.k).duals
+    (c.has_same.ensures.0 c.if-not-has_same.false) fits.duals
 
 pub returns-then-not-has_same : goal.returns-then-not-has_same
 returns-then-not-has_same c = λ other.
     let night = c.args.instance.now in
     let nodes = c.args.certificate.now.nodes in
     let fits : FitsNode night (node_at nodes c.args.k) = c.requires.nodes.each c.args.k _ c.requires.there in
-    let from = duals_from nodes c.args.k (λ some. c.parents.ensures.duals night nodes c.args.k c.requires.nodes some c.requires.there) (λ some. c.parents.ensures.root_duals night nodes c.requires.nodes some) c.requires.there in
+    let from = duals_from nodes c.args.k (λ some. c.parents.ensures.duals night nodes c.args.k c.requires.nodes some c.requires.there)
+    (λ some. c.parents.ensures.root_duals night nodes c.requires.nodes some) c.requires.there in
     record {
       there = c.requires.there;
       own = own_is night (node_at nodes c.args.k).depth (node_at nodes c.args.k).kind (node_at nodes c.args.k).duals from.0 (duals_at nodes c.args.k) from.1
@@ -34,5 +36,6 @@ returns c = λ other.
     let some : 1 ≤ c.args.k = root_flat nodes c.args.k c.requires.nodes.root c.requires.there deep in
     let law = c.parents.ensures.parent night nodes c.args.k c.requires.nodes some c.requires.there in
     handed_down nodes c.args.k (parent nodes c.args.k) c.frame_above.result.owner
-    (same_is (node_at nodes c.args.k).duals (duals_at nodes (parent nodes c.args.k)) (duals_at nodes c.args.k) (c.parents.ensures.duals night nodes c.args.k c.requires.nodes some c.requires.there) same)
+    (same_is (node_at nodes c.args.k).duals (duals_at nodes (parent nodes c.args.k)) (duals_at nodes c.args.k)
+    (c.parents.ensures.duals night nodes c.args.k c.requires.nodes some c.requires.there) same)
     (c.frame_above.ensures.owner (branch_whole (node_at nodes (parent nodes c.args.k)).kind law.2))

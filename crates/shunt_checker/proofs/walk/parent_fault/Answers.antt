@@ -15,7 +15,8 @@ use Rattle.shunt_checker.proofs.walk.parent_fault.Goals as goal
 
 pub overflow_add-left : goal.overflow_add-left
 overflow_add-left c =
-    let most : length c.args.path.now.blocks ≤ unit_total c.args.instance.now = c.few_blocks.ensures.most c.args.instance.now c.args.path.now.blocks (λ k d lt. (c.requires.path.each k d lt).within) c.requires.path.apart in
+    let most : length c.args.path.now.blocks ≤ unit_total c.args.instance.now = c.few_blocks.ensures.most c.args.instance.now c.args.path.now.blocks
+    (λ k d lt. (c.requires.path.each k d lt).within) c.requires.path.apart in
     omega (arith, most)
 
 pub cases_at-cases-requires : goal.cases_at-cases-requires

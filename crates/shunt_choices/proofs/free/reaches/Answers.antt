@@ -8,7 +8,8 @@ pub loop-v-preserved : goal.loop-v-preserved
 loop-v-preserved c =
     let within : c.loop-v.v < length c.loop-v.reach = omega (arith, c.loop-v.invariant.long, c.loop-v-test.true, c.positions-v-end.ensures.few) in
     record {
-      exact = table_more (is_free_run c.args.instance.now c.args.covered.now c.args.u) c.loop-v.reach c.loop-v.v c.reach_at.result within c.loop-v.invariant.exact c.reach_at.ensures.exact;
+      exact = table_more (is_free_run c.args.instance.now c.args.covered.now c.args.u) c.loop-v.reach c.loop-v.v c.reach_at.result within c.loop-v.invariant.exact
+          c.reach_at.ensures.exact;
       few = table_small 8 c.loop-v.reach c.loop-v.v c.reach_at.result within c.loop-v.invariant.few c.reach_at.ensures.few;
       long = length-set c.loop-v.reach c.loop-v.v c.reach_at.result ∙ c.loop-v.invariant.long;
     }

@@ -12,17 +12,32 @@ stop_of-requires c = passes (late c.args.train.0 c.args.minutes c.args.instance.
 pub returns-in-Some : goal.returns-in-Some
 returns-in-Some c =
     let night = late c.args.train.0 c.args.minutes c.args.instance.now in
-    let laws : Laws = record { units = c.places.ensures.unit; formed = c.stays.ensures.formed; tracks = c.stays_of_blocks.ensures.tracks; can_stand = c.stays_of_blocks.ensures.in_range } in
+    let laws : Laws = record {
+      units = c.places.ensures.unit;
+      formed = c.stays.ensures.formed;
+      tracks = c.stays_of_blocks.ensures.tracks;
+      can_stand =
+          c.stays_of_blocks.ensures.in_range;
+    } in
     let formed = stays_late laws c.args.train.0 c.args.minutes c.args.instance.now c.args.blocks.now c.station.ensures.formed c.requires.ready.in_range c.requires.few in
-    let tracks = laws.tracks night c.args.blocks.now (laws.can_stand night c.args.blocks.now (in_range_late c.args.train.0 c.args.minutes c.args.instance.now c.args.blocks.now c.requires.ready.in_range)) in (
+    let tracks = laws.tracks night c.args.blocks.now (laws.can_stand night c.args.blocks.now
+    (in_range_late c.args.train.0 c.args.minutes c.args.instance.now c.args.blocks.now c.requires.ready.in_range)) in (
       c.stop_of.ensures ∙ sym c.in-Some.is ∙ c.in_ok-finding.ensures,
-      λ feasible. no_first (delay_findings night c.args.blocks.now) c.in-Some.finding (none_where night c.args.blocks.now formed tracks feasible) (sym c.in_ok-finding.ensures ∙ c.in-Some.is),
+      λ feasible. no_first (delay_findings night c.args.blocks.now) c.in-Some.finding (none_where night c.args.blocks.now formed tracks feasible)
+          (sym c.in_ok-finding.ensures ∙ c.in-Some.is),
     )
 
 pub returns-in-None : goal.returns-in-None
 returns-in-None c =
     let night = late c.args.train.0 c.args.minutes c.args.instance.now in
-    let laws : Laws = record { units = c.places.ensures.unit; formed = c.stays.ensures.formed; tracks = c.stays_of_blocks.ensures.tracks; can_stand = c.stays_of_blocks.ensures.in_range } in
+    let laws : Laws = record {
+      units = c.places.ensures.unit;
+      formed = c.stays.ensures.formed;
+      tracks = c.stays_of_blocks.ensures.tracks;
+      can_stand =
+          c.stays_of_blocks.ensures.in_range;
+    } in
     let formed = stays_late laws c.args.train.0 c.args.minutes c.args.instance.now c.args.blocks.now c.station.ensures.formed c.requires.ready.in_range c.requires.few in
-    let tracks = laws.tracks night c.args.blocks.now (laws.can_stand night c.args.blocks.now (in_range_late c.args.train.0 c.args.minutes c.args.instance.now c.args.blocks.now c.requires.ready.in_range)) in
+    let tracks = laws.tracks night c.args.blocks.now (laws.can_stand night c.args.blocks.now
+    (in_range_late c.args.train.0 c.args.minutes c.args.instance.now c.args.blocks.now c.requires.ready.in_range)) in
     where_none night c.args.blocks.now formed tracks (first_none (delay_findings night c.args.blocks.now) (sym c.in_ok-finding.ensures ∙ c.in-None.is))

@@ -7,5 +7,11 @@ returns-clause-one c = delays_one
 
 pub returns-clause-limit : goal.returns-clause-limit
 returns-clause-limit c =
-    let laws : Laws = record { units = c.places.ensures.unit; formed = c.stays.ensures.formed; tracks = c.stays_of_blocks.ensures.tracks; can_stand = c.stays_of_blocks.ensures.in_range } in
+    let laws : Laws = record {
+      units = c.places.ensures.unit;
+      formed = c.stays.ensures.formed;
+      tracks = c.stays_of_blocks.ensures.tracks;
+      can_stand =
+          c.stays_of_blocks.ensures.in_range;
+    } in
     limit_at laws

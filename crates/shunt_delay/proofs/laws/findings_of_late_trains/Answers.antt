@@ -10,5 +10,11 @@ returns-clause-least c = found_least
 
 pub returns-clause-none : goal.returns-clause-none
 returns-clause-none c =
-    let laws : Laws = record { units = c.places.ensures.unit; formed = c.stays.ensures.formed; tracks = c.stays_of_blocks.ensures.tracks; can_stand = c.stays_of_blocks.ensures.in_range } in
+    let laws : Laws = record {
+      units = c.places.ensures.unit;
+      formed = c.stays.ensures.formed;
+      tracks = c.stays_of_blocks.ensures.tracks;
+      can_stand =
+          c.stays_of_blocks.ensures.in_range;
+    } in
     λ i d night blocks n h few. none_found laws i d night blocks n h few

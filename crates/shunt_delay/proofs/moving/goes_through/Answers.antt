@@ -4,7 +4,8 @@ use Rattle.shunt_delay.proofs.Moved.{back_again, runs_through}
 use Rattle.shunt_delay.proofs.moving.goes_through.Goals as goal
 
 pub returns-then-clash-eq0-clause-through : goal.returns-then-clash-eq0-clause-through
-returns-then-clash-eq0-clause-through c = λ stays listed same none. runs_through c.args.own.now c.args.minutes c.args.timelines.now c.put.new.timelines stays c.put.ensures.members c.put.ensures.lengths c.clash-clash.ensures.formed c.clash-clash.ensures.placed
+returns-then-clash-eq0-clause-through c = λ stays listed same none. runs_through c.args.own.now c.args.minutes c.args.timelines.now c.put.new.timelines stays c.put.ensures.members
+    c.put.ensures.lengths c.clash-clash.ensures.formed c.clash-clash.ensures.placed
     (c.clash-clash.ensures.through.0 (c.if-clash-eq0.true, eqb-true c.clash-clash.result.over 0 none)) listed same
 
 pub returns-then-clash-eq0-clause-same : goal.returns-then-clash-eq0-clause-same

@@ -15,7 +15,8 @@ loop-minutes-init c = record {
 }
 
 pub stop_at-requires-clause-others : goal.stop_at-requires-clause-others
-stop_at-requires-clause-others c = still_others c.args.instance.now c.args.blocks.now c.args.train.0 c.args.own.now c.args.timelines.now c.loop-minutes.timelines c.requires.others c.loop-minutes.invariant.hold
+stop_at-requires-clause-others c = still_others c.args.instance.now c.args.blocks.now c.args.train.0 c.args.own.now c.args.timelines.now c.loop-minutes.timelines c.requires.others
+    c.loop-minutes.invariant.hold
 
 pub stop_at-requires-clause-in_time : goal.stop_at-requires-clause-in_time
 stop_at-requires-clause-in_time c = c.train_in_time-in_time.ensures.in_time c.loop-minutes.minutes c.if-minutes-in_time.true
@@ -25,29 +26,38 @@ returns-in_err-found-clause-same c = held_on c.args.timelines.now c.loop-minutes
 
 pub returns-in-Some-clause-same : goal.returns-in-Some-clause-same
 returns-in-Some-clause-same c = elim c.if-minutes-in_time.branch [
-  | then-minutes-in_time+in_ok-found w ↦ subst (Hold c.args.timelines.now) (sym w.timelines-is) (held_on c.args.timelines.now c.loop-minutes.timelines w.stop_at.new.timelines c.loop-minutes.invariant.hold w.stop_at.ensures.same)
+  | then-minutes-in_time+in_ok-found w ↦ subst (Hold c.args.timelines.now) (sym w.timelines-is)
+      (held_on c.args.timelines.now c.loop-minutes.timelines w.stop_at.new.timelines c.loop-minutes.invariant.hold w.stop_at.ensures.same)
   | else-minutes-in_time+in_ok-found-2 w ↦ subst (Hold c.args.timelines.now) (sym w.timelines-is) c.loop-minutes.invariant.hold
 ]
 
 pub returns-in-Some-clause-delay : goal.returns-in-Some-clause-delay
 returns-in-Some-clause-delay c =
-    let stops : Stops (late c.args.train.0 c.loop-minutes.minutes c.args.instance.now) c.args.blocks.now (Some c.in-Some.stop) = subst (Stops (late c.args.train.0 c.loop-minutes.minutes c.args.instance.now) c.args.blocks.now) c.in-Some.is (elim c.if-minutes-in_time.branch [
-      | then-minutes-in_time+in_ok-found w ↦ subst (Stops (late c.args.train.0 c.loop-minutes.minutes c.args.instance.now) c.args.blocks.now) (sym w.found-is) w.in_ok-found.ensures.stops
-      | else-minutes-in_time+in_ok-found-2 w ↦ subst (Stops (late c.args.train.0 c.loop-minutes.minutes c.args.instance.now) c.args.blocks.now) (sym w.found-is) w.in_ok-found-2.ensures
+    let stops : Stops (late c.args.train.0 c.loop-minutes.minutes c.args.instance.now) c.args.blocks.now (Some c.in-Some.stop) = subst
+    (Stops (late c.args.train.0 c.loop-minutes.minutes c.args.instance.now) c.args.blocks.now) c.in-Some.is (elim c.if-minutes-in_time.branch [
+      | then-minutes-in_time+in_ok-found w ↦ subst (Stops (late c.args.train.0 c.loop-minutes.minutes c.args.instance.now) c.args.blocks.now)
+          (sym w.found-is) w.in_ok-found.ensures.stops
+      | else-minutes-in_time+in_ok-found-2 w ↦ subst (Stops (late c.args.train.0 c.loop-minutes.minutes c.args.instance.now) c.args.blocks.now)
+          (sym w.found-is) w.in_ok-found-2.ensures
     ]) in (
       refl,
-      at_stop c.args.instance.now c.args.blocks.now c.args.train c.loop-minutes.minutes _ c.in-Some.stop (let f = c.loop-minutes.invariant.from in omega arith) (let lt = c.loop-minutes-test.true in omega arith) c.loop-minutes.invariant.below stops,
+      at_stop c.args.instance.now c.args.blocks.now c.args.train c.loop-minutes.minutes _ c.in-Some.stop (let f = c.loop-minutes.invariant.from in omega arith)
+          (let lt = c.loop-minutes-test.true in omega arith) c.loop-minutes.invariant.below stops,
     )
 
 pub loop-minutes-preserved : goal.loop-minutes-preserved
 loop-minutes-preserved c = record {
   from = omega arith;
-  below = one_more c.args.instance.now c.args.blocks.now c.args.train.0 c.loop-minutes.minutes c.loop-minutes.invariant.below (subst (Stops (late c.args.train.0 c.loop-minutes.minutes c.args.instance.now) c.args.blocks.now) c.in_default.is (elim c.if-minutes-in_time.branch [
-    | then-minutes-in_time+in_ok-found w ↦ subst (Stops (late c.args.train.0 c.loop-minutes.minutes c.args.instance.now) c.args.blocks.now) (sym w.found-is) w.in_ok-found.ensures.stops
-    | else-minutes-in_time+in_ok-found-2 w ↦ subst (Stops (late c.args.train.0 c.loop-minutes.minutes c.args.instance.now) c.args.blocks.now) (sym w.found-is) w.in_ok-found-2.ensures
-  ]));
+  below = one_more c.args.instance.now c.args.blocks.now c.args.train.0 c.loop-minutes.minutes c.loop-minutes.invariant.below
+      (subst (Stops (late c.args.train.0 c.loop-minutes.minutes c.args.instance.now) c.args.blocks.now) c.in_default.is (elim c.if-minutes-in_time.branch [
+        | then-minutes-in_time+in_ok-found w ↦ subst (Stops (late c.args.train.0 c.loop-minutes.minutes c.args.instance.now) c.args.blocks.now)
+            (sym w.found-is) w.in_ok-found.ensures.stops
+        | else-minutes-in_time+in_ok-found-2 w ↦ subst (Stops (late c.args.train.0 c.loop-minutes.minutes c.args.instance.now) c.args.blocks.now)
+            (sym w.found-is) w.in_ok-found-2.ensures
+      ]));
   hold = elim c.if-minutes-in_time.branch [
-    | then-minutes-in_time+in_ok-found w ↦ subst (Hold c.args.timelines.now) (sym w.timelines-is) (held_on c.args.timelines.now c.loop-minutes.timelines w.stop_at.new.timelines c.loop-minutes.invariant.hold w.stop_at.ensures.same)
+    | then-minutes-in_time+in_ok-found w ↦ subst (Hold c.args.timelines.now) (sym w.timelines-is)
+        (held_on c.args.timelines.now c.loop-minutes.timelines w.stop_at.new.timelines c.loop-minutes.invariant.hold w.stop_at.ensures.same)
     | else-minutes-in_time+in_ok-found-2 w ↦ subst (Hold c.args.timelines.now) (sym w.timelines-is) c.loop-minutes.invariant.hold
   ];
 }

@@ -6,7 +6,8 @@ use Rattle.shunt_delay.proofs.train.train_in_time.Goals as goal
 pub loop-block-preserved : goal.loop-block-preserved
 loop-block-preserved c = record {
   few = omega (arith, c.min-minutes.ensures, c.loop-block.invariant.few);
-  in_time = next_in_time c.args.train.0 c.args.instance.now c.args.blocks.now c.loop-block.block-index _ c.loop-block.minutes c.minutes_in_time.result c.min-minutes.result c.loop-block-test.true c.loop-block.invariant.in_time c.minutes_in_time.ensures.in_time c.min-minutes.ensures;
+  in_time = next_in_time c.args.train.0 c.args.instance.now c.args.blocks.now c.loop-block.block-index _ c.loop-block.minutes c.minutes_in_time.result c.min-minutes.result
+      c.loop-block-test.true c.loop-block.invariant.in_time c.minutes_in_time.ensures.in_time c.min-minutes.ensures;
 }
 
 pub minutes_in_time-requires-clause-in_time : goal.minutes_in_time-requires-clause-in_time

@@ -14,7 +14,9 @@ pub returns-clause-text : goal.returns-clause-text
 returns-clause-text c = if_ok c.finish.result _ _ c.finish.ensures.text (λ v is. is ∙ whole c)
 
 pub returns-clause-again : goal.returns-clause-again
-returns-clause-again c = if_ok c.finish.result _ _ c.finish.ensures.again (λ v back. back_from (moves_of c.args.instance.now c.args.plan.now.blocks) c.args.duties.now.items c.requires.duties _ v.items (whole c) back)
+returns-clause-again c = if_ok c.finish.result _ _ c.finish.ensures.again (λ v back. back_from
+    (moves_of c.args.instance.now c.args.plan.now.blocks) c.args.duties.now.items c.requires.duties _ v.items (whole c) back)
 
 pub returns-clause-short : goal.returns-clause-short
-returns-clause-short c = if_ok c.finish.result _ _ c.finish.ensures.text (λ v is. short_from (moves_of c.args.instance.now c.args.plan.now.blocks) c.args.duties.now.items c.requires.duties _ v.items (whole c) is)
+returns-clause-short c = if_ok c.finish.result _ _ c.finish.ensures.text (λ v is. short_from
+    (moves_of c.args.instance.now c.args.plan.now.blocks) c.args.duties.now.items c.requires.duties _ v.items (whole c) is)

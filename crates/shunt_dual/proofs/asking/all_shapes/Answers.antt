@@ -7,13 +7,16 @@ pub loop-u-preserved : goal.loop-u-preserved
 loop-u-preserved c =
     subst (AreFreeBelow c.args.instance.now c.args.covered.now (c.loop-u.u + 1)) (sym c.in_ok-add_shapes.ensures)
     (more_shapes c.args.instance.now c.args.covered.now c.loop-u.u c.loop-u.shapes.items
-    (λ s. c.free_shapes.ensures.members c.args.instance.now c.args.covered.now c.loop-u.u s c.units-u-end.ensures.formed (omega (arith, c.loop-u-test.true, c.units-u-end.ensures.exact))) c.loop-u.invariant)
+    (λ s. c.free_shapes.ensures.members c.args.instance.now c.args.covered.now c.loop-u.u s c.units-u-end.ensures.formed
+    (omega (arith, c.loop-u-test.true, c.units-u-end.ensures.exact))) c.loop-u.invariant)
 
 pub returns-clause-exact : goal.returns-clause-exact
 returns-clause-exact c =
-    all_free c.args.instance.now c.args.covered.now c.loop-u.u c.loop-u.shapes.items (omega (arith, c.loop-u-test.false, c.units-u-end.ensures.exact)) (c.rooms_of_trains.ensures.unit c.args.instance.now) c.loop-u.invariant
+    all_free c.args.instance.now c.args.covered.now c.loop-u.u c.loop-u.shapes.items (omega (arith, c.loop-u-test.false, c.units-u-end.ensures.exact))
+    (c.rooms_of_trains.ensures.unit c.args.instance.now) c.loop-u.invariant
 
 pub returns-clause-within : goal.returns-clause-within
 returns-clause-within c =
     all_within c.args.instance.now c.args.covered.now c.loop-u.shapes.items
-    (all_free c.args.instance.now c.args.covered.now c.loop-u.u c.loop-u.shapes.items (omega (arith, c.loop-u-test.false, c.units-u-end.ensures.exact)) (c.rooms_of_trains.ensures.unit c.args.instance.now) c.loop-u.invariant)
+    (all_free c.args.instance.now c.args.covered.now c.loop-u.u c.loop-u.shapes.items (omega (arith, c.loop-u-test.false, c.units-u-end.ensures.exact))
+    (c.rooms_of_trains.ensures.unit c.args.instance.now) c.loop-u.invariant)

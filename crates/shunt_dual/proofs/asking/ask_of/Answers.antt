@@ -6,7 +6,8 @@ use Rattle.shunt_dual.proofs.asking.ask_of.Goals as goal
 
 pub returns-clause-exact : goal.returns-clause-exact
 returns-clause-exact c =
-    let taken = taken_is c.args.beta.now c.position_from.result (position_from c.args.instance.now c.args.demand.now.shape) c.args.demand.now.shape.n c.run_sum-taken.result c.position_from.ensures.exact c.run_sum-taken.ensures.exact in
+    let taken = taken_is c.args.beta.now c.position_from.result (position_from c.args.instance.now c.args.demand.now.shape) c.args.demand.now.shape.n c.run_sum-taken.result
+    c.position_from.ensures.exact c.run_sum-taken.ensures.exact in
     let small = c.run_sum-taken.ensures.small in
     let weight = c.least_weight.ensures.small in
     record {

@@ -12,7 +12,8 @@ options-init c =
     record {
       can_next = tt;
       is_finite = tt;
-      are = subst (AllByRecursion (IsOption c.args.instance.now c.args.shape)) (sym c.options-options.ensures) (are_options night s (λ o. c.shape_options.ensures.members night s o));
+      are = subst (AllByRecursion (IsOption c.args.instance.now c.args.shape)) (sym c.options-options.ensures)
+          (are_options night s (λ o. c.shape_options.ensures.members night s o));
       long = length-replicate 60 c.args.unparked;
       small = first_small night s c.args.unparked c.requires.unparked;
       one = first_one night s c.args.unparked c.requires.unparked;
@@ -34,7 +35,8 @@ options-preserved c =
       small = next_small night s c.in-Some.option c.options.costs c.take_in.new.costs w h.small;
       one = next_one night s c.in-Some.option c.options.costs c.take_in.new.costs w are.0 h.one;
       all = λ least le rest. h.all least (λ t. (let a = le t in omega (arith, a, w.less t)))
-          (subst (AllByRecursion (CostsAtLeast c.args.instance.now c.args.shape least)) (sym c.in-Some.ensures.steps) (head_least night s c.in-Some.option c.options.costs c.take_in.new.costs w h.long least le, rest));
+          (subst (AllByRecursion (CostsAtLeast c.args.instance.now c.args.shape least)) (sym c.in-Some.ensures.steps)
+          (head_least night s c.in-Some.option c.options.costs c.take_in.new.costs w h.long least le, rest));
     }
 
 pub returns : goal.returns
@@ -43,5 +45,6 @@ returns c =
     let s = c.args.shape in
     let h = c.options.invariant in
     costs_are night s c.options.costs h.long h.small h.one
-    (h.all (λ t. get_or c.options.costs t 0) (λ t. omega arith) (subst (AllByRecursion (CostsAtLeast c.args.instance.now c.args.shape (λ t. get_or c.options.costs t 0))) (sym c.in_default.ensures.steps.0) tt))
+    (h.all (λ t. get_or c.options.costs t 0) (λ t. omega arith) (subst (AllByRecursion (CostsAtLeast c.args.instance.now c.args.shape (λ t. get_or c.options.costs t 0)))
+    (sym c.in_default.ensures.steps.0) tt))
     (λ o. c.shape_options.ensures.members night s o)

@@ -16,5 +16,6 @@ invariant-options l = record {
   long : length l.costs ≡ 60;
   small : (t : ℕ) → slice_index_or l.costs t 0 ≤ cost_with l.instance l.shape None;
   one : (t : ℕ) → t < 60 → IsCostOn l.instance l.shape t (slice_index_or l.costs t 0);
-  all : (least : ℕ → ℕ) → ((t : ℕ) → least t ≤ slice_index_or l.costs t 0) → AllByRecursion (CostsAtLeast l.instance l.shape least) l.options → AllByRecursion (CostsAtLeast l.instance l.shape least) (options_of l.instance l.shape);
+  all : (least : ℕ → ℕ) → ((t : ℕ) → least t ≤ slice_index_or l.costs t 0) → AllByRecursion (CostsAtLeast l.instance l.shape least) l.options
+      → AllByRecursion (CostsAtLeast l.instance l.shape least) (options_of l.instance l.shape);
 }

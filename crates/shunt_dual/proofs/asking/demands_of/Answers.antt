@@ -11,5 +11,6 @@ loop-shape-preserved c =
     record {
       shapes = subst (λ (ds : List Demand). shapes_asked ds ≡ take (c.loop-shape.shape-index + 1) c.args.shapes.now) (sym c.in_ok-push.ensures.items)
           (one_demand c.args.shapes.now c.loop-shape.demands.items c.loop-shape.shape-index c.demand_of.result _ c.loop-shape-test.true h.shapes c.demand_of.ensures.shape);
-      each = subst (All (IsDemand c.args.instance.now)) (sym c.in_ok-push.ensures.items) (all_push (IsDemand c.args.instance.now) c.loop-shape.demands.items c.demand_of.result h.each c.demand_of.ensures.demand);
+      each = subst (All (IsDemand c.args.instance.now)) (sym c.in_ok-push.ensures.items)
+          (all_push (IsDemand c.args.instance.now) c.loop-shape.demands.items c.demand_of.result h.each c.demand_of.ensures.demand);
     }

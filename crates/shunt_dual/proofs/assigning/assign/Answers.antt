@@ -14,5 +14,6 @@ returns-clause-bound c =
 
 pub returns-clause-at_start : goal.returns-clause-at_start
 returns-clause-at_start c =
-    starts_with c.args.instance.now c.args.shares.now c.in_ok-shown.shown.place (record { alpha = c.in_ok-shown.shown.alpha; beta = c.in_ok-shown.shown.beta; prices = c.from_vec.result }) _ _ c.in_ok-shown.ensures
+    starts_with c.args.instance.now c.args.shares.now c.in_ok-shown.shown.place (record
+    { alpha = c.in_ok-shown.shown.alpha; beta = c.in_ok-shown.shown.beta; prices = c.from_vec.result }) _ _ c.in_ok-shown.ensures
     (c.from_vec.ensures ∙ c.new.ensures.items) (omega (arith, ints))

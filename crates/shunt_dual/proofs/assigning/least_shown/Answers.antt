@@ -16,7 +16,8 @@ narrowed-requires c = small_places c.units-n.result _ _ c.in_ok-placed.ensures.d
 pub returns : goal.returns
 returns c =
     shown_alike c.args.instance.now c.args.shares.now c.in_ok-placed.placed.place.items _ c.in_ok-placed.placed.alpha.items _ c.in_ok-placed.placed.beta.items _ _ _
-    (shown_over c.args.instance.now c.args.shares.now c.units-n.result c.deref.result.now c.in_ok-placed.placed.place.items c.in_ok-placed.placed.alpha.items c.in_ok-placed.placed.beta.items c.in_ok-placed.placed.total
+    (shown_over c.args.instance.now c.args.shares.now c.units-n.result c.deref.result.now c.in_ok-placed.placed.place.items c.in_ok-placed.placed.alpha.items
+    c.in_ok-placed.placed.beta.items c.in_ok-placed.placed.total
     c.units-n.ensures.formed c.requires.shares c.requires.matching c.units-n.ensures.exact
     (c.deref.ensures.value ∙ (c.in_ok-table.ensures ∙ ap (map or_top) c.entries.ensures))
     (record { assigned = c.in_ok-placed.ensures.duals; is_sum = c.in_ok-placed.ensures.total; least = c.in_ok-placed.ensures.least; unfilled = c.in_ok-placed.ensures.unfilled }))

@@ -15,4 +15,5 @@ returns-clause-exact c =
     let case = c.get-case.result.now in
     let is = got_is night cases c.args.k case c.get-case.ensures c.requires.there c.requires.cases in
     to_z-of_z w64 c.sum_at.result (record { sfits = c.sum_at.type_inv })
-    ∙ case_sum_is night path cases c.args.k case c.from_of-from.result (to_z w64 (of_z w64 case.multiplier)) c.sum_at.result c.get-case.ensures (value_seen case.multiplier is.multiplier) c.from_of-from.ensures c.sum_at.ensures.exact
+    ∙ case_sum_is night path cases c.args.k case c.from_of-from.result (to_z w64 (of_z w64 case.multiplier)) c.sum_at.result c.get-case.ensures
+    (value_seen case.multiplier is.multiplier) c.from_of-from.ensures c.sum_at.ensures.exact

@@ -12,12 +12,14 @@ use Rattle.shunt_dual.proofs.bounds.sum_at.Goals as goal
 pub uncovered_sum-alphas-requires-clause-covered : goal.uncovered_sum-alphas-requires-clause-covered
 uncovered_sum-alphas-requires-clause-covered c =
     as_many_units c.args.instance.now c.args.path.now.blocks _ _ c.args.duals.now.alpha
-    (units_long c.args.instance.now c.args.path.now c.covered-covered.result.now _ c.units-2.ensures c.covered-covered.ensures c.requires.path) c.as_slice.ensures c.requires.duals.alphas
+    (units_long c.args.instance.now c.args.path.now c.covered-covered.result.now _ c.units-2.ensures c.covered-covered.ensures c.requires.path) c.as_slice.ensures
+    c.requires.duals.alphas
 
 pub uncovered_sum-betas-requires-clause-covered : goal.uncovered_sum-betas-requires-clause-covered
 uncovered_sum-betas-requires-clause-covered c =
     as_many_places c.args.instance.now c.args.path.now.blocks _ _ c.args.duals.now.beta
-    (places_long c.args.instance.now c.args.path.now c.covered-covered.result.now _ c.places.ensures c.covered-covered.ensures c.requires.path) c.as_slice-2.ensures c.requires.duals.betas
+    (places_long c.args.instance.now c.args.path.now c.covered-covered.result.now _ c.places.ensures c.covered-covered.ensures c.requires.path) c.as_slice-2.ensures
+    c.requires.duals.betas
 
 pub returns-clause-exact : goal.returns-clause-exact
 returns-clause-exact c =
@@ -39,8 +41,10 @@ returns-clause-exact c =
     (omega (arith, ints, is, a.low, a.high, b.low, b.high, w.low, w.high, s.low, s.high, t.low, t.high, p))
     (weights_are night c.args.to x c.args.multiplier d c.blocks-2.result.now path c.weights-weights.result m c.blocks-2.ensures c.weights-weights.ensures.exact)
     (uncovered_is c.uncovered_sum-alphas.result c.as_slice.result.now d.alpha c.units-2.result.now masks.units (unit_total night) c.as_slice.ensures
-    (units_long night c.args.path.now c.covered-covered.result.now _ c.units-2.ensures c.covered-covered.ensures c.requires.path) c.requires.duals.alphas c.uncovered_sum-alphas.ensures.exact)
+    (units_long night c.args.path.now c.covered-covered.result.now _ c.units-2.ensures c.covered-covered.ensures c.requires.path) c.requires.duals.alphas
+    c.uncovered_sum-alphas.ensures.exact)
     (uncovered_is c.uncovered_sum-betas.result c.as_slice-2.result.now d.beta c.places.result.now masks.places (position_total night) c.as_slice-2.ensures
-    (places_long night c.args.path.now c.covered-covered.result.now _ c.places.ensures c.covered-covered.ensures c.requires.path) c.requires.duals.betas c.uncovered_sum-betas.ensures.exact)
+    (places_long night c.args.path.now c.covered-covered.result.now _ c.places.ensures c.covered-covered.ensures c.requires.path) c.requires.duals.betas
+    c.uncovered_sum-betas.ensures.exact)
     (ap pos (c.paid_at_most-paid.ensures.exact ∙ ap (paid_at_most night) c.as_slice-3.ensures))
     (c.most_surcharge-surcharge.ensures.exact ∙ ap (λ (z : ℤ). most_surcharge z c.args.from c.args.to) m)

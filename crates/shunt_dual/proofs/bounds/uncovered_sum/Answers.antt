@@ -19,7 +19,8 @@ loop-u-preserved c =
     let value : IsValue (get_or c.args.values.now c.loop-u.u (pos 0)) = c.requires.values u (pos 0) (omega arith) in
     let is : c.uncovered-total.result ≡ cond (get_or c.args.covered.now c.loop-u.u true) (pos 0) (get_or c.args.values.now c.loop-u.u (pos 0)) =
     subst (λ (x : ℤ). c.uncovered-total.result ≡ cond (get_or c.args.covered.now c.loop-u.u true) (pos 0) x) (value_seen z value)
-    (subst (λ (t : Bool). c.uncovered-total.result ≡ cond t (pos 0) (to_z w64 (of_z w64 (get_or c.args.values.now c.loop-u.u (pos 0))))) (get_or_default c.args.covered.now u false true (omega arith)) c.uncovered-total.ensures) in
+    (subst (λ (t : Bool). c.uncovered-total.result ≡ cond t (pos 0) (to_z w64 (of_z w64 (get_or c.args.values.now c.loop-u.u (pos 0)))))
+    (get_or_default c.args.covered.now u false true (omega arith)) c.uncovered-total.ensures) in
     let v : IsValue c.uncovered-total.result = subst IsValue (sym is) (either_value b z value) in
     let t = c.loop-u.invariant.small in
     record {

@@ -43,13 +43,15 @@ returns-then-not-holds_in_case c =
     let low = is.multiplier.low in
     let high = is.multiplier.high in
     let m = to_z w64 (of_z w64 c.get-case.result.now.multiplier) in
-    failed (CaseHolds c.args.asked night c.covered.result.now (case_of m case.duals)) (AllHold c.args.asked night c.args.path.now.blocks c.args.cases.now) c.holds_in_case.result c.holds_in_case.ensures c.if-not-holds_in_case.true
+    failed (CaseHolds c.args.asked night c.covered.result.now (case_of m case.duals))
+    (AllHold c.args.asked night c.args.path.now.blocks c.args.cases.now) c.holds_in_case.result c.holds_in_case.ensures c.if-not-holds_in_case.true
     (λ all. subst (λ (w : Masks). CaseHolds c.args.asked night w (case_of m case.duals)) (sym (c.covered.ensures ∙ c.requires.path.covered))
     (case_on c.args.asked night (masks_of night c.args.path.now.blocks) c.args.cases.now c.loop-k.k case m c.get-case.ensures (omega (arith, ints, low, high)) (omega arith) all))
 
 pub returns : goal.returns
 returns c = (
   λ t. All-from_get_or (CaseHolds c.args.asked c.args.instance.now (masks_of c.args.instance.now c.args.path.now.blocks)) c.args.cases.now _
-      (λ i lt. subst (λ (w : Masks). CaseHolds c.args.asked c.args.instance.now w (case_at c.args.cases.now i)) c.requires.path.covered (c.loop-k.invariant i (omega (arith, lt, c.loop-k-test.false, c.len-k-end.ensures.value)))),
+      (λ i lt. subst (λ (w : Masks). CaseHolds c.args.asked c.args.instance.now w (case_at c.args.cases.now i)) c.requires.path.covered
+      (c.loop-k.invariant i (omega (arith, lt, c.loop-k-test.false, c.len-k-end.ensures.value)))),
   λ h. refl,
 )

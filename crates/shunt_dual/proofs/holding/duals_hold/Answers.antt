@@ -12,4 +12,5 @@ holds_in_case-requires-clause-covered c = masks_fit c.args.instance.now c.args.p
 pub returns : goal.returns
 returns c =
     only_case (HoldsInCase c.args.instance.now (masks_of c.args.instance.now c.args.path.now.blocks)) (case_of (pos 0) c.args.duals.now) c.holds_in_case.result
-    (subst (λ (m : Masks). IsTrue c.holds_in_case.result ↔ HoldsInCase c.args.instance.now m (case_of (pos 0) c.args.duals.now)) (c.covered.ensures ∙ c.requires.path.covered) c.holds_in_case.ensures)
+    (subst (λ (m : Masks). IsTrue c.holds_in_case.result ↔ HoldsInCase c.args.instance.now m (case_of (pos 0) c.args.duals.now))
+    (c.covered.ensures ∙ c.requires.path.covered) c.holds_in_case.ensures)

@@ -11,7 +11,8 @@ use Rattle.shunt_dual.proofs.holding.shape_holds.Goals as goal
 
 pub returns-then-sum-unparked : goal.returns-then-sum-unparked
 returns-then-sum-unparked c =
-    let t = below (to_z w64 (of_z w64 (to_z w64 (1000 * c.cost_with-unparked.result) +ℤ to_z w64 (of_z w64 c.args.multiplier)))) (to_z w64 (of_z w64 c.duals_over-sum.result)) c.if-sum-unparked.true in
+    let t = below (to_z w64 (of_z w64 (to_z w64 (1000 * c.cost_with-unparked.result) +ℤ to_z w64 (of_z w64 c.args.multiplier))))
+    (to_z w64 (of_z w64 c.duals_over-sum.result)) c.if-sum-unparked.true in
     let w = c.cost_with-unparked.ensures in
     let s = c.duals_over-sum.ensures.small in
     let m = c.requires.multiplier in
@@ -20,7 +21,8 @@ returns-then-sum-unparked c =
 
 pub returns : goal.returns
 returns c =
-    let f = not_below (to_z w64 (of_z w64 (to_z w64 (1000 * c.cost_with-unparked.result) +ℤ to_z w64 (of_z w64 c.args.multiplier)))) (to_z w64 (of_z w64 c.duals_over-sum.result)) c.if-sum-unparked.false in
+    let f = not_below (to_z w64 (of_z w64 (to_z w64 (1000 * c.cost_with-unparked.result) +ℤ to_z w64 (of_z w64 c.args.multiplier))))
+    (to_z w64 (of_z w64 c.duals_over-sum.result)) c.if-sum-unparked.false in
     let w = c.cost_with-unparked.ensures in
     let s = c.duals_over-sum.ensures.small in
     let m = c.requires.multiplier in

@@ -15,11 +15,13 @@ returns-then-not-side_holds c =
     let x = to_z w64 (of_z w64 c.args.sum) in
     let le : shape_length c.args.instance.now c.args.shape ≤ track_length c.args.instance.now c.args.track.0 = omega (arith, c.requires.long, c.room.ensures.exact) in
     subst (λ (z : ℤ). IsTrue false ↔ TrackHolds c.args.asked c.args.instance.now c.args.shape z c.args.part c.args.track) (to_z-of_z w64 c.args.sum c.ranges.sum)
-    (failed (SideHolds c.args.asked c.args.instance.now c.args.shape x c.args.part c.args.track A) (TrackHolds c.args.asked c.args.instance.now c.args.shape x c.args.part c.args.track) c.side_holds.result c.side_holds.ensures c.if-not-side_holds.true
+    (failed (SideHolds c.args.asked c.args.instance.now c.args.shape x c.args.part c.args.track A)
+    (TrackHolds c.args.asked c.args.instance.now c.args.shape x c.args.part c.args.track) c.side_holds.result c.side_holds.ensures c.if-not-side_holds.true
     (λ h. from_track c.args.asked c.args.instance.now c.args.shape x c.args.part c.args.track h le A))
 
 pub returns : goal.returns
 returns c =
     let le : shape_length c.args.instance.now c.args.shape ≤ track_length c.args.instance.now c.args.track.0 = omega (arith, c.requires.long, c.room.ensures.exact) in
     subst (λ (z : ℤ). IsTrue c.side_holds-2.result ↔ TrackHolds c.args.asked c.args.instance.now c.args.shape z c.args.part c.args.track) (to_z-of_z w64 c.args.sum c.ranges.sum)
-    (track_is c.args.asked c.args.instance.now c.args.shape _ c.args.part c.args.track c.side_holds.result c.side_holds-2.result c.side_holds.ensures c.if-not-side_holds.false c.side_holds-2.ensures le)
+    (track_is c.args.asked c.args.instance.now c.args.shape _ c.args.part c.args.track c.side_holds.result c.side_holds-2.result c.side_holds.ensures c.if-not-side_holds.false
+    c.side_holds-2.ensures le)

@@ -22,7 +22,8 @@ returns-then-not-track_holds c =
     let tracks = length c.args.instance.now.station.tracks in
     let len : c.len-t-end.result ≡ length c.args.instance.now.station.tracks = c.len-t-end.ensures ∙ ap (λ (s : Station). length s.tracks) c.station.ensures.exact in
     subst (λ (z : ℤ). IsTrue false ↔ TracksHold c.args.asked c.args.instance.now c.args.prices.now c.args.shape z tracks) (to_z-of_z w64 c.args.sum c.ranges.sum)
-    (failed (TrackHolds c.args.asked c.args.instance.now c.args.shape x (get_or c.charges-charges.result c.loop-t.t 0) (record { 0 = c.loop-t.t })) (TracksHold c.args.asked c.args.instance.now c.args.prices.now c.args.shape x tracks)
+    (failed (TrackHolds c.args.asked c.args.instance.now c.args.shape x (get_or c.charges-charges.result c.loop-t.t 0) (record { 0 = c.loop-t.t }))
+    (TracksHold c.args.asked c.args.instance.now c.args.prices.now c.args.shape x tracks)
     c.track_holds.result c.track_holds.ensures c.if-not-track_holds.true
     (one_track c.args.asked c.args.instance.now c.args.prices.now c.args.shape x c.loop-t.t c.charges-charges.result c.charges-charges.ensures.exact
     (omega (arith, c.loop-t-test.true, c.len-t-end.ensures, c.station.ensures.station.few_tracks)) tracks (omega (arith, c.loop-t-test.true, len))))

@@ -13,17 +13,22 @@ pub returns-then-not-shape_holds : goal.returns-then-not-shape_holds
 returns-then-not-shape_holds c =
     let night = c.args.instance.now in
     let k = case_of (to_z w64 (of_z w64 c.args.multiplier)) c.args.duals.now in
-    subst (λ (z : ℤ). IsTrue false ↔ UnitHolds c.args.asked c.args.instance.now c.args.covered.now (case_of z c.args.duals.now) c.args.u) (to_z-of_z w64 c.args.multiplier c.ranges.multiplier)
-    (failed (ShapeHolds c.args.asked night k c.in-Some.shape) (UnitHolds c.args.asked night c.args.covered.now k c.args.u) c.shape_holds.result c.shape_holds.ensures c.if-not-shape_holds.true
+    subst (λ (z : ℤ). IsTrue false ↔ UnitHolds c.args.asked c.args.instance.now c.args.covered.now (case_of z c.args.duals.now) c.args.u)
+    (to_z-of_z w64 c.args.multiplier c.ranges.multiplier)
+    (failed (ShapeHolds c.args.asked night k c.in-Some.shape) (UnitHolds c.args.asked night c.args.covered.now k c.args.u) c.shape_holds.result c.shape_holds.ensures
+    c.if-not-shape_holds.true
     (λ h. (subst (AllByRecursion (ShapeHolds c.args.asked night k)) c.in-Some.ensures.steps (c.shapes.invariant.left
-    (unit_each c.args.asked night c.args.covered.now k c.args.u (shapes_of night c.args.covered.now c.args.u) (λ s. c.free_shapes.ensures.members night c.args.covered.now c.args.u s c.units-2.ensures.formed c.requires.unit) h))).0))
+    (unit_each c.args.asked night c.args.covered.now k c.args.u (shapes_of night c.args.covered.now c.args.u)
+    (λ s. c.free_shapes.ensures.members night c.args.covered.now c.args.u s c.units-2.ensures.formed c.requires.unit) h))).0))
 
 pub returns : goal.returns
 returns c =
     let night = c.args.instance.now in
     let k = case_of (to_z w64 (of_z w64 c.args.multiplier)) c.args.duals.now in (
-      λ t. subst (λ (z : ℤ). UnitHolds c.args.asked c.args.instance.now c.args.covered.now (case_of z c.args.duals.now) c.args.u) (to_z-of_z w64 c.args.multiplier c.ranges.multiplier)
-          (unit_is c.args.asked night c.args.covered.now k c.args.u (shapes_of night c.args.covered.now c.args.u) (λ s. c.free_shapes.ensures.members night c.args.covered.now c.args.u s c.units-2.ensures.formed c.requires.unit)
+      λ t. subst (λ (z : ℤ). UnitHolds c.args.asked c.args.instance.now c.args.covered.now (case_of z c.args.duals.now) c.args.u)
+          (to_z-of_z w64 c.args.multiplier c.ranges.multiplier)
+          (unit_is c.args.asked night c.args.covered.now k c.args.u (shapes_of night c.args.covered.now c.args.u)
+          (λ s. c.free_shapes.ensures.members night c.args.covered.now c.args.u s c.units-2.ensures.formed c.requires.unit)
           (c.shapes.invariant.all (subst (AllByRecursion (ShapeHolds c.args.asked night k)) (sym c.in_default.ensures.steps.0) tt))),
       λ h. refl,
     )

@@ -9,6 +9,8 @@ invariant-shapes l = record {
   can_next : (goal.iterator-shapes).can_next l.shapes;
   is_finite : (goal.iterator-shapes).is_finite l.shapes;
   within : AllByRecursion (AreRunsWithin l.instance) l.shapes;
-  all : AllByRecursion (ShapeHolds l.asked l.instance (case_of l.multiplier l.duals)) l.shapes → AllByRecursion (ShapeHolds l.asked l.instance (case_of l.multiplier l.duals)) (shapes_of l.instance l.covered l.u);
-  left : AllByRecursion (ShapeHolds l.asked l.instance (case_of l.multiplier l.duals)) (shapes_of l.instance l.covered l.u) → AllByRecursion (ShapeHolds l.asked l.instance (case_of l.multiplier l.duals)) l.shapes;
+  all : AllByRecursion (ShapeHolds l.asked l.instance (case_of l.multiplier l.duals)) l.shapes
+      → AllByRecursion (ShapeHolds l.asked l.instance (case_of l.multiplier l.duals)) (shapes_of l.instance l.covered l.u);
+  left : AllByRecursion (ShapeHolds l.asked l.instance (case_of l.multiplier l.duals)) (shapes_of l.instance l.covered l.u)
+      → AllByRecursion (ShapeHolds l.asked l.instance (case_of l.multiplier l.duals)) l.shapes;
 }

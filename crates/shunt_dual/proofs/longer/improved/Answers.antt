@@ -26,7 +26,8 @@ returns-then-bound-least c = λ path at free.
     let old = to_z-of_z w64 c.args.least c.ranges.least in
     let lt = below (to_z w64 (of_z w64 c.bound_with-bound.result)) (to_z w64 (of_z w64 c.args.least)) c.if-bound-least.true in
     subst (IsLeastBelow c.args.instance.now (path ++ c.args.block.now ∷ []) c.args.cases.now (c.args.k + 1)) (sym seen)
-    (taken c.args.instance.now (path ++ c.args.block.now ∷ []) c.args.cases.now c.args.k c.args.least c.bound_with-bound.result (c.bound_with-bound.ensures path at free) (c.requires.least path at free) c.requires.there
+    (taken c.args.instance.now (path ++ c.args.block.now ∷ []) c.args.cases.now c.args.k c.args.least c.bound_with-bound.result (c.bound_with-bound.ensures path at free)
+    (c.requires.least path at free) c.requires.there
     (omega (arith, few, to, unparked_now c.args.instance.now path c.args.cases.now c.args.sums.now c.args.block.now at)) (omega (arith, ints, lt, seen, old)))
 
 pub returns-else-bound-least : goal.returns-else-bound-least
@@ -35,5 +36,6 @@ returns-else-bound-least c = λ path at free.
     let old = to_z-of_z w64 c.args.least c.ranges.least in
     let le = not_below (to_z w64 (of_z w64 c.bound_with-bound.result)) (to_z w64 (of_z w64 c.args.least)) c.if-bound-least.false in
     subst (IsLeastBelow c.args.instance.now (path ++ c.args.block.now ∷ []) c.args.cases.now (c.args.k + 1)) (sym old)
-    (kept c.args.instance.now (path ++ c.args.block.now ∷ []) c.args.cases.now c.args.k c.args.least c.bound_with-bound.result (c.bound_with-bound.ensures path at free) (c.requires.least path at free)
+    (kept c.args.instance.now (path ++ c.args.block.now ∷ []) c.args.cases.now c.args.k c.args.least c.bound_with-bound.result (c.bound_with-bound.ensures path at free)
+    (c.requires.least path at free)
     (omega (arith, ints, le, seen, old)))

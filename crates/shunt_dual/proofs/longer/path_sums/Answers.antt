@@ -13,6 +13,8 @@ cases-preserved c =
     let items = c.in_ok-push.ensures.items in
     record {
       many = let e = h.many in let l = c.in_ok-push.ensures.len in omega (arith, e, l);
-      small = one_more (IsWithin 4010000000000000000) c.cases.sums.items c.push.new.self.items _ items h.small (subst (IsWithin 4010000000000000000) (sym seen) c.case_sum.ensures.small);
-      each = each_more (case_sum c.args.instance.now c.args.path.now.blocks c.args.cases.now) c.cases.k c.cases.sums.items c.push.new.self.items _ items h.many (seen ∙ c.case_sum.ensures.exact) h.each;
+      small = one_more (IsWithin 4010000000000000000) c.cases.sums.items c.push.new.self.items _ items h.small
+          (subst (IsWithin 4010000000000000000) (sym seen) c.case_sum.ensures.small);
+      each = each_more (case_sum c.args.instance.now c.args.path.now.blocks c.args.cases.now) c.cases.k c.cases.sums.items c.push.new.self.items _ items h.many
+          (seen ∙ c.case_sum.ensures.exact) h.each;
     }

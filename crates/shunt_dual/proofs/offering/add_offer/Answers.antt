@@ -10,6 +10,7 @@ returns-else-worth-least_parked c =
     let less = c.if-worth-least_parked.false in
     let low : c.duals_over-worth.result ≤ℤ pos c.least_parked.result = omega (arith, ints, less, small.low, small.high, c.least_parked.ensures.small) in (
       [],
-      not_offered c.args.instance.now c.args.duals.now c.args.shape c.duals_over-worth.result c.least_parked.result c.duals_over-worth.ensures.exact low c.least_parked.ensures.least,
+      not_offered c.args.instance.now c.args.duals.now c.args.shape c.duals_over-worth.result c.least_parked.result c.duals_over-worth.ensures.exact low
+          c.least_parked.ensures.least,
       nothing_more c.args.offers.now.items,
     )

@@ -20,4 +20,5 @@ returns c =
     let small = is.small in
     let le = not_below (pos 0) (to_z w64 (of_z w64 c.in-Some.step.gain)) c.if-step-gt0.false in
     unimproved c.args.instance.now c.args.path.now.blocks c.args.track.0 c.args.train.0 c.args.old c.requires.good
-    (not_higher c.args.instance.now c.args.path.now.blocks c.args.track.0 c.args.train.0 c.args.old c.in-Some.step.duals c.in-Some.step.gain is (omega (arith, ints, le, small.low, small.high)))
+    (not_higher c.args.instance.now c.args.path.now.blocks c.args.track.0 c.args.train.0 c.args.old c.in-Some.step.duals c.in-Some.step.gain is
+    (omega (arith, ints, le, small.low, small.high)))

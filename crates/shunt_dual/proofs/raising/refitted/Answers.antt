@@ -12,7 +12,8 @@ pub refit_values-requires-clause-met : goal.refit_values-requires-clause-met
 refit_values-requires-clause-met c =
     let free = subst (λ (m : Masks). AreFreeShapes c.args.instance.now m (shapes_asked c.args.demands.now)) c.requires.path.covered c.requires.demands.free in
     subst (λ (asks : List Ask). All (IsMet c.args.alpha.now) asks) (sym c.deref.ensures.value)
-    (hold_to c.args.instance.now c.args.path.now.blocks c.args.beta.now c.args.prices.now (shapes_asked c.args.demands.now) c.in_ok-asks.asks.items free c.in_ok-asks.ensures.exact c.args.alpha.now c.requires.held.hold)
+    (hold_to c.args.instance.now c.args.path.now.blocks c.args.beta.now c.args.prices.now
+    (shapes_asked c.args.demands.now) c.in_ok-asks.asks.items free c.in_ok-asks.ensures.exact c.args.alpha.now c.requires.held.hold)
 
 pub refit_values-requires-clause-covered : goal.refit_values-requires-clause-covered
 refit_values-requires-clause-covered c =
@@ -23,9 +24,11 @@ pub returns : goal.returns
 returns c =
     let free = subst (λ (m : Masks). AreFreeShapes c.args.instance.now m (shapes_asked c.args.demands.now)) c.requires.path.covered c.requires.demands.free in
     let h = c.in_ok-values.ensures in
-    let is = refit_is c.args.instance.now c.args.path.now.blocks c.args.beta.now c.args.prices.now (shapes_asked c.args.demands.now) c.in_ok-asks.asks.items free c.in_ok-asks.ensures.exact
+    let is = refit_is c.args.instance.now c.args.path.now.blocks c.args.beta.now c.args.prices.now
+    (shapes_asked c.args.demands.now) c.in_ok-asks.asks.items free c.in_ok-asks.ensures.exact
     (λ night path d u z lt size bare. c.price_steps.ensures.alpha night path d u z lt size bare)
     (length c.args.alpha.now) c.units-2.result.now c.args.alpha.now c.in_ok-values.values.alpha c.in_ok-values.values.risen c.requires.held.are
     (units_long c.args.instance.now c.args.path.now c.covered.result.now c.units-2.result.now c.units-2.ensures c.covered.ensures c.requires.path) c.requires.held.are.alphas in
-    is (subst (λ (asks : List Ask). AreUnitsRefit asks c.units-2.result.now (length c.args.alpha.now) c.args.alpha.now c.in_ok-values.values.alpha c.in_ok-values.values.risen) c.deref.ensures.value h.refit) h.alphas
+    is (subst (λ (asks : List Ask). AreUnitsRefit asks c.units-2.result.now (length c.args.alpha.now) c.args.alpha.now c.in_ok-values.values.alpha c.in_ok-values.values.risen)
+    c.deref.ensures.value h.refit) h.alphas
     (subst (λ (asks : List Ask). All (IsMet c.in_ok-values.values.alpha) asks) c.deref.ensures.value h.met) h.small

@@ -17,7 +17,8 @@ loop-ask-preserved c =
       low = omega (arith, ints, seen, m.low);
       high = omega (arith, ints, seen, m.at_most, h.high, c.loop-ask.z-is);
       met = subst (λ (z : ℤ). MetBelow (set c.args.alpha.now c.args.u z) c.args.asks.now (c.loop-ask.ask-index + 1)) (sym seen)
-          (met_more c.args.alpha.now c.args.asks.now c.args.u c.loop-ask.ask-index _ _ _ c.requires.unit c.loop-ask-test.true (omega (arith, ints, m.at_most, c.loop-ask.z-is)) h.met m.met);
+          (met_more c.args.alpha.now c.args.asks.now c.args.u c.loop-ask.ask-index _ _ _ c.requires.unit c.loop-ask-test.true
+          (omega (arith, ints, m.at_most, c.loop-ask.z-is)) h.met m.met);
       most = λ other w met. let le = most_more c.args.alpha.now c.args.asks.now c.args.u c.loop-ask.ask-index _ _ _ c.requires.unit c.loop-ask-test.true h.most
           (λ other below met. m.most other (omega (arith, ints, below, c.loop-ask.z-is)) met) other w met in omega (arith, ints, seen, le);
     }

@@ -16,7 +16,8 @@ returns-then-ask-n-clause-met c = met_after c.args.alpha.now c.args.ask c.args.u
 
 pub returns-then-slack-z-clause-at_most : goal.returns-then-slack-z-clause-at_most
 returns-then-slack-z-clause-at_most c =
-    let lt = below (to_z w64 (of_z w64 (to_z w64 (of_z w64 c.args.ask.most) -ℤ to_z w64 (of_z w64 c.run_sum.result)))) (to_z w64 (of_z w64 (to_z w64 (of_z w64 c.args.z) -ℤ to_z w64 (of_z w64 (get_or c.args.alpha.now c.args.u (pos 0)))))) c.if-slack-z.true in
+    let lt = below (to_z w64 (of_z w64 (to_z w64 (of_z w64 c.args.ask.most) -ℤ to_z w64 (of_z w64 c.run_sum.result))))
+    (to_z w64 (of_z w64 (to_z w64 (of_z w64 c.args.z) -ℤ to_z w64 (of_z w64 (get_or c.args.alpha.now c.args.u (pos 0)))))) c.if-slack-z.true in
     let s = c.run_sum.ensures.small in
     let m = c.requires.ask.small in
     let v : IsValue (get_or c.args.alpha.now c.args.u (pos 0)) = c.requires.alphas c.args.u (pos 0) c.requires.unit in
@@ -40,7 +41,8 @@ returns-then-slack-z-clause-most c = λ other le h.
 
 pub returns-else-slack-z-clause-met : goal.returns-else-slack-z-clause-met
 returns-else-slack-z-clause-met c =
-    let le = not_below (to_z w64 (of_z w64 (to_z w64 (of_z w64 c.args.ask.most) -ℤ to_z w64 (of_z w64 c.run_sum.result)))) (to_z w64 (of_z w64 (to_z w64 (of_z w64 c.args.z) -ℤ to_z w64 (of_z w64 (get_or c.args.alpha.now c.args.u (pos 0)))))) c.if-slack-z.false in
+    let le = not_below (to_z w64 (of_z w64 (to_z w64 (of_z w64 c.args.ask.most) -ℤ to_z w64 (of_z w64 c.run_sum.result))))
+    (to_z w64 (of_z w64 (to_z w64 (of_z w64 c.args.z) -ℤ to_z w64 (of_z w64 (get_or c.args.alpha.now c.args.u (pos 0)))))) c.if-slack-z.false in
     let s = c.run_sum.ensures.small in
     let m = c.requires.ask.small in
     let v : IsValue (get_or c.args.alpha.now c.args.u (pos 0)) = c.requires.alphas c.args.u (pos 0) c.requires.unit in

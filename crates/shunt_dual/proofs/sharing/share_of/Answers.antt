@@ -8,7 +8,8 @@ pub least_from-least-requires-clause-before : goal.least_from-least-requires-cla
 least_from-least-requires-clause-before c = one_before c.args.instance.now c.args.u c.args.v c.requires.night c.requires.unit c.requires.position c.requires.pair
 
 pub least_from-least-requires-clause-some : goal.least_from-least-requires-clause-some
-least_from-least-requires-clause-some c = c.reach_after-after.ensures.most 1 (one_after c.args.instance.now c.args.u c.args.v c.requires.night c.requires.unit c.requires.position c.requires.pair)
+least_from-least-requires-clause-some c = c.reach_after-after.ensures.most 1 (one_after c.args.instance.now c.args.u c.args.v c.requires.night c.requires.unit c.requires.position
+    c.requires.pair)
 
 pub loop-back-init : goal.loop-back-init
 loop-back-init c = first_row c.args.instance.now c.args.u c.args.v _ _ c.least_from-least.ensures

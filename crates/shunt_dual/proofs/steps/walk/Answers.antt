@@ -6,4 +6,5 @@ pub back-smaller : goal.back-smaller
 back-smaller c = (c.back.invariant.links c.back.c c.back-test.true (omega arith)).1
 
 pub back-preserved : goal.back-preserved
-back-preserved c = walk_step c.args.n c.args.end c.args.rows c.back.c _ c.args.way.now c.args.when.now c.args.place.now c.args.owner.now _ _ (omega arith) (omega arith) c.requires.rows c.back-test.true refl c.back.invariant
+back-preserved c = walk_step c.args.n c.args.end c.args.rows c.back.c _ c.args.way.now c.args.when.now c.args.place.now c.args.owner.now _ _ (omega arith)
+    (omega arith) c.requires.rows c.back-test.true refl c.back.invariant

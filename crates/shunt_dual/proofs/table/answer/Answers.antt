@@ -9,7 +9,8 @@ cost_of-total-requires-clause-place c =
 
 pub returns-clause-duals : goal.returns-clause-duals
 returns-clause-duals c =
-    answered _ _ c.requires.alpha_len c.requires.debt_len (all_placed c.requires.place_len c.requires.owner_len c.requires.free c.requires.paired) c.requires.duals c.in_ok-alpha.ensures c.in_ok-beta.ensures
+    answered _ _ c.requires.alpha_len c.requires.debt_len (all_placed c.requires.place_len c.requires.owner_len c.requires.free c.requires.paired) c.requires.duals
+    c.in_ok-alpha.ensures c.in_ok-beta.ensures
 
 pub returns-clause-least : goal.returns-clause-least
 returns-clause-least c other q =

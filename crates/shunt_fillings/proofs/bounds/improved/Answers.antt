@@ -30,7 +30,8 @@ returns-then-bound-least c =
     let is : to_z w64 (of_z w64 (get_or c.args.sums.now c.args.k (pos 0))) ≡ get_or c.args.sums.now c.args.k (pos 0) = omega (arith, ints, value.low, value.high) in
     let here = subst (λ (s : ℤ). IsBoundOf s c.bound_of-bound.result) is c.bound_of-bound.ensures in
     λ path own h. subst (IsLeastBelow c.args.cases.now path c.args.sums.now (c.args.k + 1)) (sym seen)
-    (taken path c.args.cases.now c.args.sums.now c.args.k c.args.least c.bound_of-bound.result here h there (omega (arith, c.if-unparked-get.false, to, own)) (omega (arith, ints, lt, seen, old)))
+    (taken path c.args.cases.now c.args.sums.now c.args.k c.args.least c.bound_of-bound.result here h there (omega (arith, c.if-unparked-get.false, to, own))
+    (omega (arith, ints, lt, seen, old)))
 
 pub returns-else-bound-least : goal.returns-else-bound-least
 returns-else-bound-least c =

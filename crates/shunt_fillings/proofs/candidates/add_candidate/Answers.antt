@@ -22,6 +22,7 @@ returns-else-gain-gt0 c =
     let less = c.if-gain-gt0.false in
     let le : c.gain-gain.result ≤ℤ pos 0 = omega (arith, ints, less, small.low, small.high) in (
       [],
-      not_taken c.args.instance.now (seen c.args.stack) c.args.offer.now (λ brings. poor _ c.gain-gain.result brings.gains (c.gain-gain.ensures.exact ∙ ap (offered c.args.instance.now c.args.offer.now) c.park_on.ensures) le),
+      not_taken c.args.instance.now (seen c.args.stack) c.args.offer.now (λ brings. poor _ c.gain-gain.result brings.gains
+          (c.gain-gain.ensures.exact ∙ ap (offered c.args.instance.now c.args.offer.now) c.park_on.ensures) le),
       none_more c.args.candidates.now.items,
     )

@@ -71,7 +71,8 @@ returns-in_default-clause-exact c =
     let own = c.gain-own.ensures.small in
     let none = of_none s.stacks.now (stacks s.instance.now.station) c.requires.scene.stacks b.park (λ st. c.stacks_of_stations.ensures.own st b.park)
     (λ st e. c.stacks_of_stations.ensures.there s.instance.now (shape_of b) b.park st c.units.ensures.formed c.requires.block.free.option e) c.in_default.ensures.none in
-    sum_of_none s.instance.now s.path.now.blocks b c.args.cases.now c.args.k c.get.result.now (got c.args.cases.now c.args.k c.get.result.now c.get.ensures) c.args.outlook.now.sum c.requires.outlook.sum c.gain-own.result
+    sum_of_none s.instance.now s.path.now.blocks b c.args.cases.now c.args.k c.get.result.now
+    (got c.args.cases.now c.args.k c.get.result.now c.get.ensures) c.args.outlook.now.sum c.requires.outlook.sum c.gain-own.result
     c.gain-own.ensures.exact none _ (omega (arith, ints, sum.low, sum.high, own.low, own.high))
 
 pub returns-in_default-clause-small : goal.returns-in_default-clause-small
@@ -82,9 +83,11 @@ returns-in_default-clause-small c =
     let own = c.gain-own.ensures.small in
     let none = of_none s.stacks.now (stacks s.instance.now.station) c.requires.scene.stacks b.park (λ st. c.stacks_of_stations.ensures.own st b.park)
     (λ st e. c.stacks_of_stations.ensures.there s.instance.now (shape_of b) b.park st c.units.ensures.formed c.requires.block.free.option e) c.in_default.ensures.none in
-    c.sums_fit.ensures.choice s.instance.now s.path.now.blocks b c.args.cases.now c.args.k _ c.units.ensures.formed (blocks_within s.instance.now s.path.now.blocks c.requires.scene.each) c.requires.scene.path.apart
+    c.sums_fit.ensures.choice s.instance.now s.path.now.blocks b c.args.cases.now c.args.k _ c.units.ensures.formed
+    (blocks_within s.instance.now s.path.now.blocks c.requires.scene.each) c.requires.scene.path.apart
     c.requires.block.free c.requires.block.through c.requires.cases c.requires.there
-    (sum_of_none s.instance.now s.path.now.blocks b c.args.cases.now c.args.k c.get.result.now (got c.args.cases.now c.args.k c.get.result.now c.get.ensures) c.args.outlook.now.sum c.requires.outlook.sum c.gain-own.result
+    (sum_of_none s.instance.now s.path.now.blocks b c.args.cases.now c.args.k c.get.result.now
+    (got c.args.cases.now c.args.k c.get.result.now c.get.ensures) c.args.outlook.now.sum c.requires.outlook.sum c.gain-own.result
     c.gain-own.ensures.exact none _ (omega (arith, ints, sum.low, sum.high, own.low, own.high)))
 
 pub returns-clause-exact : goal.returns-clause-exact
@@ -102,8 +105,10 @@ returns-clause-exact c =
     let own = c.gain-own.ensures.small in
     let first = is.small in
     let later = c.in_ok-after.ensures.small in
-    sum_of_stack s.instance.now s.path.now.blocks b c.args.cases.now c.args.k c.get.result.now (got c.args.cases.now c.args.k c.get.result.now c.get.ensures) c.args.outlook.now.sum c.requires.outlook.sum c.gain-own.result
-    c.gain-own.ensures.exact stack ((c.stacks_of_stations.ensures.own stack b.park).0 (c.in-Some.ensures.of no_stack)) prospect.gain c.in_ok-after.after is.gain (c.in_ok-after.ensures.exact case is.candidates)
+    sum_of_stack s.instance.now s.path.now.blocks b c.args.cases.now c.args.k c.get.result.now
+    (got c.args.cases.now c.args.k c.get.result.now c.get.ensures) c.args.outlook.now.sum c.requires.outlook.sum c.gain-own.result
+    c.gain-own.ensures.exact stack ((c.stacks_of_stations.ensures.own stack b.park).0 (c.in-Some.ensures.of no_stack)) prospect.gain c.in_ok-after.after is.gain
+    (c.in_ok-after.ensures.exact case is.candidates)
     (to_z w64 (of_z w64 c.with_fall.result))
     (omega (arith, ints, c.with_fall.ensures, sum.low, sum.high, own.low, own.high, first.low, first.high, later.low, later.high))
 
@@ -122,9 +127,12 @@ returns-clause-small c =
     let own = c.gain-own.ensures.small in
     let first = is.small in
     let later = c.in_ok-after.ensures.small in
-    c.sums_fit.ensures.choice s.instance.now s.path.now.blocks b c.args.cases.now c.args.k (to_z w64 (of_z w64 c.with_fall.result)) c.units.ensures.formed (blocks_within s.instance.now s.path.now.blocks c.requires.scene.each)
+    c.sums_fit.ensures.choice s.instance.now s.path.now.blocks b c.args.cases.now c.args.k (to_z w64 (of_z w64 c.with_fall.result)) c.units.ensures.formed
+    (blocks_within s.instance.now s.path.now.blocks c.requires.scene.each)
     c.requires.scene.path.apart c.requires.block.free c.requires.block.through c.requires.cases c.requires.there
-    (sum_of_stack s.instance.now s.path.now.blocks b c.args.cases.now c.args.k c.get.result.now (got c.args.cases.now c.args.k c.get.result.now c.get.ensures) c.args.outlook.now.sum c.requires.outlook.sum c.gain-own.result
-    c.gain-own.ensures.exact stack ((c.stacks_of_stations.ensures.own stack b.park).0 (c.in-Some.ensures.of no_stack)) prospect.gain c.in_ok-after.after is.gain (c.in_ok-after.ensures.exact case is.candidates)
+    (sum_of_stack s.instance.now s.path.now.blocks b c.args.cases.now c.args.k c.get.result.now
+    (got c.args.cases.now c.args.k c.get.result.now c.get.ensures) c.args.outlook.now.sum c.requires.outlook.sum c.gain-own.result
+    c.gain-own.ensures.exact stack ((c.stacks_of_stations.ensures.own stack b.park).0 (c.in-Some.ensures.of no_stack)) prospect.gain c.in_ok-after.after is.gain
+    (c.in_ok-after.ensures.exact case is.candidates)
     (to_z w64 (of_z w64 c.with_fall.result))
     (omega (arith, ints, c.with_fall.ensures, sum.low, sum.high, own.low, own.high, first.low, first.high, later.low, later.high)))

@@ -26,4 +26,5 @@ loop-k-preserved c =
 pub returns : goal.returns
 returns c =
     let s = c.args.scene.now in
-    subst (λ (n : ℕ). AreSums (IsChoiceSum s.instance.now s.path.now.blocks c.args.block.now c.args.cases.now) n c.loop-k.sums.items) (omega (arith, c.loop-k-test.false, c.len-k-end.ensures.value, c.loop-k.auto.k-end)) c.loop-k.invariant
+    subst (λ (n : ℕ). AreSums (IsChoiceSum s.instance.now s.path.now.blocks c.args.block.now c.args.cases.now) n c.loop-k.sums.items)
+    (omega (arith, c.loop-k-test.false, c.len-k-end.ensures.value, c.loop-k.auto.k-end)) c.loop-k.invariant

@@ -13,10 +13,12 @@ pub fixed_pieces-requires-clause-within : goal.fixed_pieces-requires-clause-with
 fixed_pieces-requires-clause-within c = blocks_within c.args.instance.now c.args.path.now c.requires.each
 
 pub free_pieces-requires-clause-within : goal.free_pieces-requires-clause-within
-free_pieces-requires-clause-within c = all_within c.args.instance.now c.args.events.now c.requires.candidates.0 c.args.path.now (seen c.args.stack) c.args.candidates.now c.requires.candidates.2
+free_pieces-requires-clause-within c = all_within c.args.instance.now c.args.events.now c.requires.candidates.0 c.args.path.now
+    (seen c.args.stack) c.args.candidates.now c.requires.candidates.2
 
 pub free_pieces-requires-clause-small : goal.free_pieces-requires-clause-small
-free_pieces-requires-clause-small c = little_gains c.args.instance.now c.args.events.now c.requires.candidates.0 c.args.path.now (seen c.args.stack) c.args.candidates.now c.requires.candidates.2
+free_pieces-requires-clause-small c = little_gains c.args.instance.now c.args.events.now c.requires.candidates.0 c.args.path.now
+    (seen c.args.stack) c.args.candidates.now c.requires.candidates.2
 
 pub greatest_gain-requires-clause-own : goal.greatest_gain-requires-clause-own
 greatest_gain-requires-clause-own c =
@@ -27,9 +29,11 @@ greatest_gain-requires-clause-own c =
     let ks = c.args.candidates.now in
     let case = c.requires.candidates.0 in
     let are = c.requires.candidates.2 in
-    own_lists (fixed_of_stack night e path stack) (free_spans night (entry_of e) (leave_of e) case (blocks_in ks)) (spans_of c.in_ok-fixed.fixed.items) (spans_of c.in_ok-free.free.items)
+    own_lists (fixed_of_stack night e path stack) (free_spans night (entry_of e) (leave_of e) case (blocks_in ks)) (spans_of c.in_ok-fixed.fixed.items)
+    (spans_of c.in_ok-free.free.items)
     c.in_ok-fixed.ensures (c.in_ok-free.ensures ∙ free_same night e case path stack ks are)
-    (c.gains_by_events.ensures.own night path (blocks_in ks) case stack (events_in e) (entry_of e) (leave_of e) c.units.ensures.formed c.requires.each c.requires.apart c.requires.events.numbers are.free)
+    (c.gains_by_events.ensures.own night path (blocks_in ks) case stack (events_in e) (entry_of e)
+    (leave_of e) c.units.ensures.formed c.requires.each c.requires.apart c.requires.events.numbers are.free)
 
 pub greatest_gain-requires-clause-small : goal.greatest_gain-requires-clause-small
 greatest_gain-requires-clause-small c =
@@ -55,5 +59,6 @@ returns c =
     (λ g gain. gain_tells (IsStackGain night path case stack) (events_in e) c.track_length-room.result (events_in e) (track_length night c.args.stack.track.0)
     (fixed_of_stack night e path stack) (free_spans night (entry_of e) (leave_of e) case (blocks_in ks)) xs ys g refl c.track_length-room.ensures c.in_ok-fixed.ensures
     (c.in_ok-free.ensures ∙ free_same night e case path stack ks are) gain
-    (λ most. c.gains_by_events.ensures.gain night path (blocks_in ks) case stack (events_in e) (entry_of e) (leave_of e) most c.units.ensures.formed c.requires.each c.requires.apart c.requires.events.numbers are.free))
+    (λ most. c.gains_by_events.ensures.gain night path (blocks_in ks) case stack (events_in e) (entry_of e)
+    (leave_of e) most c.units.ensures.formed c.requires.each c.requires.apart c.requires.events.numbers are.free))
     c.greatest_gain.ensures

@@ -29,8 +29,12 @@ stack_gain-requires-clause-candidates c =
     let s = c.args.scene.now in
     let first = c.requires.offers in
     let few = few_tracks c.station.result.now s.instance.now.station c.args.stack.track.0 c.station.ensures.exact c.station.ensures.station c.requires.track in
-    let is = looked s c.requires.scene first.0 c.args.offers.now first.2 (seen c.args.stack) few c.in_ok-candidates.candidates.items c.in_ok-candidates.ensures in
-    (first.0, first.1, candidates_at s.instance.now first.0 (seen c.args.stack) s.path.now.blocks c.blocks-path.result.now c.in_ok-candidates.candidates.items c.deref.result.now c.blocks-path.ensures c.deref.ensures.value is)
+    let is = looked s c.requires.scene first.0 c.args.offers.now first.2 (seen c.args.stack) few c.in_ok-candidates.candidates.items c.in_ok-candidates.ensures in (
+      first.0,
+      first.1,
+      candidates_at s.instance.now first.0 (seen c.args.stack) s.path.now.blocks c.blocks-path.result.now c.in_ok-candidates.candidates.items c.deref.result.now
+          c.blocks-path.ensures c.deref.ensures.value is,
+    )
 
 pub returns : goal.returns
 returns c =
@@ -43,9 +47,11 @@ returns c =
     let own : to_z w64 (of_z w64 gain) ≡ gain = omega (arith, ints, small.low, small.high) in
     λ case is are.
     let there = looked s c.requires.scene case c.args.offers.now are stack few c.in_ok-candidates.candidates.items c.in_ok-candidates.ensures in
-    let here = candidates_at night case stack s.path.now.blocks c.blocks-path.result.now c.in_ok-candidates.candidates.items c.deref.result.now c.blocks-path.ensures c.deref.ensures.value there in
+    let here = candidates_at night case stack s.path.now.blocks c.blocks-path.result.now c.in_ok-candidates.candidates.items c.deref.result.now c.blocks-path.ensures
+    c.deref.ensures.value there in
     record {
       candidates = there;
-      gain = subst (IsStackGain night s.path.now.blocks case stack) (sym own) (subst (λ (p : List Block). IsStackGain night p case stack gain) c.blocks-path.ensures (c.in_ok-gain.ensures.exact case here));
+      gain = subst (IsStackGain night s.path.now.blocks case stack) (sym own) (subst (λ (p : List Block). IsStackGain night p case stack gain) c.blocks-path.ensures
+          (c.in_ok-gain.ensures.exact case here));
       small = subst (IsWithin 319999999999680) (sym own) small;
     }

@@ -29,5 +29,6 @@ stacks-preserved c =
     let s = c.args.scene.now in
     let d : Stack = record { track = record { 0 = 0 }; side = A } in
     let offers = subst (AreOffers s.instance.now c.args.case.now.duals s.shapes.now) (sym c.deref.ensures.value) c.in_ok-offers.ensures in
-    zip_after (IsProspect s.instance.now s.path.now.blocks c.args.case.now) s.stacks.now c.stacks.stack-index d c.stacks.prospects.items c.push.new.self.items c.in_ok-prospect_of.field-0 c.stacks-test.true c.in_ok-push.ensures.items
+    zip_after (IsProspect s.instance.now s.path.now.blocks c.args.case.now) s.stacks.now c.stacks.stack-index d c.stacks.prospects.items c.push.new.self.items
+    c.in_ok-prospect_of.field-0 c.stacks-test.true c.in_ok-push.ensures.items
     c.stacks.invariant (c.in_ok-prospect_of.ensures c.args.case.now c.requires.case offers)

@@ -14,7 +14,8 @@ pub greatest-with_piece-requires : goal.greatest-with_piece-requires
 greatest-with_piece-requires t c =
     let d : Piece = record { from = 0; inside = 0; until = 0; past = 0; length = 0; gain = pos 0 } in
     let p = slice_index_or c.list_at-piece-items.result.now c.pieces.piece-index d in
-    let h = c.requires.ours (span_of p) (taken c.list_at-piece-items.result.now c.pieces.piece-index d (spans_at c.args.lists.now c.args.x) c.pieces-test.true c.list_at-piece-items.ensures) in
+    let h = c.requires.ours (span_of p) (taken c.list_at-piece-items.result.now c.pieces.piece-index d
+    (spans_at c.args.lists.now c.args.x) c.pieces-test.true c.list_at-piece-items.ensures) in
     let same : p.from ≡ c.args.x = h.1 in
     let long = c.requires.long in
     let m = c.decreases in
@@ -32,7 +33,8 @@ greatest-pieces-preserved t c =
       rows = c.in_ok-with_piece.ensures.rows;
       is = λ n le. let value = best_with (best n (fixed_in c.args.pieces.now) (free_in c.args.pieces.now)) c.args.key.end c.args.key.room in
           ap (left_with value ps (i + 1)) c.greater-gain.ensures
-          ∙ turned value ps i d c.pieces.gain c.in_ok-with_piece.field-0 _ c.pieces-test.true (c.in_ok-with_piece.ensures.is n (omega (arith, le, same))) (c.pieces.invariant.is n le);
+          ∙ turned value ps i d c.pieces.gain c.in_ok-with_piece.field-0 _ c.pieces-test.true (c.in_ok-with_piece.ensures.is n (omega (arith, le, same)))
+          (c.pieces.invariant.is n le);
     }
 
 pub step-greatest-requires : goal.step-greatest-requires
@@ -52,7 +54,10 @@ step-greatest-requires t c =
             end,
             (
               long,
-              (λ s i. let h = listed (fixed_in p) _ c.args.x p.fixed_at.items _ c.requires.pieces.fixed_at lt c.deref-then-not-is_empty.ensures.value s i in (inl h.0, h.1), (c.requires.row, c.requires.long)),
+              (
+                λ s i. let h = listed (fixed_in p) _ c.args.x p.fixed_at.items _ c.requires.pieces.fixed_at lt c.deref-then-not-is_empty.ensures.value s i in (inl h.0, h.1),
+                (c.requires.row, c.requires.long),
+              ),
             ),
           ),
         ),
@@ -76,7 +81,10 @@ step-greatest-requires-2 t c =
             end,
             (
               long,
-              (λ s i. let h = listed (free_in p) _ c.args.x p.free_at.items _ c.requires.pieces.free_at lt c.deref-2.ensures.value s i in (inr h.0, h.1), (c.requires.row, c.requires.long)),
+              (
+                λ s i. let h = listed (free_in p) _ c.args.x p.free_at.items _ c.requires.pieces.free_at lt c.deref-2.ensures.value s i in (inr h.0, h.1),
+                (c.requires.row, c.requires.long),
+              ),
             ),
           ),
         ),
@@ -92,7 +100,8 @@ step-returns-then-not-is_empty-clause-is t c =
     let many = some_long (length c.list_at.result.now) _ c.is_empty.ensures c.if-not-is_empty.true in
     let some = some_there (fixed_in p) _ c.args.x p.fixed_at.items _ c.requires.pieces.fixed_at lt c.deref.ensures.value c.list_at.result.now c.list_at.ensures many in
     if_ok _ _ c.greatest.result
-    (λ g h n le. by_fixed (best n (fixed_in p) (free_in p)) (fixed_in p) (free_in p) c.args.x c.args.key.end c.args.key.room start (spans_at c.deref-then-not-is_empty.result.now c.args.x) g
+    (λ g h n le. by_fixed (best n (fixed_in p) (free_in p)) (fixed_in p) (free_in p) c.args.x c.args.key.end c.args.key.room start
+    (spans_at c.deref-then-not-is_empty.result.now c.args.x) g
     (here (fixed_in p) _ c.args.x p.fixed_at.items _ c.requires.pieces.fixed_at lt c.deref-then-not-is_empty.ensures.value) some (h n le)
     ∙ sym (c.nests.ensures.steps (fixed_in p) (free_in p) n c.args.x c.args.key.end c.args.key.room c.requires.pieces.own le)) c.greatest.ensures.is
 
@@ -106,7 +115,8 @@ step-returns-clause-is t c =
     let many = none_long (length c.list_at.result.now) _ c.is_empty.ensures c.if-not-is_empty.false in
     let none = none_there (fixed_in p) _ c.args.x p.fixed_at.items _ c.requires.pieces.fixed_at lt c.deref.ensures.value c.list_at.result.now c.list_at.ensures many in
     let back = c.from.ensures in
-    let without = in_row (fixed_in p) (free_in p) (c.args.x + 1) c.args.key.end c.args.key.room c.args.row.now c.from.result c.requires.row (omega (arith, back, start)) (omega (arith, start)) (omega (arith, back, start, known)) None in
+    let without = in_row (fixed_in p) (free_in p) (c.args.x + 1) c.args.key.end c.args.key.room c.args.row.now c.from.result c.requires.row (omega (arith, back, start))
+    (omega (arith, start)) (omega (arith, back, start, known)) None in
     if_ok _ _ c.greatest-2.result
     (λ g h n le. by_free (best n (fixed_in p) (free_in p)) (fixed_in p) (free_in p) c.args.x c.args.key.end c.args.key.room start (spans_at c.deref-2.result.now c.args.x) _ g
     (here (free_in p) _ c.args.x p.free_at.items _ c.requires.pieces.free_at lt c.deref-2.ensures.value) none (without n (omega (arith, le))) (h n le)
@@ -118,7 +128,8 @@ value-returns-clause-is t c =
     let gain = c.index-gain.ensures in
     let long = c.in_ok-row.ensures.is.long in
     let lt = c.if-key-x.false in
-    let w = in_row (fixed_in c.args.pieces.now) (free_in c.args.pieces.now) c.args.x c.args.key.end c.args.key.room c.in_ok-row.row.items c.from.result c.in_ok-row.ensures.is.each (omega (arith, back, lt)) (omega (arith, lt)) (omega (arith, back, lt, long)) in
+    let w = in_row (fixed_in c.args.pieces.now) (free_in c.args.pieces.now) c.args.x c.args.key.end c.args.key.room c.in_ok-row.row.items c.from.result c.in_ok-row.ensures.is.each
+    (omega (arith, back, lt)) (omega (arith, lt)) (omega (arith, back, lt, long)) in
     λ n le. gain ∙ w c.index-gain.result.now n le
 
 pub with_piece-bounds-row-from : goal.with_piece-bounds-row-from
@@ -141,7 +152,8 @@ with_piece-value-requires t c =
     (let m = c.decreases in omega (arith, m, d, f), (c.requires.pieces, (c.requires.rows, omega (arith, d, e, f))))
 
 pub with_piece-plus-requires-clause-gain : goal.with_piece-plus-requires-clause-gain
-with_piece-plus-requires-clause-gain t c = let w = c.requires.pieces.small (span_of c.args.piece) c.requires.piece in subst (IsWithin 1000000000000000) (sym (seen c.args.piece.gain w)) w
+with_piece-plus-requires-clause-gain t c = let w = c.requires.pieces.small (span_of c.args.piece) c.requires.piece in subst (IsWithin 1000000000000000)
+    (sym (seen c.args.piece.gain w)) w
 
 pub with_piece-plus-requires-clause-inside : goal.with_piece-plus-requires-clause-inside
 with_piece-plus-requires-clause-inside t c =
@@ -163,7 +175,8 @@ with_piece-plus-requires-clause-behind t c =
     let back = c.from.ensures in
     let long = c.requires.long in
     let f = c.if-piece-key.false in
-    let behind = in_row (fixed_in c.args.pieces.now) (free_in c.args.pieces.now) c.args.piece.past c.args.key.end c.args.key.room c.args.row.now c.from.result c.requires.row (omega (arith, back, f)) (omega (arith, f)) (omega (arith, a, b, d, back, long, f)) None in
+    let behind = in_row (fixed_in c.args.pieces.now) (free_in c.args.pieces.now) c.args.piece.past c.args.key.end c.args.key.room c.args.row.now c.from.result c.requires.row
+    (omega (arith, back, f)) (omega (arith, f)) (omega (arith, a, b, d, back, long, f)) None in
     let e = c.requires.end in
     let few = p.few in
     gain_small _ _ (λ s i. (p.own.spans s i, p.small s i)) _ _ _ _ (omega (arith, e, few)) behind
@@ -178,7 +191,8 @@ with_piece-returns-clause-is t c =
     let back = c.from.ensures in
     let long = c.requires.long in
     let f = c.if-piece-key.false in
-    let behind = in_row (fixed_in c.args.pieces.now) (free_in c.args.pieces.now) c.args.piece.past c.args.key.end c.args.key.room c.args.row.now c.from.result c.requires.row (omega (arith, back, f)) (omega (arith, f)) (omega (arith, a, b, d, back, long, f)) None in
+    let behind = in_row (fixed_in c.args.pieces.now) (free_in c.args.pieces.now) c.args.piece.past c.args.key.end c.args.key.room c.args.row.now c.from.result c.requires.row
+    (omega (arith, back, f)) (omega (arith, f)) (omega (arith, a, b, d, back, long, f)) None in
     let few = c.if-piece-key-2.false in
     let own = seen c.args.piece.gain (p.small (span_of c.args.piece) c.requires.piece) in
     λ n le. joined (best n (fixed_in c.args.pieces.now) (free_in c.args.pieces.now)) c.args.key.end c.args.key.room (span_of c.args.piece) _ c.in_ok-inside.inside _ _

@@ -11,14 +11,16 @@ returns-in_err-bytes-clause-told g c = λ view seen.
     let word = g.F.InputFile.word in
     let states = g.F.InputFile.states c.args.over.now in
     subst (λ (n : List ℕ). Holding view n (λ b. Loads c.from_residual.result (stated_by word states b))) c.name.ensures
-    (holding_map _ _ _ _ (λ b h. loads_failed {X = g.row.F-Value.Denot} _ _ (stated_by word states b) c.from_residual.ensures (refused_word word c.word.result states b _ c.word.ensures h)) (c.in_err-bytes.ensures.told view seen))
+    (holding_map _ _ _ _ (λ b h. loads_failed {X = g.row.F-Value.Denot} _ _ (stated_by word states b) c.from_residual.ensures
+    (refused_word word c.word.result states b _ c.word.ensures h)) (c.in_err-bytes.ensures.told view seen))
 
 pub returns-clause-told : goal.returns-clause-told
 returns-clause-told g c = λ view seen.
     let word = g.F.InputFile.word in
     let states = g.F.InputFile.states c.args.over.now in
     subst (λ (n : List ℕ). Holding view n (λ b. Loads c.judge.result (stated_by word states b))) c.name.ensures
-    (holding_map _ _ _ _ (λ b h. judged_bytes {X = g.row.F-Value.Denot} word states _ b _ (c.deref.ensures.value ∙ h.0) c.judge.ensures.stated) (c.in_ok-bytes.ensures.told view seen))
+    (holding_map _ _ _ _ (λ b h. judged_bytes {X = g.row.F-Value.Denot} word states _ b _ (c.deref.ensures.value ∙ h.0) c.judge.ensures.stated)
+    (c.in_ok-bytes.ensures.told view seen))
 
 pub returns-clause-heard : goal.returns-clause-heard
 returns-clause-heard g c = heard_with g.F.InputFile.word _ _ _ c.judge.result (hears_as _ _ _ _ c.name.ensures c.in_ok-bytes.ensures.heard) c.judge.ensures.line

@@ -10,7 +10,8 @@ pub returns-in_err-value-clause-leads : goal.returns-in_err-value-clause-leads
 returns-in_err-value-clause-leads g c = λ view seen.
     let S = g.S.Store in
     let I = g.I.Inputs in
-    leads_refused {X = g.row.I-Value.Denot} view (names_in (I.inputs c.args.inputs.now)) (I.states c.args.inputs.now) (g.Q.Question.answers c.args.question.now) (known (S.told c.args.store.now) (S.stored c.args.store.now)) (known (S.told c.load.new.store) (S.stored c.load.new.store))
+    leads_refused {X = g.row.I-Value.Denot} view (names_in (I.inputs c.args.inputs.now)) (I.states c.args.inputs.now) (g.Q.Question.answers c.args.question.now)
+    (known (S.told c.args.store.now) (S.stored c.args.store.now)) (known (S.told c.load.new.store) (S.stored c.load.new.store))
     c.requires.names (c.in_err-value.ensures.files, c.in_err-value.ensures.stored) c.from_residual.result _ c.from_residual.ensures (c.in_err-value.ensures.told view seen)
 
 pub returns-in_err-answer-clause-heard : goal.returns-in_err-answer-clause-heard
@@ -20,7 +21,8 @@ pub returns-clause-leads : goal.returns-clause-leads
 returns-clause-leads g c = λ view seen.
     let S = g.S.Store in
     let I = g.I.Inputs in
-    leads_answer {X = g.row.I-Value.Denot} view (names_in (I.inputs c.args.inputs.now)) (I.states c.args.inputs.now) (g.Q.Question.answers c.args.question.now) (known (S.told c.args.store.now) (S.stored c.args.store.now)) (known (S.told c.load.new.store) (S.stored c.load.new.store))
+    leads_answer {X = g.row.I-Value.Denot} view (names_in (I.inputs c.args.inputs.now)) (I.states c.args.inputs.now) (g.Q.Question.answers c.args.question.now)
+    (known (S.told c.args.store.now) (S.stored c.args.store.now)) (known (S.told c.load.new.store) (S.stored c.load.new.store))
     c.requires.names (c.in_ok-value.ensures.files, c.in_ok-value.ensures.stored) _ c.in_ok-answer.field-0 (c.in_ok-value.ensures.told view seen) c.in_ok-answer.ensures
 
 pub returns-in_err-value-clause-first : goal.returns-in_err-value-clause-first

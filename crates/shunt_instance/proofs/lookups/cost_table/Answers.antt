@@ -8,5 +8,6 @@ routes-init c = record { within = omega arith; table = costs_start c.args.routes
 pub routes-preserved : goal.routes-preserved
 routes-preserved c = record {
   within = omega arith;
-  table = rw c.route_cell.ensures.exact (costs_back c.args.routes.now c.routes.left c.routes.costs.items _ c.routes-test.true c.routes.invariant.within c.requires c.routes.invariant.table);
+  table = rw c.route_cell.ensures.exact (costs_back c.args.routes.now c.routes.left c.routes.costs.items _ c.routes-test.true c.routes.invariant.within c.requires
+      c.routes.invariant.table);
 }

@@ -9,7 +9,8 @@ permits-init c = record { within = omega arith; table = pairs_start c.args.permi
 pub permits-preserved : goal.permits-preserved
 permits-preserved c = record {
   within = omega arith;
-  table = rw c.permit_cell.ensures.exact (pairs_back c.args.permits.now c.permits.left c.permits.pairs.items _ c.permits-test.true c.permits.invariant.within c.requires c.permits.invariant.table);
+  table = rw c.permit_cell.ensures.exact (pairs_back c.args.permits.now c.permits.left c.permits.pairs.items _ c.permits-test.true c.permits.invariant.within c.requires
+      c.permits.invariant.table);
 }
 
 pub returns : goal.returns

@@ -7,4 +7,5 @@ use Rattle.shunt_instance.proofs.numbering.sorted.Goals as goal
 pub returns : goal.returns
 returns c =
     let keys = answers_always _ _ _ (λ f a r g h. search rules) in
-    stable_sort _ _ (IsNonDecreasingBy-from_sort (λ t. t.minute) _ (c.in_ok-sort_by_key.ensures.sorted (λ t. t.minute) keys)) (c.sort_by_key.ensures.stable (λ t. t.minute) keys) ∙ ap sort_by_minute c.into_vec-trains.ensures
+    stable_sort _ _ (IsNonDecreasingBy-from_sort (λ t. t.minute) _ (c.in_ok-sort_by_key.ensures.sorted (λ t. t.minute) keys)) (c.sort_by_key.ensures.stable (λ t. t.minute) keys)
+    ∙ ap sort_by_minute c.into_vec-trains.ensures

@@ -5,17 +5,21 @@ use Rattle.shunt_make.proofs.making.make.Goals as goal
 
 pub returns-clause-formed : goal.returns-clause-formed
 returns-clause-formed c =
-    let n = night_made c.args.number c.args.units c.in_ok-station.station c.in_ok-timetable.timetable c.requires.units c.in_ok-station.ensures.made (c.in_ok-timetable.ensures ∙ ap (λ (x : ℕ). timetable_of x c.args.units) c.in_ok-station.ensures.state) in
+    let n = night_made c.args.number c.args.units c.in_ok-station.station c.in_ok-timetable.timetable c.requires.units c.in_ok-station.ensures.made
+    (c.in_ok-timetable.ensures ∙ ap (λ (x : ℕ). timetable_of x c.args.units) c.in_ok-station.ensures.state) in
     (n.0, n.1)
 
 pub returns-clause-matching : goal.returns-clause-matching
-returns-clause-matching c = (night_made c.args.number c.args.units c.in_ok-station.station c.in_ok-timetable.timetable c.requires.units c.in_ok-station.ensures.made (c.in_ok-timetable.ensures ∙ ap (λ (x : ℕ). timetable_of x c.args.units) c.in_ok-station.ensures.state)).2
+returns-clause-matching c = (night_made c.args.number c.args.units c.in_ok-station.station c.in_ok-timetable.timetable c.requires.units c.in_ok-station.ensures.made
+    (c.in_ok-timetable.ensures ∙ ap (λ (x : ℕ). timetable_of x c.args.units) c.in_ok-station.ensures.state)).2
 
 pub returns-clause-tracks : goal.returns-clause-tracks
 returns-clause-tracks c = tracks_made c.args.number c.args.units c.in_ok-station.station c.in_ok-station.ensures.made
 
 pub returns-clause-arriving : goal.returns-clause-arriving
-returns-clause-arriving c = arriving_made (after_station c.args.number c.args.units) c.args.units c.in_ok-timetable.timetable (c.in_ok-timetable.ensures ∙ ap (λ (x : ℕ). timetable_of x c.args.units) c.in_ok-station.ensures.state)
+returns-clause-arriving c = arriving_made (after_station c.args.number c.args.units) c.args.units c.in_ok-timetable.timetable
+    (c.in_ok-timetable.ensures ∙ ap (λ (x : ℕ). timetable_of x c.args.units) c.in_ok-station.ensures.state)
 
 pub returns-clause-departing : goal.returns-clause-departing
-returns-clause-departing c = departing_made (after_station c.args.number c.args.units) c.args.units c.in_ok-timetable.timetable (c.in_ok-timetable.ensures ∙ ap (λ (x : ℕ). timetable_of x c.args.units) c.in_ok-station.ensures.state)
+returns-clause-departing c = departing_made (after_station c.args.number c.args.units) c.args.units c.in_ok-timetable.timetable
+    (c.in_ok-timetable.ensures ∙ ap (λ (x : ℕ). timetable_of x c.args.units) c.in_ok-station.ensures.state)

@@ -7,9 +7,12 @@ made_ways-requires c = few_tracks c.args.draws.now.state c.args.units c.deref.re
 
 pub returns-clause-made : goal.returns-clause-made
 returns-clause-made c =
-    station_is c.args.draws.now.state c.args.units c.made_tracks.new.draws.state c.in_ok-new.field-0 c.from_vec.result c.from_vec-2.result c.from_vec-3.result c.deref.result.now c.deref-2.result.now c.from_vec-4.result c.from_vec-5.result
-    c.in_ok-new.ensures (c.from_vec.ensures ∙ c.in_ok-made_types.ensures) (c.from_vec-2.ensures ∙ c.in_ok-made_platforms.ensures) (c.from_vec-3.ensures ∙ c.in_ok-tracks.ensures.made)
-    (c.deref.ensures.value ∙ c.in_ok-tracks.ensures.made) c.in_ok-tracks.ensures.state (c.deref-2.ensures.value ∙ c.in_ok-ways.ensures) (c.from_vec-4.ensures ∙ c.in_ok-routes.ensures.made) (c.from_vec-5.ensures ∙ c.new-2.ensures.items)
+    station_is c.args.draws.now.state c.args.units c.made_tracks.new.draws.state c.in_ok-new.field-0 c.from_vec.result c.from_vec-2.result c.from_vec-3.result c.deref.result.now
+    c.deref-2.result.now c.from_vec-4.result c.from_vec-5.result
+    c.in_ok-new.ensures (c.from_vec.ensures ∙ c.in_ok-made_types.ensures) (c.from_vec-2.ensures ∙ c.in_ok-made_platforms.ensures)
+    (c.from_vec-3.ensures ∙ c.in_ok-tracks.ensures.made)
+    (c.deref.ensures.value ∙ c.in_ok-tracks.ensures.made) c.in_ok-tracks.ensures.state (c.deref-2.ensures.value ∙ c.in_ok-ways.ensures)
+    (c.from_vec-4.ensures ∙ c.in_ok-routes.ensures.made) (c.from_vec-5.ensures ∙ c.new-2.ensures.items)
 
 pub returns-clause-state : goal.returns-clause-state
 returns-clause-state c =

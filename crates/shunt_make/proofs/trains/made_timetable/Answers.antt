@@ -8,4 +8,5 @@ departing_trains-requires c = few_arriving c.args.draws.now.state c.args.units c
 pub returns : goal.returns
 returns c =
     timetable_is c.args.draws.now.state c.args.units c.arriving_trains.new.draws.state c.from_vec.result c.deref.result.now c.from_vec-2.result
-    (c.from_vec.ensures ∙ c.in_ok-arrive.ensures.made) (c.deref.ensures.value ∙ c.in_ok-arrive.ensures.made) c.in_ok-arrive.ensures.state (c.from_vec-2.ensures ∙ c.in_ok-depart.ensures)
+    (c.from_vec.ensures ∙ c.in_ok-arrive.ensures.made) (c.deref.ensures.value ∙ c.in_ok-arrive.ensures.made) c.in_ok-arrive.ensures.state
+    (c.from_vec-2.ensures ∙ c.in_ok-depart.ensures)

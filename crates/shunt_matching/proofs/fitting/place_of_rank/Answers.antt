@@ -13,4 +13,5 @@ pub returns : goal.returns
 returns g c =
     let passes = is_of_kind (g.V.Entries.entries c.args.vs.now) c.args.vm.now c.args.kind in
     let at_end : c.loop-v.v ≡ length (g.V.Entries.entries c.args.vs.now) = omega arith in
-    found_none (length (g.V.Entries.entries c.args.vs.now)) passes c.args.rank 65535 (omega (arith, ap (λ n. count_below n passes) at_end, c.loop-v.invariant.counted, c.loop-v.invariant.below))
+    found_none (length (g.V.Entries.entries c.args.vs.now)) passes c.args.rank 65535
+    (omega (arith, ap (λ n. count_below n passes) at_end, c.loop-v.invariant.counted, c.loop-v.invariant.below))

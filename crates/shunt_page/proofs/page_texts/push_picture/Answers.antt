@@ -6,4 +6,7 @@ use Rattle.shunt_page.proofs.page_texts.push_picture.Goals as goal
 
 pub returns : goal.returns
 unfolding Rattle.shunt_page.specs.defs.PageTexts.picture_part
-returns c = on_ok c.push-2.result _ _ c.push-2.ensures (λ last. add c.args.text.now c.push.new.self c.push-2.new.self (picture_start ++ svg_of c.args.page.now.picture) (codes "</div>\n</section>\n") (add c.args.text.now c.push_picture_start.new.text c.push.new.self picture_start (svg_of c.args.page.now.picture) c.in_ok-push_picture_start.ensures (c.in_ok-push.ensures ∙ ap (λ b. c.push_picture_start.new.text ++ b) (c.deref.ensures.value ∙ c.in_ok-shown.ensures))) last)
+returns c = on_ok c.push-2.result _ _ c.push-2.ensures (λ last. add c.args.text.now c.push.new.self c.push-2.new.self (picture_start ++ svg_of c.args.page.now.picture)
+    (codes "</div>\n</section>\n") (add c.args.text.now c.push_picture_start.new.text c.push.new.self picture_start
+    (svg_of c.args.page.now.picture) c.in_ok-push_picture_start.ensures (c.in_ok-push.ensures
+    ∙ ap (λ b. c.push_picture_start.new.text ++ b) (c.deref.ensures.value ∙ c.in_ok-shown.ensures))) last)

@@ -4,4 +4,6 @@ use Rattle.shunt_page.proofs.row_texts.open_depart.Goals as goal
 
 pub returns : goal.returns
 unfolding Rattle.shunt_page.specs.defs.RowTexts.depart_open
-returns c = on_ok c.push-3.result _ _ c.push-3.ensures (λ last. add c.args.text.now c.push-2.new.self c.push-3.new.self (codes "<tr data-depart='" ++ c.args.name.now) (codes "'>") (add c.args.text.now c.push.new.self c.push-2.new.self (codes "<tr data-depart='") (c.args.name.now) c.in_ok-push.ensures (c.in_ok-push-2.ensures ∙ ap (λ b. c.push.new.self ++ b) c.bytes.ensures.value)) last)
+returns c = on_ok c.push-3.result _ _ c.push-3.ensures (λ last. add c.args.text.now c.push-2.new.self c.push-3.new.self (codes "<tr data-depart='" ++ c.args.name.now) (codes "'>")
+    (add c.args.text.now c.push.new.self c.push-2.new.self (codes "<tr data-depart='") (c.args.name.now) c.in_ok-push.ensures
+    (c.in_ok-push-2.ensures ∙ ap (λ b. c.push.new.self ++ b) c.bytes.ensures.value)) last)

@@ -12,7 +12,8 @@ loop-hour-preserved c =
     record {
       from = omega (arith, from);
       to = omega (arith, from, to, lt);
-      text = texts_more (hour_text c.args.picture.now) c.args.picture.now.from (c.loop-hour.hour - c.args.picture.now.from) _ c.loop-hour.hour c.args.text.now c.loop-hour.text c.push_hour.new.text (omega (arith, from)) (omega (arith, from)) c.loop-hour.invariant.text c.in_ok-push_hour.ensures;
+      text = texts_more (hour_text c.args.picture.now) c.args.picture.now.from (c.loop-hour.hour - c.args.picture.now.from) _ c.loop-hour.hour c.args.text.now c.loop-hour.text
+          c.push_hour.new.text (omega (arith, from)) (omega (arith, from)) c.loop-hour.invariant.text c.in_ok-push_hour.ensures;
     }
 
 pub returns : goal.returns

@@ -6,4 +6,6 @@ use Rattle.shunt_picture.proofs.drawing.push_loose_where.Goals as goal
 
 pub returns : goal.returns
 unfolding Rattle.shunt_picture.specs.defs.PictureTexts.loose_where
-returns c = on_ok c.push_loose_times.result _ _ c.push_loose_times.ensures (λ last. add c.args.text.now c.push_track.new.text c.push_loose_times.new.text (codes "\nnot on a track" ++ track_words c.args.track.now) (loose_times c.args.enter c.args.leave) (add c.args.text.now c.push.new.self c.push_track.new.text (codes "\nnot on a track") (track_words c.args.track.now) c.in_ok-push.ensures c.in_ok-push_track.ensures) last)
+returns c = on_ok c.push_loose_times.result _ _ c.push_loose_times.ensures (λ last. add c.args.text.now c.push_track.new.text c.push_loose_times.new.text
+    (codes "\nnot on a track" ++ track_words c.args.track.now) (loose_times c.args.enter c.args.leave)
+    (add c.args.text.now c.push.new.self c.push_track.new.text (codes "\nnot on a track") (track_words c.args.track.now) c.in_ok-push.ensures c.in_ok-push_track.ensures) last)

@@ -4,4 +4,9 @@ use Rattle.shunt_picture.proofs.drawing.push_seen.Goals as goal
 
 pub returns : goal.returns
 unfolding Rattle.shunt_picture.specs.defs.PictureTexts.seen_text
-returns c = on_ok c.push-3.result _ _ c.push-3.ensures (λ last. add c.args.text.now c.push_number-2.new.self c.push-3.new.self (codes " viewBox='0 0 " ++ decimal c.args.width ++ codes " " ++ decimal c.args.height) (codes "'") (add c.args.text.now c.push-2.new.self c.push_number-2.new.self (codes " viewBox='0 0 " ++ decimal c.args.width ++ codes " ") (decimal c.args.height) (add c.args.text.now c.push_number.new.self c.push-2.new.self (codes " viewBox='0 0 " ++ decimal c.args.width) (codes " ") (add c.args.text.now c.push.new.self c.push_number.new.self (codes " viewBox='0 0 ") (decimal c.args.width) c.in_ok-push.ensures c.in_ok-push_number.ensures) c.in_ok-push-2.ensures) c.in_ok-push_number-2.ensures) last)
+returns c = on_ok c.push-3.result _ _ c.push-3.ensures (λ last. add c.args.text.now c.push_number-2.new.self c.push-3.new.self
+    (codes " viewBox='0 0 " ++ decimal c.args.width ++ codes " " ++ decimal c.args.height) (codes "'")
+    (add c.args.text.now c.push-2.new.self c.push_number-2.new.self (codes " viewBox='0 0 " ++ decimal c.args.width ++ codes " ") (decimal c.args.height)
+    (add c.args.text.now c.push_number.new.self c.push-2.new.self (codes " viewBox='0 0 " ++ decimal c.args.width) (codes " ")
+    (add c.args.text.now c.push.new.self c.push_number.new.self (codes " viewBox='0 0 ") (decimal c.args.width) c.in_ok-push.ensures c.in_ok-push_number.ensures)
+    c.in_ok-push-2.ensures) c.in_ok-push_number-2.ensures) last)

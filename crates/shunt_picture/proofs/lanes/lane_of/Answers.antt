@@ -12,7 +12,8 @@ use Rattle.shunt_picture.proofs.lanes.lane_of.Goals as goal
 
 pub bars_of-requires : goal.bars_of-requires
 bars_of-requires c =
-    seats_within c.args.instance.now c.in_ok-standings.standings.items c.deref.result.now c.in_ok-seats.seats.items c.deref-3.result.now c.in_ok-standings.ensures.within c.deref.ensures.value c.in_ok-seats.ensures.same c.deref-3.ensures.value
+    seats_within c.args.instance.now c.in_ok-standings.standings.items c.deref.result.now c.in_ok-seats.seats.items c.deref-3.result.now c.in_ok-standings.ensures.within
+    c.deref.ensures.value c.in_ok-seats.ensures.same c.deref-3.ensures.value
 
 pub last_row-requires : goal.last_row-requires
 last_row-requires c = subst (λ (l : List Seat). All (λ s. IsRowAmong (length l) s.row) l) (sym c.deref-6.ensures.value) c.in_ok-seats.ensures.among

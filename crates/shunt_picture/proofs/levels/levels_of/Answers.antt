@@ -11,7 +11,9 @@ loop-minute-preserved c =
     record {
       from = omega (arith, from);
       to = omega (arith, from, to, lt);
-      levels = mapped_noted (level_at c.args.stays.now) (is_shown c.args.stays.now c.args.from) c.args.from (c.loop-minute.minute - c.args.from) _ c.loop-minute.minute c.loop-minute.levels.items c.note_level.new.levels.items (omega (arith, from)) (omega (arith, from)) c.loop-minute.invariant.levels c.in_ok-note_level.ensures;
+      levels = mapped_noted (level_at c.args.stays.now) (is_shown c.args.stays.now c.args.from) c.args.from
+          (c.loop-minute.minute - c.args.from) _ c.loop-minute.minute c.loop-minute.levels.items c.note_level.new.levels.items (omega (arith, from))
+          (omega (arith, from)) c.loop-minute.invariant.levels c.in_ok-note_level.ensures;
     }
 
 pub returns : goal.returns

@@ -11,6 +11,7 @@ loop-k-preserved c =
     let end = c.departures-k-end.ensures.exact in
     let less = c.earlier-first.ensures.less in
     record {
-      exact = moves_more c.args.instance.now.depart c.loop-k.k c.loop-k.first _ (omega (arith, lt, end)) old.exact (c.earlier-first.ensures.exact ∙ ap (earlier c.loop-k.first) c.depart.ensures.exact);
+      exact = moves_more c.args.instance.now.depart c.loop-k.k c.loop-k.first _ (omega (arith, lt, end)) old.exact
+          (c.earlier-first.ensures.exact ∙ ap (earlier c.loop-k.first) c.depart.ensures.exact);
       small = omega (arith, small, less);
     }

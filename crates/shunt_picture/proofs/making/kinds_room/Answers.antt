@@ -4,7 +4,8 @@ use Rattle.shunt_picture.proofs.making.kinds_room.Goals as goal
 
 pub loop-kind-preserved : goal.loop-kind-preserved
 loop-kind-preserved c = record {
-  each = widest_noted kind_width c.args.kinds.now c.loop-kind.kind-index c.kind-item.result c.loop-kind.room _ c.loop-kind-test.true c.kind-item.is c.loop-kind.invariant.each c.with_kind-room.ensures.exact;
+  each = widest_noted kind_width c.args.kinds.now c.loop-kind.kind-index c.kind-item.result c.loop-kind.room _ c.loop-kind-test.true c.kind-item.is c.loop-kind.invariant.each
+      c.with_kind-room.ensures.exact;
   small = c.with_kind-room.ensures.small c.loop-kind.invariant.small;
 }
 

@@ -4,7 +4,8 @@ use Rattle.shunt_picture.proofs.making.looses_room.Goals as goal
 
 pub loop-loose-preserved : goal.loop-loose-preserved
 loop-loose-preserved c = record {
-  each = widest_noted loose_width c.args.looses.now c.loop-loose.loose-index c.loose-item.result c.loop-loose.room _ c.loop-loose-test.true c.loose-item.is c.loop-loose.invariant.each c.with_loose-room.ensures.exact;
+  each = widest_noted loose_width c.args.looses.now c.loop-loose.loose-index c.loose-item.result c.loop-loose.room _ c.loop-loose-test.true c.loose-item.is
+      c.loop-loose.invariant.each c.with_loose-room.ensures.exact;
   small = c.with_loose-room.ensures.small c.loop-loose.invariant.small;
 }
 

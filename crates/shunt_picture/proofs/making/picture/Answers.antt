@@ -41,7 +41,8 @@ returns-clause-plan c =
       lanes = subst (λ (ls : List Lane). All (IsLaneOf night (plan_findings night plan) plan.blocks from to) ls) (sym c.from_vec-6.ensures)
           (subst (λ (f : List Finding). All (IsLaneOf night f plan.blocks from to) lanes) found
           (subst (λ (bs : List Block). All (IsLaneOf night c.as_slice-findings.result.now bs from to) lanes) listed c.in_ok-stack.ensures.lanes));
-      loose = c.from_vec-7.ensures ∙ c.in_ok-loose.ensures ∙ ap (λ (f : List Finding). looses_of night f c.as_slice-blocks.result.now) found ∙ ap (looses_of night (plan_findings night plan)) listed;
+      loose = c.from_vec-7.ensures ∙ c.in_ok-loose.ensures ∙ ap (λ (f : List Finding). looses_of night f c.as_slice-blocks.result.now) found
+          ∙ ap (looses_of night (plan_findings night plan)) listed;
     }
 
 pub returns-clause-layout : goal.returns-clause-layout
@@ -57,14 +58,18 @@ returns-clause-layout c =
       kind_columns = c.columns_of-kind_columns.ensures;
       loose_columns = c.columns_of-loose_columns.ensures;
       arrive_rows = subst (λ (rows : List ℕ). AreTrainRows from c.from_vec-2.result rows) (sym c.from_vec-3.ensures)
-          (subst (λ (ts : List TrainMark). AreTrainRows from ts c.in_ok-arrive_rows.arrive_rows.items) (c.deref.ensures.value ∙ sym c.from_vec-2.ensures) c.in_ok-arrive_rows.ensures);
+          (subst (λ (ts : List TrainMark). AreTrainRows from ts c.in_ok-arrive_rows.arrive_rows.items)
+          (c.deref.ensures.value ∙ sym c.from_vec-2.ensures) c.in_ok-arrive_rows.ensures);
       depart_rows = subst (λ (rows : List ℕ). AreTrainRows from c.from_vec-4.result rows) (sym c.from_vec-5.ensures)
-          (subst (λ (ts : List TrainMark). AreTrainRows from ts c.in_ok-depart_rows.depart_rows.items) (c.deref-2.ensures.value ∙ sym c.from_vec-4.ensures) c.in_ok-depart_rows.ensures);
-      arrive_top = ap (λ n. 64 + n) (c.lines_high-arrive_top.ensures.exact ∙ ap (λ n. lines_high n kind_columns) (c.len.ensures ∙ c.in_ok-kinds.kinds.ok.0 ∙ ap length (sym c.from_vec.ensures)));
+          (subst (λ (ts : List TrainMark). AreTrainRows from ts c.in_ok-depart_rows.depart_rows.items)
+          (c.deref-2.ensures.value ∙ sym c.from_vec-4.ensures) c.in_ok-depart_rows.ensures);
+      arrive_top = ap (λ n. 64 + n) (c.lines_high-arrive_top.ensures.exact ∙ ap (λ n. lines_high n kind_columns)
+          (c.len.ensures ∙ c.in_ok-kinds.kinds.ok.0 ∙ ap length (sym c.from_vec.ensures)));
       depart_top = ap (λ n. arrive_top + n + 8) (c.rows_high.ensures.exact ∙ ap trains_high (c.deref-4.ensures.value ∙ sym c.from_vec-3.ensures));
       lanes_top = ap (λ n. depart_top + n + 22) (c.rows_high-2.ensures.exact ∙ ap trains_high (c.deref-5.ensures.value ∙ sym c.from_vec-5.ensures));
       lanes = subst (λ (ls : List Lane). AreStacked lanes_top ls bottom) (sym c.from_vec-6.ensures) c.in_ok-stack.ensures.stacked;
-      height = ap (λ n. bottom + n + 40) (c.lines_high.ensures.exact ∙ ap (λ n. lines_high n loose_columns) (c.len-2.ensures ∙ c.in_ok-loose.loose.ok.0 ∙ ap length (sym c.from_vec-7.ensures)));
+      height = ap (λ n. bottom + n + 40) (c.lines_high.ensures.exact ∙ ap (λ n. lines_high n loose_columns)
+          (c.len-2.ensures ∙ c.in_ok-loose.loose.ok.0 ∙ ap length (sym c.from_vec-7.ensures)));
     }
 
 pub returns-clause-inside : goal.returns-clause-inside
@@ -89,8 +94,10 @@ returns-clause-inside c =
       hours = omega (arith, far, words_far, lists_far, right);
       arrive = subst (λ (ts : List TrainMark). All (λ t. end_of from t ≤ width) ts) (c.deref-8.ensures.value ∙ sym c.from_vec-2.ensures) c.trains_end-width.ensures.arrive;
       depart = subst (λ (ts : List TrainMark). All (λ t. end_of from t ≤ width) ts) (c.deref-9.ensures.value ∙ sym c.from_vec-4.ensures) c.trains_end-width.ensures.depart;
-      kinds = subst (λ (ks : List Kind). All (λ k. kind_width k ≤ c.kinds_room-kind_room.result) ks) (c.deref-3.ensures.value ∙ sym c.from_vec.ensures) c.kinds_room-kind_room.ensures.each;
-      looses = subst (λ (ls : List Loose). All (λ l. loose_width l ≤ c.looses_room-loose_room.result) ls) (c.deref-6.ensures.value ∙ sym c.from_vec-7.ensures) c.looses_room-loose_room.ensures.each;
+      kinds = subst (λ (ks : List Kind). All (λ k. kind_width k ≤ c.kinds_room-kind_room.result) ks)
+          (c.deref-3.ensures.value ∙ sym c.from_vec.ensures) c.kinds_room-kind_room.ensures.each;
+      looses = subst (λ (ls : List Loose). All (λ l. loose_width l ≤ c.looses_room-loose_room.result) ls)
+          (c.deref-6.ensures.value ∙ sym c.from_vec-7.ensures) c.looses_room-loose_room.ensures.each;
       kind_lines = subst (λ n. n ≤ width) c.lines_end-kinds_end.ensures kinds_end;
       loose_lines = subst (λ n. n ≤ width) c.lines_end-looses_end.ensures looses_end;
       title = title_ended width _ _ _ _ _ c.deref-7.result.now c.in_ok-name.ensures (c.deref-7.ensures.value ∙ c.in_ok-title.ensures) title_end;

@@ -6,6 +6,7 @@ use Rattle.shunt_picture.proofs.marks.arrive_marks.Goals as goal
 
 pub loop-k-preserved : goal.loop-k-preserved
 loop-k-preserved c = record {
-  exact = pushed_next (arrive_mark c.args.instance.now c.args.findings.now) c.loop-k.k c.loop-k.marks.items c.push.new.self.items c.in_ok-mark.mark c.in_ok-mark.ensures c.loop-k.invariant.exact c.in_ok-push.ensures.items;
+  exact = pushed_next (arrive_mark c.args.instance.now c.args.findings.now) c.loop-k.k c.loop-k.marks.items c.push.new.self.items c.in_ok-mark.mark c.in_ok-mark.ensures
+      c.loop-k.invariant.exact c.in_ok-push.ensures.items;
   few = grind (arith, common_steps);
 }

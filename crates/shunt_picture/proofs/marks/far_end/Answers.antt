@@ -9,7 +9,8 @@ loop-train-preserved c =
     let is = c.farther-far.ensures in
     record {
       least = omega (arith, least, is);
-      trains = widest_noted (end_of c.args.from) c.args.trains.now c.loop-train.train-index c.train-item.result c.loop-train.far _ c.loop-train-test.true c.train-item.is c.loop-train.invariant.trains is;
+      trains = widest_noted (end_of c.args.from) c.args.trains.now c.loop-train.train-index c.train-item.result c.loop-train.far _ c.loop-train-test.true c.train-item.is
+          c.loop-train.invariant.trains is;
     }
 
 pub returns-clause-trains : goal.returns-clause-trains

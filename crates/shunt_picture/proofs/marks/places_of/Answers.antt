@@ -10,5 +10,7 @@ loop-place-preserved c =
     record {
       from = omega (arith, from);
       to = omega (arith, lt);
-      places = noted_more (λ place. is_told c.args.findings.now c.args.kind (c.args.first + place)) 1 (c.loop-place.place - 1) _ c.loop-place.place c.loop-place.places.items c.note_place.new.places.items (omega (arith, from)) (omega (arith, from)) c.loop-place.invariant.places c.in_ok-note_place.ensures;
+      places = noted_more (λ place. is_told c.args.findings.now c.args.kind (c.args.first + place)) 1
+          (c.loop-place.place - 1) _ c.loop-place.place c.loop-place.places.items c.note_place.new.places.items (omega (arith, from))
+          (omega (arith, from)) c.loop-place.invariant.places c.in_ok-note_place.ensures;
     }

@@ -4,4 +4,5 @@ use Rattle.shunt_picture.proofs.Drawn.{one_more}
 use Rattle.shunt_picture.proofs.marks.push_places.Goals as goal
 
 pub loop-place-preserved : goal.loop-place-preserved
-loop-place-preserved c = one_more (place_text c.args.kind) c.args.places.now c.loop-place.place-index _ c.loop-place.text c.push_place.new.text c.loop-place-test.true c.in_ok-push_place.ensures ∙ c.loop-place.invariant
+loop-place-preserved c = one_more (place_text c.args.kind) c.args.places.now c.loop-place.place-index _ c.loop-place.text c.push_place.new.text c.loop-place-test.true
+    c.in_ok-push_place.ensures ∙ c.loop-place.invariant

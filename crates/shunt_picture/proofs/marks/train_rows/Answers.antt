@@ -13,9 +13,11 @@ loop-train-preserved c =
     let more = noted.few in
     let place = c.x_of-x.ensures.exact ∙ ap (x_of c.args.from) c.number.ensures.value in
     record {
-      rowed = rowed_more c.args.from c.args.trains.now c.loop-train.train-index c.loop-train.rows.items c.push.new.self.items c.loop-train.ends.items c.note_end.new.ends.items t row
+      rowed = rowed_more c.args.from c.args.trains.now c.loop-train.train-index c.loop-train.rows.items c.push.new.self.items c.loop-train.ends.items
+          c.note_end.new.ends.items t row
           old.rowed c.loop-train-test.true c.train-item.is
-          (subst (λ (l : List ℕ). row < length l → slice_index l row ≤ x_of c.args.from t.minute) c.deref.ensures.value (λ lt. subst (λ x. slice_index c.deref.result.now row ≤ x) place (c.row_from-row.ensures.free lt)))
+          (subst (λ (l : List ℕ). row < length l → slice_index l row ≤ x_of c.args.from t.minute) c.deref.ensures.value
+          (λ lt. subst (λ x. slice_index c.deref.result.now row ≤ x) place (c.row_from-row.ensures.free lt)))
           noted.within noted.longer noted.few
           (noted.here ∙ c.end_of-end.ensures.exact)
           noted.others c.in_ok-push.ensures.items;

@@ -12,4 +12,5 @@ pub returns-clause-within : goal.returns-clause-within
 returns-clause-within c =
     let night = c.args.instance.now in
     let same = subst (λ (l : List Standing). IsPermutation l c.sort_by_key.new.self.items) c.in_ok-standings.ensures.exact c.sort_by_key.ensures.permutation in
-    All-permutation (IsOfTrains night) (standings_on night c.args.track c.args.blocks.now) c.sort_by_key.new.self.items same (standings_within night c.args.track c.args.blocks.now c.requires.each)
+    All-permutation (IsOfTrains night) (standings_on night c.args.track c.args.blocks.now) c.sort_by_key.new.self.items same
+    (standings_within night c.args.track c.args.blocks.now c.requires.each)

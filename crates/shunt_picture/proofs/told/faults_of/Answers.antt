@@ -10,5 +10,6 @@ loop-kind-preserved c =
     record {
       from = omega (arith, from);
       to = omega (arith, lt);
-      faults = noted_more (is_marked c.args.findings.now c.args.id) 5 (c.loop-kind.kind - 5) _ c.loop-kind.kind c.loop-kind.faults.items c.note_fault.new.faults.items (omega (arith, from)) (omega (arith, from)) c.loop-kind.invariant.faults c.in_ok-note_fault.ensures;
+      faults = noted_more (is_marked c.args.findings.now c.args.id) 5 (c.loop-kind.kind - 5) _ c.loop-kind.kind c.loop-kind.faults.items c.note_fault.new.faults.items
+          (omega (arith, from)) (omega (arith, from)) c.loop-kind.invariant.faults c.in_ok-note_fault.ensures;
     }

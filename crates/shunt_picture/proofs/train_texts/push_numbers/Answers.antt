@@ -4,4 +4,5 @@ use Rattle.shunt_picture.proofs.Drawn.{one_more}
 use Rattle.shunt_picture.proofs.train_texts.push_numbers.Goals as goal
 
 pub loop-place-preserved : goal.loop-place-preserved
-loop-place-preserved c = one_more number_text c.args.places.now c.loop-place.place-index _ c.loop-place.text c.push_number.new.text c.loop-place-test.true c.in_ok-push_number.ensures ∙ c.loop-place.invariant
+loop-place-preserved c = one_more number_text c.args.places.now c.loop-place.place-index _ c.loop-place.text c.push_number.new.text c.loop-place-test.true
+    c.in_ok-push_number.ensures ∙ c.loop-place.invariant

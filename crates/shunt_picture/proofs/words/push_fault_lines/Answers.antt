@@ -4,4 +4,5 @@ use Rattle.shunt_picture.proofs.Drawn.{one_more}
 use Rattle.shunt_picture.proofs.words.push_fault_lines.Goals as goal
 
 pub loop-fault-preserved : goal.loop-fault-preserved
-loop-fault-preserved c = one_more fault_line c.args.faults.now c.loop-fault.fault-index _ c.loop-fault.text c.push_fault_line.new.text c.loop-fault-test.true c.in_ok-push_fault_line.ensures ∙ c.loop-fault.invariant
+loop-fault-preserved c = one_more fault_line c.args.faults.now c.loop-fault.fault-index _ c.loop-fault.text c.push_fault_line.new.text c.loop-fault-test.true
+    c.in_ok-push_fault_line.ensures ∙ c.loop-fault.invariant

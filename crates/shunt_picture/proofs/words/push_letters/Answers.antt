@@ -4,4 +4,5 @@ use Rattle.shunt_picture.proofs.Drawn.{one_more}
 use Rattle.shunt_picture.proofs.words.push_letters.Goals as goal
 
 pub loop-kind-preserved : goal.loop-kind-preserved
-loop-kind-preserved c = one_more (λ kind. letter kind ∷ []) c.args.kinds.now c.loop-kind.kind-index _ c.loop-kind.text c.push_letter.new.text c.loop-kind-test.true c.in_ok-push_letter.ensures ∙ c.loop-kind.invariant
+loop-kind-preserved c = one_more (λ kind. letter kind ∷ []) c.args.kinds.now c.loop-kind.kind-index _ c.loop-kind.text c.push_letter.new.text c.loop-kind-test.true
+    c.in_ok-push_letter.ensures ∙ c.loop-kind.invariant

@@ -8,13 +8,16 @@ use Rattle.shunt_plan.proofs.Lengths.{plan_written}
 use Rattle.shunt_plan.proofs.writing.write_plan.Goals as goal
 
 whole : (c : goal.After-finish) → c.write_cost.new.writer.text ≡ text_of_rows (rows_of c.args.instance.now c.args.plan.now)
-whole c = plan_written c.args.instance.now c.args.plan.now _ _ _ _ _ c.as_slice.ensures c.in_ok-writer.ensures c.in_ok-write_head.ensures c.in_ok-write_blocks.ensures c.in_ok-write_cost.ensures
+whole c = plan_written c.args.instance.now c.args.plan.now _ _ _ _ _ c.as_slice.ensures c.in_ok-writer.ensures c.in_ok-write_head.ensures c.in_ok-write_blocks.ensures
+    c.in_ok-write_cost.ensures
 
 pub returns-clause-text : goal.returns-clause-text
 returns-clause-text c = if_ok c.finish.result _ _ c.finish.ensures.text (λ v is. is ∙ whole c)
 
 pub returns-clause-again : goal.returns-clause-again
-returns-clause-again c = if_ok c.finish.result _ _ c.finish.ensures.again (λ v back. back_from c.args.instance.now c.args.plan.now c.arrivals.ensures.formed c.requires _ v.items (whole c) back)
+returns-clause-again c = if_ok c.finish.result _ _ c.finish.ensures.again (λ v back. back_from c.args.instance.now c.args.plan.now c.arrivals.ensures.formed c.requires _ v.items
+    (whole c) back)
 
 pub returns-clause-short : goal.returns-clause-short
-returns-clause-short c = if_ok c.finish.result _ _ c.finish.ensures.text (λ v is. subst (λ (t : List ℕ). length t ≤ 32026) (sym (is ∙ whole c)) (plan_short c.args.instance.now c.args.plan.now c.arrivals.ensures.formed c.requires))
+returns-clause-short c = if_ok c.finish.result _ _ c.finish.ensures.text (λ v is. subst (λ (t : List ℕ). length t ≤ 32026) (sym (is ∙ whole c))
+    (plan_short c.args.instance.now c.args.plan.now c.arrivals.ensures.formed c.requires))

@@ -10,7 +10,9 @@ whole : (c : goal.After-finish) → c.in_ok-written.field-0.text ≡ text_of_row
 whole c = ap (λ w. w.text) c.in_ok-written.ensures ∙ ap (λ l. text_of_rows (rows_of_edits c.args.instance.now l)) c.deref.ensures.value
 
 pub returns-clause-again : goal.returns-clause-again
-returns-clause-again c = if_ok c.finish.result _ _ c.finish.ensures.again (λ v p. edits_back_from c.args.instance.now c.station.ensures.formed c.args.turns.now.items c.requires _ v.items (whole c) p)
+returns-clause-again c = if_ok c.finish.result _ _ c.finish.ensures.again (λ v p.
+    edits_back_from c.args.instance.now c.station.ensures.formed c.args.turns.now.items c.requires _ v.items (whole c) p)
 
 pub returns-clause-short : goal.returns-clause-short
-returns-clause-short c = if_ok c.finish.result _ _ c.finish.ensures.text (λ v p. short_from c.args.instance.now c.station.ensures.formed c.args.turns.now.items c.requires _ v.items (whole c) p)
+returns-clause-short c = if_ok c.finish.result _ _ c.finish.ensures.text (λ v p. short_from c.args.instance.now c.station.ensures.formed c.args.turns.now.items c.requires _ v.items
+    (whole c) p)

@@ -17,7 +17,8 @@ sought_answer-requires-clause-lacks g c =
     let n = length (unit_entries night) in
     let m = length (position_entries night) in
     let laws : MaskLaws = record { matchings = c.masks_alike.ensures.matchings; shortages = c.masks_alike.ensures.shortages } in
-    lacks_alike laws night [] [] (units_taken night []) (positions_taken night []) (free_units_back night n, free_positions_back night m) (free_units night n, free_positions night m) c.lacking-short.result c.lacking-short.ensures
+    lacks_alike laws night [] [] (units_taken night []) (positions_taken night []) (free_units_back night n, free_positions_back night m)
+    (free_units night n, free_positions night m) c.lacking-short.result c.lacking-short.ensures
 
 pub returns-clause-leads : goal.returns-clause-leads
 returns-clause-leads g c =
@@ -28,6 +29,8 @@ returns-clause-leads g c =
     let plan = c.args.plan.now in
     let certificate = c.args.certificate.now in
     let laws : MaskLaws = record { matchings = c.masks_alike.ensures.matchings; shortages = c.masks_alike.ensures.shortages } in
-    leads_with (IsSoughtBeside [] c.args.nodes plan certificate night) (IsSought c.args.nodes plan certificate night) (known (S.told c.args.store.now) (S.stored c.args.store.now)) (known (S.told c.sought_answer.new.store) (S.stored c.sought_answer.new.store)) c.sought_answer.result
-    (λ r is. sought_alike laws night (units_taken night []) (positions_taken night []) [] [] (free_units night n, free_positions night m) (free_units_back night n, free_positions_back night m) [] c.args.nodes plan certificate r is)
+    leads_with (IsSoughtBeside [] c.args.nodes plan certificate night) (IsSought c.args.nodes plan certificate night) (known (S.told c.args.store.now) (S.stored c.args.store.now))
+    (known (S.told c.sought_answer.new.store) (S.stored c.sought_answer.new.store)) c.sought_answer.result
+    (λ r is. sought_alike laws night (units_taken night []) (positions_taken night []) [] [] (free_units night n, free_positions night m)
+    (free_units_back night n, free_positions_back night m) [] c.args.nodes plan certificate r is)
     c.sought_answer.ensures.leads

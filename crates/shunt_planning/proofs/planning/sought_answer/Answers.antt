@@ -10,7 +10,8 @@ use Rattle.shunt_planning.proofs.planning.sought_answer.Goals as goal
 pub shortage_answer-requires : goal.shortage_answer-requires
 shortage_answer-requires g c =
     let night = c.args.instance.now in
-    let lacks : Lacks night (units_taken night c.args.pins.now) (positions_taken night c.args.pins.now) (Some c.in-Some.short) = subst (Lacks night (units_taken night c.args.pins.now) (positions_taken night c.args.pins.now)) c.in-Some.is c.requires.lacks in
+    let lacks : Lacks night (units_taken night c.args.pins.now) (positions_taken night c.args.pins.now) (Some c.in-Some.short) = subst
+    (Lacks night (units_taken night c.args.pins.now) (positions_taken night c.args.pins.now)) c.in-Some.is c.requires.lacks in
     lacks.2
 
 pub search_answer-requires-clause-matching : goal.search_answer-requires-clause-matching
@@ -25,8 +26,10 @@ pub returns-in-Ok-clause-leads : goal.returns-in-Ok-clause-leads
 returns-in-Ok-clause-leads g c =
     let night = c.args.instance.now in
     let pins = c.args.pins.now in
-    let lacks : Lacks night (units_taken night pins) (positions_taken night pins) (Some c.in-Some.short) = subst (Lacks night (units_taken night pins) (positions_taken night pins)) c.in-Some.is c.requires.lacks in
-    none_first (IsSoughtBeside pins c.args.nodes c.args.plan.now c.args.certificate.now night) _ _ _ (refl, refl) (inr (record { none = lacks.0; reply = (c.in-Some.short, lacks.1, c.in-Ok.ensures) }))
+    let lacks : Lacks night (units_taken night pins) (positions_taken night pins) (Some c.in-Some.short) = subst
+    (Lacks night (units_taken night pins) (positions_taken night pins)) c.in-Some.is c.requires.lacks in
+    none_first (IsSoughtBeside pins c.args.nodes c.args.plan.now c.args.certificate.now night) _ _ _ (refl, refl)
+    (inr (record { none = lacks.0; reply = (c.in-Some.short, lacks.1, c.in-Ok.ensures) }))
 
 pub returns-in-None-clause-leads : goal.returns-in-None-clause-leads
 returns-in-None-clause-leads g c =
@@ -37,4 +40,5 @@ returns-in-None-clause-leads g c =
     let places = positions_taken night pins in
     let some : HasMatching night units places = subst (Lacks night units places) c.in-None.is c.requires.lacks in
     leads_with (IsPlannedAt _ pins c.args.nodes c.args.plan.now c.args.certificate.now night) (IsSoughtBeside pins c.args.nodes c.args.plan.now c.args.certificate.now night)
-    (known (S.told c.args.store.now) (S.stored c.args.store.now)) (known (S.told c.search_answer.new.store) (S.stored c.search_answer.new.store)) c.search_answer.result (λ r is. inl (some, is.planned)) c.search_answer.ensures.leads
+    (known (S.told c.args.store.now) (S.stored c.args.store.now)) (known (S.told c.search_answer.new.store) (S.stored c.search_answer.new.store)) c.search_answer.result
+    (λ r is. inl (some, is.planned)) c.search_answer.ensures.leads

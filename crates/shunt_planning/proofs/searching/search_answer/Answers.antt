@@ -15,6 +15,9 @@ pub returns-in-Ok-close_file-clause-leads : goal.returns-in-Ok-close_file-clause
 returns-in-Ok-close_file-clause-leads g c =
     let S = g.S.Store in
     let fits : ℕ → Type 0 = λ cost. IfSome c.args.given (λ p. cost ≤ total_cost c.args.instance.now p.now) in
-    found_leads c.args.pins.now c.args.nodes c.args.plan.now c.args.certificate.now c.args.instance.now (S.stage c.search.new.store) c.in-Ok.solved c.in-Ok.ensures.found fits c.in-Ok.ensures.never_worse c.in-Ok.ensures.in_range c.in-Ok.ensures.cost _ c.in-Ok-found_answer.ensures
-    (known (S.told c.args.store.now) (S.stored c.args.store.now)) (known (S.told c.search.new.store) (S.stored c.search.new.store)) (known (S.told c.close_file.new.self) (S.stored c.close_file.new.self)) (c.search.ensures.files, c.search.ensures.stored)
+    found_leads c.args.pins.now c.args.nodes c.args.plan.now c.args.certificate.now c.args.instance.now
+    (S.stage c.search.new.store) c.in-Ok.solved c.in-Ok.ensures.found fits c.in-Ok.ensures.never_worse c.in-Ok.ensures.in_range c.in-Ok.ensures.cost _
+    c.in-Ok-found_answer.ensures
+    (known (S.told c.args.store.now) (S.stored c.args.store.now)) (known (S.told c.search.new.store) (S.stored c.search.new.store))
+    (known (S.told c.close_file.new.self) (S.stored c.close_file.new.self)) (c.search.ensures.files, c.search.ensures.stored)
     c.in-Ok-close_file.ensures.ok c.in-Ok-close_file.ensures.stored

@@ -16,5 +16,6 @@ returns c =
     let places : PlaceLaws = record { unit_in = c.places.ensures.unit_in; position_in = c.places.ensures.position_in } in
     record {
       sum = λ night path b cases k i within apart free go hold lt. sums_rise laws places c.stays_of_blocks.ensures.to night i path b within apart free go cases k hold lt;
-      bound = λ night path b cases before after i within apart free go hold now then. bounds_rise laws places c.stays_of_blocks.ensures.to night i path b within apart free go cases before after hold now then;
+      bound = λ night path b cases before after i within apart free go hold now then.
+          bounds_rise laws places c.stays_of_blocks.ensures.to night i path b within apart free go cases before after hold now then;
     }

@@ -19,6 +19,7 @@ returns c =
     let pinned : PinLaws = record { alone = c.plans_grow.ensures.pins; any_order = c.plans_counted.ensures.any_order } in
     record {
       right = λ night pins start nodes L i h usable s right. all_right laws counts night i pins start (pinned.alone night pins start i usable s.same s.rises) nodes h L right;
-      lean = λ night pins start nodes L i h usable s right lean. all_lean laws counts night i pins start (pinned.alone night pins start i usable s.same s.rises) nodes h L right lean;
+      lean = λ night pins start nodes L i h usable s right lean. all_lean laws counts night i pins start
+          (pinned.alone night pins start i usable s.same s.rises) nodes h L right lean;
       accepted = λ night pins own stated x i h usable a. accepted_with_stacks laws counts pinned night i pins own stated x h usable a;
     }

@@ -19,8 +19,13 @@ stack_gain-requires-clause-offers c =
     let case = c.args.case.now in
     let stack = stack_at c.args.end in
     let free = subst (λ (m : Masks). AreFreeShapes night m c.requires.candidates.0) c.requires.path.covered c.requires.candidates.1 in
-    let of = taken night case stack c.args.path.now.blocks c.requires.candidates.0 c.args.candidates.now c.in_ok-offers.offers.items free c.requires.candidates.2 c.in_ok-offers.ensures in
-    (case, c.requires.case, subst (λ (bs : List Block). AreOffersOf night bs case stack c.deref.result.now) (sym c.blocks-2.ensures) (subst (AreOffersOf night c.args.path.now.blocks case stack) (sym c.deref.ensures.value) of))
+    let of = taken night case stack c.args.path.now.blocks c.requires.candidates.0 c.args.candidates.now c.in_ok-offers.offers.items free c.requires.candidates.2
+    c.in_ok-offers.ensures in (
+      case,
+      c.requires.case,
+      subst (λ (bs : List Block). AreOffersOf night bs case stack c.deref.result.now) (sym c.blocks-2.ensures)
+          (subst (AreOffersOf night c.args.path.now.blocks case stack) (sym c.deref.ensures.value) of),
+    )
 
 pub returns-clause-is : goal.returns-clause-is
 returns-clause-is c =
@@ -28,12 +33,15 @@ returns-clause-is c =
     let case = c.args.case.now in
     let stack = stack_at c.args.end in
     let free = subst (λ (m : Masks). AreFreeShapes night m c.requires.candidates.0) c.requires.path.covered c.requires.candidates.1 in
-    let of = taken night case stack c.args.path.now.blocks c.requires.candidates.0 c.args.candidates.now c.in_ok-offers.offers.items free c.requires.candidates.2 c.in_ok-offers.ensures in
-    let there = subst (λ (bs : List Block). AreOffersOf night bs case stack c.deref.result.now) (sym c.blocks-2.ensures) (subst (AreOffersOf night c.args.path.now.blocks case stack) (sym c.deref.ensures.value) of) in
+    let of = taken night case stack c.args.path.now.blocks c.requires.candidates.0 c.args.candidates.now c.in_ok-offers.offers.items free c.requires.candidates.2
+    c.in_ok-offers.ensures in
+    let there = subst (λ (bs : List Block). AreOffersOf night bs case stack c.deref.result.now) (sym c.blocks-2.ensures)
+    (subst (AreOffersOf night c.args.path.now.blocks case stack) (sym c.deref.ensures.value) of) in
     let small = c.in_ok-gain.ensures.small in
     let seen : to_z w64 (of_z w64 c.in_ok-gain.gain) ≡ c.in_ok-gain.gain = omega (arith, ints, small.low, small.high) in
     record {
       offers = of;
-      gain = subst (IsStackGain night c.args.path.now.blocks case stack) (sym seen) (subst (λ (bs : List Block). IsStackGain night bs case stack c.in_ok-gain.gain) c.blocks-2.ensures (c.in_ok-gain.ensures.exact case there));
+      gain = subst (IsStackGain night c.args.path.now.blocks case stack) (sym seen)
+          (subst (λ (bs : List Block). IsStackGain night bs case stack c.in_ok-gain.gain) c.blocks-2.ensures (c.in_ok-gain.ensures.exact case there));
       small = record { low = omega (arith, ints, small.low, small.high); high = omega (arith, ints, small.low, small.high) };
     }

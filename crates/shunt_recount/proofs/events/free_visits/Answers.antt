@@ -9,5 +9,6 @@ pub offers-preserved : goal.offers-preserved
 offers-preserved c =
     let d : Offer = record { block = record { id = 0; arr = record { 0 = 0 }; p = 0; n = 0; dep = record { 0 = 0 }; q = 0; park = None }; gain = pos 0 } in
     let o = slice_index_or c.args.offers.now c.offers.offer-index d in
-    one_more_visit c.args.instance.now c.args.offers.now c.offers.offer-index d c.offers.visits.items c.push.new.self.items c.visit_of.result _ c.offers-test.true c.in_ok-push.ensures.items c.offers.invariant
+    one_more_visit c.args.instance.now c.args.offers.now c.offers.offer-index d c.offers.visits.items c.push.new.self.items c.visit_of.result _ c.offers-test.true
+    c.in_ok-push.ensures.items c.offers.invariant
     (seen o.gain (c.requires.small c.offers.offer-index d c.offers-test.true)) c.visit_of.ensures

@@ -16,4 +16,5 @@ returns-then-stands_by-clause-some c =
 pub counts-preserved : goal.counts-preserved
 counts-preserved c =
     let own : is_of (stack_at c.count-item.result.end) c.args.option ≡ false = sym c.stands_by.ensures ∙ c.if-stands_by.false in
-    not_yet c.args.counts.now c.counts.count-index c.count-item.result c.args.option c.counts-test.true (subst (λ (k : StackCount). is_of (stack_at k.end) c.args.option ≡ false) c.count-item.is own) c.counts.invariant
+    not_yet c.args.counts.now c.counts.count-index c.count-item.result c.args.option c.counts-test.true
+    (subst (λ (k : StackCount). is_of (stack_at k.end) c.args.option ≡ false) c.count-item.is own) c.counts.invariant

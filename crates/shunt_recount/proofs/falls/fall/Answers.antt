@@ -43,5 +43,6 @@ returns-clause-exact c =
     let small = c.in_ok-after.ensures.small in
     let own = (c.stacks_of_stations.ensures.own (stack_at k.end) c.args.block.now.park).0 some.1 in
     let lost = c.lost.ensures in
-    some_fall c.args.instance.now c.args.path.now.blocks c.args.block.now c.args.case.now (stack_of c.args.block.now.park) (stack_at k.end) k.gain c.in_ok-after.after _ own is.gain c.in_ok-after.ensures.exact
+    some_fall c.args.instance.now c.args.path.now.blocks c.args.block.now c.args.case.now (stack_of c.args.block.now.park)
+    (stack_at k.end) k.gain c.in_ok-after.after _ own is.gain c.in_ok-after.ensures.exact
     (omega (arith, ints, is.small.low, is.small.high, small.low, small.high, lost.exact, lost.small.low, lost.small.high))

@@ -28,7 +28,8 @@ stack_gain-requires-clause-each c =
     let path = c.args.path.now.blocks in
     let b = c.args.block.now in
     let free = subst (λ (m : Masks). IsFreeBlock night m (shape_of b) b.park) c.requires.path.covered c.requires.free in
-    let is : c.deref-2.result.now ≡ path ++ b ∷ [] = c.deref-2.ensures.value ∙ (c.in_ok-push.ensures.items ∙ ap (λ (l : List Block). l ++ b ∷ []) (c.in_ok-longer.ensures.items ∙ c.blocks-2.ensures)) in
+    let is : c.deref-2.result.now ≡ path ++ b ∷ [] = c.deref-2.ensures.value ∙ (c.in_ok-push.ensures.items
+    ∙ ap (λ (l : List Block). l ++ b ∷ []) (c.in_ok-longer.ensures.items ∙ c.blocks-2.ensures)) in
     subst (λ (bs : List Block). All (IsBlockButId night) bs) (sym is) (longer_each night path b free c.requires.each)
 
 pub stack_gain-requires-clause-apart : goal.stack_gain-requires-clause-apart
@@ -37,7 +38,8 @@ stack_gain-requires-clause-apart c =
     let path = c.args.path.now.blocks in
     let b = c.args.block.now in
     let free = subst (λ (m : Masks). IsFreeBlock night m (shape_of b) b.park) c.requires.path.covered c.requires.free in
-    let is : c.deref-2.result.now ≡ path ++ b ∷ [] = c.deref-2.ensures.value ∙ (c.in_ok-push.ensures.items ∙ ap (λ (l : List Block). l ++ b ∷ []) (c.in_ok-longer.ensures.items ∙ c.blocks-2.ensures)) in
+    let is : c.deref-2.result.now ≡ path ++ b ∷ [] = c.deref-2.ensures.value ∙ (c.in_ok-push.ensures.items
+    ∙ ap (λ (l : List Block). l ++ b ∷ []) (c.in_ok-longer.ensures.items ∙ c.blocks-2.ensures)) in
     let places : PlaceLaws = record { unit_in = c.places.ensures.unit_in; position_in = c.places.ensures.position_in } in
     subst (ShareNothing night) (sym is) (longer_apart night path b free places c.requires.path.apart)
 
@@ -50,10 +52,16 @@ stack_gain-requires-clause-offers c =
     let b = c.args.block.now in
     let os = c.args.count.now.offers.items in
     let free = subst (λ (m : Masks). IsFreeBlock night m (shape_of b) b.park) c.requires.path.covered c.requires.free in
-    let is : c.deref-2.result.now ≡ path ++ b ∷ [] = c.deref-2.ensures.value ∙ (c.in_ok-push.ensures.items ∙ ap (λ (l : List Block). l ++ b ∷ []) (c.in_ok-longer.ensures.items ∙ c.blocks-2.ensures)) in
-    let of = left night b path (path ++ b ∷ []) case stack os c.requires.count.offers (c.choices_by_events.ensures.blocks night path (blocks_in os) b case stack c.units.ensures.formed free c.requires.count.offers.free) in
-    let there = c.deref-3.ensures.value ∙ (c.in_ok-apart.ensures ∙ ap (λ (l : List Offer). filter (λ o. not (shares night b o.block)) l) c.deref.ensures.value) in
-    (case, c.requires.case, subst (λ (bs : List Block). AreOffersOf night bs case stack c.deref-3.result.now) (sym is) (subst (AreOffersOf night (path ++ b ∷ []) case stack) (sym there) of))
+    let is : c.deref-2.result.now ≡ path ++ b ∷ [] = c.deref-2.ensures.value ∙ (c.in_ok-push.ensures.items
+    ∙ ap (λ (l : List Block). l ++ b ∷ []) (c.in_ok-longer.ensures.items ∙ c.blocks-2.ensures)) in
+    let of = left night b path (path ++ b ∷ []) case stack os c.requires.count.offers
+    (c.choices_by_events.ensures.blocks night path (blocks_in os) b case stack c.units.ensures.formed free c.requires.count.offers.free) in
+    let there = c.deref-3.ensures.value ∙ (c.in_ok-apart.ensures ∙ ap (λ (l : List Offer). filter (λ o. not (shares night b o.block)) l) c.deref.ensures.value) in (
+      case,
+      c.requires.case,
+      subst (λ (bs : List Block). AreOffersOf night bs case stack c.deref-3.result.now) (sym is)
+          (subst (AreOffersOf night (path ++ b ∷ []) case stack) (sym there) of),
+    )
 
 pub returns-clause-exact : goal.returns-clause-exact
 returns-clause-exact c =
@@ -64,8 +72,11 @@ returns-clause-exact c =
     let b = c.args.block.now in
     let os = c.args.count.now.offers.items in
     let free = subst (λ (m : Masks). IsFreeBlock night m (shape_of b) b.park) c.requires.path.covered c.requires.free in
-    let is : c.deref-2.result.now ≡ path ++ b ∷ [] = c.deref-2.ensures.value ∙ (c.in_ok-push.ensures.items ∙ ap (λ (l : List Block). l ++ b ∷ []) (c.in_ok-longer.ensures.items ∙ c.blocks-2.ensures)) in
-    let of = left night b path (path ++ b ∷ []) case stack os c.requires.count.offers (c.choices_by_events.ensures.blocks night path (blocks_in os) b case stack c.units.ensures.formed free c.requires.count.offers.free) in
+    let is : c.deref-2.result.now ≡ path ++ b ∷ [] = c.deref-2.ensures.value ∙ (c.in_ok-push.ensures.items
+    ∙ ap (λ (l : List Block). l ++ b ∷ []) (c.in_ok-longer.ensures.items ∙ c.blocks-2.ensures)) in
+    let of = left night b path (path ++ b ∷ []) case stack os c.requires.count.offers
+    (c.choices_by_events.ensures.blocks night path (blocks_in os) b case stack c.units.ensures.formed free c.requires.count.offers.free) in
     let there = c.deref-3.ensures.value ∙ (c.in_ok-apart.ensures ∙ ap (λ (l : List Offer). filter (λ o. not (shares night b o.block)) l) c.deref.ensures.value) in
     let own = subst (λ (bs : List Block). AreOffersOf night bs case stack c.deref-3.result.now) (sym is) (subst (AreOffersOf night (path ++ b ∷ []) case stack) (sym there) of) in
-    if_moved (IsStackGain night c.deref-2.result.now case stack) (IsStackGain night (path ++ b ∷ []) case stack) c.stack_gain.result (λ g gain. subst (λ (bs : List Block). IsStackGain night bs case stack g) is gain) (c.stack_gain.ensures.exact case own)
+    if_moved (IsStackGain night c.deref-2.result.now case stack) (IsStackGain night (path ++ b ∷ []) case stack) c.stack_gain.result
+    (λ g gain. subst (λ (bs : List Block). IsStackGain night bs case stack g) is gain) (c.stack_gain.ensures.exact case own)

@@ -29,8 +29,10 @@ greatest_gain-requires-clause-own c =
     let of = c.requires.offers.2 in
     let fixed = fixed_spans night (entry_number night) (leave_number night) (blocks_of stack c.args.blocks.now) in
     let free = free_spans night (entry_number night) (leave_number night) case (blocks_in c.args.offers.now) in
-    moved_own fixed free (spans_of c.in_ok-fixed.fixed.items) (spans_of c.in_ok-free.free.items) c.in_ok-fixed.ensures (c.in_ok-free.ensures ∙ same_spans night case c.args.offers.now of.gains)
-    (c.gains_by_events.ensures.own night c.args.blocks.now (blocks_in c.args.offers.now) case stack 5760000 (entry_number night) (leave_number night) formed c.requires.each c.requires.apart (c.gains_by_events.ensures.numbers night formed) of.free)
+    moved_own fixed free (spans_of c.in_ok-fixed.fixed.items) (spans_of c.in_ok-free.free.items) c.in_ok-fixed.ensures
+    (c.in_ok-free.ensures ∙ same_spans night case c.args.offers.now of.gains)
+    (c.gains_by_events.ensures.own night c.args.blocks.now (blocks_in c.args.offers.now) case stack 5760000 (entry_number night)
+    (leave_number night) formed c.requires.each c.requires.apart (c.gains_by_events.ensures.numbers night formed) of.free)
 
 pub greatest_gain-requires-clause-small : goal.greatest_gain-requires-clause-small
 greatest_gain-requires-clause-small c =
@@ -40,10 +42,12 @@ greatest_gain-requires-clause-small c =
     let case = c.requires.offers.0 in
     let of = c.requires.offers.2 in
     let places : PlaceLaws = record { unit_in = c.places.ensures.unit_in; position_in = c.places.ensures.position_in } in
-    moved_small (fixed_spans night (entry_number night) (leave_number night) (blocks_of stack c.args.blocks.now)) (offer_spans night c.args.offers.now) (spans_of c.in_ok-fixed.fixed.items) (spans_of c.in_ok-free.free.items)
+    moved_small (fixed_spans night (entry_number night) (leave_number night) (blocks_of stack c.args.blocks.now)) (offer_spans night c.args.offers.now)
+    (spans_of c.in_ok-fixed.fixed.items) (spans_of c.in_ok-free.free.items)
     c.in_ok-fixed.ensures c.in_ok-free.ensures
     (all_small night places (c.gains_by_events.ensures.numbers night formed) c.args.blocks.now stack c.args.offers.now (all_within night c.args.blocks.now c.requires.each)
-    (offers_within night c.args.blocks.now case stack c.args.offers.now of) (offers_small night c.args.blocks.now case stack c.args.offers.now of) (c.unit_numbers.ensures.units_few night formed))
+    (offers_within night c.args.blocks.now case stack c.args.offers.now of) (offers_small night c.args.blocks.now case stack c.args.offers.now of)
+    (c.unit_numbers.ensures.units_few night formed))
 
 pub unreachable-requires : goal.unreachable-requires
 unreachable-requires c =
@@ -53,10 +57,13 @@ unreachable-requires c =
     let case = c.requires.offers.0 in
     let of = c.requires.offers.2 in
     let there = c.gains_there.ensures.gain night c.args.blocks.now case stack formed (all_within night c.args.blocks.now c.requires.each) c.requires.apart c.requires.through in
-    let is = tells (IsStackGain night c.args.blocks.now case stack) c.room_on-room.result (track_length night stack.track.0) (fixed_spans night (entry_number night) (leave_number night) (blocks_of stack c.args.blocks.now))
-    (free_spans night (entry_number night) (leave_number night) case (blocks_in c.args.offers.now)) (spans_of c.in_ok-fixed.fixed.items) (spans_of c.in_ok-free.free.items) c.in_ok-gain.field-0 c.room_on-room.ensures.exact
+    let is = tells (IsStackGain night c.args.blocks.now case stack) c.room_on-room.result (track_length night stack.track.0)
+    (fixed_spans night (entry_number night) (leave_number night) (blocks_of stack c.args.blocks.now))
+    (free_spans night (entry_number night) (leave_number night) case (blocks_in c.args.offers.now)) (spans_of c.in_ok-fixed.fixed.items)
+    (spans_of c.in_ok-free.free.items) c.in_ok-gain.field-0 c.room_on-room.ensures.exact
     c.in_ok-fixed.ensures (c.in_ok-free.ensures ∙ same_spans night case c.args.offers.now of.gains) c.in_ok-gain.ensures
-    (λ most. c.gains_by_events.ensures.gain night c.args.blocks.now (blocks_in c.args.offers.now) case stack 5760000 (entry_number night) (leave_number night) most formed c.requires.each c.requires.apart (c.gains_by_events.ensures.numbers night formed) of.free) in
+    (λ most. c.gains_by_events.ensures.gain night c.args.blocks.now (blocks_in c.args.offers.now) case stack 5760000 (entry_number night)
+    (leave_number night) most formed c.requires.each c.requires.apart (c.gains_by_events.ensures.numbers night formed) of.free) in
     c.in_default.not-Some there.0 ((is there.0).1 there.1)
 
 pub returns-clause-exact : goal.returns-clause-exact
@@ -66,12 +73,16 @@ returns-clause-exact c = λ other offers.
     let formed = c.units.ensures.formed in
     let stack = stack_at c.args.end in
     let is = λ (case : Case) (of : AreOffersOf night path case stack c.args.offers.now).
-    tells (IsStackGain night path case stack) c.room_on-room.result (track_length night stack.track.0) (fixed_spans night (entry_number night) (leave_number night) (blocks_of stack path))
-    (free_spans night (entry_number night) (leave_number night) case (blocks_in c.args.offers.now)) (spans_of c.in_ok-fixed.fixed.items) (spans_of c.in_ok-free.free.items) c.in_ok-gain.field-0 c.room_on-room.ensures.exact
+    tells (IsStackGain night path case stack) c.room_on-room.result (track_length night stack.track.0)
+    (fixed_spans night (entry_number night) (leave_number night) (blocks_of stack path))
+    (free_spans night (entry_number night) (leave_number night) case (blocks_in c.args.offers.now)) (spans_of c.in_ok-fixed.fixed.items)
+    (spans_of c.in_ok-free.free.items) c.in_ok-gain.field-0 c.room_on-room.ensures.exact
     c.in_ok-fixed.ensures (c.in_ok-free.ensures ∙ same_spans night case c.args.offers.now of.gains) c.in_ok-gain.ensures
-    (λ most. c.gains_by_events.ensures.gain night path (blocks_in c.args.offers.now) case stack 5760000 (entry_number night) (leave_number night) most formed c.requires.each c.requires.apart (c.gains_by_events.ensures.numbers night formed) of.free) in
+    (λ most. c.gains_by_events.ensures.gain night path (blocks_in c.args.offers.now) case stack 5760000 (entry_number night)
+    (leave_number night) most formed c.requires.each c.requires.apart (c.gains_by_events.ensures.numbers night formed) of.free) in
     let own = (is c.requires.offers.0 c.requires.offers.2 c.in-Some.gain).0 c.in-Some.is in
-    let small = c.sums_fit.ensures.gain night path c.requires.offers.0 stack c.in-Some.gain formed (all_within night path c.requires.each) c.requires.apart c.requires.through c.requires.offers.1 own in
+    let small = c.sums_fit.ensures.gain night path c.requires.offers.0 stack c.in-Some.gain formed
+    (all_within night path c.requires.each) c.requires.apart c.requires.through c.requires.offers.1 own in
     let seen : to_z w64 (of_z w64 c.in-Some.gain) ≡ c.in-Some.gain = omega (arith, ints, small.low, small.high) in
     subst (IsStackGain night path other stack) (sym seen) ((is other offers c.in-Some.gain).0 c.in-Some.is)
 
@@ -83,9 +94,13 @@ returns-clause-small c =
     let stack = stack_at c.args.end in
     let case = c.requires.offers.0 in
     let of = c.requires.offers.2 in
-    let is = tells (IsStackGain night path case stack) c.room_on-room.result (track_length night stack.track.0) (fixed_spans night (entry_number night) (leave_number night) (blocks_of stack path))
-    (free_spans night (entry_number night) (leave_number night) case (blocks_in c.args.offers.now)) (spans_of c.in_ok-fixed.fixed.items) (spans_of c.in_ok-free.free.items) c.in_ok-gain.field-0 c.room_on-room.ensures.exact
+    let is = tells (IsStackGain night path case stack) c.room_on-room.result (track_length night stack.track.0)
+    (fixed_spans night (entry_number night) (leave_number night) (blocks_of stack path))
+    (free_spans night (entry_number night) (leave_number night) case (blocks_in c.args.offers.now)) (spans_of c.in_ok-fixed.fixed.items)
+    (spans_of c.in_ok-free.free.items) c.in_ok-gain.field-0 c.room_on-room.ensures.exact
     c.in_ok-fixed.ensures (c.in_ok-free.ensures ∙ same_spans night case c.args.offers.now of.gains) c.in_ok-gain.ensures
-    (λ most. c.gains_by_events.ensures.gain night path (blocks_in c.args.offers.now) case stack 5760000 (entry_number night) (leave_number night) most formed c.requires.each c.requires.apart (c.gains_by_events.ensures.numbers night formed) of.free) in
-    let small = c.sums_fit.ensures.gain night path case stack c.in-Some.gain formed (all_within night path c.requires.each) c.requires.apart c.requires.through c.requires.offers.1 ((is c.in-Some.gain).0 c.in-Some.is) in
+    (λ most. c.gains_by_events.ensures.gain night path (blocks_in c.args.offers.now) case stack 5760000 (entry_number night)
+    (leave_number night) most formed c.requires.each c.requires.apart (c.gains_by_events.ensures.numbers night formed) of.free) in
+    let small = c.sums_fit.ensures.gain night path case stack c.in-Some.gain formed (all_within night path c.requires.each) c.requires.apart c.requires.through c.requires.offers.1
+    ((is c.in-Some.gain).0 c.in-Some.is) in
     record { low = omega (arith, ints, small.low, small.high); high = omega (arith, ints, small.low, small.high) }

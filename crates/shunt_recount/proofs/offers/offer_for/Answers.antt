@@ -26,6 +26,8 @@ returns c =
     let more = c.if-gain-le0.false in
     let seen : to_z w64 (of_z w64 c.gain-gain.result) ≡ c.gain-gain.result = omega (arith, ints, gain.small.low, gain.small.high) in
     let lt : pos 0 <ℤ to_z w64 (of_z w64 c.gain-gain.result) = omega (arith, ints, more, gain.small.low, gain.small.high) in
-    offered c.args.instance.now c.args.case.now (stack_at c.args.end) c.args.candidate.shape c.block_on-block.result (to_z w64 (of_z w64 c.gain-gain.result)) c.block_on-block.ensures (seen ∙ gain.exact) lt
+    offered c.args.instance.now c.args.case.now (stack_at c.args.end) c.args.candidate.shape c.block_on-block.result
+    (to_z w64 (of_z w64 c.gain-gain.result)) c.block_on-block.ensures (seen ∙ gain.exact) lt
     (subst (λ (z : ℤ). z ≤ℤ pos 15999999999984) k.worth k.little.high)
-    (subst (λ (b : Block). IsOption c.args.instance.now c.args.candidate.shape b.park) c.block_on-block.ensures (c.is_option.ensures.fact.0 c.if-not-is_option.false)) (omega (arith, k.long, fits, room))
+    (subst (λ (b : Block). IsOption c.args.instance.now c.args.candidate.shape b.park) c.block_on-block.ensures (c.is_option.ensures.fact.0 c.if-not-is_option.false))
+    (omega (arith, k.long, fits, room))

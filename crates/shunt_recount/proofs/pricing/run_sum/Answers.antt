@@ -12,6 +12,8 @@ loop-k-preserved c =
     let value : IsValue (get_or c.args.values.now (c.args.from + c.loop-k.k) (pos 0)) = c.requires.values (c.args.from + c.loop-k.k) (pos 0) (omega arith) in
     let within = c.loop-k.invariant.small in
     record {
-      exact = one_more c.loop-k.k (λ (k : ℕ). get_or c.args.values.now (c.args.from + k) (pos 0)) _ (omega (arith, ints, c.loop-k.invariant.exact, c.loop-k.total-is, value.low, value.high, within.low, within.high));
-      small = within_more c.loop-k.k (to_z w64 c.loop-k.total-bits) (get_or c.args.values.now (c.args.from + c.loop-k.k) (pos 0)) _ (omega (arith, ints, c.loop-k.total-is, value.low, value.high, within.low, within.high)) value within;
+      exact = one_more c.loop-k.k (λ (k : ℕ). get_or c.args.values.now (c.args.from + k) (pos 0)) _
+          (omega (arith, ints, c.loop-k.invariant.exact, c.loop-k.total-is, value.low, value.high, within.low, within.high));
+      small = within_more c.loop-k.k (to_z w64 c.loop-k.total-bits) (get_or c.args.values.now (c.args.from + c.loop-k.k) (pos 0)) _
+          (omega (arith, ints, c.loop-k.total-is, value.low, value.high, within.low, within.high)) value within;
     }

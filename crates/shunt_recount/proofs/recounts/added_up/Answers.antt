@@ -16,6 +16,8 @@ loop-k-preserved c =
     let value : IsWithin 319999999999680 (get_or c.args.counts.now k d).gain = c.requires.small k d (omega (arith, lt)) in
     let within = c.loop-k.invariant.small in
     record {
-      exact = sum_next (λ (x : StackCount). x.gain) c.args.counts.now k d _ (omega (arith, lt)) (omega (arith, ints, c.loop-k.invariant.exact, c.loop-k.total-is, value.low, value.high, within.low, within.high, few, lt));
-      small = wider_next k 319999999999680 (to_z w64 c.loop-k.total-bits) (get_or c.args.counts.now k d).gain _ (omega (arith, ints, c.loop-k.total-is, value.low, value.high, within.low, within.high, few, lt)) value within;
+      exact = sum_next (λ (x : StackCount). x.gain) c.args.counts.now k d _ (omega (arith, lt))
+          (omega (arith, ints, c.loop-k.invariant.exact, c.loop-k.total-is, value.low, value.high, within.low, within.high, few, lt));
+      small = wider_next k 319999999999680 (to_z w64 c.loop-k.total-bits) (get_or c.args.counts.now k d).gain _
+          (omega (arith, ints, c.loop-k.total-is, value.low, value.high, within.low, within.high, few, lt)) value within;
     }

@@ -22,7 +22,8 @@ ends-preserved c =
     let k = c.in_ok-count_of.field-0 in
     let items = c.in_ok-push.ensures.items in
     record {
-      stacks = more_stacks c.args.ends.now c.ends.end-index d c.ends.counts.items c.push.new.self.items k c.ends-test.true items c.ends.invariant.stacks c.in_ok-count_of.ensures.end;
+      stacks = more_stacks c.args.ends.now c.ends.end-index d c.ends.counts.items c.push.new.self.items k c.ends-test.true items c.ends.invariant.stacks
+          c.in_ok-count_of.ensures.end;
       each = subst (λ (ks : List StackCount). (x : StackCount) → In x ks → IsCountOf c.args.instance.now c.args.path.now.blocks c.args.case.now x) (sym {A = List StackCount} items)
           (more_each c.args.instance.now c.args.path.now.blocks c.args.case.now c.ends.counts.items k c.ends.invariant.each c.in_ok-count_of.ensures.is);
     }

@@ -8,4 +8,5 @@ use Rattle.shunt_recount.proofs.recounts.recount.Goals as goal
 pub added_up-total-requires-clause-small : goal.added_up-total-requires-clause-small
 added_up-total-requires-clause-small c =
     let are = c.in_ok-counts.ensures in
-    subst (λ (ks : List StackCount). All (λ k. IsWithin 319999999999680 k.gain) ks) (sym c.deref.ensures.value) (from_members (λ k. IsWithin 319999999999680 k.gain) c.in_ok-counts.counts.items (λ k i. (are.each k i).small))
+    subst (λ (ks : List StackCount). All (λ k. IsWithin 319999999999680 k.gain) ks) (sym c.deref.ensures.value)
+    (from_members (λ k. IsWithin 319999999999680 k.gain) c.in_ok-counts.counts.items (λ k i. (are.each k i).small))

@@ -13,7 +13,8 @@ loop-n-preserved c =
     one_more night c.args.covered.now (BeginsAt night c.args.u) units_of c.loop-n.n c.args.shapes.now.items c.loop-n.shapes.items c.loop-n.invariant
     (HasUnits (unit_at night c.args.u) c.loop-n.n) c.add_of.new.shapes.items
     (λ s free first at. (of_unit night (λ t k within lt. c.places.ensures.unit night t k within lt) c.args.u s free.shape.within first, at))
-    (subst (λ (x : TrainUnit). GoesOn night c.args.covered.now (HasUnits x c.loop-n.n) c.loop-n.shapes.items c.add_of.new.shapes.items) c.unit-unit.ensures.exact c.in_ok-add_of.ensures)
+    (subst (λ (x : TrainUnit). GoesOn night c.args.covered.now (HasUnits x c.loop-n.n) c.loop-n.shapes.items c.add_of.new.shapes.items) c.unit-unit.ensures.exact
+    c.in_ok-add_of.ensures)
 
 pub returns : goal.returns
 returns c =

@@ -12,7 +12,8 @@ use Rattle.shunt_recount.proofs.values.+values.Goals as goal
 pub greatest-with_visit-requires : goal.greatest-with_visit-requires
 greatest-with_visit-requires t c =
     let d : Visit = record { comes = 0; inside = 0; until = 0; gone = 0; length = 0; gain = pos 0 } in
-    let h = listed c.coming-visit-items.result.now c.deref.result.now c.args.visits.now.free.items c.visits.visit-index c.args.part.start d c.visits-test.true c.coming-visit-items.ensures c.deref.ensures.value in
+    let h = listed c.coming-visit-items.result.now c.deref.result.now c.args.visits.now.free.items c.visits.visit-index c.args.part.start d c.visits-test.true
+    c.coming-visit-items.ensures c.deref.ensures.value in
     let m = c.decreases in
     (omega (arith, m), (c.requires.visits, (c.visits.invariant.known, (c.requires.end, (inr h.0, h.1)))))
 
@@ -36,8 +37,10 @@ step-returns-in-Some-clause-is t c =
     let comes = subst (λ (w : Visit). w.comes ≡ c.args.part.start) own h.1 in
     let end = c.args.part.end in
     let room = c.args.part.room in
-    if_ok (λ (g : Option ℤ). (n : ℕ) → end ≤ c.args.part.start + n → g ≡ best_with (best n (fixed_in v) (free_in v)) end room (span_of c.in-Some.visit.now)) (IsBest (fixed_in v) (free_in v) c.args.part) c.with_visit.result
-    (λ g is n enough. is n enough ∙ sym (c.nests.ensures.at_fixed (fixed_in v) (free_in v) n c.args.part.start end room (span_of c.in-Some.visit.now) c.requires.visits.own there comes c.requires.start enough))
+    if_ok (λ (g : Option ℤ). (n : ℕ) → end ≤ c.args.part.start + n → g ≡ best_with (best n (fixed_in v) (free_in v)) end room (span_of c.in-Some.visit.now))
+    (IsBest (fixed_in v) (free_in v) c.args.part) c.with_visit.result
+    (λ g is n enough. is n enough ∙ sym (c.nests.ensures.at_fixed (fixed_in v) (free_in v) n c.args.part.start end room
+    (span_of c.in-Some.visit.now) c.requires.visits.own there comes c.requires.start enough))
     c.with_visit.ensures.is
 
 pub step-returns-clause-is : goal.step-returns-clause-is
@@ -48,9 +51,11 @@ step-returns-clause-is t c =
     let start = c.args.part.start in
     let end = c.args.part.end in
     let room = c.args.part.room in
-    if_ok (λ (g : Option ℤ). (n : ℕ) → end ≤ start + n → g ≡ greater c.in_ok-without.without (greatest_of (map (best_with (best n (fixed_in v) (free_in v)) end room) (coming_at start (free_in v)))))
+    if_ok (λ (g : Option ℤ). (n : ℕ) → end ≤ start + n → g ≡ greater c.in_ok-without.without
+    (greatest_of (map (best_with (best n (fixed_in v) (free_in v)) end room) (coming_at start (free_in v)))))
     (IsBest (fixed_in v) (free_in v) c.args.part) c.greatest.result
-    (λ g is n enough. by_free (best n (fixed_in v) (free_in v)) (fixed_in v) (free_in v) start end room c.requires.start c.in_ok-without.without g none (c.in_ok-without.ensures.is n (omega (arith, enough))) (is n enough)
+    (λ g is n enough. by_free (best n (fixed_in v) (free_in v)) (fixed_in v) (free_in v) start end room c.requires.start c.in_ok-without.without g none
+    (c.in_ok-without.ensures.is n (omega (arith, enough))) (is n enough)
     ∙ sym (c.nests.ensures.steps (fixed_in v) (free_in v) n start end room c.requires.visits.own enough))
     c.greatest.ensures.is
 
@@ -59,7 +64,8 @@ value-returns-then-first-part-clause-is t c =
     let v = c.args.visits.now in
     let a = c.next_coming-first_fixed.ensures in
     let b = c.next_coming-first.ensures in
-    part_empty (fixed_in v) (free_in v) (λ n x y room none lt enough. c.nests.ensures.at_none (fixed_in v) (free_in v) n x y room c.requires.visits.own none lt enough) c.args.part.start c.args.part.end c.args.part.room
+    part_empty (fixed_in v) (free_in v) (λ n x y room none lt enough. c.nests.ensures.at_none (fixed_in v) (free_in v) n x y room c.requires.visits.own none lt enough)
+    c.args.part.start c.args.part.end c.args.part.room
     c.next_coming-first.result c.requires.start c.if-first-part.true
     (λ s i from. ⊎_elim
     (λ (k : In s (fixed_in v)). let h = a.none s (subst (λ vs. In s (spans_of vs)) (sym c.deref.ensures.value) k) from in omega (arith, h, b.to))
@@ -71,7 +77,8 @@ value-returns-in-Some-clause-is t c =
     let v = c.args.visits.now in
     let a = c.next_coming-first_fixed.ensures in
     let b = c.next_coming-first.ensures in
-    part_passed (fixed_in v) (free_in v) (λ n x y room none lt enough. c.nests.ensures.at_none (fixed_in v) (free_in v) n x y room c.requires.visits.own none lt enough) c.args.part.start c.args.part.end c.args.part.room
+    part_passed (fixed_in v) (free_in v) (λ n x y room none lt enough. c.nests.ensures.at_none (fixed_in v) (free_in v) n x y room c.requires.visits.own none lt enough)
+    c.args.part.start c.args.part.end c.args.part.room
     c.next_coming-first.result c.in-Some.gain b.from (omega (arith, b.to, a.to))
     (λ s i from. ⊎_elim
     (λ (k : In s (fixed_in v)). let h = a.none s (subst (λ vs. In s (spans_of vs)) (sym c.deref.ensures.value) k) from in omega (arith, h, b.to))
@@ -84,7 +91,8 @@ value-returns-clause-is t c =
     let v = c.args.visits.now in
     let a = c.next_coming-first_fixed.ensures in
     let b = c.next_coming-first.ensures in
-    part_passed (fixed_in v) (free_in v) (λ n x y room none lt enough. c.nests.ensures.at_none (fixed_in v) (free_in v) n x y room c.requires.visits.own none lt enough) c.args.part.start c.args.part.end c.args.part.room
+    part_passed (fixed_in v) (free_in v) (λ n x y room none lt enough. c.nests.ensures.at_none (fixed_in v) (free_in v) n x y room c.requires.visits.own none lt enough)
+    c.args.part.start c.args.part.end c.args.part.room
     c.next_coming-first.result c.in_ok-gain.gain b.from (omega (arith, b.to, a.to))
     (λ s i from. ⊎_elim
     (λ (k : In s (fixed_in v)). let h = a.none s (subst (λ vs. In s (spans_of vs)) (sym c.deref.ensures.value) k) from in omega (arith, h, b.to))
@@ -121,10 +129,12 @@ with_visit-together-requires-clause-gain t c =
     let w = c.requires.visits.small.gains (span_of c.args.visit) c.requires.ours in subst (IsWithin 16000000000000) (sym (seen c.args.visit.gain w)) w
 
 pub with_visit-together-requires-clause-inside : goal.with_visit-together-requires-clause-inside
-with_visit-together-requires-clause-inside t c = let v = c.requires.visits in gain_small (fixed_in c.args.visits.now) (free_in c.args.visits.now) v.own v.small _ c.in_ok-inside.inside c.in_ok-inside.ensures.is
+with_visit-together-requires-clause-inside t c = let v = c.requires.visits in gain_small (fixed_in c.args.visits.now)
+    (free_in c.args.visits.now) v.own v.small _ c.in_ok-inside.inside c.in_ok-inside.ensures.is
 
 pub with_visit-together-requires-clause-behind : goal.with_visit-together-requires-clause-behind
-with_visit-together-requires-clause-behind t c = let v = c.requires.visits in gain_small (fixed_in c.args.visits.now) (free_in c.args.visits.now) v.own v.small _ c.in_ok-behind.behind c.in_ok-behind.ensures.is
+with_visit-together-requires-clause-behind t c = let v = c.requires.visits in gain_small (fixed_in c.args.visits.now)
+    (free_in c.args.visits.now) v.own v.small _ c.in_ok-behind.behind c.in_ok-behind.ensures.is
 
 pub with_visit-returns-clause-is : goal.with_visit-returns-clause-is
 with_visit-returns-clause-is t c =
@@ -137,5 +147,7 @@ with_visit-returns-clause-is t c =
     let f = c.if-visit-part.false in
     let few = c.if-visit-part-2.false in
     let own = seen c.args.visit.gain (v.small.gains (span_of c.args.visit) c.requires.ours) in
-    λ n le. joined (best n (fixed_in c.args.visits.now) (free_in c.args.visits.now)) c.args.part.end c.args.part.room (span_of c.args.visit) _ c.in_ok-inside.inside c.in_ok-behind.behind _
-    (omega (arith, f)) (omega (arith, few)) own (c.in_ok-inside.ensures.is n (omega (arith, le, a, b, d, f, same))) (c.in_ok-behind.ensures.is n (omega (arith, le, a, b, d, same))) c.together.ensures
+    λ n le. joined (best n (fixed_in c.args.visits.now) (free_in c.args.visits.now)) c.args.part.end c.args.part.room
+    (span_of c.args.visit) _ c.in_ok-inside.inside c.in_ok-behind.behind _
+    (omega (arith, f)) (omega (arith, few)) own (c.in_ok-inside.ensures.is n (omega (arith, le, a, b, d, f, same)))
+    (c.in_ok-behind.ensures.is n (omega (arith, le, a, b, d, same))) c.together.ensures

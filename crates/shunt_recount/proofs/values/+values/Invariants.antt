@@ -20,6 +20,8 @@ decreases-with_visit l = 4 * (l.part.end - l.part.start)
 abbrev pub invariant-greatest-visits : goal.invariant-greatest-visits
 invariant-greatest-visits l = record {
   known : AreKnown (fixed_in l.fn.visits) (free_in l.fn.visits) l.known;
-  is : (n : ℕ) → l.part.end ≤ l.part.start + n → left_with (best_with (best n (fixed_in l.fn.visits) (free_in l.fn.visits)) l.part.end l.part.room) l.visit-items l.visit-index l.gain
-      ≡ greater l.fn.without (greatest_of (map (best_with (best n (fixed_in l.fn.visits) (free_in l.fn.visits)) l.part.end l.part.room) (coming_at l.part.start (free_in l.fn.visits))));
+  is : (n : ℕ) → l.part.end ≤ l.part.start + n → left_with (best_with (best n (fixed_in l.fn.visits) (free_in l.fn.visits)) l.part.end l.part.room) l.visit-items
+      l.visit-index l.gain
+      ≡ greater l.fn.without (greatest_of (map (best_with (best n (fixed_in l.fn.visits) (free_in l.fn.visits)) l.part.end l.part.room)
+      (coming_at l.part.start (free_in l.fn.visits))));
 }

@@ -8,5 +8,6 @@ returns c =
     let is = c.new-visits.ensures in
     if_ok (IsBest (fixed_in v) (free_in v) _) (IsBest (spans_of c.args.fixed.items) (spans_of c.args.free.items) _) c.value.result
     (λ g best. moved_best (spans_of c.args.fixed.items) (spans_of c.args.free.items) (fixed_in v) (free_in v) _ g
-    (λ n enough. c.nests.ensures.agree (fixed_in v) (free_in v) (spans_of c.args.fixed.items) (spans_of c.args.free.items) n 0 c.args.end c.args.room is.visits.own c.requires.own enough
+    (λ n enough. c.nests.ensures.agree (fixed_in v) (free_in v) (spans_of c.args.fixed.items)
+    (spans_of c.args.free.items) n 0 c.args.end c.args.room is.visits.own c.requires.own enough
     (agree_all (fixed_in v) (free_in v) (spans_of c.args.fixed.items) (spans_of c.args.free.items) 0 c.args.end is.fixed_same is.free_same)) best) c.value.ensures.is

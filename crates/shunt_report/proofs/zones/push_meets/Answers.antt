@@ -4,4 +4,5 @@ use Rattle.shunt_report.proofs.Lines.{one_more}
 use Rattle.shunt_report.proofs.zones.push_meets.Goals as goal
 
 pub loop-meet-preserved : goal.loop-meet-preserved
-loop-meet-preserved c = one_more (meet_line c.args.zones.now) c.args.meets.now c.loop-meet.meet-index _ c.loop-meet.text c.push_meet.new.text c.loop-meet-test.true c.in_ok-push_meet.ensures ∙ c.loop-meet.invariant
+loop-meet-preserved c = one_more (meet_line c.args.zones.now) c.args.meets.now c.loop-meet.meet-index _ c.loop-meet.text c.push_meet.new.text c.loop-meet-test.true
+    c.in_ok-push_meet.ensures ∙ c.loop-meet.invariant

@@ -4,7 +4,8 @@ use Rattle.shunt_ruin.proofs.Judged.{all_more, all_whole}
 use Rattle.shunt_ruin.proofs.judging.are_blocks.Goals as goal
 
 pub loop-block-preserved : goal.loop-block-preserved
-loop-block-preserved c = all_more (IsBlock c.args.instance.now) c.args.blocks.now c.loop-block.block-index _ c.loop-block-test.true c.loop-block.invariant (c.fits.ensures.0 c.if-not-fits.false)
+loop-block-preserved c = all_more (IsBlock c.args.instance.now) c.args.blocks.now c.loop-block.block-index _ c.loop-block-test.true c.loop-block.invariant
+    (c.fits.ensures.0 c.if-not-fits.false)
 
 pub returns : goal.returns
 returns c = λ _. all_whole (IsBlock c.args.instance.now) c.args.blocks.now c.loop-block.block-index (omega (arith, c.loop-block-test.false)) c.loop-block.invariant

@@ -4,4 +4,5 @@ use Rattle.shunt_ruin.proofs.Judged.{below_more}
 use Rattle.shunt_ruin.proofs.judging.cover_positions.Goals as goal
 
 pub loop-position-preserved : goal.loop-position-preserved
-loop-position-preserved c = below_more (λ k. times_position c.args.instance.now c.args.blocks.now k ≡ 1) c.loop-position.position c.loop-position.invariant (sym c.times_position.ensures ∙ c.if-times_position-ne1.false)
+loop-position-preserved c = below_more (λ k. times_position c.args.instance.now c.args.blocks.now k ≡ 1) c.loop-position.position c.loop-position.invariant
+    (sym c.times_position.ensures ∙ c.if-times_position-ne1.false)

@@ -8,5 +8,6 @@ invariant-loop-order l = record {
   number : l.number ≡ l.order-index + 1;
   sizes : length l.tracks.items ≡ length l.lengths;
   fit : Fit (λ v. blocks_of v.items) l.lengths l.tracks.items;
-  follows : follow_from l.lengths l.number (drop l.order-index l.orders) (map (λ v. blocks_of v.items) l.tracks.items) ≡ follow_from l.lengths 1 l.orders (map (λ v. blocks_of v.items) l.fn.tracks.items);
+  follows : follow_from l.lengths l.number (drop l.order-index l.orders) (map (λ v. blocks_of v.items) l.tracks.items)
+      ≡ follow_from l.lengths 1 l.orders (map (λ v. blocks_of v.items) l.fn.tracks.items);
 }

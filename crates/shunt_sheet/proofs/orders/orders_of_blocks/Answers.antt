@@ -5,18 +5,33 @@ use Rattle.shunt_sheet.proofs.Plans.{BlockLaws, due_in_time, orders_are, orders_
 use Rattle.shunt_sheet.proofs.orders.orders_of_blocks.Goals as goal
 
 pub sorted_dues-requires-clause-stays : goal.sorted_dues-requires-clause-stays
-sorted_dues-requires-clause-stays c = c.stays_of_blocks.ensures.stays c.args.instance.now c.args.blocks.now c.station.ensures.formed (c.stays_of_blocks.ensures.in_range c.args.instance.now c.args.blocks.now c.requires)
+sorted_dues-requires-clause-stays c = c.stays_of_blocks.ensures.stays c.args.instance.now c.args.blocks.now c.station.ensures.formed
+    (c.stays_of_blocks.ensures.in_range c.args.instance.now c.args.blocks.now c.requires)
 
 pub orders_from-requires : goal.orders_from-requires
 orders_from-requires c =
-    let laws : BlockLaws = record { stays = c.stays_of_blocks.ensures.stays; in_range = c.stays_of_blocks.ensures.in_range; from = c.stays_of_blocks.ensures.from; unit = c.places.ensures.unit } in
+    let laws : BlockLaws = record {
+      stays = c.stays_of_blocks.ensures.stays;
+      in_range = c.stays_of_blocks.ensures.in_range;
+      from = c.stays_of_blocks.ensures.from;
+      unit =
+          c.places.ensures.unit;
+    } in
     due_in_time laws c.args.instance.now c.args.blocks.now c.station.ensures.formed c.requires c.in_ok-dues.dues.items _ c.deref.ensures.value c.in_ok-dues.ensures
 
 pub returns-clause-exact : goal.returns-clause-exact
-returns-clause-exact c = if_ok c.orders_from.result _ _ c.orders_from.ensures (λ v e. e ∙ orders_are c.args.instance.now c.args.blocks.now c.in_ok-dues.dues.items _ c.deref.ensures.value c.in_ok-dues.ensures)
+returns-clause-exact c = if_ok c.orders_from.result _ _ c.orders_from.ensures (λ v e. e
+    ∙ orders_are c.args.instance.now c.args.blocks.now c.in_ok-dues.dues.items _ c.deref.ensures.value c.in_ok-dues.ensures)
 
 pub returns-clause-sheet : goal.returns-clause-sheet
 returns-clause-sheet c =
-    let laws : BlockLaws = record { stays = c.stays_of_blocks.ensures.stays; in_range = c.stays_of_blocks.ensures.in_range; from = c.stays_of_blocks.ensures.from; unit = c.places.ensures.unit } in
-    if_ok c.orders_from.result _ _ c.orders_from.ensures (λ v e. subst (AreOrders c.args.instance.now.station) (sym (e ∙ orders_are c.args.instance.now c.args.blocks.now c.in_ok-dues.dues.items _ c.deref.ensures.value c.in_ok-dues.ensures))
+    let laws : BlockLaws = record {
+      stays = c.stays_of_blocks.ensures.stays;
+      in_range = c.stays_of_blocks.ensures.in_range;
+      from = c.stays_of_blocks.ensures.from;
+      unit =
+          c.places.ensures.unit;
+    } in
+    if_ok c.orders_from.result _ _ c.orders_from.ensures (λ v e. subst (AreOrders c.args.instance.now.station)
+    (sym (e ∙ orders_are c.args.instance.now c.args.blocks.now c.in_ok-dues.dues.items _ c.deref.ensures.value c.in_ok-dues.ensures))
     (orders_formed laws c.args.instance.now c.args.blocks.now c.station.ensures.formed c.requires))

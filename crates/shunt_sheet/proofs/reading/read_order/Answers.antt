@@ -3,13 +3,17 @@ use Rattle.shunt_sheet.proofs.Parts.{err_is, start_fails, move_fails, place_fail
 use Rattle.shunt_sheet.proofs.reading.read_order.Goals as goal
 
 pub returns-in_err-minute : goal.returns-in_err-minute
-returns-in_err-minute c = err_is c.from_residual.result _ _ c.from_residual.ensures.1 (start_fails c.args.n c.args.station.now c.args.orders.now c.args.row.now _ (sym c.in_err-minute.ensures.answer))
+returns-in_err-minute c = err_is c.from_residual.result _ _ c.from_residual.ensures.1
+    (start_fails c.args.n c.args.station.now c.args.orders.now c.args.row.now _ (sym c.in_err-minute.ensures.answer))
 
 pub returns-in_err-named : goal.returns-in_err-named
-returns-in_err-named c = err_is c.from_residual-in_err-named.result _ _ c.from_residual-in_err-named.ensures.1 (move_fails c.args.n c.args.station.now c.args.orders.now c.args.row.now _ _ (sym c.in_ok-minute.ensures.answer) (sym c.in_err-named.ensures))
+returns-in_err-named c = err_is c.from_residual-in_err-named.result _ _ c.from_residual-in_err-named.ensures.1
+    (move_fails c.args.n c.args.station.now c.args.orders.now c.args.row.now _ _ (sym c.in_ok-minute.ensures.answer) (sym c.in_err-named.ensures))
 
 pub returns-in_err-place : goal.returns-in_err-place
-returns-in_err-place c = err_is c.from_residual-in_err-place.result _ _ c.from_residual-in_err-place.ensures.1 (place_fails c.args.n c.args.station.now c.args.orders.now c.args.row.now _ _ _ (sym c.in_ok-minute.ensures.answer) (sym c.in_ok-named.ensures) (sym c.in_err-place.ensures))
+returns-in_err-place c = err_is c.from_residual-in_err-place.result _ _ c.from_residual-in_err-place.ensures.1
+    (place_fails c.args.n c.args.station.now c.args.orders.now c.args.row.now _ _ _ (sym c.in_ok-minute.ensures.answer) (sym c.in_ok-named.ensures) (sym c.in_err-place.ensures))
 
 pub returns : goal.returns
-returns c = sym (order_is c.args.n c.args.station.now c.args.orders.now c.args.row.now _ _ _ (sym c.in_ok-minute.ensures.answer) (sym c.in_ok-named.ensures) (sym c.in_ok-place.ensures))
+returns c = sym (order_is c.args.n c.args.station.now c.args.orders.now c.args.row.now _ _ _ (sym c.in_ok-minute.ensures.answer) (sym c.in_ok-named.ensures)
+    (sym c.in_ok-place.ensures))

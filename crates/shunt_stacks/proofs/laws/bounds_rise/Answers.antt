@@ -25,8 +25,10 @@ returns c =
       there = c.bounds.ensures.there;
       rise = c.bounds.ensures.rise;
     } in
-    let has : (night : Night) (path : List Block) → IsInstance night → All (IsWithinTrains night) path → ShareNothing night path → RunsThrough night (placed path) → HasGains night path =
-    λ night path i within apart go k stack. gain_there laws.places c.choices.ensures.members c.few_blocks.ensures.most night i path stack k (empty laws.part night i path within apart stack go) in
+    let has : (night : Night) (path : List Block) → IsInstance night → All (IsWithinTrains night) path → ShareNothing night path → RunsThrough night (placed path)
+    → HasGains night path =
+    λ night path i within apart go k stack. gain_there laws.places c.choices.ensures.members c.few_blocks.ensures.most night i path stack k
+    (empty laws.part night i path within apart stack go) in
     record {
       hold = λ night path b cases hold. still_hold laws.places night path b cases hold;
       falls = λ night path b k stack before after i within apart free now then. gain_falls laws.places laws.part night i path b within apart free k stack before after now then;
@@ -37,6 +39,12 @@ returns c =
           let more_within = longer_within laws.places laws.part night i path b within apart free in
           let more_apart = longer_apart laws.places laws.part night i path b within apart free in
           let runs = part_runs laws.part night path (path ++ b ∷ []) i more_within more_apart (part_left night path (b ∷ [])) go in
-          let middle = choice_there night path b (has night path i within apart runs) (has night (path ++ b ∷ []) i more_within more_apart go) cases (omega (arith, then.least.opens.there)) in
-          omega (arith, ints, path_to_choice laws night i path b within apart free cases before middle.0 go hold now middle.1, choice_to_longer laws night i path b within apart free cases middle.0 after middle.1 then);
+          let middle = choice_there night path b (has night path i within apart runs) (has night (path ++ b ∷ []) i more_within more_apart go) cases
+          (omega (arith, then.least.opens.there)) in
+          omega (
+            arith,
+            ints,
+            path_to_choice laws night i path b within apart free cases before middle.0 go hold now middle.1,
+            choice_to_longer laws night i path b within apart free cases middle.0 after middle.1 then,
+          );
     }

@@ -27,7 +27,9 @@ returns c =
     record {
       blocks = λ night path blocks b k stack i free are. lists_of_longer places night path b free k stack blocks are;
       agree = λ night path blocks b k stack count entry leave x y i num are free of out. agree events night i stack count entry leave num path b free of k blocks are x y out;
-      value = λ night path blocks b k stack count entry leave n y room i all apart num are free of past le. value_at laws night i stack count entry leave num path all apart b free of k blocks are n y room past le;
+      value = λ night path blocks b k stack count entry leave n y room i all apart num are free of past le.
+          value_at laws night i stack count entry leave num path all apart b free of k blocks are n y room past le;
       first = λ night path b u i next free. first_free places night path b u next free;
-      around = λ night path blocks b k stack count entry leave u i all apart num are next begins. around laws night i stack count entry leave num path all apart k blocks are u next b begins;
+      around = λ night path blocks b k stack count entry leave u i all apart num are next begins.
+          around laws night i stack count entry leave num path all apart k blocks are u next b begins;
     }

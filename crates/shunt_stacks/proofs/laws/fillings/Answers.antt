@@ -26,5 +26,6 @@ returns c =
         λ fill. with_block places law night i path b within apart free stack filling of fill,
         λ fill. without_block places law night i path b within apart free stack filling of fill,
       );
-      some = λ night path filling stack test i within apart fill. part_fills places law night i path within apart stack filling fill (filter test filling) (part_filter night test filling);
+      some = λ night path filling stack test i within apart fill. part_fills places law night i path within apart stack filling fill (filter test filling)
+          (part_filter night test filling);
     }

@@ -16,8 +16,10 @@ pub returns : goal.returns
 returns c =
     let places : PlaceLaws = record { unit_in = c.places.ensures.unit_in; position_in = c.places.ensures.position_in } in
     let law = c.ids_do_not_matter.ensures.placed_part in
-    let has : (night : Night) (path : List Block) → IsInstance night → All (IsWithinTrains night) path → ShareNothing night path → RunsThrough night (placed path) → HasGains night path =
-    λ night path i within apart go k stack. gain_there places c.choices.ensures.members c.few_blocks.ensures.most night i path stack k (empty law night i path within apart stack go) in
+    let has : (night : Night) (path : List Block) → IsInstance night → All (IsWithinTrains night) path → ShareNothing night path → RunsThrough night (placed path)
+    → HasGains night path =
+    λ night path i within apart go k stack. gain_there places c.choices.ensures.members c.few_blocks.ensures.most night i path stack k
+    (empty law night i path within apart stack go) in
     record {
       gain = λ night path k stack i within apart go. has night path i within apart go k stack;
       sum = λ night path cases k i within apart go. sum_there night path (has night path i within apart go) cases k;

@@ -6,7 +6,8 @@ use Rattle.shunt_base.specs.defs.Keys.{IsBefore}
 use Rattle.shunt_stacks.specs.defs.Spans.{IsBy}
 use Rattle.shunt_stacks.proofs.laws.nested_stays.Goals as goal
 
-leaves_first : (side : Side) (b c : Stay) → IsBy side c → (IsBefore c.leave b.leave × (c.side_out ≢ c.side_in)) ⊎ (IsBefore b.leave c.leave × (b.side_out ≡ c.side_in)) → IsBefore b.leave c.leave
+leaves_first : (side : Side) (b c : Stay) → IsBy side c → (IsBefore c.leave b.leave × (c.side_out ≢ c.side_in)) ⊎ (IsBefore b.leave c.leave × (b.side_out ≡ c.side_in))
+    → IsBefore b.leave c.leave
 leaves_first side b c by (inl h) = absurd (h.1 (by.goes ∙ sym by.comes))
 leaves_first side b c by (inr h) = h.0
 

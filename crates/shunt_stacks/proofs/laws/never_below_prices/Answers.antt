@@ -19,5 +19,6 @@ returns c =
       gain = λ night path k stack i within apart go hold. no_gain laws night i path within apart k stack go hold;
       sum = λ night path cases k i within apart go hold lt. same_sum laws night i path within apart cases k go (hold k _ lt);
       bound = λ night path cases bound i within apart go hold is. same_bound laws night i path cases bound within apart go hold is;
-      choice = λ night path b cases bound i within apart free go hold is. same_choice laws night i path b within apart free go cases bound hold (c.longer_paths.ensures.hold night path b cases hold) is;
+      choice = λ night path b cases bound i within apart free go hold is. same_choice laws night i path b within apart free go cases bound hold
+          (c.longer_paths.ensures.hold night path b cases hold) is;
     }

@@ -23,19 +23,24 @@ returns c =
     let law = c.ids_do_not_matter.ensures.placed_part in
     let units = c.unit_numbers.ensures.units_few in
     let opened = c.instances.ensures.opened in
-    let sum : (night : Night) (path : List Block) (cases : List Case) (k : ℕ) (x : ℤ) → IsInstance night → All (IsWithinTrains night) path → ShareNothing night path → RunsThrough night (placed path)
+    let sum : (night : Night) (path : List Block) (cases : List Case) (k : ℕ) (x : ℤ) → IsInstance night → All (IsWithinTrains night) path → ShareNothing night path
+    → RunsThrough night (placed path)
     → AreCases night cases → k < length cases → IsStackSum night path cases k x → IsWithin 4038399999999961600 x =
     λ night path cases k x i within apart go are lt s.
     let is = are.each k _ lt in
     less_gains x _ _ s.is
-    (c.sums_fit.ensures.sum night path (from_of cases k) (case_at cases k) i is within (omega (arith, c.few_blocks.ensures.most night path within apart, units night i)) (c.sums_fit.ensures.from night cases k are lt))
-    (all_small places law night i (units night i) path within apart go (case_at cases k) is (stacks night.station) s.gains (few_stacks night.station (opened night i).station) s.are) in
+    (c.sums_fit.ensures.sum night path (from_of cases k) (case_at cases k) i is within (omega (arith, c.few_blocks.ensures.most night path within apart, units night i))
+    (c.sums_fit.ensures.from night cases k are lt))
+    (all_small places law night i (units night i) path within apart go (case_at cases k) is (stacks night.station) s.gains
+    (few_stacks night.station (opened night i).station) s.are) in
     let block : (night : Night) (k : Case) (b : Block) → IsInstance night → IsCase night k → AreRunsWithin night (shape_of b) → IsWithin 23056939999999983 (gain night k b) =
-    λ night k b i is runs. block_within night k b (c.sums_fit.ensures.over night k.duals (shape_of b) i is.duals runs) (c.sums_fit.ensures.weight night k (shape_of b) b.park i is runs) in
+    λ night k b i is runs. block_within night k b (c.sums_fit.ensures.over night k.duals (shape_of b) i is.duals runs)
+    (c.sums_fit.ensures.weight night k (shape_of b) b.park i is runs) in
     record {
       filling = λ night path filling k stack i is fill. filling_small night k is stack places (units night i) path filling fill;
       gain = λ night path k stack x i within apart go is g. gain_small places law night i (units night i) path within apart go k is stack x g;
-      gains = λ night path k gains i within apart go is are. all_small places law night i (units night i) path within apart go k is (stacks night.station) gains (few_stacks night.station (opened night i).station) are;
+      gains = λ night path k gains i within apart go is are. all_small places law night i (units night i) path within apart go k is (stacks night.station) gains
+          (few_stacks night.station (opened night i).station) are;
       sum = sum;
       block = block;
       choice = λ night path b cases k x i within apart free go are lt s.

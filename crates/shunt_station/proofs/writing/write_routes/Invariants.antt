@@ -6,5 +6,6 @@ use Rattle.shunt_station.proofs.writing.write_routes.Given as goal
 abbrev pub invariant-routes : goal.invariant-routes
 invariant-routes l = record {
   open_row : l.writer.row ≡ [];
-  text : l.writer.text ++ text_of_rows (map (route_row l.station) (drop l.route-index l.station.routes)) ≡ l.fn.writer.text ++ text_of_rows (map (route_row l.station) l.station.routes);
+  text : l.writer.text ++ text_of_rows (map (route_row l.station) (drop l.route-index l.station.routes)) ≡ l.fn.writer.text
+      ++ text_of_rows (map (route_row l.station) l.station.routes);
 }

@@ -9,7 +9,8 @@ returns-clause-part c = λ lengths stays part a on b within go. part_through len
 
 pub returns-clause-tested : goal.returns-clause-tested
 returns-clause-tested c = λ lengths stays test a on go.
-    part_through lengths stays (filter test stays) a on (stays_filter test stays a) (tracks_within lengths stays (filter test stays) on (λ s h. (filter_from test stays s h).0)) (λ s h. (filter_from test stays s h).0) go
+    part_through lengths stays (filter test stays) a on (stays_filter test stays a) (tracks_within lengths stays (filter test stays) on (λ s h. (filter_from test stays s h).0))
+    (λ s h. (filter_from test stays s h).0) go
 
 pub returns-clause-stays : goal.returns-clause-stays
 returns-clause-stays c = λ stays test a. stays_filter test stays a

@@ -7,7 +7,8 @@ use Rattle.shunt_store.proofs.parts.endings_of.Goals as goal
 pub endings-preserved : goal.endings-preserved
 endings-preserved c = record {
   name = one_more c.args.name.now c.endings.rest.now c.in-Some.front.now c.endings.many c.endings.invariant.name
-      (strip_suffix_is Decides-eqb c.endings.rest.now c.as_bytes.result.now (Some c.in-Some.front) c.in-Some.ensures.cases ∙ ap (λ x. c.in-Some.front.now ++ x) c.as_bytes.ensures.value);
+      (strip_suffix_is Decides-eqb c.endings.rest.now c.as_bytes.result.now (Some c.in-Some.front) c.in-Some.ensures.cases
+      ∙ ap (λ x. c.in-Some.front.now ++ x) c.as_bytes.ensures.value);
   few = omega (arith, c.endings.invariant.few, c.in-Some.ensures.cases.2, ap length c.as_bytes.ensures.value);
 }
 

@@ -7,7 +7,8 @@ use Rattle.shunt_store.proofs.parts.free_endings.Goals as goal
 pub loop-name-preserved : goal.loop-name-preserved
 loop-name-preserved c = record {
   some = grind (arith, common_steps);
-  free = names_more string_bytes c.args.names.now c.loop-name.name-index c.loop-name.free c.max-free.result c.endings_of.result c.name-item.result c.loop-name-test.true c.loop-name.invariant.free
+  free = names_more string_bytes c.args.names.now c.loop-name.name-index c.loop-name.free c.max-free.result c.endings_of.result c.name-item.result c.loop-name-test.true
+      c.loop-name.invariant.free
       (subst (λ (s : List ℕ). (n : ℕ) → EndsWith s (part_endings n) → n ≤ c.endings_of.result) (c.as_bytes.ensures.value ∙ ap string_bytes c.name-item.is) c.endings_of.ensures.all)
       (grind (arith, common_steps)) (grind (arith, common_steps));
 }

@@ -12,7 +12,8 @@ returns-clause-heard g c =
 
 pub returns-clause-long_heard : goal.returns-clause-long_heard
 returns-clause-long_heard g c = λ e.
-    closed_part _ _ _ _ _ _ c.in_ok-open_file.ensures.heard (first_opened _ _ _ _ _ _ _ c.in_ok-open_file.ensures.files c.in_ok-open_file.ensures.ok.0 (c.read_open-read.ensures.long_heard e)) c.in_ok-close_file.ensures.heard
+    closed_part _ _ _ _ _ _ c.in_ok-open_file.ensures.heard (first_opened _ _ _ _ _ _ _ c.in_ok-open_file.ensures.files c.in_ok-open_file.ensures.ok.0
+    (c.read_open-read.ensures.long_heard e)) c.in_ok-close_file.ensures.heard
 
 pub returns-clause-some_heard : goal.returns-clause-some_heard
 returns-clause-some_heard g c =

@@ -11,7 +11,8 @@ pieces-preserved g c =
       taken = grind (arith, common_steps);
       most = at_most _ _ _ _ _ c.read.new.buf _ _ i.most c.in_ok-n.ensures.handed c.in_ok-n.ensures.bound c.in_ok-extend_from_slice.ensures.items;
       least = at_least _ _ _ _ _ c.read.new.buf _ _ i.least c.in_ok-n.ensures.handed c.in_ok-n.ensures.bound c.in_ok-extend_from_slice.ensures.items;
-      told = told_more _ _ _ _ c.pieces.bytes.items c.read.new.buf _ _ _ _ i.told i.files i.stage c.in_ok-n.ensures.bytes i.taken c.in_ok-n.ensures.bound c.in_ok-extend_from_slice.ensures.items;
+      told = told_more _ _ _ _ c.pieces.bytes.items c.read.new.buf _ _ _ _ i.told i.files i.stage c.in_ok-n.ensures.bytes i.taken c.in_ok-n.ensures.bound
+          c.in_ok-extend_from_slice.ensures.items;
       heard = heard_more _ _ _ c.pieces.bytes.items c.read.new.buf _ _ _ i.heard c.in_ok-n.ensures.heard c.in_ok-n.ensures.bound c.in_ok-extend_from_slice.ensures.items;
       stored = search rules;
       stage = search rules;

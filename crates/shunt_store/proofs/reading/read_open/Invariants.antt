@@ -13,7 +13,8 @@ invariant-pieces g l =
       taken : S.taken l.store ≡ length l.bytes.items;
       most : S.handed l.store ≤ S.handed l.fn.store + length l.bytes.items;
       least : RoseBy (length l.bytes.items) (S.handed l.fn.store) (S.handed l.store);
-      told : IfSome (S.told l.fn.store) (λ files. (l.bytes.items ≡ take (length l.bytes.items) (content files (name_of (S.stage l.fn.store)))) × (length l.bytes.items ≤ length (content files (name_of (S.stage l.fn.store)))));
+      told : IfSome (S.told l.fn.store) (λ files. (l.bytes.items ≡ take (length l.bytes.items) (content files (name_of (S.stage l.fn.store))))
+          × (length l.bytes.items ≤ length (content files (name_of (S.stage l.fn.store)))));
       stage : S.stage l.store ≡ S.stage l.fn.store;
       heard : BothTold (S.heard l.fn.store) (S.heard l.store) (λ old new. new ≡ add_last l.bytes.items old);
       stored : S.stored l.store ≡ S.stored l.fn.store;

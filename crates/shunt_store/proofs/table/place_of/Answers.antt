@@ -12,7 +12,8 @@ returns-then-place-files-clause-found c =
     (placed c.args.files.now c.first_of-place.result c.args.name.now c.if-place-files.true c.first_of-place.ensures.before c.first_of-place.ensures.here)
 
 pub returns-else-place-files-clause-none : goal.returns-else-place-files-clause-none
-returns-else-place-files-clause-none c = absent c.args.files.now c.args.name.now (rw (take_all c.first_of-place.result c.args.files.now c.if-place-files.false) at c.first_of-place.ensures.before)
+returns-else-place-files-clause-none c = absent c.args.files.now c.args.name.now (rw
+    (take_all c.first_of-place.result c.args.files.now c.if-place-files.false) at c.first_of-place.ensures.before)
 
 pub returns-else-place-files-clause-lacks : goal.returns-else-place-files-clause-lacks
 returns-else-place-files-clause-lacks c = rw (take_all c.first_of-place.result c.args.files.now c.if-place-files.false) at c.first_of-place.ensures.before

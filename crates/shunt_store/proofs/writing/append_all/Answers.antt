@@ -6,7 +6,8 @@ use Rattle.shunt_store.proofs.writing.append_all.Goals as goal
 pub pieces-preserved : goal.pieces-preserved
 pieces-preserved g c =
     let i = c.pieces.invariant in
-    let stage = written_more c.args.bytes.now c.pieces.at c.in_ok-at.field-0 (g.S.Store.stage c.args.store.now) (g.S.Store.stage c.pieces.store) (g.S.Store.stage c.write.new.self) i.stage c.in_ok-at.ensures.bytes in record {
+    let stage = written_more c.args.bytes.now c.pieces.at c.in_ok-at.field-0 (g.S.Store.stage c.args.store.now) (g.S.Store.stage c.pieces.store)
+    (g.S.Store.stage c.write.new.self) i.stage c.in_ok-at.ensures.bytes in record {
       within = grind (arith, common_steps);
       stage = stage;
       writing = still_writing _ _ _ stage;

@@ -5,7 +5,8 @@ use Rattle.shunt_store.proofs.Texts.{told_more, told_front}
 use Rattle.shunt_store.proofs.writing.print.Goals as goal
 
 pub returns-in_err-at-clause-err : goal.returns-in_err-at-clause-err
-returns-in_err-at-clause-err g c = let i = c.parts.invariant in on_err c.from_residual.result _ (told_front c.args.bytes.now c.parts.at _ _ _ i.within i.told c.in_err-at.ensures.err)
+returns-in_err-at-clause-err g c = let i = c.parts.invariant in on_err c.from_residual.result _
+    (told_front c.args.bytes.now c.parts.at _ _ _ i.within i.told c.in_err-at.ensures.err)
 
 pub parts-preserved : goal.parts-preserved
 parts-preserved g c =

@@ -7,7 +7,8 @@ use Rattle.shunt_timeline.proofs.events.place.Goals as goal
 
 pub returns : goal.returns
 returns c =
-    let point = IsPartitionPoint-from_clause (λ y. key_before (key_of y) c.args.key) _ _ c.partition_point.ensures.partitioned (parted c.args.events.now c.args.key c.requires.ascends c.requires.formed c.requires.key) (λ a r q k. search rules) in record {
+    let point = IsPartitionPoint-from_clause (λ y. key_before (key_of y) c.args.key) _ _ c.partition_point.ensures.partitioned
+    (parted c.args.events.now c.args.key c.requires.ascends c.requires.formed c.requires.key) (λ a r q k. search rules) in record {
       bound = c.partition_point.ensures.bound;
       before = placed_before c.args.events.now c.args.key c.requires.ascends c.requires.formed c.requires.key c.partition_point.result point;
       after = placed_after c.args.events.now c.args.key c.requires.ascends c.requires.formed c.requires.key c.partition_point.result point;

@@ -7,5 +7,6 @@ use Rattle.shunt_timetable.proofs.writing.write_all_moving.Given as goal
 abbrev pub invariant-moving : goal.invariant-moving
 invariant-moving l = record {
   row : l.writer.row ≡ [];
-  text : l.writer.text ++ text_of_rows (map (moving_row l.station l.word) (filter (λ r. not (is_standing r)) (drop l.train-index l.trains))) ≡ l.fn.writer.text ++ text_of_rows (map (moving_row l.station l.word) (filter (λ r. not (is_standing r)) l.trains));
+  text : l.writer.text ++ text_of_rows (map (moving_row l.station l.word) (filter (λ r. not (is_standing r)) (drop l.train-index l.trains))) ≡ l.fn.writer.text
+      ++ text_of_rows (map (moving_row l.station l.word) (filter (λ r. not (is_standing r)) l.trains));
 }

@@ -7,5 +7,6 @@ use Rattle.shunt_timetable.proofs.writing.write_all_standing.Given as goal
 abbrev pub invariant-trains : goal.invariant-trains
 invariant-trains l = record {
   row : l.writer.row ≡ [];
-  text : l.writer.text ++ text_of_rows (map (standing_row l.station) (filter is_standing (drop l.train-index l.trains))) ≡ l.fn.writer.text ++ text_of_rows (map (standing_row l.station) (filter is_standing l.trains));
+  text : l.writer.text ++ text_of_rows (map (standing_row l.station) (filter is_standing (drop l.train-index l.trains))) ≡ l.fn.writer.text
+      ++ text_of_rows (map (standing_row l.station) (filter is_standing l.trains));
 }

@@ -14,10 +14,13 @@ pub returns-clause-text : goal.returns-clause-text
 returns-clause-text c = if_ok c.finish.result _ _ c.finish.ensures.text (λ v is. is ∙ whole c)
 
 pub returns-clause-rows : goal.returns-clause-rows
-returns-clause-rows c = if_ok c.finish.result _ _ c.finish.ensures.again (λ v back. rows_read c.args.station.now c.args.timetable.now _ v.items c.requires.station c.requires.timetable (whole c) back)
+returns-clause-rows c = if_ok c.finish.result _ _ c.finish.ensures.again (λ v back.
+    rows_read c.args.station.now c.args.timetable.now _ v.items c.requires.station c.requires.timetable (whole c) back)
 
 pub returns-clause-again : goal.returns-clause-again
-returns-clause-again c = if_ok c.finish.result _ _ c.finish.ensures.again (λ v back. timetable_read c.args.station.now c.args.timetable.now _ v.items c.requires.station c.requires.timetable (whole c) back)
+returns-clause-again c = if_ok c.finish.result _ _ c.finish.ensures.again (λ v back.
+    timetable_read c.args.station.now c.args.timetable.now _ v.items c.requires.station c.requires.timetable (whole c) back)
 
 pub returns-clause-short : goal.returns-clause-short
-returns-clause-short c = if_ok c.finish.result _ _ c.finish.ensures.text (λ v is. text_wide c.args.station.now c.args.timetable.now v.items c.requires.station c.requires.timetable (is ∙ whole c))
+returns-clause-short c = if_ok c.finish.result _ _ c.finish.ensures.text (λ v is. text_wide c.args.station.now c.args.timetable.now v.items c.requires.station c.requires.timetable
+    (is ∙ whole c))

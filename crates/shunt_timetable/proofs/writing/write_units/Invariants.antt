@@ -6,5 +6,6 @@ use Rattle.shunt_timetable.proofs.writing.write_units.Given as goal
 abbrev pub invariant-units : goal.invariant-units
 invariant-units l = record {
   text : l.writer.text ≡ l.fn.writer.text;
-  row : l.writer.row ++ map (λ k. slice_index_or (type_names l.station) k.0 []) (drop l.kind-index l.units) ≡ l.fn.writer.row ++ map (λ k. slice_index_or (type_names l.station) k.0 []) l.units;
+  row : l.writer.row ++ map (λ k. slice_index_or (type_names l.station) k.0 []) (drop l.kind-index l.units) ≡ l.fn.writer.row
+      ++ map (λ k. slice_index_or (type_names l.station) k.0 []) l.units;
 }

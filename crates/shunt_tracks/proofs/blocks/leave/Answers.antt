@@ -7,5 +7,6 @@ use Rattle.shunt_tracks.proofs.blocks.leave.Goals as goal
 
 pub load-requires : goal.load-requires
 load-requires c =
-    let fit : load (blocks_of c.take.new.blocks.items) ≤ c.args.room = load_left c.args.room (move_of c.args.due.now) (blocks_of c.args.blocks.now.items) (blocks_of c.take.new.blocks.items) c.requires.leaves c.if-not-take.ensures.out c.requires.fit in
+    let fit : load (blocks_of c.take.new.blocks.items) ≤ c.args.room = load_left c.args.room (move_of c.args.due.now) (blocks_of c.args.blocks.now.items)
+    (blocks_of c.take.new.blocks.items) c.requires.leaves c.if-not-take.ensures.out c.requires.fit in
     omega (arith, ap (λ l. load (blocks_of l)) c.deref.ensures.value, c.ranges.room.fits)

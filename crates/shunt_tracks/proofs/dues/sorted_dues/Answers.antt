@@ -4,4 +4,5 @@ use Rattle.shunt_tracks.proofs.Sorting.{sorted_moves, first_less}
 use Rattle.shunt_tracks.proofs.dues.sorted_dues.Goals as goal
 
 pub returns : goal.returns
-returns c = sorted_moves ghosts.cmp c.args.stays.now c.in_ok-all.all.items c.sort_unstable.new.self.items c.requires (λ d e lt. first_less (key_cmp d.key e.key) _ lt) c.in_ok-all.ensures c.sort_unstable.ensures.permutation c.sort_unstable.ensures.sorted
+returns c = sorted_moves ghosts.cmp c.args.stays.now c.in_ok-all.all.items c.sort_unstable.new.self.items c.requires
+    (λ d e lt. first_less (key_cmp d.key e.key) _ lt) c.in_ok-all.ensures c.sort_unstable.ensures.permutation c.sort_unstable.ensures.sorted

@@ -10,5 +10,6 @@ abbrev pub invariant-loop-due : goal.invariant-loop-due
 invariant-loop-due l = record {
   sizes : length l.tracks.items ≡ length l.lengths;
   fit : Fit (λ v. blocks_of v.items) l.lengths l.tracks.items;
-  run : after l.steps.items (answer (run l.lengths (map move_of (drop l.due-index l.dues)) (map (λ v. blocks_of v.items) l.tracks.items))) ≡ answer (run l.lengths (map move_of l.dues) (map (λ v. blocks_of v.items) l.fn.tracks.items));
+  run : after l.steps.items (answer (run l.lengths (map move_of (drop l.due-index l.dues)) (map (λ v. blocks_of v.items) l.tracks.items)))
+      ≡ answer (run l.lengths (map move_of l.dues) (map (λ v. blocks_of v.items) l.fn.tracks.items));
 }

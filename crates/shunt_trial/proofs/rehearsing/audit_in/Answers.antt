@@ -13,15 +13,18 @@ sure-requires c =
 
 pub returns-clause-told : goal.returns-clause-told
 returns-clause-told c = λ x is.
-    audit_told c.args.store.now.files c.args.station.now c.args.timetable.now c.args.plan.now c.args.certificate.now x is c.plan_findings.ensures.none _ _ c.reply.result c.in_ok-answer.answer
+    audit_told c.args.store.now.files c.args.station.now c.args.timetable.now c.args.plan.now c.args.certificate.now x is c.plan_findings.ensures.none _ _ c.reply.result
+    c.in_ok-answer.answer
     c.in_ok-answer.ensures (c.reply.ensures.leads _ (inl refl))
 
 pub returns-in_err-answer-clause-files : goal.returns-in_err-answer-clause-files
 returns-in_err-answer-clause-files c =
-    audit_keeps c.args.store.now.files c.args.station.now c.args.timetable.now c.args.plan.now c.args.certificate.now c.requires.proved.0 c.requires.proved.1 c.reply.new.store.files _ _ c.reply.result
+    audit_keeps c.args.store.now.files c.args.station.now c.args.timetable.now c.args.plan.now c.args.certificate.now c.requires.proved.0 c.requires.proved.1
+    c.reply.new.store.files _ _ c.reply.result
     (c.reply.ensures.leads _ (inl refl))
 
 pub returns-clause-files : goal.returns-clause-files
 returns-clause-files c =
-    audit_keeps c.args.store.now.files c.args.station.now c.args.timetable.now c.args.plan.now c.args.certificate.now c.requires.proved.0 c.requires.proved.1 c.reply.new.store.files _ _ c.reply.result
+    audit_keeps c.args.store.now.files c.args.station.now c.args.timetable.now c.args.plan.now c.args.certificate.now c.requires.proved.0 c.requires.proved.1
+    c.reply.new.store.files _ _ c.reply.result
     (c.reply.ensures.leads _ (inl refl))

@@ -7,10 +7,12 @@ use Rattle.shunt_zones.proofs.Ordered.{StayLaws, events_are, events_of_night, fe
 use Rattle.shunt_zones.proofs.moves.events_of.Goals as goal
 
 pub sorted_dues-requires-clause-stays : goal.sorted_dues-requires-clause-stays
-sorted_dues-requires-clause-stays c = c.stays_of_blocks.ensures.stays c.args.instance.now c.args.blocks.now c.station.ensures.formed (c.stays_of_blocks.ensures.in_range c.args.instance.now c.args.blocks.now c.requires)
+sorted_dues-requires-clause-stays c = c.stays_of_blocks.ensures.stays c.args.instance.now c.args.blocks.now c.station.ensures.formed
+    (c.stays_of_blocks.ensures.in_range c.args.instance.now c.args.blocks.now c.requires)
 
 pub returns-clause-exact : goal.returns-clause-exact
-returns-clause-exact c = if_ok c.events_from.result _ _ c.events_from.ensures (λ v e. e ∙ events_are c.args.instance.now c.args.blocks.now c.in_ok-dues.dues.items _ c.deref.ensures.value c.in_ok-dues.ensures)
+returns-clause-exact c = if_ok c.events_from.result _ _ c.events_from.ensures (λ v e. e
+    ∙ events_are c.args.instance.now c.args.blocks.now c.in_ok-dues.dues.items _ c.deref.ensures.value c.in_ok-dues.ensures)
 
 pub returns-clause-of_night : goal.returns-clause-of_night
 returns-clause-of_night c =
@@ -18,10 +20,12 @@ returns-clause-of_night c =
       stays = λ night blocks is range. c.stays_of_blocks.ensures.stays night blocks is (c.stays_of_blocks.ensures.in_range night blocks range);
       from = c.stays_of_blocks.ensures.from;
     } in
-    if_ok c.events_from.result _ _ c.events_from.ensures (λ v e. subst (All (IsMoveOf c.args.instance.now)) (sym (e ∙ events_are c.args.instance.now c.args.blocks.now c.in_ok-dues.dues.items _ c.deref.ensures.value c.in_ok-dues.ensures))
+    if_ok c.events_from.result _ _ c.events_from.ensures (λ v e. subst (All (IsMoveOf c.args.instance.now))
+    (sym (e ∙ events_are c.args.instance.now c.args.blocks.now c.in_ok-dues.dues.items _ c.deref.ensures.value c.in_ok-dues.ensures))
     (events_of_night laws c.args.instance.now c.args.blocks.now c.station.ensures.formed c.requires))
 
 pub returns-clause-few : goal.returns-clause-few
 returns-clause-few c =
-    if_ok c.events_from.result _ _ c.events_from.ensures (λ v e. subst (λ (l : List Event). length l ≤ 800) (sym (e ∙ events_are c.args.instance.now c.args.blocks.now c.in_ok-dues.dues.items _ c.deref.ensures.value c.in_ok-dues.ensures))
+    if_ok c.events_from.result _ _ c.events_from.ensures (λ v e. subst (λ (l : List Event). length l ≤ 800)
+    (sym (e ∙ events_are c.args.instance.now c.args.blocks.now c.in_ok-dues.dues.items _ c.deref.ensures.value c.in_ok-dues.ensures))
     (few_events c.args.instance.now c.args.blocks.now c.requires))

@@ -10,12 +10,20 @@ pub but_standing-requires : goal.but_standing-requires
 but_standing-requires c = subst (All (IsMoveOf c.args.instance.now)) (sym c.deref.ensures.value) c.in_ok-events.ensures.of_night
 
 pub returns-clause-exact : goal.returns-clause-exact
-returns-clause-exact c = if_ok c.but_standing.result _ _ c.but_standing.ensures (λ v e. e ∙ moves_from c.args.instance.now c.args.plan.now.blocks _ c.in_ok-events.events.items _ c.deref.ensures.value c.in_ok-events.ensures.exact c.as_slice.ensures)
+returns-clause-exact c = if_ok c.but_standing.result _ _ c.but_standing.ensures (λ v e. e
+    ∙ moves_from c.args.instance.now c.args.plan.now.blocks _ c.in_ok-events.events.items _ c.deref.ensures.value c.in_ok-events.ensures.exact c.as_slice.ensures)
 
 pub returns-clause-of_night : goal.returns-clause-of_night
-returns-clause-of_night c = if_ok c.but_standing.result _ _ c.but_standing.ensures (λ v e. subst (All (IsMoveOf c.args.instance.now)) (sym e) (moves_of_night c.args.instance.now c.deref.result.now (subst (All (IsMoveOf c.args.instance.now)) (sym c.deref.ensures.value) c.in_ok-events.ensures.of_night)))
+returns-clause-of_night c = if_ok c.but_standing.result _ _ c.but_standing.ensures
+    (λ v e. subst (All (IsMoveOf c.args.instance.now)) (sym e) (moves_of_night c.args.instance.now c.deref.result.now
+    (subst (All (IsMoveOf c.args.instance.now)) (sym c.deref.ensures.value) c.in_ok-events.ensures.of_night)))
 
 pub returns-clause-few : goal.returns-clause-few
 returns-clause-few c =
     if_ok c.but_standing.result _ _ c.but_standing.ensures (λ v e. subst (λ (l : List Event). length l ≤ 800) (sym e)
-    (let few = c.in_ok-events.ensures.few in omega (arith, few, ap length c.deref.ensures.value, filter_few (λ e. not (is_of_standing c.args.instance.now e.key)) c.deref.result.now)))
+    (let few = c.in_ok-events.ensures.few in omega (
+      arith,
+      few,
+      ap length c.deref.ensures.value,
+      filter_few (λ e. not (is_of_standing c.args.instance.now e.key)) c.deref.result.now,
+    )))

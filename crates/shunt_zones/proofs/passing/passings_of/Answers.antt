@@ -12,10 +12,13 @@ pub passings_from-requires : goal.passings_from-requires
 passings_from-requires c = subst (All (IsMoveOf c.args.instance.now)) (sym c.deref.ensures.value) c.in_ok-moves.ensures.of_night
 
 pub returns-clause-exact : goal.returns-clause-exact
-returns-clause-exact c = if_ok c.passings_from.result _ _ c.passings_from.ensures (λ v e. e ∙ passings_are c.args.instance.now c.args.zones.now c.args.plan.now.blocks c.in_ok-moves.moves.items _ c.deref.ensures.value c.in_ok-moves.ensures.exact)
+returns-clause-exact c = if_ok c.passings_from.result _ _ c.passings_from.ensures
+    (λ v e. e ∙ passings_are c.args.instance.now c.args.zones.now c.args.plan.now.blocks c.in_ok-moves.moves.items _ c.deref.ensures.value c.in_ok-moves.ensures.exact)
 
 pub returns-clause-in_time : goal.returns-clause-in_time
-returns-clause-in_time c = if_ok c.passings_from.result _ _ c.passings_from.ensures (λ v e. subst (All (λ (p : Passing). p.event.key.minute < 2880)) (sym e) (passings_in_time c.args.instance.now c.args.zones.now c.deref.result.now (subst (All (IsMoveOf c.args.instance.now)) (sym c.deref.ensures.value) c.in_ok-moves.ensures.of_night)))
+returns-clause-in_time c = if_ok c.passings_from.result _ _ c.passings_from.ensures
+    (λ v e. subst (All (λ (p : Passing). p.event.key.minute < 2880)) (sym e) (passings_in_time c.args.instance.now c.args.zones.now c.deref.result.now
+    (subst (All (IsMoveOf c.args.instance.now)) (sym c.deref.ensures.value) c.in_ok-moves.ensures.of_night)))
 
 pub returns-clause-few : goal.returns-clause-few
 returns-clause-few c =

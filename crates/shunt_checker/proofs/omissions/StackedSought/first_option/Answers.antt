@@ -8,4 +8,5 @@ pub missed_option-requires-clause-branch : goal.missed_option-requires-clause-br
 missed_option-requires-clause-branch c = c.requires.fits.0
 
 pub missed_option-requires-clause-free : goal.missed_option-requires-clause-free
-missed_option-requires-clause-free c = subst (λ (m : Masks). IsFreeShape c.args.instance.now m (unit_from c.args.instance.now c.args.shape) c.args.shape) c.requires.fits.1 c.requires.free
+missed_option-requires-clause-free c = subst (λ (m : Masks). IsFreeShape c.args.instance.now m (unit_from c.args.instance.now c.args.shape) c.args.shape) c.requires.fits.1
+    c.requires.free

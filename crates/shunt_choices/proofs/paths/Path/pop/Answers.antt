@@ -13,4 +13,5 @@ pub invariant_of-self-2 : goal.invariant_of-self-2
 invariant_of-self-2 c = search (rules, length_filled)
 
 pub returns-clause-of : goal.returns-clause-of
-returns-clause-of c = let is = popped (record { unit_in = c.places.ensures.unit_in; position_in = c.places.ensures.position_in }) c.args.instance.now c.args.self.now c.pop.new.self.items c.in_ok-block.block c.set.new.self c.requires.of (search rules) (search rules) (search rules) in search (rules, is)
+returns-clause-of c = let is = popped (record { unit_in = c.places.ensures.unit_in; position_in = c.places.ensures.position_in }) c.args.instance.now c.args.self.now
+    c.pop.new.self.items c.in_ok-block.block c.set.new.self c.requires.of (search rules) (search rules) (search rules) in search (rules, is)

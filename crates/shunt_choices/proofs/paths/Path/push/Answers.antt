@@ -17,7 +17,9 @@ pub invariant_of-self : goal.invariant_of-self
 invariant_of-self c = search (rules, length_filled)
 
 pub returns-clause-new : goal.returns-clause-new
-returns-clause-new c = let covered = covered_pushed (record { unit_in = c.places.ensures.unit_in; position_in = c.places.ensures.position_in }) c.args.instance.now c.args.self.now.blocks c.args.block c.args.self.now.covered c.set.new.self c.requires.of.covered c.requires.in_range (search rules) (search rules) in search (rules, covered)
+returns-clause-new c = let covered = covered_pushed (record { unit_in = c.places.ensures.unit_in; position_in = c.places.ensures.position_in }) c.args.instance.now
+    c.args.self.now.blocks c.args.block c.args.self.now.covered c.set.new.self c.requires.of.covered c.requires.in_range (search rules) (search rules) in search (rules, covered)
 
 pub returns-clause-of : goal.returns-clause-of
-returns-clause-of c = let is = pushed (record { unit_in = c.places.ensures.unit_in; position_in = c.places.ensures.position_in }) c.args.instance.now c.args.self.now c.args.block c.requires.of c.requires.in_range c.requires.units c.requires.positions in subst (IsTrailOf c.args.instance.now) (sym (returns-clause-new c)) is
+returns-clause-of c = let is = pushed (record { unit_in = c.places.ensures.unit_in; position_in = c.places.ensures.position_in }) c.args.instance.now c.args.self.now c.args.block
+    c.requires.of c.requires.in_range c.requires.units c.requires.positions in subst (IsTrailOf c.args.instance.now) (sym (returns-clause-new c)) is

@@ -10,7 +10,8 @@ returns-in_err-first-clause-told g c = λ view seen.
     let I = g.I.Inputs in
     let F = g.F.InputFile in
     let x = c.args.self.now in
-    texts_refused {X = g.row.I-Value.Denot} {Y = g.row.F-Value.Denot} view (I.inputs x.0) F.word (F.name x.1) (I.states x.0) (λ v. stated_by F.word (F.states v)) c.from_residual.result _ c.from_residual.ensures (c.in_err-first.ensures.told view seen)
+    texts_refused {X = g.row.I-Value.Denot} {Y = g.row.F-Value.Denot} view (I.inputs x.0) F.word (F.name x.1) (I.states x.0)
+    (λ v. stated_by F.word (F.states v)) c.from_residual.result _ c.from_residual.ensures (c.in_err-first.ensures.told view seen)
 
 pub returns-in_err-first-clause-heard : goal.returns-in_err-first-clause-heard
 returns-in_err-first-clause-heard g c = heard_before g.row.I-Value.Denot _ _ _ _ c.from_residual.result _ c.from_residual.ensures c.in_err-first.ensures.heard
@@ -20,12 +21,15 @@ returns-in_err-next-clause-told g c = λ view seen.
     let I = g.I.Inputs in
     let F = g.F.InputFile in
     let x = c.args.self.now in
-    let parts = cut_view _ _ _ _ _ view _ _ c.in_ok-first.ensures.files (hears_all _ _ _ c.in_ok-first.ensures.heard) (heard_first {X = g.row.F-Value.Denot} ((F.word, F.name x.1) ∷ []) _ _ (Err c.in_err-next.field-0.0) c.in_err-next.ensures.heard) seen in
-    next_refused {X = g.row.I-Value.Denot} {Y = g.row.F-Value.Denot} view (I.inputs x.0) F.word (F.name x.1) (I.states x.0) (λ v. stated_by F.word (F.states v)) c.from_residual-in_err-next.result _ c.in_ok-first.first c.from_residual-in_err-next.ensures
+    let parts = cut_view _ _ _ _ _ view _ _ c.in_ok-first.ensures.files (hears_all _ _ _ c.in_ok-first.ensures.heard)
+    (heard_first {X = g.row.F-Value.Denot} ((F.word, F.name x.1) ∷ []) _ _ (Err c.in_err-next.field-0.0) c.in_err-next.ensures.heard) seen in
+    next_refused {X = g.row.I-Value.Denot} {Y = g.row.F-Value.Denot} view (I.inputs x.0) F.word (F.name x.1) (I.states x.0)
+    (λ v. stated_by F.word (F.states v)) c.from_residual-in_err-next.result _ c.in_ok-first.first c.from_residual-in_err-next.ensures
     (c.in_ok-first.ensures.told view parts.0) (c.in_err-next.ensures.told view parts.1)
 
 pub returns-in_err-next-clause-heard : goal.returns-in_err-next-clause-heard
-returns-in_err-next-clause-heard g c = heard_last g.row.F-Value.Denot _ _ _ _ _ c.from_residual-in_err-next.result _ c.from_residual-in_err-next.ensures c.in_ok-first.ensures.heard c.in_err-next.ensures.heard
+returns-in_err-next-clause-heard g c = heard_last g.row.F-Value.Denot _ _ _ _ _ c.from_residual-in_err-next.result _ c.from_residual-in_err-next.ensures c.in_ok-first.ensures.heard
+    c.in_err-next.ensures.heard
 
 pub returns-clause-told : goal.returns-clause-told
 returns-clause-told g c = λ view seen.
@@ -33,5 +37,6 @@ returns-clause-told g c = λ view seen.
     let F = g.F.InputFile in
     let x = c.args.self.now in
     let parts = cut_view _ _ _ _ _ view _ _ c.in_ok-first.ensures.files (hears_all _ _ _ c.in_ok-first.ensures.heard) (hears_all _ _ _ c.in_ok-next.ensures.heard) seen in
-    both_stated {X = g.row.I-Value.Denot} {Y = g.row.F-Value.Denot} view (I.inputs x.0) F.word (F.name x.1) (I.states x.0) (λ v. stated_by F.word (F.states v)) c.in_ok-first.first c.in_ok-next.next
+    both_stated {X = g.row.I-Value.Denot} {Y = g.row.F-Value.Denot} view (I.inputs x.0) F.word (F.name x.1) (I.states x.0)
+    (λ v. stated_by F.word (F.states v)) c.in_ok-first.first c.in_ok-next.next
     (c.in_ok-first.ensures.told view parts.0) (c.in_ok-next.ensures.told view parts.1)

@@ -18,9 +18,11 @@ returns-in_err-join-clause-told g c = λ view seen.
 
 pub returns-in_err-join-clause-heard : goal.returns-in_err-join-clause-heard
 returns-in_err-join-clause-heard g c =
-    heard_memory ((word.Station, c.args.self.now.0.now) ∷ (word.Timetable, c.args.self.now.1.now) ∷ []) _ _ c.from_residual-in_err-join.result c.from_residual-in_err-join.ensures c.in_ok-station.ensures.heard
+    heard_memory ((word.Station, c.args.self.now.0.now) ∷ (word.Timetable, c.args.self.now.1.now) ∷ []) _ _ c.from_residual-in_err-join.result c.from_residual-in_err-join.ensures
+    c.in_ok-station.ensures.heard
 
 pub returns-clause-told : goal.returns-clause-told
 returns-clause-told g c = λ view seen.
     let names = c.args.self.now.0.now ∷ c.args.self.now.1.now ∷ [] in
-    texts_map view names _ _ (λ texts is. night_stated_in (c.in_ok-station.station, c.in_ok-station.timetable) _ c.in_ok-join.ensures texts is) (c.in_ok-station.ensures.told view seen)
+    texts_map view names _ _ (λ texts is. night_stated_in (c.in_ok-station.station, c.in_ok-station.timetable) _ c.in_ok-join.ensures texts is)
+    (c.in_ok-station.ensures.told view seen)

@@ -46,8 +46,10 @@ names_of-requires-2 c = (sorted_trains _ _ _ _ c.requires.timetable.depart c.der
 
 pub invariant_of-result : goal.invariant_of-result
 invariant_of-result c = record {
-  formed = formed_of c.args.station c.args.timetable.arrive c.args.timetable.depart c.in_ok-arrive.arrive.items c.in_ok-depart.depart.items c.requires.station c.requires.timetable c.in_ok-arrive.ensures c.in_ok-depart.ensures;
-  entries = entries_of c.args.station _ _ _ _ _ _ _ _ _ _ _ _ c.deref.ensures.value c.deref-2.ensures.value c.in_ok-units.ensures c.in_ok-positions.ensures c.deref-3.ensures.value c.deref-4.ensures.value c.in_ok-ready.ensures c.deref-5.ensures.value c.deref-6.ensures.value c.in_ok-leaves.ensures;
+  formed = formed_of c.args.station c.args.timetable.arrive c.args.timetable.depart c.in_ok-arrive.arrive.items c.in_ok-depart.depart.items c.requires.station c.requires.timetable
+      c.in_ok-arrive.ensures c.in_ok-depart.ensures;
+  entries = entries_of c.args.station _ _ _ _ _ _ _ _ _ _ _ _ c.deref.ensures.value c.deref-2.ensures.value c.in_ok-units.ensures c.in_ok-positions.ensures c.deref-3.ensures.value
+      c.deref-4.ensures.value c.in_ok-ready.ensures c.deref-5.ensures.value c.deref-6.ensures.value c.in_ok-leaves.ensures;
   units_before = subst (λ (ts : List Train). AreFirsts ts c.in_ok-first_units.first_units.items) c.deref-7.ensures.value c.in_ok-first_units.ensures;
   positions_before = subst (λ (ts : List Train). AreFirsts ts c.in_ok-first_positions.first_positions.items) c.deref-8.ensures.value c.in_ok-first_positions.ensures;
   route_costs = subst (λ (rs : List Route). AreCosts rs c.in_ok-costs.costs.items) c.as_slice.ensures c.in_ok-costs.ensures;

@@ -5,4 +5,5 @@ use Rattle.shunt_moves.proofs.Made.{of_all}
 use Rattle.shunt_moves.proofs.present.Present.named.Goals as goal
 
 pub returns-in-Some-clause-in_range : goal.returns-in-Some-clause-in_range
-returns-in-Some-clause-in_range c = of_all (IsInRange c.args.self.now.night) c.blocks-2.result.now c.in-Some.block c.blocks-2.ensures.in_range.each (with_in c.blocks-2.result.now c.args.id c.in-Some.block (sym c.find.ensures ∙ c.in-Some.is)).0
+returns-in-Some-clause-in_range c = of_all (IsInRange c.args.self.now.night) c.blocks-2.result.now c.in-Some.block c.blocks-2.ensures.in_range.each
+    (with_in c.blocks-2.result.now c.args.id c.in-Some.block (sym c.find.ensures ∙ c.in-Some.is)).0

@@ -8,8 +8,12 @@ use Rattle.shunt_proof.proofs.draft.Draft.read_part.Goals as goal
 
 pub returns-in_err-price : goal.returns-in_err-price
 unfolding part_of
-returns-in_err-price c = let e = c.in_err-price.field-0.0 in gives_err _ _ (errors.Fault e) _ c.from_residual.ensures.1 (seen_err c.args.n _ c.args.self.now.now.duals.prices (λ (l : List Price). part_in c.args.instance.now l c.args.row.now) (with_price c.args.self.now) e (c.deref.ensures.value ∙ ap (λ (d : Draft). d.now.duals.prices) c.self.view_is) c.in_err-price.ensures)
+returns-in_err-price c = let e = c.in_err-price.field-0.0 in gives_err _ _ (errors.Fault e) _ c.from_residual.ensures.1
+    (seen_err c.args.n _ c.args.self.now.now.duals.prices (λ (l : List Price). part_in c.args.instance.now l c.args.row.now) (with_price c.args.self.now) e
+    (c.deref.ensures.value ∙ ap (λ (d : Draft). d.now.duals.prices) c.self.view_is) c.in_err-price.ensures)
 
 pub returns : goal.returns
 unfolding part_of
-returns c = seen_ok c.args.n _ c.args.self.now.now.duals.prices (λ (l : List Price). part_in c.args.instance.now l c.args.row.now) (with_price c.args.self.now) c.in_ok-price.price _ (c.deref.ensures.value ∙ ap (λ (d : Draft). d.now.duals.prices) c.self.view_is) c.in_ok-price.ensures c.in_ok-add_price.ensures
+returns c = seen_ok c.args.n _ c.args.self.now.now.duals.prices (λ (l : List Price). part_in c.args.instance.now l c.args.row.now)
+    (with_price c.args.self.now) c.in_ok-price.price _ (c.deref.ensures.value ∙ ap (λ (d : Draft). d.now.duals.prices) c.self.view_is) c.in_ok-price.ensures
+    c.in_ok-add_price.ensures

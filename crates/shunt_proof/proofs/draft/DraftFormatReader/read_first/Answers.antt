@@ -7,7 +7,8 @@ use Rattle.shunt_proof.proofs.draft.DraftFormatReader.read_first.Goals as goal
 
 pub returns-in_err-version : goal.returns-in_err-version
 unfolding first_of
-returns-in_err-version c = let e = c.in_err-version.field-0.0 in gives_err _ _ (errors.Fault e) _ c.from_residual.ensures.1 (then_err 1 (version_in c.args.row.now) empty e (sym c.in_err-version.ensures))
+returns-in_err-version c = let e = c.in_err-version.field-0.0 in gives_err _ _ (errors.Fault e) _ c.from_residual.ensures.1
+    (then_err 1 (version_in c.args.row.now) empty e (sym c.in_err-version.ensures))
 
 pub returns : goal.returns
 unfolding first_of

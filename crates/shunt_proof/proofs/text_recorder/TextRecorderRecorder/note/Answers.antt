@@ -19,7 +19,9 @@ returns-in-Ok-clause-told g c =
     let S = g.S.Store in
     let s = seen r.version r.instance.now r.name.now (S.stage r.store.now) r.doing r.nodes r.cases in
     let t = seen r.version r.instance.now r.name.now (S.stage c.append_node.new.store) r.doing (r.nodes + 1) (r.cases + c.own_cases.result) in
-    (note_done s t c.args.node.now c.requires.stage (record { version = refl; night = refl; name = refl }) c.in-Ok.ensures.ok refl c.station.ensures.formed c.requires.room c.requires.case_room (subst (λ night. FitsNode night c.args.node.now) c.requires.own c.requires.node) c.requires.place refl (ap (λ k. r.cases + k) c.own_cases.ensures)).told
+    (note_done s t c.args.node.now c.requires.stage (record { version = refl; night = refl; name = refl }) c.in-Ok.ensures.ok refl c.station.ensures.formed c.requires.room
+    c.requires.case_room (subst (λ night. FitsNode night c.args.node.now) c.requires.own c.requires.node) c.requires.place refl
+    (ap (λ k. r.cases + k) c.own_cases.ensures)).told
 
 pub returns-in-Ok-clause-stage : goal.returns-in-Ok-clause-stage
 returns-in-Ok-clause-stage g c =
@@ -28,15 +30,21 @@ returns-in-Ok-clause-stage g c =
     let s = seen r.version r.instance.now r.name.now (S.stage r.store.now) r.doing r.nodes r.cases in
     let t = seen r.version r.instance.now r.name.now (S.stage c.append_node.new.store) r.doing (r.nodes + 1) (r.cases + c.own_cases.result) in
     note_open s t c.args.node.now c.requires.stage (record { version = refl; night = refl; name = refl }) c.in-Ok.ensures.ok refl
-    (note_done s t c.args.node.now c.requires.stage (record { version = refl; night = refl; name = refl }) c.in-Ok.ensures.ok refl c.station.ensures.formed c.requires.room c.requires.case_room (subst (λ night. FitsNode night c.args.node.now) c.requires.own c.requires.node) c.requires.place refl (ap (λ k. r.cases + k) c.own_cases.ensures))
+    (note_done s t c.args.node.now c.requires.stage (record { version = refl; night = refl; name = refl }) c.in-Ok.ensures.ok refl c.station.ensures.formed c.requires.room
+    c.requires.case_room (subst (λ night. FitsNode night c.args.node.now) c.requires.own c.requires.node) c.requires.place refl (ap (λ k. r.cases + k) c.own_cases.ensures))
 
 pub returns-in-Ok-clause-keeps : goal.returns-in-Ok-clause-keeps
 returns-in-Ok-clause-keeps g c =
     let r = c.args.self.now in
     let S = g.S.Store in
     let s = seen r.version r.instance.now r.name.now (S.stage r.store.now) r.doing r.nodes r.cases in
-    let t = seen r.version r.instance.now r.name.now (S.stage c.append_node.new.store) r.doing (r.nodes + 1) (r.cases + c.own_cases.result) in
-    (refl, (note_keeps s t c.args.node.now c.requires.stage (record { version = refl; night = refl; name = refl }) c.in-Ok.ensures.ok refl, (c.append_node.ensures.files, (c.append_node.ensures.heard, c.append_node.ensures.stored))))
+    let t = seen r.version r.instance.now r.name.now (S.stage c.append_node.new.store) r.doing (r.nodes + 1) (r.cases + c.own_cases.result) in (
+      refl,
+      (
+        note_keeps s t c.args.node.now c.requires.stage (record { version = refl; night = refl; name = refl }) c.in-Ok.ensures.ok refl,
+        (c.append_node.ensures.files, (c.append_node.ensures.heard, c.append_node.ensures.stored)),
+      ),
+    )
 
 pub returns-in-Err-Memory-clause-stage : goal.returns-in-Err-Memory-clause-stage
 returns-in-Err-Memory-clause-stage g c =
@@ -51,8 +59,13 @@ returns-in-Err-Memory-clause-keeps g c =
     let r = c.args.self.now in
     let S = g.S.Store in
     let s = seen r.version r.instance.now r.name.now (S.stage r.store.now) r.doing r.nodes r.cases in
-    let t = seen r.version r.instance.now r.name.now (S.stage c.append_node.new.store) doing.Stalled r.nodes r.cases in
-    (refl, (keeps_by s t (record { version = refl; night = refl; name = refl }) c.in-Err-Memory.ensures.err, (c.append_node.ensures.files, (c.append_node.ensures.heard, c.append_node.ensures.stored))))
+    let t = seen r.version r.instance.now r.name.now (S.stage c.append_node.new.store) doing.Stalled r.nodes r.cases in (
+      refl,
+      (
+        keeps_by s t (record { version = refl; night = refl; name = refl }) c.in-Err-Memory.ensures.err,
+        (c.append_node.ensures.files, (c.append_node.ensures.heard, c.append_node.ensures.stored)),
+      ),
+    )
 
 pub returns-in-Err-Fault-clause-stage : goal.returns-in-Err-Fault-clause-stage
 returns-in-Err-Fault-clause-stage g c =
@@ -67,5 +80,10 @@ returns-in-Err-Fault-clause-keeps g c =
     let r = c.args.self.now in
     let S = g.S.Store in
     let s = seen r.version r.instance.now r.name.now (S.stage r.store.now) r.doing r.nodes r.cases in
-    let t = seen r.version r.instance.now r.name.now (S.stage c.append_node.new.store) doing.Failed r.nodes r.cases in
-    (refl, (keeps_by s t (record { version = refl; night = refl; name = refl }) c.in-Err-Fault.ensures.err, (c.append_node.ensures.files, (c.append_node.ensures.heard, c.append_node.ensures.stored))))
+    let t = seen r.version r.instance.now r.name.now (S.stage c.append_node.new.store) doing.Failed r.nodes r.cases in (
+      refl,
+      (
+        keeps_by s t (record { version = refl; night = refl; name = refl }) c.in-Err-Fault.ensures.err,
+        (c.append_node.ensures.files, (c.append_node.ensures.heard, c.append_node.ensures.stored)),
+      ),
+    )

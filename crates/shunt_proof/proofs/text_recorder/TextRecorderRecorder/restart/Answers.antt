@@ -26,15 +26,21 @@ returns-in-Ok-clause-stage g c =
     let S = g.S.Store in
     let s = seen r.version r.instance.now r.name.now (S.stage r.store.now) r.doing r.nodes r.cases in
     let t = seen r.version r.instance.now r.name.now (S.stage c.begin_again.new.store) r.doing 0 0 in
-    restart_open s t c.requires.stage (record { version = refl; night = refl; name = refl }) c.in-Ok.ensures.ok refl (restart_done s t c.requires.stage (record { version = refl; night = refl; name = refl }) c.in-Ok.ensures.ok refl c.station.ensures.formed refl refl)
+    restart_open s t c.requires.stage (record { version = refl; night = refl; name = refl }) c.in-Ok.ensures.ok refl
+    (restart_done s t c.requires.stage (record { version = refl; night = refl; name = refl }) c.in-Ok.ensures.ok refl c.station.ensures.formed refl refl)
 
 pub returns-in-Ok-clause-keeps : goal.returns-in-Ok-clause-keeps
 returns-in-Ok-clause-keeps g c =
     let r = c.args.self.now in
     let S = g.S.Store in
     let s = seen r.version r.instance.now r.name.now (S.stage r.store.now) r.doing r.nodes r.cases in
-    let t = seen r.version r.instance.now r.name.now (S.stage c.begin_again.new.store) r.doing 0 0 in
-    (refl, (restart_keeps s t c.requires.stage (record { version = refl; night = refl; name = refl }) c.in-Ok.ensures.ok refl, (c.begin_again.ensures.files, (c.begin_again.ensures.heard, c.begin_again.ensures.stored))))
+    let t = seen r.version r.instance.now r.name.now (S.stage c.begin_again.new.store) r.doing 0 0 in (
+      refl,
+      (
+        restart_keeps s t c.requires.stage (record { version = refl; night = refl; name = refl }) c.in-Ok.ensures.ok refl,
+        (c.begin_again.ensures.files, (c.begin_again.ensures.heard, c.begin_again.ensures.stored)),
+      ),
+    )
 
 pub returns-in-Err-Memory-clause-stage : goal.returns-in-Err-Memory-clause-stage
 returns-in-Err-Memory-clause-stage g c =
@@ -49,8 +55,13 @@ returns-in-Err-Memory-clause-keeps g c =
     let r = c.args.self.now in
     let S = g.S.Store in
     let s = seen r.version r.instance.now r.name.now (S.stage r.store.now) r.doing r.nodes r.cases in
-    let t = seen r.version r.instance.now r.name.now (S.stage c.begin_again.new.store) doing.Stalled r.nodes r.cases in
-    (refl, (keeps_by s t (record { version = refl; night = refl; name = refl }) c.in-Err-Memory.ensures.err, (c.begin_again.ensures.files, (c.begin_again.ensures.heard, c.begin_again.ensures.stored))))
+    let t = seen r.version r.instance.now r.name.now (S.stage c.begin_again.new.store) doing.Stalled r.nodes r.cases in (
+      refl,
+      (
+        keeps_by s t (record { version = refl; night = refl; name = refl }) c.in-Err-Memory.ensures.err,
+        (c.begin_again.ensures.files, (c.begin_again.ensures.heard, c.begin_again.ensures.stored)),
+      ),
+    )
 
 pub returns-in-Err-Fault-clause-stage : goal.returns-in-Err-Fault-clause-stage
 returns-in-Err-Fault-clause-stage g c =
@@ -65,5 +76,10 @@ returns-in-Err-Fault-clause-keeps g c =
     let r = c.args.self.now in
     let S = g.S.Store in
     let s = seen r.version r.instance.now r.name.now (S.stage r.store.now) r.doing r.nodes r.cases in
-    let t = seen r.version r.instance.now r.name.now (S.stage c.begin_again.new.store) doing.Failed r.nodes r.cases in
-    (refl, (keeps_by s t (record { version = refl; night = refl; name = refl }) c.in-Err-Fault.ensures.err, (c.begin_again.ensures.files, (c.begin_again.ensures.heard, c.begin_again.ensures.stored))))
+    let t = seen r.version r.instance.now r.name.now (S.stage c.begin_again.new.store) doing.Failed r.nodes r.cases in (
+      refl,
+      (
+        keeps_by s t (record { version = refl; night = refl; name = refl }) c.in-Err-Fault.ensures.err,
+        (c.begin_again.ensures.files, (c.begin_again.ensures.heard, c.begin_again.ensures.stored)),
+      ),
+    )

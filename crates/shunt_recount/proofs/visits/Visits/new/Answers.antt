@@ -7,8 +7,10 @@ returns-clause-visits c =
     let fixed = same_spans c.args.fixed.items c.in_order-fixed.result.items c.in_order-fixed.ensures.same in
     let free = same_spans c.args.free.items c.in_order-free.result.items c.in_order-free.ensures.same in
     record {
-      own = same_own (spans_of c.args.fixed.items) (spans_of c.args.free.items) (spans_of c.in_order-fixed.result.items) (spans_of c.in_order-free.result.items) fixed free c.requires.own;
-      small = same_small (spans_of c.args.fixed.items) (spans_of c.args.free.items) (spans_of c.in_order-fixed.result.items) (spans_of c.in_order-free.result.items) fixed free c.requires.small;
+      own = same_own (spans_of c.args.fixed.items) (spans_of c.args.free.items) (spans_of c.in_order-fixed.result.items)
+          (spans_of c.in_order-free.result.items) fixed free c.requires.own;
+      small = same_small (spans_of c.args.fixed.items) (spans_of c.args.free.items) (spans_of c.in_order-fixed.result.items)
+          (spans_of c.in_order-free.result.items) fixed free c.requires.small;
       fixed_rise = c.in_order-fixed.ensures.order;
       free_rise = c.in_order-free.ensures.order;
     }

@@ -7,4 +7,5 @@ use Rattle.shunt_timeline.proofs.timelines.Timelines.clash.Goals as goal
 
 pub returns-clause-through : goal.returns-clause-through
 returns-clause-through c = subst (λ (h : Holding). (c.self.inside.pairs ≡ 0) × (c.self.inside.over ≡ 0) ↔ GoesThrough h.lengths h.stays) c.self.view_is
-    (through (lengths_of c.self.inside.tracks.items) c.self.inside.stays.items c.self.inside.pairs c.self.inside.over c.self.invariant.sound.formed c.self.invariant.sound.placed c.self.invariant.pairs_are c.self.invariant.over_are)
+    (through (lengths_of c.self.inside.tracks.items) c.self.inside.stays.items c.self.inside.pairs c.self.inside.over c.self.invariant.sound.formed c.self.invariant.sound.placed
+    c.self.invariant.pairs_are c.self.invariant.over_are)

@@ -9,4 +9,5 @@ returns-in_err-train c =
     gives_err _ _ c.in_err-train.field-0.0 _ c.from_residual.ensures.1 fails
 
 pub returns : goal.returns
-returns c = stand_ok c.args.n c.args.station.now c.args.self.now _ c.args.row.now c.in_ok-train.train _ c.push.new.self (sym c.self.view_is) refl c.in_ok-push.ensures.added c.in_ok-train.ensures.stated
+returns c = stand_ok c.args.n c.args.station.now c.args.self.now _ c.args.row.now c.in_ok-train.train _ c.push.new.self
+    (sym c.self.view_is) refl c.in_ok-push.ensures.added c.in_ok-train.ensures.stated

@@ -30,7 +30,8 @@ use Rattle.shunt_throat.specs.defs.Shared.{Sharable, stated_sharing, IsShared}
 use Rattle.shunt_dispatch.specs.defs.Compared.{Comparable, stated_comparison, IsCompared}
 use Rattle.shunt_dispatch.specs.defs.Followed.{Followable, IsFollowed}
 use Rattle.shunt_exchange.specs.defs.Upgraded.{Upgradable, IsUpgraded}
-use Rattle.shunt.specs.defs.Words.{Call, Match, Follow, Audit, Delay, Report, Check, Compare, Zones, Sheet, Draw, Page, Upgrade, Trial, Drivers, Roster, CheckPinned, Replay, MakePlan, MakePinned, Improve, IsUsable, inputs_of}
+use Rattle.shunt.specs.defs.Calls.{Call, Follow, Check, Compare, Zones, Upgrade, Drivers, Roster, CheckPinned, Replay}
+use Rattle.shunt.specs.defs.Words.{IsUsable, inputs_of, outputs_of}
 use Rattle.shunt.specs.defs.Replies.{IsReply, IsReplyOver}
 
 -- what leads to an answer over the files leads to one of the command
@@ -40,26 +41,7 @@ asked P c d view old new r is h step = subst (λ (x : Call). Leads (IsReplyOver 
 
 -- the names of its input files can be used
 inputs_usable : (c : Call) → IsUsable c → AreNames (inputs_of c)
-inputs_usable (Match s t) u = u
-inputs_usable (Follow s o) u = u
-inputs_usable (Audit s t p) u = u
-inputs_usable (Delay s t p) u = u
-inputs_usable (Report s t p) u = u
-inputs_usable (Check s t p k) u = u
-inputs_usable (Compare s t p o) u = u
-inputs_usable (Zones s t p z) u = u
-inputs_usable (Sheet s t p n) u = front_names (s ∷ t ∷ p ∷ []) (n ∷ []) u
-inputs_usable (Draw s t p n) u = front_names (s ∷ t ∷ p ∷ []) (n ∷ []) u
-inputs_usable (Page s t p n) u = front_names (s ∷ t ∷ p ∷ []) (n ∷ []) u
-inputs_usable (Upgrade s t n m) u = front_names (s ∷ t ∷ []) (n ∷ m ∷ []) u
-inputs_usable (Trial n u m s t p k) v = tt
-inputs_usable (Drivers s t p c d) u = front_names (s ∷ t ∷ p ∷ c ∷ []) (d ∷ []) u
-inputs_usable (Roster s t p c d) u = u
-inputs_usable (CheckPinned s t i p k) u = u
-inputs_usable (Replay s t p e n) u = front_names (s ∷ t ∷ p ∷ e ∷ []) (n ∷ []) u
-inputs_usable (MakePlan s t m p k) u = front_names (s ∷ t ∷ []) (p ∷ k ∷ []) u.0
-inputs_usable (MakePinned s t i m p k) u = front_names (s ∷ t ∷ i ∷ []) (p ∷ k ∷ []) u.0
-inputs_usable (Improve s t i h m p k) u = front_names (s ∷ t ∷ i ∷ h ∷ []) (p ∷ k ∷ []) u.0
+inputs_usable c u = front_names (inputs_of c) (outputs_of c) u.0
 
 pub inputs_named : (c d : Call) → c ≡ d → IsUsable c → AreNames (inputs_of d)
 inputs_named c d is u = subst (λ x. AreNames (inputs_of x)) is (inputs_usable c u)

@@ -13,7 +13,7 @@ use Rattle.shunt_inputs.specs.declared.answers.Outcome.{Outcome}
 use Rattle.shunt_inputs.specs.declared.answers.Outcome.TheVariants as outcome
 use Rattle.shunt.specs.declared.running.Status.{Status}
 use Rattle.shunt.specs.declared.running.Status.TheVariants as status
-use Rattle.shunt.specs.defs.Words.{Call, Audit, Draw, Page}
+use Rattle.shunt.specs.defs.Calls.{Call, Audit, Draw, Page}
 use Rattle.shunt_inputs.specs.defs.Inputs.{Agrees, stated_plans, plans_in}
 use Rattle.shunt_inputs.specs.defs.Replies.{Reply, Decided}
 use Rattle.shunt.specs.defs.Replies.{IsReply}

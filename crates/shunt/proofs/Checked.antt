@@ -25,7 +25,7 @@ use Rattle.shunt_inputs.specs.declared.answers.Outcome.{Outcome}
 use Rattle.shunt_inputs.specs.declared.answers.Outcome.TheVariants as outcome
 use Rattle.shunt.specs.declared.running.Status.{Status}
 use Rattle.shunt.specs.declared.running.Status.TheVariants as status
-use Rattle.shunt.specs.defs.Words.{Check}
+use Rattle.shunt.specs.defs.Calls.{Check}
 use Rattle.shunt_inputs.specs.defs.Inputs.{Agrees, stated_plans, stated_certificate}
 use Rattle.shunt_judging.specs.defs.Checked.{Checkable, stated_check, check_in, IsChecked, IsProved, BoundsAll, check_outcome}
 use Rattle.shunt_inputs.specs.defs.Replies.{Reply, Decided, says}

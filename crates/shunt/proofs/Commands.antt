@@ -6,7 +6,8 @@ use Rattle.std.specs.Fmt.{decimal}
 use Rattle.std.specs.Str.Parse.{digits_value}
 use Rattle.shunt_base.proofs.Decimal.{value_again}
 use Rattle.shunt_store.specs.defs.Files.{Files}
-use Rattle.shunt.specs.defs.Words.{Call, Match, Follow, Audit, Delay, Report, Check, Compare, Zones, Sheet, Draw, Page, Upgrade, Trial, Drivers, Roster, CheckPinned, Replay, MakePlan, MakePinned, Improve, IsUsable, words_of}
+use Rattle.shunt.specs.defs.Calls.{Call, Match, Follow, Audit, Delay, Report, Check, Compare, Zones, Sheet, Draw, Page, Upgrade, Trial, Drivers, Roster, CheckPinned, Replay, MakePlan, MakePinned, Improve}
+use Rattle.shunt.specs.defs.Words.{IsUsable, words_of}
 use Rattle.shunt_throat.specs.defs.Shared.{stated_sharing, IsShared}
 use Rattle.shunt_inputs.specs.defs.Inputs.{Agrees, stated_night, stated_plans, Holding}
 use Rattle.shunt_judging.specs.defs.Audited.{IsAudited}
@@ -87,18 +88,18 @@ asked_is (Draw s t p n) u = refl
 asked_is (Page s t p n) u = refl
 asked_is (Upgrade s t n m) u = refl
 asked_is (Trial n x m s t p k) u =
-    let small = u.1 in
-    let units = u.2 in
-    let few = u.4 in
+    let small = u.1.0 in
+    let units = u.1.1.0 in
+    let few = u.1.1.1.1 in
     same_trial (digits_value 10 (decimal n)) n (digits_value 10 (decimal x)) x (digits_value 10 (decimal m)) m s t p k (value_again n (omega (arith, small)))
     (value_again x (omega (arith, units))) (value_again m (omega (arith, few)))
 asked_is (Drivers s t p c d) u = refl
 asked_is (Roster s t p c d) u = refl
 asked_is (CheckPinned s t i p k) u = refl
 asked_is (Replay s t p e n) u = refl
-asked_is (MakePlan s t m p k) u = ap (λ (x : ℕ). Some (MakePlan s t x p k)) (value_again m (let few = u.2 in omega (arith, few)))
-asked_is (MakePinned s t i m p k) u = ap (λ (x : ℕ). Some (MakePinned s t i x p k)) (value_again m (let few = u.2 in omega (arith, few)))
-asked_is (Improve s t i h m p k) u = ap (λ (x : ℕ). Some (Improve s t i h x p k)) (value_again m (let few = u.2 in omega (arith, few)))
+asked_is (MakePlan s t m p k) u = ap (λ (x : ℕ). Some (MakePlan s t x p k)) (value_again m (let few = u.1.1 in omega (arith, few)))
+asked_is (MakePinned s t i m p k) u = ap (λ (x : ℕ). Some (MakePinned s t i x p k)) (value_again m (let few = u.1.1 in omega (arith, few)))
+asked_is (Improve s t i h m p k) u = ap (λ (x : ℕ). Some (Improve s t i h x p k)) (value_again m (let few = u.1.1 in omega (arith, few)))
 
 -- the words of a command that can be used are those of no other
 pub same_call : (c d : Call) → IsUsable c → IsUsable d → words_of c ≡ words_of d → c ≡ d

@@ -9,9 +9,8 @@ use Rattle.shunt_inputs.specs.defs.Inputs.{Agrees}
 use Rattle.shunt_inputs.specs.defs.Replies.{Reply, Decided}
 use Rattle.shunt.specs.declared.running.Status.{Status}
 use Rattle.shunt.specs.declared.running.Status.TheVariants as status
-use Rattle.shunt.specs.defs.Words.{Call}
-use Rattle.shunt.specs.defs.Inputs.{Value, stated_in}
-use Rattle.shunt.specs.defs.Replies.{IsAnswer}
+use Rattle.shunt.specs.defs.Calls.{Call}
+use Rattle.shunt.specs.defs.Replies.{Value, stated_in, IsAnswer}
 use Rattle.shunt.specs.defs.Ends.{Seen, Ends, Yields, the_status}
 use Rattle.shunt.proofs.Exactly.{decides, has_reply, completes, reply_at, EndsAs}
 use Rattle.shunt.proofs.Audits.{EndsWell}

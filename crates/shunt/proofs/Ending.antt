@@ -4,7 +4,8 @@ use Rattle.shunt_store.specs.defs.Files.{Files}
 use Rattle.shunt_store.specs.defs.Causes.{Rose}
 use Rattle.shunt_store.specs.defs.Noting.{Entries}
 use Rattle.shunt_inputs.specs.defs.Views.{HearsFirst}
-use Rattle.shunt.specs.defs.Words.{Call, Spells, inputs_of}
+use Rattle.shunt.specs.defs.Calls.{Call}
+use Rattle.shunt.specs.defs.Words.{Spells, inputs_of}
 use Rattle.shunt.specs.defs.Ends.{Seen, Ends}
 use Rattle.shunt.specs.declared.running.Status.{Status}
 use Rattle.shunt.proofs.Commands.{same_call}

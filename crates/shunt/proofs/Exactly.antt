@@ -24,12 +24,12 @@ use Rattle.shunt_inputs.specs.declared.answers.Outcome.TheVariants as outcome
 use Rattle.shunt_inputs.specs.defs.Pins.{IsUnusable}
 use Rattle.shunt.specs.declared.running.Status.{Status}
 use Rattle.shunt.specs.declared.running.Status.TheVariants as status
-use Rattle.shunt.specs.defs.Words.{Call, Match, Follow, Audit, Delay, Report, Check, Compare, Zones, Sheet, Draw, Page, Upgrade, Trial, Drivers, Roster, CheckPinned, Replay, MakePlan, MakePinned, Improve, outputs_of}
+use Rattle.shunt.specs.defs.Calls.{Call, Match, Follow, Audit, Delay, Report, Check, Compare, Zones, Sheet, Draw, Page, Upgrade, Trial, Drivers, Roster, CheckPinned, Replay, MakePlan, MakePinned, Improve}
+use Rattle.shunt.specs.defs.Words.{outputs_of}
 use Rattle.shunt.proofs.Writes.{in_some}
 use Rattle.shunt_inputs.specs.defs.Inputs.{Agrees}
-use Rattle.shunt.specs.defs.Inputs.{Value, stated_in, refused}
+use Rattle.shunt.specs.defs.Replies.{Value, stated_in, refused, IsReply, IsReplyOver, IsAnswer}
 use Rattle.shunt_inputs.specs.defs.Replies.{Reply, Decided, refusal}
-use Rattle.shunt.specs.defs.Replies.{IsReply, IsReplyOver, IsAnswer}
 use Rattle.shunt_planning.specs.defs.Matched.{IsPaired, IsShortBeside}
 use Rattle.shunt_judging.specs.defs.Audited.{IsFaulty, audit_outcome}
 use Rattle.shunt_judging.specs.defs.Checked.{check_outcome}

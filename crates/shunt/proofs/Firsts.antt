@@ -13,7 +13,8 @@ use Rattle.shunt.specs.declared.running.Status.{Status}
 use Rattle.shunt.specs.declared.running.Status.TheVariants as status
 use Rattle.shunt_planning.specs.defs.Begun.{IsImprovedOver, IsPinnedOver, IsPlannedOver}
 use Rattle.shunt_inputs.specs.defs.Views.{HearsFirst}
-use Rattle.shunt.specs.defs.Words.{Call, MakePlan, MakePinned, Improve, inputs_of}
+use Rattle.shunt.specs.defs.Calls.{Call, MakePlan, MakePinned, Improve}
+use Rattle.shunt.specs.defs.Words.{inputs_of}
 use Rattle.shunt_inputs.specs.defs.Replies.{Reply, refusal, reply_of}
 use Rattle.shunt.specs.defs.Replies.{IsReplyOver}
 use Rattle.shunt.specs.defs.Ends.{Seen, CutInFiles, CutInText, IsWhole, Delivers}

@@ -29,7 +29,8 @@ use Rattle.shunt_dispatch.specs.defs.Ordered.{HasSheet, IsOrdered}
 use Rattle.shunt_judging.specs.defs.Audited.{IsClean}
 use Rattle.shunt.specs.declared.running.Status.{Status}
 use Rattle.shunt.specs.declared.running.Status.TheVariants as status
-use Rattle.shunt.specs.defs.Words.{Follow, Sheet, IsUsable}
+use Rattle.shunt.specs.defs.Calls.{Follow, Sheet}
+use Rattle.shunt.specs.defs.Words.{IsUsable}
 use Rattle.shunt.specs.defs.Ends.{Seen, Ends, IsWhole, Yields, the_status}
 use Rattle.shunt.proofs.Audits.{FoundNone}
 use Rattle.shunt.proofs.Either.{Parts}
@@ -113,7 +114,7 @@ module _ (found : FoundNone) (laws : SheetLaws) (s t p n : List ℕ) (files afte
   pub states : following_in s n after ≡ Ok (followable y.0.station orders)
   states =
       ap (following_in s n) left_is
-      ∙ ap (λ x. stated_following x (content (written ((n, text) ∷ []) files) n)) (other n text files s (λ e. (other_than (s ∷ t ∷ p ∷ []) n usable).0 (sym e)))
+      ∙ ap (λ x. stated_following x (content (written ((n, text) ∷ []) files) n)) (other n text files s (λ e. (other_than (s ∷ t ∷ p ∷ []) n usable.0).0 (sym e)))
       ∙ ap (stated_following (content files s)) (there n text files)
       ∙ states_following (content files s) text y.0.station orders (plans_station (content files s) (content files t) (content files p) y ok) sheet_is
 

@@ -30,7 +30,7 @@ use Rattle.shunt_planning.specs.defs.Improved.{IsFit, IsImproved, IsReady, IsUnf
 use Rattle.shunt_planning.specs.defs.Found.{AreStated}
 use Rattle.shunt.specs.declared.running.Status.{Status}
 use Rattle.shunt.specs.declared.running.Status.TheVariants as status
-use Rattle.shunt.specs.defs.Words.{Improve}
+use Rattle.shunt.specs.defs.Calls.{Improve}
 use Rattle.shunt.specs.defs.Ends.{Seen, Ends, IsWhole, Yields, the_status}
 use Rattle.shunt.proofs.Audits.{FoundNone}
 use Rattle.shunt.proofs.Exactly.{has_reply, unfit_outcome, unusable_outcome}

@@ -8,7 +8,7 @@ use Rattle.shunt_inputs.specs.defs.Writes.{written}
 use Rattle.shunt_inputs.specs.defs.Views.{IsView}
 use Rattle.shunt.specs.declared.running.Status.{Status}
 use Rattle.shunt.specs.declared.running.Status.TheVariants as status
-use Rattle.shunt.specs.defs.Words.{Call}
+use Rattle.shunt.specs.defs.Calls.{Call}
 use Rattle.shunt.specs.defs.Replies.{IsReplyOver}
 use Rattle.shunt.specs.defs.Ends.{Telling, StoredIn, AreMoved, AreKnown, Seen, CutInFiles, CutInText, IsWhole, Delivers, StopsEarly, Ends}
 

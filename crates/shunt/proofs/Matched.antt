@@ -9,7 +9,7 @@ use Rattle.shunt_inputs.specs.declared.answers.Outcome.{Outcome}
 use Rattle.shunt_inputs.specs.declared.answers.Outcome.TheVariants as outcome
 use Rattle.shunt.specs.declared.running.Status.{Status}
 use Rattle.shunt.specs.declared.running.Status.TheVariants as status
-use Rattle.shunt.specs.defs.Words.{Match}
+use Rattle.shunt.specs.defs.Calls.{Match}
 use Rattle.shunt_inputs.specs.defs.Inputs.{Agrees, stated_night}
 use Rattle.shunt_inputs.specs.defs.Replies.{Reply, Decided}
 use Rattle.shunt_planning.specs.defs.Matched.{IsMatched}

@@ -20,7 +20,8 @@ use Rattle.shunt_judging.specs.defs.Pinned.{IsPinProved, PinChecked, pin_check_i
 use Rattle.shunt_planning.specs.defs.Planned.{IsPlanned, certificate_file, plan_file}
 use Rattle.shunt.specs.declared.running.Status.{Status}
 use Rattle.shunt.specs.declared.running.Status.TheVariants as status
-use Rattle.shunt.specs.defs.Words.{Call, CheckPinned, MakePinned, Improve, IsUsable}
+use Rattle.shunt.specs.defs.Calls.{Call, CheckPinned, MakePinned, Improve}
+use Rattle.shunt.specs.defs.Words.{IsUsable}
 use Rattle.shunt.specs.defs.Ends.{Seen, Ends, Yields}
 use Rattle.shunt.proofs.Asked.{pin_checkable}
 use Rattle.shunt.proofs.Checked.{Judges}

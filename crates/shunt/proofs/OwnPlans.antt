@@ -6,7 +6,8 @@ use Rattle.shunt_inputs.specs.declared.answers.Outcome.{Outcome}
 use Rattle.shunt_inputs.specs.declared.answers.Outcome.TheVariants as outcome
 use Rattle.shunt.specs.declared.running.Status.{Status}
 use Rattle.shunt.specs.declared.running.Status.TheVariants as status
-use Rattle.shunt.specs.defs.Words.{Check, MakePlan, IsUsable}
+use Rattle.shunt.specs.defs.Calls.{Check, MakePlan}
+use Rattle.shunt.specs.defs.Words.{IsUsable}
 use Rattle.shunt_inputs.specs.defs.Inputs.{Agrees}
 use Rattle.shunt_judging.specs.defs.Checked.{check_in, IsProved}
 use Rattle.shunt.specs.defs.Ends.{Seen, Ends, Yields}

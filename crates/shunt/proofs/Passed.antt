@@ -12,7 +12,7 @@ use Rattle.shunt_inputs.specs.declared.answers.Outcome.{Outcome}
 use Rattle.shunt_inputs.specs.declared.answers.Outcome.TheVariants as outcome
 use Rattle.shunt.specs.declared.running.Status.{Status}
 use Rattle.shunt.specs.declared.running.Status.TheVariants as status
-use Rattle.shunt.specs.defs.Words.{Zones}
+use Rattle.shunt.specs.defs.Calls.{Zones}
 use Rattle.shunt_inputs.specs.defs.Inputs.{Agrees}
 use Rattle.shunt_throat.specs.defs.Passed.{Passable, passing_in, IsPassed, NoneMeet, meets_outcome}
 use Rattle.shunt_inputs.specs.defs.Replies.{Reply, Decided}

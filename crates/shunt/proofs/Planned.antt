@@ -16,7 +16,7 @@ use Rattle.shunt_planning.specs.defs.Planned.{IsPinned, IsSought}
 use Rattle.shunt_planning.proofs.Sought.{usable_none}
 use Rattle.shunt.specs.declared.running.Status.{Status}
 use Rattle.shunt.specs.declared.running.Status.TheVariants as status
-use Rattle.shunt.specs.defs.Words.{MakePlan, MakePinned}
+use Rattle.shunt.specs.defs.Calls.{MakePlan, MakePinned}
 use Rattle.shunt.specs.defs.Ends.{Seen, Ends, Yields}
 use Rattle.shunt.proofs.Exactly.{unusable_outcome}
 use Rattle.shunt.proofs.Searched as searched

@@ -14,7 +14,8 @@ use Rattle.shunt_report.specs.declared.words.FileWord.TheVariants as word
 use Rattle.shunt_inputs.specs.declared.answers.Outcome.TheVariants as outcome
 use Rattle.shunt.specs.declared.running.Status.{Status}
 use Rattle.shunt.specs.declared.running.Status.TheVariants as status
-use Rattle.shunt.specs.defs.Words.{Drivers, Roster, IsUsable}
+use Rattle.shunt.specs.defs.Calls.{Drivers, Roster}
+use Rattle.shunt.specs.defs.Words.{IsUsable}
 use Rattle.shunt_inputs.specs.defs.Names.{AreNames}
 use Rattle.shunt_throat.specs.defs.Shared.{Sharable, stated_sharing, sharing_in, IsShared}
 use Rattle.shunt_inputs.specs.defs.Inputs.{stated_roster, then_stated}
@@ -84,7 +85,7 @@ module _ (texts : RosterTexts) (s t p c d : List ℕ) (files : Files) (usable : 
   states =
       let g = content (written ((d, text) ∷ []) files) in
       then_roster (g s) (g t) (g p) (g c) (g d) x is.duties
-      (same_sharing files d text s t p c (other_than (s ∷ t ∷ p ∷ c ∷ []) d usable) ∙ ok) roster_is
+      (same_sharing files d text s t p c (other_than (s ∷ t ∷ p ∷ c ∷ []) d usable.0) ∙ ok) roster_is
 
   pub accepts : (after : Files) → after ≡ written r.writes files → rostering_in s t p c d after ≡ Ok (rosterable x is.duties)
   accepts after e = ap (rostering_in s t p c d) (e ∙ written_is) ∙ states

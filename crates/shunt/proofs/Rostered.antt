@@ -21,7 +21,7 @@ use Rattle.shunt_inputs.specs.declared.answers.Outcome.{Outcome}
 use Rattle.shunt_inputs.specs.declared.answers.Outcome.TheVariants as outcome
 use Rattle.shunt.specs.declared.running.Status.{Status}
 use Rattle.shunt.specs.declared.running.Status.TheVariants as status
-use Rattle.shunt.specs.defs.Words.{Roster}
+use Rattle.shunt.specs.defs.Calls.{Roster}
 use Rattle.shunt_inputs.specs.defs.Inputs.{Agrees, stated_plans, stated_crew, stated_roster}
 use Rattle.shunt_throat.specs.defs.Shared.{Sharable, stated_sharing}
 use Rattle.shunt_throat.specs.defs.Rostered.{Rosterable, stated_rostering, rostering_in, IsRostered, SharesAll, roster_outcome}

@@ -23,11 +23,10 @@ use Rattle.shunt_inputs.specs.declared.answers.Outcome.{Outcome}
 use Rattle.shunt_inputs.specs.declared.answers.Outcome.TheVariants as outcome
 use Rattle.shunt.specs.declared.running.Status.{Status}
 use Rattle.shunt.specs.declared.running.Status.TheVariants as status
-use Rattle.shunt.specs.defs.Words.{Call}
+use Rattle.shunt.specs.defs.Calls.{Call}
 use Rattle.shunt_inputs.specs.defs.Inputs.{Agrees}
 use Rattle.shunt_inputs.specs.defs.Replies.{Reply, Decided}
-use Rattle.shunt.specs.defs.Inputs.{Value, stated_in}
-use Rattle.shunt.specs.defs.Replies.{IsAnswer}
+use Rattle.shunt.specs.defs.Replies.{Value, stated_in, IsAnswer}
 use Rattle.shunt_planning.specs.defs.Planned.{IsPlanned, IsSoughtOver, planned, search_outcome}
 use Rattle.shunt.specs.defs.Ends.{Seen, Ends, IsWhole, Yields, the_status}
 use Rattle.shunt_planning.specs.defs.Found.{AreStated, IsBounded, IsCheapest, AreDifferent}

@@ -10,7 +10,7 @@ use Rattle.shunt_inputs.specs.declared.answers.Outcome.{Outcome}
 use Rattle.shunt_inputs.specs.declared.answers.Outcome.TheVariants as outcome
 use Rattle.shunt.specs.declared.running.Status.{Status}
 use Rattle.shunt.specs.declared.running.Status.TheVariants as status
-use Rattle.shunt.specs.defs.Words.{Call, Delay, Report, Sheet}
+use Rattle.shunt.specs.defs.Calls.{Call, Delay, Report, Sheet}
 use Rattle.shunt_inputs.specs.defs.Inputs.{Agrees, plans_in}
 use Rattle.shunt_inputs.specs.defs.Replies.{Reply, Decided}
 use Rattle.shunt.specs.defs.Replies.{IsReply}

@@ -19,7 +19,8 @@ use Rattle.shunt_planning.proofs.Sought.{usable_none}
 use Rattle.shunt_trial.specs.defs.Tried.{made_night, made_timetable, tried, IsTried}
 use Rattle.shunt.specs.declared.running.Status.{Status}
 use Rattle.shunt.specs.declared.running.Status.TheVariants as status
-use Rattle.shunt.specs.defs.Words.{Trial, IsUsable}
+use Rattle.shunt.specs.defs.Calls.{Trial}
+use Rattle.shunt.specs.defs.Words.{IsUsable}
 use Rattle.shunt.specs.defs.Ends.{Seen, Ends, IsWhole, Yields, the_status}
 use Rattle.shunt.proofs.Exactly.{early, has_reply, its_own, completes, EndsAs}
 use Rattle.shunt.proofs.Searched.{Bounds, bounded}
@@ -69,7 +70,7 @@ module _ (n u m : ℕ) (s t p k : List ℕ) where
   done_bounded bounds laws old new usable ends =
       let h = has_reply (Trial n u m s t p k) outcome.Done old new ends in
       let is : IsTried n u m s t p k h.0 = h.1.2 in
-      let few = usable.2 in
+      let few = usable.1.1.0 in
       let night = made_night n u in
       let formed : IsInstance night = closed night (night_is (station_of n u) (made_timetable n u) (laws.station n u few) (laws.timetable n (after_station n u) u few)) in
       let found = planned (search_outcome is.certificate.cost is.certificate.bound) p k night is.plan is.certificate in (

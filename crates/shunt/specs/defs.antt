@@ -1,5 +1,6 @@
 -- The definitions of this crate.
+pub mod Calls
+pub mod Commands
 pub mod Words
-pub mod Inputs
 pub mod Replies
 pub mod Ends

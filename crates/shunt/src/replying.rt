@@ -4,7 +4,8 @@ ghost use Rattle.shunt_store.specs.defs.Files.{Closed, Files};
 ghost use Rattle.shunt_store.specs.defs.Causes.{HasCause};
 ghost use Rattle.shunt_inputs.specs.defs.Writes.{Leads, known};
 ghost use Rattle.shunt_inputs.specs.defs.Views.{HearsFirst, IsView};
-ghost use Rattle.shunt.specs.defs.Words.{call_of, inputs_of, IsUsable};
+ghost use Rattle.shunt.specs.defs.Calls.{call_of};
+ghost use Rattle.shunt.specs.defs.Words.{inputs_of, IsUsable};
 ghost use Rattle.shunt.specs.defs.Replies.{IsReplyOver};
 
 use crate::words::Command;

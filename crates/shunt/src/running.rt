@@ -2,7 +2,8 @@
 ghost use Rattle.std.specs.Prelude.{◌≡◌, ◌↔◌, Option};
 ghost use Rattle.shunt_store.specs.defs.Files.{Closed, Files};
 ghost use Rattle.shunt_inputs.specs.defs.Views.{HearsFirst};
-ghost use Rattle.shunt.specs.defs.Words.{Call, IsUsable, Spells, texts, call_of, inputs_of};
+ghost use Rattle.shunt.specs.defs.Calls.{Call, texts, call_of};
+ghost use Rattle.shunt.specs.defs.Words.{IsUsable, Spells, inputs_of};
 ghost use Rattle.shunt.specs.defs.Ends.{AreKnown, Ends, seen, telling};
 ghost use Rattle.shunt_inputs.specs.defs.Replies.{reply_of, refusal};
 

@@ -2,7 +2,8 @@
 ghost use Rattle.std.specs.Prelude.{◌≡◌, ◌↔◌, ◌∷◌, [], ℕ, ◌<◌, ◌≤◌, length, codes, Some, IfSome, IsSome, IsTrue};
 ghost use Rattle.std.specs.Fmt.{decimal};
 ghost use Rattle.shunt_inputs.specs.defs.Names.{AreNames};
-ghost use Rattle.shunt.specs.defs.Words.{Call, Spells, texts, call_of};
+ghost use Rattle.shunt.specs.defs.Calls.{Call, texts, call_of};
+ghost use Rattle.shunt.specs.defs.Words.{Spells};
 
 use shunt_base::parse_decimal;
 

@@ -3,7 +3,8 @@
 
 ghost use Rattle.std.specs.Prelude.{◌≡◌, ◌↔◌, Option};
 ghost use Rattle.shunt_store.specs.defs.Files.{Closed, Files as KnownFiles};
-ghost use Rattle.shunt.specs.defs.Words.{Call, Spells, texts};
+ghost use Rattle.shunt.specs.defs.Calls.{Call, texts};
+ghost use Rattle.shunt.specs.defs.Words.{Spells};
 ghost use Rattle.shunt.specs.defs.Ends.{AreKnown, seen, telling};
 ghost use Rattle.shunt_main.specs.defs.Numbers.{number_of, EndsAs};
 

@@ -9,7 +9,7 @@ use Rattle.shunt.specs.declared.running.Status.{Status}
 use Rattle.shunt.specs.declared.running.Status.TheVariants as status
 use Rattle.shunt_inputs.specs.defs.Writes.{written, Known, known, WritesSome}
 use Rattle.shunt_inputs.specs.defs.Views.{HeardIn}
-use Rattle.shunt.specs.defs.Words.{Call}
+use Rattle.shunt.specs.defs.Calls.{Call}
 use Rattle.shunt_inputs.specs.defs.Replies.{Reply}
 use Rattle.shunt.specs.defs.Replies.{IsReplyOver}
 

@@ -2,7 +2,7 @@
 use Rattle.std.specs.Prelude.{◌≡◌, ℕ}
 use Rattle.shunt.specs.declared.running.Status.{Status}
 use Rattle.shunt.specs.declared.running.Status.TheVariants as status
-use Rattle.shunt.specs.defs.Words.{Call}
+use Rattle.shunt.specs.defs.Calls.{Call}
 use Rattle.shunt.specs.defs.Ends.{Seen, Ends}
 
 abbrev pub number_of : Status → ℕ

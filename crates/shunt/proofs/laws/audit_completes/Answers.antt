@@ -1,4 +1,4 @@
-use Rattle.shunt.specs.defs.Words.{Audit}
+use Rattle.shunt.specs.defs.Calls.{Audit}
 use Rattle.shunt.proofs.Audits.{audit_judges, ends_well}
 use Rattle.shunt.proofs.laws.audit_completes.Goals as goal
 

@@ -1,4 +1,4 @@
-use Rattle.shunt.specs.defs.Words.{Audit}
+use Rattle.shunt.specs.defs.Calls.{Audit}
 use Rattle.shunt.proofs.Audits.{audit_judges, done_there, done_only, findings_there, findings_only, no_matching, no_unfinished}
 use Rattle.shunt.proofs.laws.audit_done_exactly.Goals as goal
 

@@ -1,4 +1,4 @@
-use Rattle.shunt.specs.defs.Words.{CheckPinned}
+use Rattle.shunt.specs.defs.Calls.{CheckPinned}
 use Rattle.shunt_judging.specs.defs.Pinned.{IsPinProved}
 use Rattle.shunt.proofs.Either.{done_there, done_only, findings_there, findings_only, no_matching, no_unfinished}
 use Rattle.shunt.proofs.PinChecks.{parts}

@@ -1,4 +1,4 @@
-use Rattle.shunt.specs.defs.Words.{Draw}
+use Rattle.shunt.specs.defs.Calls.{Draw}
 use Rattle.shunt.proofs.Audits.{draw_judges, ends_well}
 use Rattle.shunt.proofs.laws.draw_completes.Goals as goal
 

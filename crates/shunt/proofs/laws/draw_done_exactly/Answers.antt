@@ -1,4 +1,4 @@
-use Rattle.shunt.specs.defs.Words.{Draw}
+use Rattle.shunt.specs.defs.Calls.{Draw}
 use Rattle.shunt.proofs.Audits.{draw_judges, done_there, done_only, findings_there, findings_only, no_matching, no_unfinished}
 use Rattle.shunt.proofs.laws.draw_done_exactly.Goals as goal
 

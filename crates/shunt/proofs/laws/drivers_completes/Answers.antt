@@ -1,5 +1,5 @@
 use Rattle.shunt.proofs.Always.{ends_well}
-use Rattle.shunt.specs.defs.Words.{Drivers}
+use Rattle.shunt.specs.defs.Calls.{Drivers}
 use Rattle.shunt.proofs.Shared.{told_outcome}
 use Rattle.shunt.proofs.laws.drivers_completes.Goals as goal
 

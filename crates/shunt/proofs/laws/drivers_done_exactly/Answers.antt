@@ -1,5 +1,5 @@
 use Rattle.shunt.proofs.Always.{done_there, done_only, no_findings, no_matching, no_unfinished}
-use Rattle.shunt.specs.defs.Words.{Drivers}
+use Rattle.shunt.specs.defs.Calls.{Drivers}
 use Rattle.shunt.proofs.Shared.{told_outcome}
 use Rattle.shunt.proofs.laws.drivers_done_exactly.Goals as goal
 

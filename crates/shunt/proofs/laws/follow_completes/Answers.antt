@@ -1,4 +1,4 @@
-use Rattle.shunt.specs.defs.Words.{Follow}
+use Rattle.shunt.specs.defs.Calls.{Follow}
 use Rattle.shunt_dispatch.specs.defs.Followed.{GoesThrough}
 use Rattle.shunt.proofs.Either.{ends_well}
 use Rattle.shunt.proofs.Gone.{follow_parts}

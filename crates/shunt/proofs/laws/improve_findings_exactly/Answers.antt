@@ -1,4 +1,4 @@
-use Rattle.shunt.specs.defs.Words.{Improve}
+use Rattle.shunt.specs.defs.Calls.{Improve}
 use Rattle.shunt.proofs.Searched.{findings_there, findings_only}
 use Rattle.shunt.proofs.Improved.{ImproveLaws, improve_search, improve_answers}
 use Rattle.shunt.proofs.laws.improve_findings_exactly.Goals as goal

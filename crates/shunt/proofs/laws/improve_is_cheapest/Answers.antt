@@ -1,4 +1,4 @@
-use Rattle.shunt.specs.defs.Words.{Improve}
+use Rattle.shunt.specs.defs.Calls.{Improve}
 use Rattle.shunt.proofs.Searched.{done_cheapest}
 use Rattle.shunt.proofs.Improved.{ImproveLaws, improve_search, improve_answers}
 use Rattle.shunt.proofs.laws.improve_is_cheapest.Goals as goal

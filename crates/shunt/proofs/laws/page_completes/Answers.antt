@@ -1,4 +1,4 @@
-use Rattle.shunt.specs.defs.Words.{Page}
+use Rattle.shunt.specs.defs.Calls.{Page}
 use Rattle.shunt.proofs.Audits.{page_judges, ends_well}
 use Rattle.shunt.proofs.laws.page_completes.Goals as goal
 

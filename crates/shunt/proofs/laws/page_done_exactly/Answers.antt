@@ -1,4 +1,4 @@
-use Rattle.shunt.specs.defs.Words.{Page}
+use Rattle.shunt.specs.defs.Calls.{Page}
 use Rattle.shunt.proofs.Audits.{page_judges, done_there, done_only, findings_there, findings_only, no_matching, no_unfinished}
 use Rattle.shunt.proofs.laws.page_done_exactly.Goals as goal
 

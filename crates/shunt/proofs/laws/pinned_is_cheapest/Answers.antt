@@ -1,4 +1,4 @@
-use Rattle.shunt.specs.defs.Words.{MakePinned}
+use Rattle.shunt.specs.defs.Calls.{MakePinned}
 use Rattle.shunt.proofs.Searched.{done_cheapest}
 use Rattle.shunt.proofs.Planned.{pinned_search, pinned_answers}
 use Rattle.shunt.proofs.laws.pinned_is_cheapest.Goals as goal

@@ -1,5 +1,5 @@
 use Rattle.shunt_planning.proofs.Sought.{usable_none}
-use Rattle.shunt.specs.defs.Words.{MakePlan}
+use Rattle.shunt.specs.defs.Calls.{MakePlan}
 use Rattle.shunt.proofs.Searched.{done_there}
 use Rattle.shunt.proofs.Planned.{plan_search, plan_answers, ends_well}
 use Rattle.shunt.proofs.laws.plan_completes.Goals as goal

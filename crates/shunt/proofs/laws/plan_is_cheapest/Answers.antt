@@ -1,4 +1,4 @@
-use Rattle.shunt.specs.defs.Words.{MakePlan}
+use Rattle.shunt.specs.defs.Calls.{MakePlan}
 use Rattle.shunt.proofs.Searched.{done_cheapest}
 use Rattle.shunt.proofs.Planned.{plan_search, plan_answers}
 use Rattle.shunt.proofs.laws.plan_is_cheapest.Goals as goal

@@ -1,5 +1,5 @@
 use Rattle.shunt_planning.proofs.Sought.{usable_none}
-use Rattle.shunt.specs.defs.Words.{MakePlan}
+use Rattle.shunt.specs.defs.Calls.{MakePlan}
 use Rattle.shunt.proofs.Searched.{no_matching_there, no_matching_only}
 use Rattle.shunt.proofs.Planned.{plan_search, plan_answers, no_findings}
 use Rattle.shunt.proofs.laws.plan_no_matching_exactly.Goals as goal

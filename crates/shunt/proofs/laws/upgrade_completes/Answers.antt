@@ -1,7 +1,7 @@
 use Rattle.shunt.proofs.Always.{ends_well}
 use Rattle.std.proofs.Common.{ap}
 use Rattle.shunt_inputs.specs.defs.Replies.{Reply}
-use Rattle.shunt.specs.defs.Words.{Upgrade}
+use Rattle.shunt.specs.defs.Calls.{Upgrade}
 use Rattle.shunt.proofs.laws.upgrade_completes.Goals as goal
 
 pub returns : goal.returns

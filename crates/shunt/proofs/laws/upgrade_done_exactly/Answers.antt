@@ -1,7 +1,7 @@
 use Rattle.shunt.proofs.Always.{done_there, done_only, no_findings, no_matching, no_unfinished}
 use Rattle.std.proofs.Common.{ap}
 use Rattle.shunt_inputs.specs.defs.Replies.{Reply}
-use Rattle.shunt.specs.defs.Words.{Upgrade}
+use Rattle.shunt.specs.defs.Calls.{Upgrade}
 use Rattle.shunt.proofs.laws.upgrade_done_exactly.Goals as goal
 
 pub returns-clause-done : goal.returns-clause-done

@@ -1,6 +1,6 @@
 use Rattle.std.proofs.Common.{ap, refl, Ok}
 use Rattle.shunt_inputs.specs.defs.Writes.{known}
-use Rattle.shunt.specs.defs.Words.{call_of}
+use Rattle.shunt.specs.defs.Calls.{call_of}
 use Rattle.shunt.proofs.Asked.{asked, checked_over, compared_over, followed_over, inputs_named, passed_over, pin_checked_over, replayed_over, rostered_over, shared_over, upgraded_over}
 use Rattle.shunt.proofs.Firsts.{first_of, none_heard, improved_leads, pinned_leads, plain, planned_leads}
 use Rattle.shunt.proofs.Commands.{trial_answered}

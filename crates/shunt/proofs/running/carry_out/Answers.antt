@@ -3,7 +3,7 @@ use Rattle.shunt_inputs.specs.defs.Writes.{known}
 use Rattle.shunt_inputs.proofs.Viewing.{first_still, view_still}
 use Rattle.shunt.specs.declared.running.Status.TheVariants as status
 use Rattle.shunt.specs.defs.Replies.{IsReplyOver}
-use Rattle.shunt.specs.defs.Words.{call_of}
+use Rattle.shunt.specs.defs.Calls.{call_of}
 use Rattle.shunt.specs.defs.Ends.{seen, telling}
 use Rattle.shunt.proofs.Firsts.{delivered, fault_rose, led_fault, led_input, led_memory}
 use Rattle.shunt.proofs.Knowing.{known_ends, known_early, view_of}

@@ -1,5 +1,5 @@
 use Rattle.std.proofs.Common.{ap}
-use Rattle.shunt.specs.defs.Words.{texts}
+use Rattle.shunt.specs.defs.Calls.{texts}
 use Rattle.shunt.proofs.Ending.{ends_of, heard_by}
 use Rattle.shunt.proofs.running.run.Goals as goal
 

@@ -1,6 +1,7 @@
 use Rattle.std.proofs.Common.{arith, subst, sym}
 use Rattle.std.specs.Prelude.{IfSome}
-use Rattle.shunt.specs.defs.Words.{Spells, texts, call_of}
+use Rattle.shunt.specs.defs.Calls.{texts, call_of}
+use Rattle.shunt.specs.defs.Words.{Spells}
 use Rattle.shunt.proofs.Eight.{eight}
 use Rattle.shunt.proofs.words.long_command_of.Goals as goal
 

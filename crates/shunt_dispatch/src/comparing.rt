@@ -56,6 +56,26 @@ fn comparison_answer(
     })
 }
 
+// What another plan does otherwise, or what is wrong with the first of the two that has findings.
+fn compared(
+    alloc: Global,
+    instance: &Instance,
+    plan: &Plan,
+    other: &Plan,
+) -> Result<Answer, AllocError>
+    requires plan { IsPlanInRange instance.now plan.now }
+    requires other { IsPlanInRange instance.now other.now }
+    ensures { IfOk result (λ a. IsCompared (record { night = instance.now; plan = plan.now; other = other.now }) (reply_of a)) }
+{
+    if let Some(answer) = fault_answer(alloc, instance, plan)? {
+        return Ok(answer);
+    }
+    if let Some(answer) = fault_answer(alloc, instance, other)? {
+        return Ok(answer);
+    }
+    comparison_answer(alloc, instance, plan, other)
+}
+
 /// The question of `compare`: what another plan does otherwise, or what is wrong with the first of the two that has findings.
 #[derive(Clone, Copy, Drop)]
 pub struct Compare;
@@ -70,12 +90,6 @@ impl<'n, I: Inputs<Value = Instance>> Question<Then<Then<I, PlanFile<'n>>, Other
         ensures { IfOk result (λ a. IsCompared (record { night = value.0.0; plan = value.0.1; other = value.1 }) (reply_of a)) }
     {
         let ((instance, plan), other) = value;
-        if let Some(answer) = fault_answer(alloc, &instance, &plan)? {
-            return Ok(answer);
-        }
-        if let Some(answer) = fault_answer(alloc, &instance, &other)? {
-            return Ok(answer);
-        }
-        comparison_answer(alloc, &instance, &plan, &other)
+        compared(alloc, &instance, &plan, &other)
     }
 }

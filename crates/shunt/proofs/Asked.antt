@@ -12,15 +12,15 @@ use Rattle.shunt_drivers.specs.declared.records.Crew.{Crew}
 use Rattle.shunt_drivers.specs.declared.records.Duty.{Duty}
 use Rattle.shunt_sheet.specs.declared.records.Order.{Order}
 use Rattle.shunt_inputs.specs.declared.answers.Answer.{Answer}
-use Rattle.shunt_inputs.specs.declared.loading.Halt.{Halt}
+use Rattle.shunt_inputs.specs.declared.file_loader.Halt.{Halt}
 use Rattle.shunt_inputs.specs.declared.pins.Pinned.{Pinned}
 use Rattle.shunt_inputs.specs.defs.Inputs.{pinned_in, plans_in, stated_certificate, stated_crew, stated_edits, stated_other, stated_plan, stated_roster, stated_sheet, stated_station, stated_timetable, stated_zones, then_stated}
 use Rattle.shunt_inputs.specs.defs.Names.{AreNames}
 use Rattle.shunt_inputs.specs.defs.Replies.{Reply, Decided}
-use Rattle.shunt_inputs.specs.defs.Writes.{Known, Leads}
+use Rattle.shunt_inputs.specs.defs.Writes.{Known, LeavesOne}
 use Rattle.shunt_inputs.proofs.Held.{decided_behind, decided_last, decided_over}
-use Rattle.shunt_inputs.proofs.Leading.{leads_with}
-use Rattle.shunt_inputs.proofs.Seeing.{front_names}
+use Rattle.shunt_inputs.proofs.FirstFiles.{leads_with}
+use Rattle.shunt_inputs.proofs.SeenFiles.{front_names}
 use Rattle.shunt_judging.specs.defs.Checked.{Checkable, stated_check, IsChecked}
 use Rattle.shunt_judging.specs.defs.Pinned.{PinChecked, stated_pin_check, IsPinChecked}
 use Rattle.shunt_judging.specs.defs.Replayed.{Replayable, stated_turns, IsReplayed}
@@ -35,9 +35,9 @@ use Rattle.shunt.specs.defs.Words.{IsUsable, inputs_of, outputs_of}
 use Rattle.shunt.specs.defs.Replies.{IsReply, IsReplyOver}
 
 -- what leads to an answer over the files leads to one of the command
-pub asked : (P : Reply → Type 0) (c d : Call) (view : Option Files) (old new : Known) (r : Result Answer Halt) → c ≡ d → Leads P old new r
-    → ((reply : Reply) → P reply → IsReplyOver d view reply) → Leads (IsReplyOver c view) old new r
-asked P c d view old new r is h step = subst (λ (x : Call). Leads (IsReplyOver x view) old new r) (sym is) (leads_with P (IsReplyOver d view) old new r step h)
+pub asked : (P : Reply → Type 0) (c d : Call) (view : Option Files) (old new : Known) (r : Result Answer Halt) → c ≡ d → LeavesOne P old new r
+    → ((reply : Reply) → P reply → IsReplyOver d view reply) → LeavesOne (IsReplyOver c view) old new r
+asked P c d view old new r is h step = subst (λ (x : Call). LeavesOne (IsReplyOver x view) old new r) (sym is) (leads_with P (IsReplyOver d view) old new r step h)
 
 -- the names of its input files can be used
 inputs_usable : (c : Call) → IsUsable c → AreNames (inputs_of c)
@@ -92,7 +92,7 @@ pub shared_over : (files : Files) (s t p c d : List ℕ) (r : Reply) → Beside 
 unfolding stated_sharing
 shared_over files s t p c d r h = decided_over (plans_in s t p files) (λ x. stated_crew x.0 (content files c)) sharable (IsShared d) r h
 
-abbrev rosterable : Sharable → List Duty → Rosterable
+abbrev pub rosterable : Sharable → List Duty → Rosterable
 rosterable x duties = record { night = x.night; plan = x.plan; crew = x.crew; duties = duties }
 
 pub rostered_over : (files : Files) (s t p c d : List ℕ) (r : Reply)
@@ -115,7 +115,7 @@ unfolding stated_pin_check
 pin_checked_over files s t i p k r h = decided_last (pinned_in s t i files) (λ x. stated_plan x.instance (content files p))
     (λ x plan. stated_certificate x.instance (content files k)) pin_checkable IsPinChecked r h
 
-abbrev followable : Station → List Order → Followable
+abbrev pub followable : Station → List Order → Followable
 followable station orders = record { station = station; orders = orders }
 
 pub followed_over : (files : Files) (s o : List ℕ) (r : Reply) → Beside (stated_station (content files s)) (λ x. stated_sheet x (content files o))

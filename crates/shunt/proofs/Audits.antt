@@ -11,8 +11,8 @@ use Rattle.shunt_audit.specs.defs.Plans.{ArePlanFindings, plan_findings}
 use Rattle.shunt_audit.proofs.Stated.{only_plan}
 use Rattle.shunt_inputs.specs.declared.answers.Outcome.{Outcome}
 use Rattle.shunt_inputs.specs.declared.answers.Outcome.TheVariants as outcome
-use Rattle.shunt.specs.declared.running.Status.{Status}
-use Rattle.shunt.specs.declared.running.Status.TheVariants as status
+use Rattle.shunt.specs.declared.status.Status.{Status}
+use Rattle.shunt.specs.declared.status.Status.TheVariants as status
 use Rattle.shunt.specs.defs.Calls.{Call, Audit, Draw, Page}
 use Rattle.shunt_inputs.specs.defs.Inputs.{Agrees, stated_plans, plans_in}
 use Rattle.shunt_inputs.specs.defs.Replies.{Reply, Decided}

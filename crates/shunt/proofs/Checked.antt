@@ -1,5 +1,5 @@
 -- When each status of `check` comes.
-use Rattle.std.proofs.Common.{◌≡◌, ◌≤◌, Some, sym, subst, ap, inl, inr, refl, ⊎_elim, Result, Ok, Err, List, [], ◌∙◌, ℕ, arith}
+use Rattle.std.proofs.Common.{◌≡◌, ◌≤◌, Some, sym, subst, ap, inl, inr, refl, ⊎_elim, Result, Ok, Err, List, [], ◌∙◌, ℕ}
 use Rattle.std.specs.Prelude.{◌↔◌, ◌⊎◌}
 use Rattle.shunt_store.specs.defs.Files.{Files, content}
 use Rattle.shunt_store.specs.defs.Causes.{Rose}
@@ -23,8 +23,8 @@ use Rattle.shunt_report.specs.declared.words.FileWord.TheVariants as word
 use Rattle.shunt_report.specs.defs.VerdictTexts.{verdict_of}
 use Rattle.shunt_inputs.specs.declared.answers.Outcome.{Outcome}
 use Rattle.shunt_inputs.specs.declared.answers.Outcome.TheVariants as outcome
-use Rattle.shunt.specs.declared.running.Status.{Status}
-use Rattle.shunt.specs.declared.running.Status.TheVariants as status
+use Rattle.shunt.specs.declared.status.Status.{Status}
+use Rattle.shunt.specs.declared.status.Status.TheVariants as status
 use Rattle.shunt.specs.defs.Calls.{Check}
 use Rattle.shunt_inputs.specs.defs.Inputs.{Agrees, stated_plans, stated_certificate}
 use Rattle.shunt_judging.specs.defs.Checked.{Checkable, stated_check, check_in, IsChecked, IsProved, BoundsAll, check_outcome}
@@ -34,6 +34,7 @@ use Rattle.shunt_planning.proofs.Sought.{usable_none}
 use Rattle.shunt.proofs.Exactly.{decides, has_reply, completes, reply_at, EndsAs}
 use Rattle.shunt_inputs.proofs.Stated.{parted, plan_stated, stated_value}
 use Rattle.shunt.proofs.Audits.{EndsWell}
+use Rattle.shunt_blocks.proofs.Held.{keeps_none}
 
 -- ---- what the files state
 
@@ -57,11 +58,6 @@ check_stated s t p k y is =
       plan = of_plan.1;
       certificate = certificate_formed first.0.0 (records_of k) second.0 (stated_value word.Certificate (certificate_format first.0.0) k second.0 second.1);
     })
-
--- ---- without pins
-
-pub keeps_none : (blocks : List Block) → Keeps blocks []
-keeps_none blocks = λ k d lt. absurd (omega (arith, lt))
 
 -- ---- what the verdict tells
 

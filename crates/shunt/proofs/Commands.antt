@@ -13,7 +13,7 @@ use Rattle.shunt_inputs.specs.defs.Inputs.{Agrees, stated_night, stated_plans, H
 use Rattle.shunt_judging.specs.defs.Audited.{IsAudited}
 use Rattle.shunt_inputs.specs.defs.Replies.{Decided, reply_of}
 use Rattle.shunt_inputs.specs.declared.answers.Answer.{Answer}
-use Rattle.shunt_inputs.specs.declared.loading.Halt.{Halt}
+use Rattle.shunt_inputs.specs.declared.file_loader.Halt.{Halt}
 use Rattle.shunt_judging.specs.defs.Checked.{stated_check, IsChecked}
 use Rattle.shunt_inputs.specs.defs.Halts.{Replies}
 use Rattle.shunt.specs.defs.Replies.{IsReply}

@@ -26,8 +26,8 @@ use Rattle.shunt_inputs.specs.defs.Replies.{Reply, Decided}
 use Rattle.shunt_inputs.proofs.Stated.{parted, plan_stated, stated_value}
 use Rattle.shunt_judging.specs.defs.Audited.{IsClean, IsFaulty}
 use Rattle.shunt_dispatch.specs.defs.Compared.{Comparable, stated_comparison, comparison_in, AreAlike, compared_outcome, IsOtherFaulty, HasComparison, IsCompared}
-use Rattle.shunt.specs.declared.running.Status.{Status}
-use Rattle.shunt.specs.declared.running.Status.TheVariants as status
+use Rattle.shunt.specs.declared.status.Status.{Status}
+use Rattle.shunt.specs.declared.status.Status.TheVariants as status
 use Rattle.shunt.specs.defs.Calls.{Compare}
 use Rattle.shunt.specs.defs.Ends.{Seen, Ends, Yields, the_status}
 use Rattle.shunt.proofs.Exactly.{decides, has_reply, completes, reply_at, faulty_outcome, EndsAs}

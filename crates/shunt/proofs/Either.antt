@@ -7,8 +7,8 @@ use Rattle.shunt_inputs.specs.declared.answers.Outcome.{Outcome}
 use Rattle.shunt_inputs.specs.declared.answers.Outcome.TheVariants as outcome
 use Rattle.shunt_inputs.specs.defs.Inputs.{Agrees}
 use Rattle.shunt_inputs.specs.defs.Replies.{Reply, Decided}
-use Rattle.shunt.specs.declared.running.Status.{Status}
-use Rattle.shunt.specs.declared.running.Status.TheVariants as status
+use Rattle.shunt.specs.declared.status.Status.{Status}
+use Rattle.shunt.specs.declared.status.Status.TheVariants as status
 use Rattle.shunt.specs.defs.Calls.{Call}
 use Rattle.shunt.specs.defs.Replies.{Value, stated_in, IsAnswer}
 use Rattle.shunt.specs.defs.Ends.{Seen, Ends, Yields, the_status}

@@ -6,7 +6,7 @@ use Rattle.std.specs.FinMap as map
 use Rattle.shunt_lists.specs.defs.Members.{In}
 use Rattle.shunt_store.specs.defs.Files.{Files, BothTold}
 use Rattle.shunt_store.specs.defs.Causes.{Rose}
-use Rattle.shunt_store.specs.defs.Noting.{Entries}
+use Rattle.shunt_store.specs.defs.Notes.{Entries}
 use Rattle.shunt_store.proofs.Texts.{both_map, both_same}
 use Rattle.shunt_store.proofs.TableLaws.{same_elsewhere}
 use Rattle.shunt_audit.specs.declared.types.Finding.{Finding}
@@ -18,12 +18,12 @@ use Rattle.shunt_checker.specs.declared.verdict.Verdict.TheVariants as verdict
 use Rattle.shunt_drivers.specs.declared.records.RosterFault.{RosterFault}
 use Rattle.shunt_drivers.specs.defs.RosterFaults.{fault_in}
 use Rattle.shunt_zones.specs.declared.records.Meet.{Meet}
-use Rattle.shunt_zones.specs.defs.Meeting.{meets_in}
+use Rattle.shunt_zones.specs.defs.Meetings.{meets_in}
 use Rattle.shunt_inputs.specs.declared.answers.Outcome.{Outcome}
 use Rattle.shunt_inputs.specs.declared.answers.Outcome.TheVariants as outcome
 use Rattle.shunt_inputs.specs.defs.Pins.{IsUnusable}
-use Rattle.shunt.specs.declared.running.Status.{Status}
-use Rattle.shunt.specs.declared.running.Status.TheVariants as status
+use Rattle.shunt.specs.declared.status.Status.{Status}
+use Rattle.shunt.specs.declared.status.Status.TheVariants as status
 use Rattle.shunt.specs.defs.Calls.{Call, Match, Follow, Audit, Delay, Report, Check, Compare, Zones, Sheet, Draw, Page, Upgrade, Trial, Drivers, Roster, CheckPinned, Replay, MakePlan, MakePinned, Improve}
 use Rattle.shunt.specs.defs.Words.{outputs_of}
 use Rattle.shunt.proofs.Writes.{in_some}
@@ -42,7 +42,7 @@ use Rattle.shunt_blocks.specs.declared.records.Block.{Block}
 use Rattle.shunt_plan.specs.declared.records.Plan.{Plan}
 use Rattle.shunt_sheet.specs.declared.records.Followed.{Followed}
 use Rattle.shunt_sheet.specs.declared.records.Followed.TheVariants as answers
-use Rattle.shunt_sheet.specs.defs.Following.{followed}
+use Rattle.shunt_sheet.specs.defs.FollowedOrders.{followed}
 use Rattle.shunt_exchange.specs.defs.Reported.{HasReport}
 use Rattle.shunt_throat.specs.defs.Passed.{meets_outcome}
 use Rattle.shunt_throat.specs.defs.Rostered.{roster_outcome}

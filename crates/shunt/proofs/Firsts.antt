@@ -4,13 +4,13 @@ use Rattle.std.proofs.Math.Seq.{take-append-add}
 use Rattle.std.specs.Global.{Global}
 use Rattle.std.specs.Prelude.{Vec}
 use Rattle.shunt_store.specs.defs.Files.{Files, BothTold}
-use Rattle.shunt_store.specs.defs.Noting.{Entries}
+use Rattle.shunt_store.specs.defs.Notes.{Entries}
 use Rattle.shunt_store.proofs.Texts.{both_same, both_then}
 use Rattle.shunt_inputs.specs.declared.answers.Answer.{Answer}
-use Rattle.shunt_inputs.specs.declared.loading.Halt.{Halt}
-use Rattle.shunt_inputs.specs.declared.loading.Halt.TheVariants as halt
-use Rattle.shunt.specs.declared.running.Status.{Status}
-use Rattle.shunt.specs.declared.running.Status.TheVariants as status
+use Rattle.shunt_inputs.specs.declared.file_loader.Halt.{Halt}
+use Rattle.shunt_inputs.specs.declared.file_loader.Halt.TheVariants as halt
+use Rattle.shunt.specs.declared.status.Status.{Status}
+use Rattle.shunt.specs.declared.status.Status.TheVariants as status
 use Rattle.shunt_planning.specs.defs.Begun.{IsImprovedOver, IsPinnedOver, IsPlannedOver}
 use Rattle.shunt_inputs.specs.defs.Views.{HearsFirst}
 use Rattle.shunt.specs.defs.Calls.{Call, MakePlan, MakePinned, Improve}
@@ -18,13 +18,12 @@ use Rattle.shunt.specs.defs.Words.{inputs_of}
 use Rattle.shunt_inputs.specs.defs.Replies.{Reply, refusal, reply_of}
 use Rattle.shunt.specs.defs.Replies.{IsReplyOver}
 use Rattle.shunt.specs.defs.Ends.{Seen, CutInFiles, CutInText, IsWhole, Delivers}
-use Rattle.shunt_inputs.specs.defs.Writes.{written, with_first, Known, Stays, HasFirst, Leads}
+use Rattle.shunt_inputs.specs.defs.Writes.{written, with_first, Known, Stays, HasFirst, LeavesOne}
 use Rattle.shunt_store.specs.defs.Causes.{HasCause, Rose}
-use Rattle.shunt_inputs.proofs.Leading.{none_first}
-use Rattle.shunt_inputs.proofs.Seeing.{err_of}
+use Rattle.shunt_inputs.proofs.FirstFiles.{none_first, written-append}
+use Rattle.shunt_inputs.proofs.SeenFiles.{err_of}
 use Rattle.shunt.proofs.Commands.{IsAnswered}
-use Rattle.shunt.proofs.Ending.{at_start, rose_earlier}
-use Rattle.shunt.proofs.Writes.{written-append}
+use Rattle.shunt.proofs.Ends.{at_start, rose_earlier}
 
 module _ (first : List (List ℕ × List ℕ)) (r : Reply) (f ff : Option Files) (e ee : Option Entries) (k kk : ℕ) (o : Option (List ℕ)) (n : ℕ) (new : Seen)
     (wrote : BothTold f ff (λ a b. b ≡ written first a)) (noted : BothTold e ee (λ a b. b ≡ a ++ first)) where
@@ -81,21 +80,21 @@ delivered c view rest old mid k kk o n new s le h d = (
 
 -- ---- what a step handed on
 
-pub led_input : (P : Reply → Type 0) (old new : Known) (h : Halt) (text : Vec ℕ Global) (r : Reply) → h ≡ halt.Input text → r ≡ refusal text.items → Leads P old new (Err h)
+pub led_input : (P : Reply → Type 0) (old new : Known) (h : Halt) (text : Vec ℕ Global) (r : Reply) → h ≡ halt.Input text → r ≡ refusal text.items → LeavesOne P old new (Err h)
     → HasFirst P old new r
-led_input P old new h text r e is leads = subst (HasFirst P old new) (sym is) (subst (λ (x : Halt). Leads P old new (Err x)) e leads)
+led_input P old new h text r e is leads = subst (HasFirst P old new) (sym is) (subst (λ (x : Halt). LeavesOne P old new (Err x)) e leads)
 
-pub led_fault : (P : Reply → Type 0) (old new : Known) (h : Halt) → h ≡ halt.Fault → Leads P old new (Err h) → Stays old new
-led_fault P old new h e leads = subst (λ (x : Halt). Leads P old new (Err x)) e leads
+pub led_fault : (P : Reply → Type 0) (old new : Known) (h : Halt) → h ≡ halt.Fault → LeavesOne P old new (Err h) → Stays old new
+led_fault P old new h e leads = subst (λ (x : Halt). LeavesOne P old new (Err x)) e leads
 
-pub led_memory : (P : Reply → Type 0) (old new : Known) (h : Halt) → h ≡ halt.Memory → Leads P old new (Err h) → Stays old new
-led_memory P old new h e leads = subst (λ (x : Halt). Leads P old new (Err x)) e leads
+pub led_memory : (P : Reply → Type 0) (old new : Known) (h : Halt) → h ≡ halt.Memory → LeavesOne P old new (Err h) → Stays old new
+led_memory P old new h e leads = subst (λ (x : Halt). LeavesOne P old new (Err x)) e leads
 
 pub fault_rose : {X : Type 0} (h : Halt) (before now : ℕ) → h ≡ halt.Fault → HasCause halt.Fault before now (err_of X h) → Rose before now
 fault_rose {X = X} h before now e cause = cause.failed (ap (err_of X) e)
 
 -- a step that writes nothing leads to the reply that it answers
-pub plain : (c : Call) (view : Option Files) (old new : Known) (r : Result Answer Halt) → Stays old new → IsAnswered view r c → Leads (IsReplyOver c view) old new r
+pub plain : (c : Call) (view : Option Files) (old new : Known) (r : Result Answer Halt) → Stays old new → IsAnswered view r c → LeavesOne (IsReplyOver c view) old new r
 plain c view old new (Ok a) same h = none_first (IsReplyOver c view) old new (reply_of a) same h
 plain c view old new (Err (halt.Input text)) same h = none_first (IsReplyOver c view) old new (refusal text.items) same h
 plain c view old new (Err halt.Fault) same h = same
@@ -103,18 +102,18 @@ plain c view old new (Err halt.Memory) same h = same
 
 -- so does a step of `plan`, which writes its certificate
 pub planned_leads : (s t : List ℕ) (m : ℕ) (p k : List ℕ) (c : Call) (view : Option Files) (old new : Known) (r : Result Answer Halt) → c ≡ MakePlan s t m p k
-    → Leads (IsPlannedOver view s t m p k) old new r → Leads (IsReplyOver c view) old new r
-planned_leads s t m p k c view old new r is h = subst (λ (d : Call). Leads (IsReplyOver d view) old new r) (sym is) h
+    → LeavesOne (IsPlannedOver view s t m p k) old new r → LeavesOne (IsReplyOver c view) old new r
+planned_leads s t m p k c view old new r is h = subst (λ (d : Call). LeavesOne (IsReplyOver d view) old new r) (sym is) h
 
 -- and one of `pinned`
 pub pinned_leads : (s t i : List ℕ) (m : ℕ) (p k : List ℕ) (c : Call) (view : Option Files) (old new : Known) (r : Result Answer Halt) → c ≡ MakePinned s t i m p k
-    → Leads (IsPinnedOver view s t i m p k) old new r → Leads (IsReplyOver c view) old new r
-pinned_leads s t i m p k c view old new r is h = subst (λ (d : Call). Leads (IsReplyOver d view) old new r) (sym is) h
+    → LeavesOne (IsPinnedOver view s t i m p k) old new r → LeavesOne (IsReplyOver c view) old new r
+pinned_leads s t i m p k c view old new r is h = subst (λ (d : Call). LeavesOne (IsReplyOver d view) old new r) (sym is) h
 
 -- and one of `improve`
 pub improved_leads : (s t i h : List ℕ) (m : ℕ) (p k : List ℕ) (c : Call) (view : Option Files) (old new : Known) (r : Result Answer Halt) → c ≡ Improve s t i h m p k
-    → Leads (IsImprovedOver view s t i h m p k) old new r → Leads (IsReplyOver c view) old new r
-improved_leads s t i h m p k c view old new r is leads = subst (λ (d : Call). Leads (IsReplyOver d view) old new r) (sym is) leads
+    → LeavesOne (IsImprovedOver view s t i h m p k) old new r → LeavesOne (IsReplyOver c view) old new r
+improved_leads s t i h m p k c view old new r is leads = subst (λ (d : Call). LeavesOne (IsReplyOver d view) old new r) (sym is) leads
 
 -- the names that a command hears
 pub first_of : (c d : Call) (h0 h1 : Option Entries) → c ≡ d → HearsFirst (inputs_of d) h0 h1 → HearsFirst (inputs_of c) h0 h1

@@ -13,7 +13,7 @@ use Rattle.shunt_plan.specs.defs.Plans.{IsPlanInRange}
 use Rattle.shunt_sheet.specs.declared.records.Order.{Order}
 use Rattle.shunt_sheet.specs.declared.records.Followed.{Followed}
 use Rattle.shunt_sheet.specs.declared.records.Followed.TheVariants as answers
-use Rattle.shunt_sheet.specs.defs.Following.{followed, LeavesNone}
+use Rattle.shunt_sheet.specs.defs.FollowedOrders.{followed, LeavesNone}
 use Rattle.shunt_sheet.specs.defs.Orders.{orders_in}
 use Rattle.shunt_sheet.specs.defs.SheetFormat.{sheet_format}
 use Rattle.shunt_sheet.specs.defs.SheetRows.{rows_of as sheet_rows, ReadsAsSheet}
@@ -27,8 +27,8 @@ use Rattle.shunt_inputs.proofs.Stated.{parted, plan_stated, stated_again}
 use Rattle.shunt_dispatch.specs.defs.Followed.{Followable, following_in, followed_outcome, GoesThrough, IsFollowed, stated_following}
 use Rattle.shunt_dispatch.specs.defs.Ordered.{HasSheet, IsOrdered}
 use Rattle.shunt_judging.specs.defs.Audited.{IsClean}
-use Rattle.shunt.specs.declared.running.Status.{Status}
-use Rattle.shunt.specs.declared.running.Status.TheVariants as status
+use Rattle.shunt.specs.declared.status.Status.{Status}
+use Rattle.shunt.specs.declared.status.Status.TheVariants as status
 use Rattle.shunt.specs.defs.Calls.{Follow, Sheet}
 use Rattle.shunt.specs.defs.Words.{IsUsable}
 use Rattle.shunt.specs.defs.Ends.{Seen, Ends, IsWhole, Yields, the_status}
@@ -37,6 +37,7 @@ use Rattle.shunt.proofs.Either.{Parts}
 use Rattle.shunt.proofs.Exactly.{early, has_reply, its_own, reply_at}
 use Rattle.shunt.proofs.RosterAccepted.{both_here, other_than}
 use Rattle.shunt.proofs.Sound.{sheet_answers, tells, clean_of}
+use Rattle.shunt.proofs.Asked.{followable}
 
 -- ---- that orders go through
 
@@ -71,9 +72,6 @@ plans_station s t p y e =
     let second = parted (stated_plan first.0 p) _ y first.2 in
     let made : (first.0, second.0) ≡ y = cc (second.2) in
     night_station s t first.0 first.1 ∙ ap (λ (z : Night × Plan). Ok z.0.station) made
-
-abbrev followable : Station → List Order → Followable
-followable station orders = record { station = station; orders = orders }
 
 states_following : (s o : List ℕ) (station : Station) (orders : List Order) → stated_station s ≡ Ok station → stated_sheet station o ≡ Ok orders
     → stated_following s o ≡ Ok (followable station orders)

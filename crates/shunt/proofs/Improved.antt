@@ -26,10 +26,10 @@ use Rattle.shunt_inputs.specs.defs.Replies.{Reply, Decided}
 use Rattle.shunt_inputs.proofs.Stated.{parted, pins_stated, stated_value}
 use Rattle.shunt_judging.specs.defs.Audited.{IsClean}
 use Rattle.shunt_planning.specs.defs.Planned.{planned, search_outcome}
-use Rattle.shunt_planning.specs.defs.Improved.{IsFit, IsImproved, IsReady, IsUnfit, in_hand_in}
+use Rattle.shunt_planning.specs.defs.Improved.{IsFit, IsImproved, IsInHand, IsUnfit, in_hand_in}
 use Rattle.shunt_planning.specs.defs.Found.{AreStated}
-use Rattle.shunt.specs.declared.running.Status.{Status}
-use Rattle.shunt.specs.declared.running.Status.TheVariants as status
+use Rattle.shunt.specs.declared.status.Status.{Status}
+use Rattle.shunt.specs.declared.status.Status.TheVariants as status
 use Rattle.shunt.specs.defs.Calls.{Improve}
 use Rattle.shunt.specs.defs.Ends.{Seen, Ends, IsWhole, Yields, the_status}
 use Rattle.shunt.proofs.Audits.{FoundNone}
@@ -78,10 +78,10 @@ module _ (laws : ImproveLaws) (x : Pinned × Plan) (is : IsFormed x) where
   clean : ArePlanFindings x.0.instance x.1 [] → IsClean (x.0.instance, x.1)
   clean told = (laws.none x.0.instance x.1 is.night is.plan.blocks).0 (sym (only_plan x.0.instance x.1 [] is.plan.blocks told.in_order told.exactly))
 
-  ready : AreUsable x.0.instance x.0.pins → IsFit x.0.instance x.0.pins x.1 → IsReady x
+  ready : AreUsable x.0.instance x.0.pins → IsFit x.0.instance x.0.pins x.1 → IsInHand x
   ready usable fit = record { usable = usable; clean = clean fit.none; keeps = fit.keeps }
 
-  unready : (r : Reply) → IsUnfit x.0.instance x.0.pins x.1 r → IsReady x → ⊥
+  unready : (r : Reply) → IsUnfit x.0.instance x.0.pins x.1 r → IsInHand x → ⊥
   unready r (inl f) ok = f.some (only_plan x.0.instance x.1 f.findings is.plan.blocks f.told.in_order f.told.exactly
       ∙ (laws.none x.0.instance x.1 is.night is.plan.blocks).1 ok.clean)
   unready r (inr (none, l)) ok = lost_kept x.1.blocks x.0.pins l.id l.first ok.keeps
@@ -98,7 +98,7 @@ improve_search s t i h m p k = record {
   most = m;
   plan = p;
   certificate = k;
-  ready = IsReady;
+  ready = IsInHand;
 }
 
 module _ (laws : ImproveLaws) (s t i h : List ℕ) (m : ℕ) (p k : List ℕ) where
@@ -121,7 +121,7 @@ module _ (laws : ImproveLaws) (s t i h : List ℕ) (m : ℕ) (p k : List ℕ) wh
   }
 
   -- a matching exists wherever it searches
-  matched : (x : Pinned × Plan) → IsReady x → HasMatching x.0.instance (units_taken x.0.instance x.0.pins) (positions_taken x.0.instance x.0.pins)
+  matched : (x : Pinned × Plan) → IsInHand x → HasMatching x.0.instance (units_taken x.0.instance x.0.pins) (positions_taken x.0.instance x.0.pins)
   matched x ready = laws.matching x.0.instance x.0.pins x.1.blocks ready.clean.0 ready.keeps
 
   pub never_no_matching : (old new : Seen) → Ends (Improve s t i h m p k) old new status.NoMatching → ⊥
@@ -131,7 +131,7 @@ module _ (laws : ImproveLaws) (s t i h : List ℕ) (m : ℕ) (p k : List ℕ) wh
       f.2.3 some.0 some.1
 
   pub improve_done : (old new : Seen) (x : Status) (files : Files) (v : Pinned × Plan) → old.files ≡ Some files → in_hand_in s t i h files ≡ Ok v
-      → IsReady v → partial_plans v.0.instance v.0.pins < m → Ends (Improve s t i h m p k) old new x → (x ≡ status.Done) ⊎ Yields x
+      → IsInHand v → partial_plans v.0.instance v.0.pins < m → Ends (Improve s t i h m p k) old new x → (x ≡ status.Done) ⊎ Yields x
   improve_done old new x files v known ok good fewer e = searched.done_there (Improve s t i h m p k) (improve_search s t i h m p k) improve_answers old new x files v known ok good
       (matched v good) fewer e
 
@@ -152,7 +152,7 @@ module _ (laws : ImproveLaws) (s t i h : List ℕ) (m : ℕ) (p k : List ℕ) wh
     plan : Plan
     certificate : Certificate
     stated : AreStated value.0.instance value.0.pins plan certificate
-    ready : IsReady value
+    ready : IsInHand value
     cheap : total_cost value.0.instance plan.blocks ≤ total_cost value.0.instance value.1.blocks
     whole : IsWhole (planned o p k value.0.instance plan certificate) old new
 
@@ -186,7 +186,7 @@ module _ (laws : ImproveLaws) (s t i h : List ℕ) (m : ℕ) (p k : List ℕ) wh
 
   pub never_worse : (o : Outcome) (old new : Seen) → (o ≡ outcome.Input → ⊥) → (o ≡ outcome.Findings → ⊥) → Ends (Improve s t i h m p k) old new (the_status o)
       → (files : Files) × Agrees old.files files × ((x : Pinned × Plan) × (in_hand_in s t i h files ≡ Ok x)
-      × IsReady x × ((plan : Plan) × (c : Certificate) × AreStated x.0.instance x.0.pins plan c × (total_cost x.0.instance plan.blocks ≤ total_cost x.0.instance x.1.blocks)
+      × IsInHand x × ((plan : Plan) × (c : Certificate) × AreStated x.0.instance x.0.pins plan c × (total_cost x.0.instance plan.blocks ≤ total_cost x.0.instance x.1.blocks)
       × IsWhole (planned o p k x.0.instance plan c) old new))
   never_worse o old new input other e =
       let had = has_reply (Improve s t i h m p k) o old new e in

@@ -1,7 +1,7 @@
 mod Asked
 mod Writes
 mod Commands
-mod Ending
+mod Ends
 mod Exactly
 mod Matched
 pub mod Audits
@@ -14,7 +14,7 @@ mod Shared
 mod Rostered
 mod RosterAccepted
 mod Firsts
-mod Knowing
+mod ToldFiles
 mod Searched
 mod Planned
 mod Improved

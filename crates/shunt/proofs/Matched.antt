@@ -7,8 +7,8 @@ use Rattle.shunt_instance.specs.defs.Instance.{Night}
 use Rattle.shunt_matching.specs.defs.Nights.{Matches}
 use Rattle.shunt_inputs.specs.declared.answers.Outcome.{Outcome}
 use Rattle.shunt_inputs.specs.declared.answers.Outcome.TheVariants as outcome
-use Rattle.shunt.specs.declared.running.Status.{Status}
-use Rattle.shunt.specs.declared.running.Status.TheVariants as status
+use Rattle.shunt.specs.declared.status.Status.{Status}
+use Rattle.shunt.specs.declared.status.Status.TheVariants as status
 use Rattle.shunt.specs.defs.Calls.{Match}
 use Rattle.shunt_inputs.specs.defs.Inputs.{Agrees, stated_night}
 use Rattle.shunt_inputs.specs.defs.Replies.{Reply, Decided}

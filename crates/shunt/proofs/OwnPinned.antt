@@ -18,8 +18,8 @@ use Rattle.shunt_inputs.specs.defs.Names.{AreNames}
 use Rattle.shunt_inputs.specs.defs.Replies.{Reply}
 use Rattle.shunt_judging.specs.defs.Pinned.{IsPinProved, PinChecked, pin_check_in, stated_over_pins, stated_pin_check}
 use Rattle.shunt_planning.specs.defs.Planned.{IsPlanned, certificate_file, plan_file}
-use Rattle.shunt.specs.declared.running.Status.{Status}
-use Rattle.shunt.specs.declared.running.Status.TheVariants as status
+use Rattle.shunt.specs.declared.status.Status.{Status}
+use Rattle.shunt.specs.declared.status.Status.TheVariants as status
 use Rattle.shunt.specs.defs.Calls.{Call, CheckPinned, MakePinned, Improve}
 use Rattle.shunt.specs.defs.Words.{IsUsable}
 use Rattle.shunt.specs.defs.Ends.{Seen, Ends, Yields}

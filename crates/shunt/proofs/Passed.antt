@@ -6,12 +6,12 @@ use Rattle.shunt_store.specs.defs.Files.{Files}
 use Rattle.shunt_store.specs.defs.Causes.{Rose}
 use Rattle.shunt_tracks.specs.declared.run.Event.{Event}
 use Rattle.shunt_zones.specs.declared.records.Meet.{Meet}
-use Rattle.shunt_zones.specs.defs.Meeting.{meets_in}
+use Rattle.shunt_zones.specs.defs.Meetings.{meets_in}
 use Rattle.shunt_zones.proofs.InWords.{all_meets}
 use Rattle.shunt_inputs.specs.declared.answers.Outcome.{Outcome}
 use Rattle.shunt_inputs.specs.declared.answers.Outcome.TheVariants as outcome
-use Rattle.shunt.specs.declared.running.Status.{Status}
-use Rattle.shunt.specs.declared.running.Status.TheVariants as status
+use Rattle.shunt.specs.declared.status.Status.{Status}
+use Rattle.shunt.specs.declared.status.Status.TheVariants as status
 use Rattle.shunt.specs.defs.Calls.{Zones}
 use Rattle.shunt_inputs.specs.defs.Inputs.{Agrees}
 use Rattle.shunt_throat.specs.defs.Passed.{Passable, passing_in, IsPassed, NoneMeet, meets_outcome}
@@ -19,12 +19,9 @@ use Rattle.shunt_inputs.specs.defs.Replies.{Reply, Decided}
 use Rattle.shunt.specs.defs.Ends.{Seen, Ends, Yields, the_status}
 use Rattle.shunt.proofs.Exactly.{decides, has_reply, completes, reply_at, EndsAs}
 use Rattle.shunt.proofs.Audits.{EndsWell}
+use Rattle.shunt_lists.proofs.Members.{no_member}
 
 -- ---- that nothing meets
-
-no_member : {X : Type 0} (xs : List X) → ((x : X) → In x xs → ⊥) → xs ≡ []
-no_member [] none = refl
-no_member (x ∷ xs) none = absurd (none x (inl refl))
 
 never_in : {X : Type 0} (xs : List X) (x : X) → xs ≡ [] → In x xs → ⊥
 never_in xs x e i = subst (In x) e i

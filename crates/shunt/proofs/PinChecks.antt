@@ -27,7 +27,7 @@ use Rattle.shunt_inputs.specs.defs.Replies.{Reply, Decided, says}
 use Rattle.shunt_inputs.proofs.Stated.{parted, pins_stated, stated_value}
 use Rattle.shunt_judging.specs.defs.Checked.{check_outcome}
 use Rattle.shunt_judging.specs.defs.Pinned.{BoundsKept, IsPinChecked, IsPinProved, IsPinVerdict, PinChecked, pin_check_in, stated_pin_check}
-use Rattle.shunt.specs.declared.running.Status.TheVariants as status
+use Rattle.shunt.specs.declared.status.Status.TheVariants as status
 use Rattle.shunt.specs.defs.Calls.{CheckPinned}
 use Rattle.shunt.specs.defs.Ends.{Seen, Ends, IsWhole}
 use Rattle.shunt.proofs.Checked.{Judges, Bounds, bound_told, done_accepts}

@@ -14,8 +14,8 @@ use Rattle.shunt_inputs.specs.defs.Replies.{Reply}
 use Rattle.shunt_inputs.proofs.Stated.{night_stated, pins_stated}
 use Rattle.shunt_planning.specs.defs.Planned.{IsPinned, IsSought}
 use Rattle.shunt_planning.proofs.Sought.{usable_none}
-use Rattle.shunt.specs.declared.running.Status.{Status}
-use Rattle.shunt.specs.declared.running.Status.TheVariants as status
+use Rattle.shunt.specs.declared.status.Status.{Status}
+use Rattle.shunt.specs.declared.status.Status.TheVariants as status
 use Rattle.shunt.specs.defs.Calls.{MakePlan, MakePinned}
 use Rattle.shunt.specs.defs.Ends.{Seen, Ends, Yields}
 use Rattle.shunt.proofs.Exactly.{unusable_outcome}

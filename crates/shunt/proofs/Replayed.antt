@@ -14,8 +14,8 @@ use Rattle.shunt_audit.proofs.Exactly.{only_one}
 use Rattle.shunt_moves.specs.defs.States.{IsState}
 use Rattle.shunt_inputs.specs.declared.answers.Outcome.{Outcome}
 use Rattle.shunt_inputs.specs.declared.answers.Outcome.TheVariants as outcome
-use Rattle.shunt.specs.declared.running.Status.{Status}
-use Rattle.shunt.specs.declared.running.Status.TheVariants as status
+use Rattle.shunt.specs.declared.status.Status.{Status}
+use Rattle.shunt.specs.declared.status.Status.TheVariants as status
 use Rattle.shunt.specs.defs.Calls.{Replay}
 use Rattle.shunt_inputs.specs.defs.Inputs.{Agrees, stated_plans, stated_edits}
 use Rattle.shunt_judging.specs.defs.Replayed.{Replayable, stated_turns, turns_in, last_of, IsReplayed, EndsFeasible}

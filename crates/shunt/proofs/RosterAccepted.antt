@@ -12,8 +12,8 @@ use Rattle.shunt_drivers.specs.defs.RosterFormat.{roster_format, IsRoster}
 use Rattle.shunt_drivers.specs.defs.RosterRows.{rows_of, ReadsAsRoster}
 use Rattle.shunt_report.specs.declared.words.FileWord.TheVariants as word
 use Rattle.shunt_inputs.specs.declared.answers.Outcome.TheVariants as outcome
-use Rattle.shunt.specs.declared.running.Status.{Status}
-use Rattle.shunt.specs.declared.running.Status.TheVariants as status
+use Rattle.shunt.specs.declared.status.Status.{Status}
+use Rattle.shunt.specs.declared.status.Status.TheVariants as status
 use Rattle.shunt.specs.defs.Calls.{Drivers, Roster}
 use Rattle.shunt.specs.defs.Words.{IsUsable}
 use Rattle.shunt_inputs.specs.defs.Names.{AreNames}
@@ -25,17 +25,15 @@ use Rattle.shunt_inputs.specs.defs.Writes.{written}
 use Rattle.shunt.specs.defs.Ends.{Seen, Ends, Yields}
 use Rattle.shunt.proofs.Exactly.{has_reply, reply_at}
 use Rattle.shunt.proofs.Rostered.{DriverLaws, done_there}
-use Rattle.shunt_inputs.proofs.Seeing.{extend}
+use Rattle.shunt_inputs.proofs.SeenFiles.{extend}
 use Rattle.shunt.proofs.Shared.{tells}
 use Rattle.shunt_inputs.proofs.Stated.{stated_again}
+use Rattle.shunt.proofs.Asked.{rosterable}
 
 -- what the laws of drivers say of the texts of rosters
 pub record RosterTexts : Type 0 where
   pub again : (moves : List Event) (duties : List Duty) → IsRoster moves duties → ReadsAsRoster moves duties (text_of_rows (rows_of duties))
   pub short : (moves : List Event) (duties : List Duty) → IsRoster moves duties → length (text_of_rows (rows_of duties)) ≤ 27209
-
-abbrev rosterable : Sharable → List Duty → Rosterable
-rosterable x duties = record { night = x.night; plan = x.plan; crew = x.crew; duties = duties }
 
 then_roster : (s t p c d : List ℕ) (x : Sharable) (duties : List Duty) → stated_sharing s t p c ≡ Ok x → stated_roster x.night x.plan d ≡ Ok duties
     → stated_rostering s t p c d ≡ Ok (rosterable x duties)

@@ -19,8 +19,8 @@ use Rattle.shunt_drivers.specs.defs.RosterFaults.{fault_in, InWords}
 use Rattle.shunt_report.specs.declared.words.FileWord.TheVariants as word
 use Rattle.shunt_inputs.specs.declared.answers.Outcome.{Outcome}
 use Rattle.shunt_inputs.specs.declared.answers.Outcome.TheVariants as outcome
-use Rattle.shunt.specs.declared.running.Status.{Status}
-use Rattle.shunt.specs.declared.running.Status.TheVariants as status
+use Rattle.shunt.specs.declared.status.Status.{Status}
+use Rattle.shunt.specs.declared.status.Status.TheVariants as status
 use Rattle.shunt.specs.defs.Calls.{Roster}
 use Rattle.shunt_inputs.specs.defs.Inputs.{Agrees, stated_plans, stated_crew, stated_roster}
 use Rattle.shunt_throat.specs.defs.Shared.{Sharable, stated_sharing}

@@ -8,8 +8,8 @@ use Rattle.shunt_plan.specs.declared.records.Plan.{Plan}
 use Rattle.shunt_audit.specs.defs.Plans.{ArePlanFindings}
 use Rattle.shunt_inputs.specs.declared.answers.Outcome.{Outcome}
 use Rattle.shunt_inputs.specs.declared.answers.Outcome.TheVariants as outcome
-use Rattle.shunt.specs.declared.running.Status.{Status}
-use Rattle.shunt.specs.declared.running.Status.TheVariants as status
+use Rattle.shunt.specs.declared.status.Status.{Status}
+use Rattle.shunt.specs.declared.status.Status.TheVariants as status
 use Rattle.shunt.specs.defs.Calls.{Call, Delay, Report, Sheet}
 use Rattle.shunt_inputs.specs.defs.Inputs.{Agrees, plans_in}
 use Rattle.shunt_inputs.specs.defs.Replies.{Reply, Decided}

@@ -17,8 +17,8 @@ use Rattle.shunt_planning.specs.defs.Found.{IsBounded}
 use Rattle.shunt_planning.specs.defs.Planned.{planned, search_outcome}
 use Rattle.shunt_planning.proofs.Sought.{usable_none}
 use Rattle.shunt_trial.specs.defs.Tried.{made_night, made_timetable, tried, IsTried}
-use Rattle.shunt.specs.declared.running.Status.{Status}
-use Rattle.shunt.specs.declared.running.Status.TheVariants as status
+use Rattle.shunt.specs.declared.status.Status.{Status}
+use Rattle.shunt.specs.declared.status.Status.TheVariants as status
 use Rattle.shunt.specs.defs.Calls.{Trial}
 use Rattle.shunt.specs.defs.Words.{IsUsable}
 use Rattle.shunt.specs.defs.Ends.{Seen, Ends, IsWhole, Yields, the_status}

@@ -5,15 +5,12 @@ use Rattle.std.proofs.lemmas.List.{map-append, take-append-drop, take-map, get_o
 use Rattle.std.specs.FinMap as map_of
 use Rattle.shunt_lists.specs.defs.Members.{In}
 use Rattle.shunt_store.specs.defs.Files.{Files, BothTold}
-use Rattle.shunt_store.specs.defs.Noting.{Entries}
+use Rattle.shunt_store.specs.defs.Notes.{Entries}
 use Rattle.shunt_store.proofs.Texts.{both_same, both_then}
 use Rattle.shunt_inputs.specs.declared.answers.FileText.{FileText}
 use Rattle.shunt_inputs.specs.defs.Replies.{pair_of}
 use Rattle.shunt_inputs.specs.defs.Writes.{written, known, WritesSome}
-
-pub written-append : (ws vs : List (List ℕ × List ℕ)) (a : Files) → written (ws ++ vs) a ≡ written vs (written ws a)
-written-append [] vs a = refl
-written-append (w ∷ ws) vs a = written-append ws vs (map_of.insert a w.0 w.1)
+use Rattle.shunt_inputs.proofs.FirstFiles.{written-append}
 
 -- the texts up to and with this one
 taken_next : (writes : List FileText) (i : ℕ) (w : FileText) → i < length writes → w ≡ get_or writes i w

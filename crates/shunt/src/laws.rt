@@ -1,15 +1,13 @@
 //! What follows from the contract of `run` on when each status comes and what then stands: of every command, and then of each.
 //! The files of a `Seen` are those that can be known, as the definition `AreKnown` has it: they are told by the store; or before a run they are
 //! any that hold what was read in it, and after it these with what was stored. So each law holds of the real folder too, over what was read.
-ghost use Rattle.std.specs.Prelude.{◌≡◌, ◌⊎◌, List, [], ◌++◌, ◌<◌, ◌≤◌, ℕ, Some, Ok, ◌∷◌, ◌+◌, length};
+ghost use Rattle.std.specs.Prelude.{◌≡◌, ◌⊎◌, List, [], ◌++◌, ℕ, Some, Ok, ◌∷◌, ◌+◌, length};
 ghost use Rattle.std.specs.FinMap as map;
 ghost use Rattle.shunt_lists.specs.defs.Members.{In};
 ghost use Rattle.shunt_store.specs.defs.Files.{Files, BothTold, content};
 ghost use Rattle.shunt_store.specs.defs.Causes.{Rose};
 ghost use Rattle.shunt_instance.specs.defs.Instance.{Night};
-ghost use Rattle.shunt_matching.specs.defs.Nights.{HasMatching, HasNoMatching, Matches};
-ghost use Rattle.shunt_blocks.specs.defs.Lists.{total_cost, units_taken, positions_taken};
-ghost use Rattle.shunt_blocks.specs.defs.Pins.{AreUsable};
+ghost use Rattle.shunt_matching.specs.defs.Nights.{Matches};
 ghost use Rattle.shunt_plan.specs.declared.records.Plan.{Plan};
 ghost use Rattle.shunt_checker.specs.declared.verdict.Verdict.TheVariants as verdict;
 ghost use Rattle.shunt_report.specs.defs.VerdictTexts.{verdict_of};
@@ -18,32 +16,34 @@ ghost use Rattle.shunt_sheet.specs.defs.Orders.{orders_in};
 ghost use Rattle.shunt_sheet.specs.declared.records.Followed.TheVariants as answers;
 ghost use Rattle.shunt_moves.specs.defs.States.{IsState};
 ghost use Rattle.shunt_inputs.specs.declared.answers.Outcome.{Outcome};
-ghost use Rattle.shunt.specs.declared.running.Status.{Status};
-ghost use Rattle.shunt_planning.specs.defs.Planned.{planned};
-ghost use Rattle.shunt_planning.specs.defs.Found.{AreStated, IsBounded, IsCheapest, AreDifferent};
-ghost use Rattle.shunt_planning.specs.defs.Improved.{IsReady, in_hand_in};
-ghost use Rattle.shunt_choices.specs.defs.Choices.{partial_plans};
+ghost use Rattle.shunt.specs.declared.status.Status.{Status};
+ghost use Rattle.shunt_planning.specs.defs.Found.{IsBounded};
 ghost use Rattle.shunt_proof.specs.declared.records.Certificate.{Certificate};
 ghost use Rattle.shunt_exchange.specs.defs.Upgraded.{Upgradable, upgrade_in};
 ghost use Rattle.shunt_trial.specs.defs.Tried.{made_night, tried};
 ghost use Rattle.shunt_dispatch.specs.defs.Compared.{Comparable, comparison_in, AreAlike};
 ghost use Rattle.shunt_dispatch.specs.defs.Followed.{Followable, following_in, GoesThrough};
-ghost use Rattle.shunt.specs.defs.Calls.{Call, Match, Follow, Audit, Delay, Report, Check, Compare, Zones, Sheet, Draw, Page, Upgrade, Trial, Drivers, Roster, CheckPinned, Replay, MakePlan, MakePinned, Improve};
+ghost use Rattle.shunt.specs.defs.Calls.{Call, Match, Follow, Audit, Delay, Report, Check, Compare};
+ghost use Rattle.shunt.specs.defs.Calls.{Zones, Sheet, Draw, Page, Upgrade, Trial, Drivers, Roster};
+ghost use Rattle.shunt.specs.defs.Calls.{CheckPinned, Replay};
 ghost use Rattle.shunt.specs.defs.Words.{IsUsable, outputs_of};
-ghost use Rattle.shunt_inputs.specs.declared.pins.Pinned.{Pinned};
-ghost use Rattle.shunt_inputs.specs.defs.Inputs.{Agrees, stated_night, pinned_in, plans_in};
+ghost use Rattle.shunt_inputs.specs.defs.Inputs.{Agrees, stated_night, plans_in};
 ghost use Rattle.shunt_judging.specs.defs.Checked.{Checkable, check_in, IsProved, BoundsAll};
-ghost use Rattle.shunt_judging.specs.defs.Pinned.{PinChecked, pin_check_in, IsPinProved, BoundsKept};
+ghost use Rattle.shunt_judging.specs.defs.Pinned.{PinChecked, pin_check_in, IsPinProved};
+ghost use Rattle.shunt_judging.specs.defs.Pinned.{BoundsKept};
 ghost use Rattle.shunt_throat.specs.defs.Passed.{Passable, passing_in, NoneMeet};
 ghost use Rattle.shunt_throat.specs.defs.Shared.{Sharable, sharing_in};
 ghost use Rattle.shunt_throat.specs.defs.Rostered.{Rosterable, rostering_in, SharesAll};
 ghost use Rattle.shunt_plan.specs.declared.edits.Turn.{Turn};
-ghost use Rattle.shunt_judging.specs.defs.Replayed.{Replayable, stated_turns, turns_in, last_of, after_turns, bench_of, lines_from, replay_lines, IsTurnLine, EndsFeasible};
+ghost use Rattle.shunt_judging.specs.defs.Replayed.{Replayable, stated_turns, turns_in, last_of};
+ghost use Rattle.shunt_judging.specs.defs.Replayed.{after_turns, bench_of, lines_from};
+ghost use Rattle.shunt_judging.specs.defs.Replayed.{replay_lines, IsTurnLine, EndsFeasible};
 ghost use Rattle.shunt.specs.defs.Replies.{refused, IsReply, IsReplyOver};
 ghost use Rattle.shunt_inputs.specs.defs.Replies.{Reply, refusal, says};
 ghost use Rattle.shunt_judging.specs.defs.Audited.{IsClean};
 ghost use Rattle.shunt_inputs.specs.defs.Writes.{Stays, WritesSome};
-ghost use Rattle.shunt.specs.defs.Ends.{Ends, Seen, known_of, CutInText, IsWhole, Yields, the_status};
+ghost use Rattle.shunt.specs.defs.Ends.{Ends, Seen, known_of, CutInText, IsWhole, Yields};
+ghost use Rattle.shunt.specs.defs.Ends.{the_status};
 
 use shunt_audit::laws;
 use shunt_audit::laws::findings;
@@ -51,36 +51,46 @@ use shunt_checker::laws::reasons;
 use shunt_compare::laws::same_plans;
 use shunt_drivers::laws::{roster_fault_in_words, stated_values_are_formed, texts_of_rosters};
 use shunt_make::laws::made_nights;
-use shunt_plan::laws::texts_of_plans;
-use shunt_proof::laws::{few_nodes, known_by_paths, proved_bounds};
-use shunt_proof::text_laws::texts_of_certificates;
-use shunt_proof::version_laws::trees_by_version;
-use shunt_search::laws::kept_matchings;
+use shunt_proof::laws::proved_bounds;
 use shunt_sheet::laws::{sheets_of_plans, texts_of_sheets};
 
 /// `Store` comes only if the store failed in the call, and `Sink` only if the sink did, so neither over a store or a
 /// sink whose count of faults is 0. `Words` never comes of words that spell a command.
 pub fn failures_have_causes()
-    ensures store { (c : Call) (old new : Seen) → Ends c old new Status.Store → Rose old.store_faults new.store_faults }
-    ensures sink { (c : Call) (old new : Seen) → Ends c old new Status.Sink → Rose old.sink_faults new.sink_faults }
+    ensures store { (c : Call) (old new : Seen) → Ends c old new Status.Store
+        → Rose old.store_faults new.store_faults }
+    ensures sink { (c : Call) (old new : Seen) → Ends c old new Status.Sink
+        → Rose old.sink_faults new.sink_faults }
     ensures words { (c : Call) (old new : Seen) → Ends c old new Status.Words → ⊥ }
-    ensures sure_store { (c : Call) (old new : Seen) → new.store_faults ≡ 0 → Ends c old new Status.Store → ⊥ }
-    ensures sure_sink { (c : Call) (old new : Seen) → new.sink_faults ≡ 0 → Ends c old new Status.Sink → ⊥ }
+    ensures sure_store { (c : Call) (old new : Seen) → new.store_faults ≡ 0
+        → Ends c old new Status.Store → ⊥ }
+    ensures sure_sink { (c : Call) (old new : Seen) → new.sink_faults ≡ 0
+        → Ends c old new Status.Sink → ⊥ }
 {}
 
 /// A command ends with `Input` exactly when an input file isn't accepted, unless the store, memory or the sink came first.
 /// Then no file was written, and the line for the first file that isn't accepted was printed.
 pub fn input_exactly()
-    ensures there { (c : Call) (old new : Seen) (status : Status) (files : Files) (text : List ℕ) → old.files ≡ Some files → refused c files ≡ Some text → Ends c old new status → ((status ≡ Status.Input) × IsWhole (refusal text) old new) ⊎ Yields status }
-    ensures only { (c : Call) (old new : Seen) → Ends c old new Status.Input → (files : Files) × Agrees old.files files × ((text : List ℕ) × (refused c files ≡ Some text) × IsWhole (refusal text) old new) }
+    ensures there { (c : Call) (old new : Seen) (status : Status) (files : Files) (text : List ℕ)
+        → old.files ≡ Some files → refused c files ≡ Some text → Ends c old new status
+        → ((status ≡ Status.Input) × IsWhole (refusal text) old new) ⊎ Yields status }
+    ensures only { (c : Call) (old new : Seen) → Ends c old new Status.Input
+        → (files : Files) × Agrees old.files files
+        × ((text : List ℕ) × (refused c files ≡ Some text) × IsWhole (refusal text) old new) }
 {}
 
 /// A command ends with the status of its defined reply, all of which then was written and printed, unless the store, memory
 /// or the sink came first; where neither the store nor the sink fails, only memory can.
 pub fn statuses_are_of_replies()
-    ensures there { (c : Call) (o : Outcome) (old new : Seen) (status : Status) (files : Files) → old.files ≡ Some files → ((r : Reply) → IsReply c files r → r.outcome ≡ o) → Ends c old new status → (status ≡ the_status o) ⊎ Yields status }
-    ensures only { (c : Call) (o : Outcome) (old new : Seen) → Ends c old new (the_status o) → (r : Reply) × IsReplyOver c old.files r × (r.outcome ≡ o) × IsWhole r old new }
-    ensures completes { (c : Call) (old new : Seen) (status : Status) → (Rose old.store_faults new.store_faults → ⊥) → (Rose old.sink_faults new.sink_faults → ⊥) → Ends c old new status → (status ≡ Status.Memory) ⊎ ((r : Reply) × IsReplyOver c old.files r × (status ≡ the_status r.outcome)) }
+    ensures there { (c : Call) (o : Outcome) (old new : Seen) (status : Status) (files : Files)
+        → old.files ≡ Some files → ((r : Reply) → IsReply c files r → r.outcome ≡ o)
+        → Ends c old new status → (status ≡ the_status o) ⊎ Yields status }
+    ensures only { (c : Call) (o : Outcome) (old new : Seen) → Ends c old new (the_status o)
+        → (r : Reply) × IsReplyOver c old.files r × (r.outcome ≡ o) × IsWhole r old new }
+    ensures completes { (c : Call) (old new : Seen) (status : Status)
+        → (Rose old.store_faults new.store_faults → ⊥) → (Rose old.sink_faults new.sink_faults → ⊥)
+        → Ends c old new status → (status ≡ Status.Memory)
+        ⊎ ((r : Reply) × IsReplyOver c old.files r × (status ≡ the_status r.outcome)) }
 {}
 
 /// No file but those that the command writes is changed, whatever the status. After `Store` nothing was printed. After
@@ -89,127 +99,217 @@ pub fn statuses_are_of_replies()
 /// texts and all others what they held: so it is of the certificate of `plan`, `pinned` and `improve` too, and then of their plan. A store that
 /// doesn't tell its files tells that exactly these were stored.
 pub fn what_stands_after()
-    ensures others { (c : Call) (old new : Seen) (status : Status) (name : List ℕ) → (In name (outputs_of c) → ⊥) → Ends c old new status → BothTold old.files new.files (λ a b. map.get b name ≡ map.get a name) }
-    ensures store { (c : Call) (old new : Seen) → Ends c old new Status.Store → new.output ≡ old.output }
-    ensures some { (c : Call) (old new : Seen) (status : Status) → (status ≡ Status.Store) ⊎ (status ≡ Status.Memory) → Ends c old new status → Stays (known_of old) (known_of new) ⊎ ((r : Reply) × IsReplyOver c old.files r × WritesSome r.writes (known_of old) (known_of new)) }
-    ensures memory { (c : Call) (old new : Seen) → Ends c old new Status.Memory → (new.output ≡ old.output) ⊎ ((r : Reply) × IsReplyOver c old.files r × CutInText r old new) }
-    ensures sink { (c : Call) (old new : Seen) → Ends c old new Status.Sink → (r : Reply) × IsReplyOver c old.files r × CutInText r old new }
+    ensures others { (c : Call) (old new : Seen) (status : Status) (name : List ℕ)
+        → (In name (outputs_of c) → ⊥) → Ends c old new status
+        → BothTold old.files new.files (λ a b. map.get b name ≡ map.get a name) }
+    ensures store { (c : Call) (old new : Seen) → Ends c old new Status.Store
+        → new.output ≡ old.output }
+    ensures some { (c : Call) (old new : Seen) (status : Status)
+        → (status ≡ Status.Store) ⊎ (status ≡ Status.Memory) → Ends c old new status
+        → Stays (known_of old) (known_of new) ⊎ ((r : Reply) × IsReplyOver c old.files r
+        × WritesSome r.writes (known_of old) (known_of new)) }
+    ensures memory { (c : Call) (old new : Seen) → Ends c old new Status.Memory
+        → (new.output ≡ old.output)
+        ⊎ ((r : Reply) × IsReplyOver c old.files r × CutInText r old new) }
+    ensures sink { (c : Call) (old new : Seen) → Ends c old new Status.Sink
+        → (r : Reply) × IsReplyOver c old.files r × CutInText r old new }
 {}
 
 /// `match` ends with `NoMatching` exactly when both files are accepted and no list is a matching, unless the store,
 /// memory or the sink came first.
 pub fn match_no_matching_exactly()
-    ensures there { (s t : List ℕ) (old new : Seen) (status : Status) (files : Files) (night : Night) → old.files ≡ Some files → stated_night (content files s) (content files t) ≡ Ok night → ((place : List ℕ) → Matches night place → ⊥) → Ends (Match s t) old new status → (status ≡ Status.NoMatching) ⊎ Yields status }
-    ensures only { (s t : List ℕ) (old new : Seen) → Ends (Match s t) old new Status.NoMatching → (files : Files) × Agrees old.files files × ((night : Night) × (stated_night (content files s) (content files t) ≡ Ok night) × ((place : List ℕ) → Matches night place → ⊥)) }
+    ensures there { (s t : List ℕ) (old new : Seen) (status : Status) (files : Files)
+        (night : Night) → old.files ≡ Some files → stated_night (content files s) (content files t)
+        ≡ Ok night → ((place : List ℕ) → Matches night place → ⊥) → Ends (Match s t) old new status
+        → (status ≡ Status.NoMatching) ⊎ Yields status }
+    ensures only { (s t : List ℕ) (old new : Seen) → Ends (Match s t) old new Status.NoMatching
+        → (files : Files) × Agrees old.files files
+        × ((night : Night) × (stated_night (content files s) (content files t) ≡ Ok night)
+        × ((place : List ℕ) → Matches night place → ⊥)) }
 {}
 
 /// `match` ends with `Done` exactly when both files are accepted and a matching exists, unless the store, memory or the
 /// sink came first; it never ends with `Findings` or `Unfinished`.
 pub fn match_done_exactly()
-    ensures there { (s t : List ℕ) (old new : Seen) (status : Status) (files : Files) (night : Night) → old.files ≡ Some files → stated_night (content files s) (content files t) ≡ Ok night → ((place : List ℕ) × Matches night place) → Ends (Match s t) old new status → (status ≡ Status.Done) ⊎ Yields status }
-    ensures only { (s t : List ℕ) (old new : Seen) → Ends (Match s t) old new Status.Done → (files : Files) × Agrees old.files files × ((night : Night) × (stated_night (content files s) (content files t) ≡ Ok night) × ((place : List ℕ) × Matches night place)) }
-    ensures no_findings { (s t : List ℕ) (old new : Seen) → Ends (Match s t) old new Status.Findings → ⊥ }
-    ensures no_unfinished { (s t : List ℕ) (old new : Seen) → Ends (Match s t) old new Status.Unfinished → ⊥ }
+    ensures there { (s t : List ℕ) (old new : Seen) (status : Status) (files : Files)
+        (night : Night) → old.files ≡ Some files → stated_night (content files s) (content files t)
+        ≡ Ok night → ((place : List ℕ) × Matches night place) → Ends (Match s t) old new status
+        → (status ≡ Status.Done) ⊎ Yields status }
+    ensures only { (s t : List ℕ) (old new : Seen) → Ends (Match s t) old new Status.Done
+        → (files : Files) × Agrees old.files files
+        × ((night : Night) × (stated_night (content files s) (content files t) ≡ Ok night)
+        × ((place : List ℕ) × Matches night place)) }
+    ensures no_findings { (s t : List ℕ) (old new : Seen) → Ends (Match s t) old new Status.Findings
+        → ⊥ }
+    ensures no_unfinished { (s t : List ℕ) (old new : Seen)
+        → Ends (Match s t) old new Status.Unfinished → ⊥ }
 {}
 
 /// If both files are accepted and neither the store nor the sink fails, `match` ends with `Done`, `NoMatching` or
 /// `Memory`.
 pub fn match_completes()
-    ensures { (s t : List ℕ) (old new : Seen) (status : Status) (files : Files) (night : Night) → old.files ≡ Some files → stated_night (content files s) (content files t) ≡ Ok night → (Rose old.store_faults new.store_faults → ⊥) → (Rose old.sink_faults new.sink_faults → ⊥) → Ends (Match s t) old new status → (status ≡ Status.Done) ⊎ ((status ≡ Status.NoMatching) ⊎ (status ≡ Status.Memory)) }
+    ensures { (s t : List ℕ) (old new : Seen) (status : Status) (files : Files) (night : Night)
+        → old.files ≡ Some files → stated_night (content files s) (content files t) ≡ Ok night
+        → (Rose old.store_faults new.store_faults → ⊥) → (Rose old.sink_faults new.sink_faults → ⊥)
+        → Ends (Match s t) old new status
+        → (status ≡ Status.Done) ⊎ ((status ≡ Status.NoMatching) ⊎ (status ≡ Status.Memory)) }
 {}
 
 /// `audit` ends with `Done` exactly when the files are accepted and the plan is feasible and states its cost, and with
 /// `Findings` exactly when they are accepted and it isn't so, unless the store, memory or the sink came first. It never ends
 /// with `NoMatching` or `Unfinished`.
 pub fn audit_done_exactly()
-    ensures done { (s t p : List ℕ) (old new : Seen) (status : Status) (files : Files) (x : Night × Plan) → old.files ≡ Some files → plans_in s t p files ≡ Ok x → IsClean x → Ends (Audit s t p) old new status → (status ≡ Status.Done) ⊎ Yields status }
-    ensures done_only { (s t p : List ℕ) (old new : Seen) → Ends (Audit s t p) old new Status.Done → (files : Files) × Agrees old.files files × ((x : Night × Plan) × (plans_in s t p files ≡ Ok x) × IsClean x) }
-    ensures findings { (s t p : List ℕ) (old new : Seen) (status : Status) (files : Files) (x : Night × Plan) → old.files ≡ Some files → plans_in s t p files ≡ Ok x → (IsClean x → ⊥) → Ends (Audit s t p) old new status → (status ≡ Status.Findings) ⊎ Yields status }
-    ensures findings_only { (s t p : List ℕ) (old new : Seen) → Ends (Audit s t p) old new Status.Findings → (files : Files) × Agrees old.files files × ((x : Night × Plan) × (plans_in s t p files ≡ Ok x) × (IsClean x → ⊥)) }
-    ensures no_matching { (s t p : List ℕ) (old new : Seen) → Ends (Audit s t p) old new Status.NoMatching → ⊥ }
-    ensures no_unfinished { (s t p : List ℕ) (old new : Seen) → Ends (Audit s t p) old new Status.Unfinished → ⊥ }
+    ensures done { (s t p : List ℕ) (old new : Seen) (status : Status) (files : Files)
+        (x : Night × Plan) → old.files ≡ Some files → plans_in s t p files ≡ Ok x → IsClean x
+        → Ends (Audit s t p) old new status → (status ≡ Status.Done) ⊎ Yields status }
+    ensures done_only { (s t p : List ℕ) (old new : Seen) → Ends (Audit s t p) old new Status.Done
+        → (files : Files) × Agrees old.files files
+        × ((x : Night × Plan) × (plans_in s t p files ≡ Ok x) × IsClean x) }
+    ensures findings { (s t p : List ℕ) (old new : Seen) (status : Status) (files : Files)
+        (x : Night × Plan) → old.files ≡ Some files → plans_in s t p files ≡ Ok x → (IsClean x → ⊥)
+        → Ends (Audit s t p) old new status → (status ≡ Status.Findings) ⊎ Yields status }
+    ensures findings_only { (s t p : List ℕ) (old new : Seen)
+        → Ends (Audit s t p) old new Status.Findings → (files : Files) × Agrees old.files files
+        × ((x : Night × Plan) × (plans_in s t p files ≡ Ok x) × (IsClean x → ⊥)) }
+    ensures no_matching { (s t p : List ℕ) (old new : Seen)
+        → Ends (Audit s t p) old new Status.NoMatching → ⊥ }
+    ensures no_unfinished { (s t p : List ℕ) (old new : Seen)
+        → Ends (Audit s t p) old new Status.Unfinished → ⊥ }
 {
     laws::plan_findings();
 }
 
 /// If the files are accepted and neither the store nor the sink fails, `audit` ends with `Done`, `Findings` or `Memory`.
 pub fn audit_completes()
-    ensures { (s t p : List ℕ) (old new : Seen) (status : Status) (files : Files) (x : Night × Plan) → old.files ≡ Some files → plans_in s t p files ≡ Ok x → (Rose old.store_faults new.store_faults → ⊥) → (Rose old.sink_faults new.sink_faults → ⊥) → Ends (Audit s t p) old new status → (status ≡ Status.Done) ⊎ ((status ≡ Status.Findings) ⊎ (status ≡ Status.Memory)) }
+    ensures { (s t p : List ℕ) (old new : Seen) (status : Status) (files : Files) (x : Night × Plan)
+        → old.files ≡ Some files → plans_in s t p files ≡ Ok x
+        → (Rose old.store_faults new.store_faults → ⊥) → (Rose old.sink_faults new.sink_faults → ⊥)
+        → Ends (Audit s t p) old new status
+        → (status ≡ Status.Done) ⊎ ((status ≡ Status.Findings) ⊎ (status ≡ Status.Memory)) }
 {}
 
 /// `delay` ends with `Done` exactly when the files are accepted and the plan is feasible and states its cost, and with
 /// `Findings` exactly when they are accepted and it isn't so, unless the store, memory or the sink came first. It never ends
 /// with `NoMatching` or `Unfinished`.
 pub fn delay_done_exactly()
-    ensures done { (s t p : List ℕ) (old new : Seen) (status : Status) (files : Files) (x : Night × Plan) → old.files ≡ Some files → plans_in s t p files ≡ Ok x → IsClean x → Ends (Delay s t p) old new status → (status ≡ Status.Done) ⊎ Yields status }
-    ensures done_only { (s t p : List ℕ) (old new : Seen) → Ends (Delay s t p) old new Status.Done → (files : Files) × Agrees old.files files × ((x : Night × Plan) × (plans_in s t p files ≡ Ok x) × IsClean x) }
-    ensures findings { (s t p : List ℕ) (old new : Seen) (status : Status) (files : Files) (x : Night × Plan) → old.files ≡ Some files → plans_in s t p files ≡ Ok x → (IsClean x → ⊥) → Ends (Delay s t p) old new status → (status ≡ Status.Findings) ⊎ Yields status }
-    ensures findings_only { (s t p : List ℕ) (old new : Seen) → Ends (Delay s t p) old new Status.Findings → (files : Files) × Agrees old.files files × ((x : Night × Plan) × (plans_in s t p files ≡ Ok x) × (IsClean x → ⊥)) }
-    ensures no_matching { (s t p : List ℕ) (old new : Seen) → Ends (Delay s t p) old new Status.NoMatching → ⊥ }
-    ensures no_unfinished { (s t p : List ℕ) (old new : Seen) → Ends (Delay s t p) old new Status.Unfinished → ⊥ }
+    ensures done { (s t p : List ℕ) (old new : Seen) (status : Status) (files : Files)
+        (x : Night × Plan) → old.files ≡ Some files → plans_in s t p files ≡ Ok x → IsClean x
+        → Ends (Delay s t p) old new status → (status ≡ Status.Done) ⊎ Yields status }
+    ensures done_only { (s t p : List ℕ) (old new : Seen) → Ends (Delay s t p) old new Status.Done
+        → (files : Files) × Agrees old.files files
+        × ((x : Night × Plan) × (plans_in s t p files ≡ Ok x) × IsClean x) }
+    ensures findings { (s t p : List ℕ) (old new : Seen) (status : Status) (files : Files)
+        (x : Night × Plan) → old.files ≡ Some files → plans_in s t p files ≡ Ok x → (IsClean x → ⊥)
+        → Ends (Delay s t p) old new status → (status ≡ Status.Findings) ⊎ Yields status }
+    ensures findings_only { (s t p : List ℕ) (old new : Seen)
+        → Ends (Delay s t p) old new Status.Findings → (files : Files) × Agrees old.files files
+        × ((x : Night × Plan) × (plans_in s t p files ≡ Ok x) × (IsClean x → ⊥)) }
+    ensures no_matching { (s t p : List ℕ) (old new : Seen)
+        → Ends (Delay s t p) old new Status.NoMatching → ⊥ }
+    ensures no_unfinished { (s t p : List ℕ) (old new : Seen)
+        → Ends (Delay s t p) old new Status.Unfinished → ⊥ }
 {
     laws::plan_findings();
 }
 
 /// If the files are accepted and neither the store nor the sink fails, `delay` ends with `Done`, `Findings` or `Memory`.
 pub fn delay_completes()
-    ensures { (s t p : List ℕ) (old new : Seen) (status : Status) (files : Files) (x : Night × Plan) → old.files ≡ Some files → plans_in s t p files ≡ Ok x → (Rose old.store_faults new.store_faults → ⊥) → (Rose old.sink_faults new.sink_faults → ⊥) → Ends (Delay s t p) old new status → (status ≡ Status.Done) ⊎ ((status ≡ Status.Findings) ⊎ (status ≡ Status.Memory)) }
+    ensures { (s t p : List ℕ) (old new : Seen) (status : Status) (files : Files) (x : Night × Plan)
+        → old.files ≡ Some files → plans_in s t p files ≡ Ok x
+        → (Rose old.store_faults new.store_faults → ⊥) → (Rose old.sink_faults new.sink_faults → ⊥)
+        → Ends (Delay s t p) old new status
+        → (status ≡ Status.Done) ⊎ ((status ≡ Status.Findings) ⊎ (status ≡ Status.Memory)) }
 {}
 
 /// `report` ends with `Done` exactly when the files are accepted and the plan is feasible and states its cost, and with
 /// `Findings` exactly when they are accepted and it isn't so, unless the store, memory or the sink came first. It never ends
 /// with `NoMatching` or `Unfinished`.
 pub fn report_done_exactly()
-    ensures done { (s t p : List ℕ) (old new : Seen) (status : Status) (files : Files) (x : Night × Plan) → old.files ≡ Some files → plans_in s t p files ≡ Ok x → IsClean x → Ends (Report s t p) old new status → (status ≡ Status.Done) ⊎ Yields status }
-    ensures done_only { (s t p : List ℕ) (old new : Seen) → Ends (Report s t p) old new Status.Done → (files : Files) × Agrees old.files files × ((x : Night × Plan) × (plans_in s t p files ≡ Ok x) × IsClean x) }
-    ensures findings { (s t p : List ℕ) (old new : Seen) (status : Status) (files : Files) (x : Night × Plan) → old.files ≡ Some files → plans_in s t p files ≡ Ok x → (IsClean x → ⊥) → Ends (Report s t p) old new status → (status ≡ Status.Findings) ⊎ Yields status }
-    ensures findings_only { (s t p : List ℕ) (old new : Seen) → Ends (Report s t p) old new Status.Findings → (files : Files) × Agrees old.files files × ((x : Night × Plan) × (plans_in s t p files ≡ Ok x) × (IsClean x → ⊥)) }
-    ensures no_matching { (s t p : List ℕ) (old new : Seen) → Ends (Report s t p) old new Status.NoMatching → ⊥ }
-    ensures no_unfinished { (s t p : List ℕ) (old new : Seen) → Ends (Report s t p) old new Status.Unfinished → ⊥ }
+    ensures done { (s t p : List ℕ) (old new : Seen) (status : Status) (files : Files)
+        (x : Night × Plan) → old.files ≡ Some files → plans_in s t p files ≡ Ok x → IsClean x
+        → Ends (Report s t p) old new status → (status ≡ Status.Done) ⊎ Yields status }
+    ensures done_only { (s t p : List ℕ) (old new : Seen) → Ends (Report s t p) old new Status.Done
+        → (files : Files) × Agrees old.files files
+        × ((x : Night × Plan) × (plans_in s t p files ≡ Ok x) × IsClean x) }
+    ensures findings { (s t p : List ℕ) (old new : Seen) (status : Status) (files : Files)
+        (x : Night × Plan) → old.files ≡ Some files → plans_in s t p files ≡ Ok x → (IsClean x → ⊥)
+        → Ends (Report s t p) old new status → (status ≡ Status.Findings) ⊎ Yields status }
+    ensures findings_only { (s t p : List ℕ) (old new : Seen)
+        → Ends (Report s t p) old new Status.Findings → (files : Files) × Agrees old.files files
+        × ((x : Night × Plan) × (plans_in s t p files ≡ Ok x) × (IsClean x → ⊥)) }
+    ensures no_matching { (s t p : List ℕ) (old new : Seen)
+        → Ends (Report s t p) old new Status.NoMatching → ⊥ }
+    ensures no_unfinished { (s t p : List ℕ) (old new : Seen)
+        → Ends (Report s t p) old new Status.Unfinished → ⊥ }
 {
     laws::plan_findings();
 }
 
 /// If the files are accepted and neither the store nor the sink fails, `report` ends with `Done`, `Findings` or `Memory`.
 pub fn report_completes()
-    ensures { (s t p : List ℕ) (old new : Seen) (status : Status) (files : Files) (x : Night × Plan) → old.files ≡ Some files → plans_in s t p files ≡ Ok x → (Rose old.store_faults new.store_faults → ⊥) → (Rose old.sink_faults new.sink_faults → ⊥) → Ends (Report s t p) old new status → (status ≡ Status.Done) ⊎ ((status ≡ Status.Findings) ⊎ (status ≡ Status.Memory)) }
+    ensures { (s t p : List ℕ) (old new : Seen) (status : Status) (files : Files) (x : Night × Plan)
+        → old.files ≡ Some files → plans_in s t p files ≡ Ok x
+        → (Rose old.store_faults new.store_faults → ⊥) → (Rose old.sink_faults new.sink_faults → ⊥)
+        → Ends (Report s t p) old new status
+        → (status ≡ Status.Done) ⊎ ((status ≡ Status.Findings) ⊎ (status ≡ Status.Memory)) }
 {}
 
 /// `upgrade` ends with `Done` exactly when the files are accepted, unless the store, memory or the sink came first. It never ends
 /// with `Findings`, `NoMatching` or `Unfinished`.
 pub fn upgrade_done_exactly()
-    ensures done { (s t n m : List ℕ) (old new : Seen) (status : Status) (files : Files) (x : Upgradable) → old.files ≡ Some files → upgrade_in s t files ≡ Ok x → Ends (Upgrade s t n m) old new status → (status ≡ Status.Done) ⊎ Yields status }
-    ensures done_only { (s t n m : List ℕ) (old new : Seen) → Ends (Upgrade s t n m) old new Status.Done → (files : Files) × Agrees old.files files × ((x : Upgradable) × (upgrade_in s t files ≡ Ok x)) }
-    ensures no_findings { (s t n m : List ℕ) (old new : Seen) → Ends (Upgrade s t n m) old new Status.Findings → ⊥ }
-    ensures no_matching { (s t n m : List ℕ) (old new : Seen) → Ends (Upgrade s t n m) old new Status.NoMatching → ⊥ }
-    ensures no_unfinished { (s t n m : List ℕ) (old new : Seen) → Ends (Upgrade s t n m) old new Status.Unfinished → ⊥ }
+    ensures done { (s t n m : List ℕ) (old new : Seen) (status : Status) (files : Files)
+        (x : Upgradable) → old.files ≡ Some files → upgrade_in s t files ≡ Ok x
+        → Ends (Upgrade s t n m) old new status → (status ≡ Status.Done) ⊎ Yields status }
+    ensures done_only { (s t n m : List ℕ) (old new : Seen)
+        → Ends (Upgrade s t n m) old new Status.Done → (files : Files) × Agrees old.files files
+        × ((x : Upgradable) × (upgrade_in s t files ≡ Ok x)) }
+    ensures no_findings { (s t n m : List ℕ) (old new : Seen)
+        → Ends (Upgrade s t n m) old new Status.Findings → ⊥ }
+    ensures no_matching { (s t n m : List ℕ) (old new : Seen)
+        → Ends (Upgrade s t n m) old new Status.NoMatching → ⊥ }
+    ensures no_unfinished { (s t n m : List ℕ) (old new : Seen)
+        → Ends (Upgrade s t n m) old new Status.Unfinished → ⊥ }
 {}
 
 /// If the files are accepted and neither the store nor the sink fails, `upgrade` ends with `Done` or `Memory`.
 pub fn upgrade_completes()
-    ensures { (s t n m : List ℕ) (old new : Seen) (status : Status) (files : Files) (x : Upgradable) → old.files ≡ Some files → upgrade_in s t files ≡ Ok x → (Rose old.store_faults new.store_faults → ⊥) → (Rose old.sink_faults new.sink_faults → ⊥) → Ends (Upgrade s t n m) old new status → (status ≡ Status.Done) ⊎ (status ≡ Status.Memory) }
+    ensures { (s t n m : List ℕ) (old new : Seen) (status : Status) (files : Files) (x : Upgradable)
+        → old.files ≡ Some files → upgrade_in s t files ≡ Ok x
+        → (Rose old.store_faults new.store_faults → ⊥) → (Rose old.sink_faults new.sink_faults → ⊥)
+        → Ends (Upgrade s t n m) old new status
+        → (status ≡ Status.Done) ⊎ (status ≡ Status.Memory) }
 {}
 
 /// `trial` ends with `Done`, unless the store, memory or the sink came first, also where its plan isn't optimal. It never ends with
 /// `Findings`, `Input`, `NoMatching` or `Unfinished`.
 pub fn trial_done_exactly()
-    ensures done { (n u m : ℕ) (s t p k : List ℕ) (old new : Seen) (status : Status) → Ends (Trial n u m s t p k) old new status → (status ≡ Status.Done) ⊎ Yields status }
-    ensures no_findings { (n u m : ℕ) (s t p k : List ℕ) (old new : Seen) → Ends (Trial n u m s t p k) old new Status.Findings → ⊥ }
-    ensures no_input { (n u m : ℕ) (s t p k : List ℕ) (old new : Seen) → Ends (Trial n u m s t p k) old new Status.Input → ⊥ }
-    ensures no_matching { (n u m : ℕ) (s t p k : List ℕ) (old new : Seen) → Ends (Trial n u m s t p k) old new Status.NoMatching → ⊥ }
-    ensures no_unfinished { (n u m : ℕ) (s t p k : List ℕ) (old new : Seen) → Ends (Trial n u m s t p k) old new Status.Unfinished → ⊥ }
+    ensures done { (n u m : ℕ) (s t p k : List ℕ) (old new : Seen) (status : Status)
+        → Ends (Trial n u m s t p k) old new status → (status ≡ Status.Done) ⊎ Yields status }
+    ensures no_findings { (n u m : ℕ) (s t p k : List ℕ) (old new : Seen)
+        → Ends (Trial n u m s t p k) old new Status.Findings → ⊥ }
+    ensures no_input { (n u m : ℕ) (s t p k : List ℕ) (old new : Seen)
+        → Ends (Trial n u m s t p k) old new Status.Input → ⊥ }
+    ensures no_matching { (n u m : ℕ) (s t p k : List ℕ) (old new : Seen)
+        → Ends (Trial n u m s t p k) old new Status.NoMatching → ⊥ }
+    ensures no_unfinished { (n u m : ℕ) (s t p k : List ℕ) (old new : Seen)
+        → Ends (Trial n u m s t p k) old new Status.Unfinished → ⊥ }
 {}
 
 /// If neither the store nor the sink fails, `trial` ends with `Done` or `Memory`.
 pub fn trial_completes()
-    ensures { (n u m : ℕ) (s t p k : List ℕ) (old new : Seen) (status : Status) → (Rose old.store_faults new.store_faults → ⊥) → (Rose old.sink_faults new.sink_faults → ⊥) → Ends (Trial n u m s t p k) old new status → (status ≡ Status.Done) ⊎ (status ≡ Status.Memory) }
+    ensures { (n u m : ℕ) (s t p k : List ℕ) (old new : Seen) (status : Status)
+        → (Rose old.store_faults new.store_faults → ⊥) → (Rose old.sink_faults new.sink_faults → ⊥)
+        → Ends (Trial n u m s t p k) old new status
+        → (status ≡ Status.Done) ⊎ (status ≡ Status.Memory) }
 {}
 
 /// Where `trial` ends with `Done`, its files hold the texts of the night that is made of the number, of a feasible plan of it that states
 /// its cost, and of a certificate; every feasible plan of that night costs at least the certificate's bound; and both were printed. So
 /// where the bound is the cost, no feasible plan is cheaper.
 pub fn trial_bounds_every_plan()
-    ensures { (n u m : ℕ) (s t p k : List ℕ) (old new : Seen) → IsUsable (Trial n u m s t p k) → Ends (Trial n u m s t p k) old new Status.Done → (plan : Plan) × (c : Certificate) × IsBounded (made_night n u) [] plan c.bound × IsWhole (tried n u s t p k plan c) old new }
+    ensures { (n u m : ℕ) (s t p k : List ℕ) (old new : Seen) → IsUsable (Trial n u m s t p k)
+        → Ends (Trial n u m s t p k) old new Status.Done → (plan : Plan) × (c : Certificate)
+        × IsBounded (made_night n u) [] plan c.bound × IsWhole (tried n u s t p k plan c) old new }
 {
     made_nights();
     proved_bounds();
@@ -219,12 +319,22 @@ pub fn trial_bounds_every_plan()
 /// exactly when they are accepted and it isn't so, unless the store, memory or the sink came first. It never ends with `NoMatching`
 /// or `Unfinished`.
 pub fn check_done_exactly()
-    ensures done { (s t p k : List ℕ) (old new : Seen) (status : Status) (files : Files) (x : Checkable) → old.files ≡ Some files → check_in s t p k files ≡ Ok x → IsProved x → Ends (Check s t p k) old new status → (status ≡ Status.Done) ⊎ Yields status }
-    ensures done_only { (s t p k : List ℕ) (old new : Seen) → Ends (Check s t p k) old new Status.Done → (files : Files) × Agrees old.files files × ((x : Checkable) × (check_in s t p k files ≡ Ok x) × IsProved x) }
-    ensures findings { (s t p k : List ℕ) (old new : Seen) (status : Status) (files : Files) (x : Checkable) → old.files ≡ Some files → check_in s t p k files ≡ Ok x → (IsProved x → ⊥) → Ends (Check s t p k) old new status → (status ≡ Status.Findings) ⊎ Yields status }
-    ensures findings_only { (s t p k : List ℕ) (old new : Seen) → Ends (Check s t p k) old new Status.Findings → (files : Files) × Agrees old.files files × ((x : Checkable) × (check_in s t p k files ≡ Ok x) × (IsProved x → ⊥)) }
-    ensures no_matching { (s t p k : List ℕ) (old new : Seen) → Ends (Check s t p k) old new Status.NoMatching → ⊥ }
-    ensures no_unfinished { (s t p k : List ℕ) (old new : Seen) → Ends (Check s t p k) old new Status.Unfinished → ⊥ }
+    ensures done { (s t p k : List ℕ) (old new : Seen) (status : Status) (files : Files)
+        (x : Checkable) → old.files ≡ Some files → check_in s t p k files ≡ Ok x → IsProved x
+        → Ends (Check s t p k) old new status → (status ≡ Status.Done) ⊎ Yields status }
+    ensures done_only { (s t p k : List ℕ) (old new : Seen)
+        → Ends (Check s t p k) old new Status.Done → (files : Files) × Agrees old.files files
+        × ((x : Checkable) × (check_in s t p k files ≡ Ok x) × IsProved x) }
+    ensures findings { (s t p k : List ℕ) (old new : Seen) (status : Status) (files : Files)
+        (x : Checkable) → old.files ≡ Some files → check_in s t p k files ≡ Ok x → (IsProved x → ⊥)
+        → Ends (Check s t p k) old new status → (status ≡ Status.Findings) ⊎ Yields status }
+    ensures findings_only { (s t p k : List ℕ) (old new : Seen)
+        → Ends (Check s t p k) old new Status.Findings → (files : Files) × Agrees old.files files
+        × ((x : Checkable) × (check_in s t p k files ≡ Ok x) × (IsProved x → ⊥)) }
+    ensures no_matching { (s t p k : List ℕ) (old new : Seen)
+        → Ends (Check s t p k) old new Status.NoMatching → ⊥ }
+    ensures no_unfinished { (s t p k : List ℕ) (old new : Seen)
+        → Ends (Check s t p k) old new Status.Unfinished → ⊥ }
 {
     reasons();
 }
@@ -233,26 +343,45 @@ pub fn check_done_exactly()
 /// that the certificate states, and the line that was printed tells that bound. So where the bound is the cost, no feasible plan is
 /// cheaper.
 pub fn check_bounds_every_plan()
-    ensures { (s t p k : List ℕ) (old new : Seen) → Ends (Check s t p k) old new Status.Done → (files : Files) × Agrees old.files files × ((x : Checkable) × (check_in s t p k files ≡ Ok x) × BoundsAll x × IsWhole (says Outcome.Done (verdict_of x.night x.certificate (verdict.Accepted x.certificate.bound))) old new) }
+    ensures { (s t p k : List ℕ) (old new : Seen) → Ends (Check s t p k) old new Status.Done
+        → (files : Files) × Agrees old.files files × ((x : Checkable)
+        × (check_in s t p k files ≡ Ok x) × BoundsAll x × IsWhole (says Outcome.Done
+        (verdict_of x.night x.certificate (verdict.Accepted x.certificate.bound))) old new) }
 {
     reasons();
 }
 
 /// If the files are accepted and neither the store nor the sink fails, `check` ends with `Done`, `Findings` or `Memory`.
 pub fn check_completes()
-    ensures { (s t p k : List ℕ) (old new : Seen) (status : Status) (files : Files) (x : Checkable) → old.files ≡ Some files → check_in s t p k files ≡ Ok x → (Rose old.store_faults new.store_faults → ⊥) → (Rose old.sink_faults new.sink_faults → ⊥) → Ends (Check s t p k) old new status → (status ≡ Status.Done) ⊎ ((status ≡ Status.Findings) ⊎ (status ≡ Status.Memory)) }
+    ensures { (s t p k : List ℕ) (old new : Seen) (status : Status) (files : Files) (x : Checkable)
+        → old.files ≡ Some files → check_in s t p k files ≡ Ok x
+        → (Rose old.store_faults new.store_faults → ⊥) → (Rose old.sink_faults new.sink_faults → ⊥)
+        → Ends (Check s t p k) old new status
+        → (status ≡ Status.Done) ⊎ ((status ≡ Status.Findings) ⊎ (status ≡ Status.Memory)) }
 {}
 
 /// `check-pinned` ends with `Done` exactly when the files are accepted, the pins are usable and the certificate is accepted with the plan,
 /// which keeps them, and with `Findings` exactly when the files are accepted and it isn't so, unless the store, memory or the sink came
 /// first. It never ends with `NoMatching` or `Unfinished`.
 pub fn check_pinned_done_exactly()
-    ensures done { (s t i p k : List ℕ) (old new : Seen) (status : Status) (files : Files) (x : PinChecked) → old.files ≡ Some files → pin_check_in s t i p k files ≡ Ok x → IsPinProved x → Ends (CheckPinned s t i p k) old new status → (status ≡ Status.Done) ⊎ Yields status }
-    ensures done_only { (s t i p k : List ℕ) (old new : Seen) → Ends (CheckPinned s t i p k) old new Status.Done → (files : Files) × Agrees old.files files × ((x : PinChecked) × (pin_check_in s t i p k files ≡ Ok x) × IsPinProved x) }
-    ensures findings { (s t i p k : List ℕ) (old new : Seen) (status : Status) (files : Files) (x : PinChecked) → old.files ≡ Some files → pin_check_in s t i p k files ≡ Ok x → (IsPinProved x → ⊥) → Ends (CheckPinned s t i p k) old new status → (status ≡ Status.Findings) ⊎ Yields status }
-    ensures findings_only { (s t i p k : List ℕ) (old new : Seen) → Ends (CheckPinned s t i p k) old new Status.Findings → (files : Files) × Agrees old.files files × ((x : PinChecked) × (pin_check_in s t i p k files ≡ Ok x) × (IsPinProved x → ⊥)) }
-    ensures no_matching { (s t i p k : List ℕ) (old new : Seen) → Ends (CheckPinned s t i p k) old new Status.NoMatching → ⊥ }
-    ensures no_unfinished { (s t i p k : List ℕ) (old new : Seen) → Ends (CheckPinned s t i p k) old new Status.Unfinished → ⊥ }
+    ensures done { (s t i p k : List ℕ) (old new : Seen) (status : Status) (files : Files)
+        (x : PinChecked) → old.files ≡ Some files → pin_check_in s t i p k files ≡ Ok x
+        → IsPinProved x → Ends (CheckPinned s t i p k) old new status
+        → (status ≡ Status.Done) ⊎ Yields status }
+    ensures done_only { (s t i p k : List ℕ) (old new : Seen) → Ends
+        (CheckPinned s t i p k) old new Status.Done → (files : Files) × Agrees old.files files
+        × ((x : PinChecked) × (pin_check_in s t i p k files ≡ Ok x) × IsPinProved x) }
+    ensures findings { (s t i p k : List ℕ) (old new : Seen) (status : Status) (files : Files)
+        (x : PinChecked) → old.files ≡ Some files → pin_check_in s t i p k files ≡ Ok x
+        → (IsPinProved x → ⊥) → Ends (CheckPinned s t i p k) old new status
+        → (status ≡ Status.Findings) ⊎ Yields status }
+    ensures findings_only { (s t i p k : List ℕ) (old new : Seen) → Ends
+        (CheckPinned s t i p k) old new Status.Findings → (files : Files) × Agrees old.files files
+        × ((x : PinChecked) × (pin_check_in s t i p k files ≡ Ok x) × (IsPinProved x → ⊥)) }
+    ensures no_matching { (s t i p k : List ℕ) (old new : Seen)
+        → Ends (CheckPinned s t i p k) old new Status.NoMatching → ⊥ }
+    ensures no_unfinished { (s t i p k : List ℕ) (old new : Seen)
+        → Ends (CheckPinned s t i p k) old new Status.Unfinished → ⊥ }
 {
     laws::pins();
     reasons();
@@ -261,26 +390,45 @@ pub fn check_pinned_done_exactly()
 /// Where `check-pinned` ends with `Done`, the pins are usable, the plan is feasible, keeps them and states its cost, every feasible plan of
 /// the night that keeps them costs at least the bound of the certificate, which has the plan's cost, and that bound was printed as accepted.
 pub fn check_pinned_bounds_every_plan()
-    ensures { (s t i p k : List ℕ) (old new : Seen) → Ends (CheckPinned s t i p k) old new Status.Done → (files : Files) × Agrees old.files files × ((x : PinChecked) × (pin_check_in s t i p k files ≡ Ok x) × BoundsKept x × IsWhole (says Outcome.Done (verdict_of x.night x.certificate (verdict.Accepted x.certificate.bound))) old new) }
+    ensures { (s t i p k : List ℕ) (old new : Seen)
+        → Ends (CheckPinned s t i p k) old new Status.Done
+        → (files : Files) × Agrees old.files files × ((x : PinChecked)
+        × (pin_check_in s t i p k files ≡ Ok x) × BoundsKept x × IsWhole (says Outcome.Done
+        (verdict_of x.night x.certificate (verdict.Accepted x.certificate.bound))) old new) }
 {
     reasons();
 }
 
 /// If the files are accepted and neither the store nor the sink fails, `check-pinned` ends with `Done`, `Findings` or `Memory`.
 pub fn check_pinned_completes()
-    ensures { (s t i p k : List ℕ) (old new : Seen) (status : Status) (files : Files) (x : PinChecked) → old.files ≡ Some files → pin_check_in s t i p k files ≡ Ok x → (Rose old.store_faults new.store_faults → ⊥) → (Rose old.sink_faults new.sink_faults → ⊥) → Ends (CheckPinned s t i p k) old new status → (status ≡ Status.Done) ⊎ ((status ≡ Status.Findings) ⊎ (status ≡ Status.Memory)) }
+    ensures { (s t i p k : List ℕ) (old new : Seen) (status : Status) (files : Files)
+        (x : PinChecked) → old.files ≡ Some files → pin_check_in s t i p k files ≡ Ok x
+        → (Rose old.store_faults new.store_faults → ⊥) → (Rose old.sink_faults new.sink_faults → ⊥)
+        → Ends (CheckPinned s t i p k) old new status
+        → (status ≡ Status.Done) ⊎ ((status ≡ Status.Findings) ⊎ (status ≡ Status.Memory)) }
 {}
 
 /// `compare` ends with `Done` exactly when the files are accepted, both plans are feasible and state their costs, and each keeps the
 /// other's blocks, whatever their ids; and with `Findings` exactly when they are accepted and it isn't so, unless the store, memory or
 /// the sink came first. It never ends with `NoMatching` or `Unfinished`.
 pub fn compare_done_exactly()
-    ensures done { (s t p o : List ℕ) (old new : Seen) (status : Status) (files : Files) (x : Comparable) → old.files ≡ Some files → comparison_in s t p o files ≡ Ok x → AreAlike x → Ends (Compare s t p o) old new status → (status ≡ Status.Done) ⊎ Yields status }
-    ensures done_only { (s t p o : List ℕ) (old new : Seen) → Ends (Compare s t p o) old new Status.Done → (files : Files) × Agrees old.files files × ((x : Comparable) × (comparison_in s t p o files ≡ Ok x) × AreAlike x) }
-    ensures findings { (s t p o : List ℕ) (old new : Seen) (status : Status) (files : Files) (x : Comparable) → old.files ≡ Some files → comparison_in s t p o files ≡ Ok x → (AreAlike x → ⊥) → Ends (Compare s t p o) old new status → (status ≡ Status.Findings) ⊎ Yields status }
-    ensures findings_only { (s t p o : List ℕ) (old new : Seen) → Ends (Compare s t p o) old new Status.Findings → (files : Files) × Agrees old.files files × ((x : Comparable) × (comparison_in s t p o files ≡ Ok x) × (AreAlike x → ⊥)) }
-    ensures no_matching { (s t p o : List ℕ) (old new : Seen) → Ends (Compare s t p o) old new Status.NoMatching → ⊥ }
-    ensures no_unfinished { (s t p o : List ℕ) (old new : Seen) → Ends (Compare s t p o) old new Status.Unfinished → ⊥ }
+    ensures done { (s t p o : List ℕ) (old new : Seen) (status : Status) (files : Files)
+        (x : Comparable) → old.files ≡ Some files → comparison_in s t p o files ≡ Ok x → AreAlike x
+        → Ends (Compare s t p o) old new status → (status ≡ Status.Done) ⊎ Yields status }
+    ensures done_only { (s t p o : List ℕ) (old new : Seen)
+        → Ends (Compare s t p o) old new Status.Done → (files : Files) × Agrees old.files files
+        × ((x : Comparable) × (comparison_in s t p o files ≡ Ok x) × AreAlike x) }
+    ensures findings { (s t p o : List ℕ) (old new : Seen) (status : Status) (files : Files)
+        (x : Comparable) → old.files ≡ Some files → comparison_in s t p o files ≡ Ok x
+        → (AreAlike x → ⊥) → Ends (Compare s t p o) old new status
+        → (status ≡ Status.Findings) ⊎ Yields status }
+    ensures findings_only { (s t p o : List ℕ) (old new : Seen)
+        → Ends (Compare s t p o) old new Status.Findings → (files : Files) × Agrees old.files files
+        × ((x : Comparable) × (comparison_in s t p o files ≡ Ok x) × (AreAlike x → ⊥)) }
+    ensures no_matching { (s t p o : List ℕ) (old new : Seen)
+        → Ends (Compare s t p o) old new Status.NoMatching → ⊥ }
+    ensures no_unfinished { (s t p o : List ℕ) (old new : Seen)
+        → Ends (Compare s t p o) old new Status.Unfinished → ⊥ }
 {
     laws::plan_findings();
     same_plans();
@@ -288,7 +436,11 @@ pub fn compare_done_exactly()
 
 /// If the files are accepted and neither the store nor the sink fails, `compare` ends with `Done`, `Findings` or `Memory`.
 pub fn compare_completes()
-    ensures { (s t p o : List ℕ) (old new : Seen) (status : Status) (files : Files) (x : Comparable) → old.files ≡ Some files → comparison_in s t p o files ≡ Ok x → (Rose old.store_faults new.store_faults → ⊥) → (Rose old.sink_faults new.sink_faults → ⊥) → Ends (Compare s t p o) old new status → (status ≡ Status.Done) ⊎ ((status ≡ Status.Findings) ⊎ (status ≡ Status.Memory)) }
+    ensures { (s t p o : List ℕ) (old new : Seen) (status : Status) (files : Files) (x : Comparable)
+        → old.files ≡ Some files → comparison_in s t p o files ≡ Ok x
+        → (Rose old.store_faults new.store_faults → ⊥) → (Rose old.sink_faults new.sink_faults → ⊥)
+        → Ends (Compare s t p o) old new status
+        → (status ≡ Status.Done) ⊎ ((status ≡ Status.Findings) ⊎ (status ≡ Status.Memory)) }
 {
     laws::plan_findings();
     same_plans();
@@ -297,97 +449,172 @@ pub fn compare_completes()
 /// `zones` ends with `Done` exactly when the files are accepted and no two moves of the plan meet in a zone, and with `Findings` exactly
 /// where they are accepted and two do, unless the store, memory or the sink came first. It never ends with `NoMatching` or `Unfinished`.
 pub fn zones_done_exactly()
-    ensures done { (s t p z : List ℕ) (old new : Seen) (status : Status) (files : Files) (x : Passable) → old.files ≡ Some files → passing_in s t p z files ≡ Ok x → NoneMeet x → Ends (Zones s t p z) old new status → (status ≡ Status.Done) ⊎ Yields status }
-    ensures done_only { (s t p z : List ℕ) (old new : Seen) → Ends (Zones s t p z) old new Status.Done → (files : Files) × Agrees old.files files × ((x : Passable) × (passing_in s t p z files ≡ Ok x) × NoneMeet x) }
-    ensures findings { (s t p z : List ℕ) (old new : Seen) (status : Status) (files : Files) (x : Passable) → old.files ≡ Some files → passing_in s t p z files ≡ Ok x → (NoneMeet x → ⊥) → Ends (Zones s t p z) old new status → (status ≡ Status.Findings) ⊎ Yields status }
-    ensures findings_only { (s t p z : List ℕ) (old new : Seen) → Ends (Zones s t p z) old new Status.Findings → (files : Files) × Agrees old.files files × ((x : Passable) × (passing_in s t p z files ≡ Ok x) × (NoneMeet x → ⊥)) }
-    ensures no_matching { (s t p z : List ℕ) (old new : Seen) → Ends (Zones s t p z) old new Status.NoMatching → ⊥ }
-    ensures no_unfinished { (s t p z : List ℕ) (old new : Seen) → Ends (Zones s t p z) old new Status.Unfinished → ⊥ }
+    ensures done { (s t p z : List ℕ) (old new : Seen) (status : Status) (files : Files)
+        (x : Passable) → old.files ≡ Some files → passing_in s t p z files ≡ Ok x → NoneMeet x
+        → Ends (Zones s t p z) old new status → (status ≡ Status.Done) ⊎ Yields status }
+    ensures done_only { (s t p z : List ℕ) (old new : Seen)
+        → Ends (Zones s t p z) old new Status.Done → (files : Files) × Agrees old.files files
+        × ((x : Passable) × (passing_in s t p z files ≡ Ok x) × NoneMeet x) }
+    ensures findings { (s t p z : List ℕ) (old new : Seen) (status : Status) (files : Files)
+        (x : Passable) → old.files ≡ Some files → passing_in s t p z files ≡ Ok x → (NoneMeet x → ⊥)
+        → Ends (Zones s t p z) old new status → (status ≡ Status.Findings) ⊎ Yields status }
+    ensures findings_only { (s t p z : List ℕ) (old new : Seen)
+        → Ends (Zones s t p z) old new Status.Findings → (files : Files) × Agrees old.files files
+        × ((x : Passable) × (passing_in s t p z files ≡ Ok x) × (NoneMeet x → ⊥)) }
+    ensures no_matching { (s t p z : List ℕ) (old new : Seen)
+        → Ends (Zones s t p z) old new Status.NoMatching → ⊥ }
+    ensures no_unfinished { (s t p z : List ℕ) (old new : Seen)
+        → Ends (Zones s t p z) old new Status.Unfinished → ⊥ }
 {}
 
 /// If the files are accepted and neither the store nor the sink fails, `zones` ends with `Done`, `Findings` or `Memory`.
 pub fn zones_completes()
-    ensures { (s t p z : List ℕ) (old new : Seen) (status : Status) (files : Files) (x : Passable) → old.files ≡ Some files → passing_in s t p z files ≡ Ok x → (Rose old.store_faults new.store_faults → ⊥) → (Rose old.sink_faults new.sink_faults → ⊥) → Ends (Zones s t p z) old new status → (status ≡ Status.Done) ⊎ ((status ≡ Status.Findings) ⊎ (status ≡ Status.Memory)) }
+    ensures { (s t p z : List ℕ) (old new : Seen) (status : Status) (files : Files) (x : Passable)
+        → old.files ≡ Some files → passing_in s t p z files ≡ Ok x
+        → (Rose old.store_faults new.store_faults → ⊥) → (Rose old.sink_faults new.sink_faults → ⊥)
+        → Ends (Zones s t p z) old new status
+        → (status ≡ Status.Done) ⊎ ((status ≡ Status.Findings) ⊎ (status ≡ Status.Memory)) }
 {}
 
 /// `sheet` ends with `Done` exactly when the files are accepted and the plan is feasible and states its cost, and with
 /// `Findings` exactly when they are accepted and it isn't so, unless the store, memory or the sink came first. It never ends
 /// with `NoMatching` or `Unfinished`.
 pub fn sheet_done_exactly()
-    ensures done { (s t p n : List ℕ) (old new : Seen) (status : Status) (files : Files) (x : Night × Plan) → old.files ≡ Some files → plans_in s t p files ≡ Ok x → IsClean x → Ends (Sheet s t p n) old new status → (status ≡ Status.Done) ⊎ Yields status }
-    ensures done_only { (s t p n : List ℕ) (old new : Seen) → Ends (Sheet s t p n) old new Status.Done → (files : Files) × Agrees old.files files × ((x : Night × Plan) × (plans_in s t p files ≡ Ok x) × IsClean x) }
-    ensures findings { (s t p n : List ℕ) (old new : Seen) (status : Status) (files : Files) (x : Night × Plan) → old.files ≡ Some files → plans_in s t p files ≡ Ok x → (IsClean x → ⊥) → Ends (Sheet s t p n) old new status → (status ≡ Status.Findings) ⊎ Yields status }
-    ensures findings_only { (s t p n : List ℕ) (old new : Seen) → Ends (Sheet s t p n) old new Status.Findings → (files : Files) × Agrees old.files files × ((x : Night × Plan) × (plans_in s t p files ≡ Ok x) × (IsClean x → ⊥)) }
-    ensures no_matching { (s t p n : List ℕ) (old new : Seen) → Ends (Sheet s t p n) old new Status.NoMatching → ⊥ }
-    ensures no_unfinished { (s t p n : List ℕ) (old new : Seen) → Ends (Sheet s t p n) old new Status.Unfinished → ⊥ }
+    ensures done { (s t p n : List ℕ) (old new : Seen) (status : Status) (files : Files)
+        (x : Night × Plan) → old.files ≡ Some files → plans_in s t p files ≡ Ok x → IsClean x
+        → Ends (Sheet s t p n) old new status → (status ≡ Status.Done) ⊎ Yields status }
+    ensures done_only { (s t p n : List ℕ) (old new : Seen)
+        → Ends (Sheet s t p n) old new Status.Done → (files : Files) × Agrees old.files files
+        × ((x : Night × Plan) × (plans_in s t p files ≡ Ok x) × IsClean x) }
+    ensures findings { (s t p n : List ℕ) (old new : Seen) (status : Status) (files : Files)
+        (x : Night × Plan) → old.files ≡ Some files → plans_in s t p files ≡ Ok x → (IsClean x → ⊥)
+        → Ends (Sheet s t p n) old new status → (status ≡ Status.Findings) ⊎ Yields status }
+    ensures findings_only { (s t p n : List ℕ) (old new : Seen)
+        → Ends (Sheet s t p n) old new Status.Findings → (files : Files) × Agrees old.files files
+        × ((x : Night × Plan) × (plans_in s t p files ≡ Ok x) × (IsClean x → ⊥)) }
+    ensures no_matching { (s t p n : List ℕ) (old new : Seen)
+        → Ends (Sheet s t p n) old new Status.NoMatching → ⊥ }
+    ensures no_unfinished { (s t p n : List ℕ) (old new : Seen)
+        → Ends (Sheet s t p n) old new Status.Unfinished → ⊥ }
 {
     laws::plan_findings();
 }
 
 /// If the files are accepted and neither the store nor the sink fails, `sheet` ends with `Done`, `Findings` or `Memory`.
 pub fn sheet_completes()
-    ensures { (s t p n : List ℕ) (old new : Seen) (status : Status) (files : Files) (x : Night × Plan) → old.files ≡ Some files → plans_in s t p files ≡ Ok x → (Rose old.store_faults new.store_faults → ⊥) → (Rose old.sink_faults new.sink_faults → ⊥) → Ends (Sheet s t p n) old new status → (status ≡ Status.Done) ⊎ ((status ≡ Status.Findings) ⊎ (status ≡ Status.Memory)) }
+    ensures { (s t p n : List ℕ) (old new : Seen) (status : Status) (files : Files)
+        (x : Night × Plan) → old.files ≡ Some files → plans_in s t p files ≡ Ok x
+        → (Rose old.store_faults new.store_faults → ⊥) → (Rose old.sink_faults new.sink_faults → ⊥)
+        → Ends (Sheet s t p n) old new status
+        → (status ≡ Status.Done) ⊎ ((status ≡ Status.Findings) ⊎ (status ≡ Status.Memory)) }
 {}
 
 /// `draw` ends with `Done` exactly when the files are accepted and the plan is feasible and states its cost, and with
 /// `Findings` exactly when they are accepted and it isn't so, unless the store, memory or the sink came first. It never ends
 /// with `NoMatching` or `Unfinished`.
 pub fn draw_done_exactly()
-    ensures done { (s t p n : List ℕ) (old new : Seen) (status : Status) (files : Files) (x : Night × Plan) → old.files ≡ Some files → plans_in s t p files ≡ Ok x → IsClean x → Ends (Draw s t p n) old new status → (status ≡ Status.Done) ⊎ Yields status }
-    ensures done_only { (s t p n : List ℕ) (old new : Seen) → Ends (Draw s t p n) old new Status.Done → (files : Files) × Agrees old.files files × ((x : Night × Plan) × (plans_in s t p files ≡ Ok x) × IsClean x) }
-    ensures findings { (s t p n : List ℕ) (old new : Seen) (status : Status) (files : Files) (x : Night × Plan) → old.files ≡ Some files → plans_in s t p files ≡ Ok x → (IsClean x → ⊥) → Ends (Draw s t p n) old new status → (status ≡ Status.Findings) ⊎ Yields status }
-    ensures findings_only { (s t p n : List ℕ) (old new : Seen) → Ends (Draw s t p n) old new Status.Findings → (files : Files) × Agrees old.files files × ((x : Night × Plan) × (plans_in s t p files ≡ Ok x) × (IsClean x → ⊥)) }
-    ensures no_matching { (s t p n : List ℕ) (old new : Seen) → Ends (Draw s t p n) old new Status.NoMatching → ⊥ }
-    ensures no_unfinished { (s t p n : List ℕ) (old new : Seen) → Ends (Draw s t p n) old new Status.Unfinished → ⊥ }
+    ensures done { (s t p n : List ℕ) (old new : Seen) (status : Status) (files : Files)
+        (x : Night × Plan) → old.files ≡ Some files → plans_in s t p files ≡ Ok x → IsClean x
+        → Ends (Draw s t p n) old new status → (status ≡ Status.Done) ⊎ Yields status }
+    ensures done_only { (s t p n : List ℕ) (old new : Seen)
+        → Ends (Draw s t p n) old new Status.Done → (files : Files) × Agrees old.files files
+        × ((x : Night × Plan) × (plans_in s t p files ≡ Ok x) × IsClean x) }
+    ensures findings { (s t p n : List ℕ) (old new : Seen) (status : Status) (files : Files)
+        (x : Night × Plan) → old.files ≡ Some files → plans_in s t p files ≡ Ok x → (IsClean x → ⊥)
+        → Ends (Draw s t p n) old new status → (status ≡ Status.Findings) ⊎ Yields status }
+    ensures findings_only { (s t p n : List ℕ) (old new : Seen)
+        → Ends (Draw s t p n) old new Status.Findings → (files : Files) × Agrees old.files files
+        × ((x : Night × Plan) × (plans_in s t p files ≡ Ok x) × (IsClean x → ⊥)) }
+    ensures no_matching { (s t p n : List ℕ) (old new : Seen)
+        → Ends (Draw s t p n) old new Status.NoMatching → ⊥ }
+    ensures no_unfinished { (s t p n : List ℕ) (old new : Seen)
+        → Ends (Draw s t p n) old new Status.Unfinished → ⊥ }
 {
     laws::plan_findings();
 }
 
 /// If the files are accepted and neither the store nor the sink fails, `draw` ends with `Done`, `Findings` or `Memory`.
 pub fn draw_completes()
-    ensures { (s t p n : List ℕ) (old new : Seen) (status : Status) (files : Files) (x : Night × Plan) → old.files ≡ Some files → plans_in s t p files ≡ Ok x → (Rose old.store_faults new.store_faults → ⊥) → (Rose old.sink_faults new.sink_faults → ⊥) → Ends (Draw s t p n) old new status → (status ≡ Status.Done) ⊎ ((status ≡ Status.Findings) ⊎ (status ≡ Status.Memory)) }
+    ensures { (s t p n : List ℕ) (old new : Seen) (status : Status) (files : Files)
+        (x : Night × Plan) → old.files ≡ Some files → plans_in s t p files ≡ Ok x
+        → (Rose old.store_faults new.store_faults → ⊥) → (Rose old.sink_faults new.sink_faults → ⊥)
+        → Ends (Draw s t p n) old new status
+        → (status ≡ Status.Done) ⊎ ((status ≡ Status.Findings) ⊎ (status ≡ Status.Memory)) }
 {}
 
 /// `page` ends with `Done` exactly when the files are accepted and the plan is feasible and states its cost, and with
 /// `Findings` exactly when they are accepted and it isn't so, unless the store, memory or the sink came first. It never ends
 /// with `NoMatching` or `Unfinished`.
 pub fn page_done_exactly()
-    ensures done { (s t p n : List ℕ) (old new : Seen) (status : Status) (files : Files) (x : Night × Plan) → old.files ≡ Some files → plans_in s t p files ≡ Ok x → IsClean x → Ends (Page s t p n) old new status → (status ≡ Status.Done) ⊎ Yields status }
-    ensures done_only { (s t p n : List ℕ) (old new : Seen) → Ends (Page s t p n) old new Status.Done → (files : Files) × Agrees old.files files × ((x : Night × Plan) × (plans_in s t p files ≡ Ok x) × IsClean x) }
-    ensures findings { (s t p n : List ℕ) (old new : Seen) (status : Status) (files : Files) (x : Night × Plan) → old.files ≡ Some files → plans_in s t p files ≡ Ok x → (IsClean x → ⊥) → Ends (Page s t p n) old new status → (status ≡ Status.Findings) ⊎ Yields status }
-    ensures findings_only { (s t p n : List ℕ) (old new : Seen) → Ends (Page s t p n) old new Status.Findings → (files : Files) × Agrees old.files files × ((x : Night × Plan) × (plans_in s t p files ≡ Ok x) × (IsClean x → ⊥)) }
-    ensures no_matching { (s t p n : List ℕ) (old new : Seen) → Ends (Page s t p n) old new Status.NoMatching → ⊥ }
-    ensures no_unfinished { (s t p n : List ℕ) (old new : Seen) → Ends (Page s t p n) old new Status.Unfinished → ⊥ }
+    ensures done { (s t p n : List ℕ) (old new : Seen) (status : Status) (files : Files)
+        (x : Night × Plan) → old.files ≡ Some files → plans_in s t p files ≡ Ok x → IsClean x
+        → Ends (Page s t p n) old new status → (status ≡ Status.Done) ⊎ Yields status }
+    ensures done_only { (s t p n : List ℕ) (old new : Seen)
+        → Ends (Page s t p n) old new Status.Done → (files : Files) × Agrees old.files files
+        × ((x : Night × Plan) × (plans_in s t p files ≡ Ok x) × IsClean x) }
+    ensures findings { (s t p n : List ℕ) (old new : Seen) (status : Status) (files : Files)
+        (x : Night × Plan) → old.files ≡ Some files → plans_in s t p files ≡ Ok x → (IsClean x → ⊥)
+        → Ends (Page s t p n) old new status → (status ≡ Status.Findings) ⊎ Yields status }
+    ensures findings_only { (s t p n : List ℕ) (old new : Seen)
+        → Ends (Page s t p n) old new Status.Findings → (files : Files) × Agrees old.files files
+        × ((x : Night × Plan) × (plans_in s t p files ≡ Ok x) × (IsClean x → ⊥)) }
+    ensures no_matching { (s t p n : List ℕ) (old new : Seen)
+        → Ends (Page s t p n) old new Status.NoMatching → ⊥ }
+    ensures no_unfinished { (s t p n : List ℕ) (old new : Seen)
+        → Ends (Page s t p n) old new Status.Unfinished → ⊥ }
 {
     laws::plan_findings();
 }
 
 /// If the files are accepted and neither the store nor the sink fails, `page` ends with `Done`, `Findings` or `Memory`.
 pub fn page_completes()
-    ensures { (s t p n : List ℕ) (old new : Seen) (status : Status) (files : Files) (x : Night × Plan) → old.files ≡ Some files → plans_in s t p files ≡ Ok x → (Rose old.store_faults new.store_faults → ⊥) → (Rose old.sink_faults new.sink_faults → ⊥) → Ends (Page s t p n) old new status → (status ≡ Status.Done) ⊎ ((status ≡ Status.Findings) ⊎ (status ≡ Status.Memory)) }
+    ensures { (s t p n : List ℕ) (old new : Seen) (status : Status) (files : Files)
+        (x : Night × Plan) → old.files ≡ Some files → plans_in s t p files ≡ Ok x
+        → (Rose old.store_faults new.store_faults → ⊥) → (Rose old.sink_faults new.sink_faults → ⊥)
+        → Ends (Page s t p n) old new status
+        → (status ≡ Status.Done) ⊎ ((status ≡ Status.Findings) ⊎ (status ≡ Status.Memory)) }
 {}
 
 /// `follow` ends with `Done` exactly when the files are accepted and all orders can be followed, and with `Findings` exactly when they
 /// are accepted and one can't, unless the store, memory or the sink came first. It never ends with `NoMatching` or `Unfinished`.
 pub fn follow_done_exactly()
-    ensures done { (s n : List ℕ) (old new : Seen) (status : Status) (files : Files) (x : Followable) → old.files ≡ Some files → following_in s n files ≡ Ok x → GoesThrough x → Ends (Follow s n) old new status → (status ≡ Status.Done) ⊎ Yields status }
-    ensures done_only { (s n : List ℕ) (old new : Seen) → Ends (Follow s n) old new Status.Done → (files : Files) × Agrees old.files files × ((x : Followable) × (following_in s n files ≡ Ok x) × GoesThrough x) }
-    ensures findings { (s n : List ℕ) (old new : Seen) (status : Status) (files : Files) (x : Followable) → old.files ≡ Some files → following_in s n files ≡ Ok x → (GoesThrough x → ⊥) → Ends (Follow s n) old new status → (status ≡ Status.Findings) ⊎ Yields status }
-    ensures findings_only { (s n : List ℕ) (old new : Seen) → Ends (Follow s n) old new Status.Findings → (files : Files) × Agrees old.files files × ((x : Followable) × (following_in s n files ≡ Ok x) × (GoesThrough x → ⊥)) }
-    ensures no_matching { (s n : List ℕ) (old new : Seen) → Ends (Follow s n) old new Status.NoMatching → ⊥ }
-    ensures no_unfinished { (s n : List ℕ) (old new : Seen) → Ends (Follow s n) old new Status.Unfinished → ⊥ }
+    ensures done { (s n : List ℕ) (old new : Seen) (status : Status) (files : Files)
+        (x : Followable) → old.files ≡ Some files → following_in s n files ≡ Ok x → GoesThrough x
+        → Ends (Follow s n) old new status → (status ≡ Status.Done) ⊎ Yields status }
+    ensures done_only { (s n : List ℕ) (old new : Seen) → Ends (Follow s n) old new Status.Done
+        → (files : Files) × Agrees old.files files
+        × ((x : Followable) × (following_in s n files ≡ Ok x) × GoesThrough x) }
+    ensures findings { (s n : List ℕ) (old new : Seen) (status : Status) (files : Files)
+        (x : Followable) → old.files ≡ Some files → following_in s n files ≡ Ok x
+        → (GoesThrough x → ⊥) → Ends (Follow s n) old new status
+        → (status ≡ Status.Findings) ⊎ Yields status }
+    ensures findings_only { (s n : List ℕ) (old new : Seen)
+        → Ends (Follow s n) old new Status.Findings → (files : Files) × Agrees old.files files
+        × ((x : Followable) × (following_in s n files ≡ Ok x) × (GoesThrough x → ⊥)) }
+    ensures no_matching { (s n : List ℕ) (old new : Seen)
+        → Ends (Follow s n) old new Status.NoMatching → ⊥ }
+    ensures no_unfinished { (s n : List ℕ) (old new : Seen)
+        → Ends (Follow s n) old new Status.Unfinished → ⊥ }
 {}
 
 /// If the files are accepted and neither the store nor the sink fails, `follow` ends with `Done`, `Findings` or `Memory`.
 pub fn follow_completes()
-    ensures { (s n : List ℕ) (old new : Seen) (status : Status) (files : Files) (x : Followable) → old.files ≡ Some files → following_in s n files ≡ Ok x → (Rose old.store_faults new.store_faults → ⊥) → (Rose old.sink_faults new.sink_faults → ⊥) → Ends (Follow s n) old new status → (status ≡ Status.Done) ⊎ ((status ≡ Status.Findings) ⊎ (status ≡ Status.Memory)) }
+    ensures { (s n : List ℕ) (old new : Seen) (status : Status) (files : Files) (x : Followable)
+        → old.files ≡ Some files → following_in s n files ≡ Ok x
+        → (Rose old.store_faults new.store_faults → ⊥) → (Rose old.sink_faults new.sink_faults → ⊥)
+        → Ends (Follow s n) old new status
+        → (status ≡ Status.Done) ⊎ ((status ≡ Status.Findings) ⊎ (status ≡ Status.Memory)) }
 {}
 
 /// On the files that `sheet` left with `Done`, `follow` of the sheet ends with `Done`, follows the orders of the plan, and prints that no
 /// block is left, unless the store, memory or the sink comes first.
 pub fn written_sheets_go_through()
-    ensures { (s t p n : List ℕ) (a b old new : Seen) (status : Status) (files after : Files) → IsUsable (Sheet s t p n) → a.files ≡ Some files → b.files ≡ Some after → old.files ≡ Some after → Ends (Sheet s t p n) a b Status.Done → Ends (Follow s n) old new status
-        → ((status ≡ Status.Done) × ((x : Night × Plan) × (plans_in s t p files ≡ Ok x) × IsWhole (says Outcome.Done (followed_of (orders_in x.0 x.1.blocks) (answers.Through 0))) old new)) ⊎ Yields status }
+    ensures { (s t p n : List ℕ) (a b old new : Seen) (status : Status) (files after : Files)
+        → IsUsable (Sheet s t p n) → a.files ≡ Some files → b.files ≡ Some after → old.files
+        ≡ Some after → Ends (Sheet s t p n) a b Status.Done → Ends (Follow s n) old new status
+        → ((status ≡ Status.Done) × ((x : Night × Plan) × (plans_in s t p files ≡ Ok x) × IsWhole
+        (says Outcome.Done (followed_of (orders_in x.0 x.1.blocks) (answers.Through 0))) old new))
+        ⊎ Yields status }
 {
     laws::plan_findings();
     sheets_of_plans();
@@ -397,28 +624,51 @@ pub fn written_sheets_go_through()
 /// `drivers` ends with `Done` exactly when the files are accepted, unless the store, memory or the sink came first. It never ends
 /// with `Findings`, `NoMatching` or `Unfinished`.
 pub fn drivers_done_exactly()
-    ensures done { (s t p c d : List ℕ) (old new : Seen) (status : Status) (files : Files) (x : Sharable) → old.files ≡ Some files → sharing_in s t p c files ≡ Ok x → Ends (Drivers s t p c d) old new status → (status ≡ Status.Done) ⊎ Yields status }
-    ensures done_only { (s t p c d : List ℕ) (old new : Seen) → Ends (Drivers s t p c d) old new Status.Done → (files : Files) × Agrees old.files files × ((x : Sharable) × (sharing_in s t p c files ≡ Ok x)) }
-    ensures no_findings { (s t p c d : List ℕ) (old new : Seen) → Ends (Drivers s t p c d) old new Status.Findings → ⊥ }
-    ensures no_matching { (s t p c d : List ℕ) (old new : Seen) → Ends (Drivers s t p c d) old new Status.NoMatching → ⊥ }
-    ensures no_unfinished { (s t p c d : List ℕ) (old new : Seen) → Ends (Drivers s t p c d) old new Status.Unfinished → ⊥ }
+    ensures done { (s t p c d : List ℕ) (old new : Seen) (status : Status) (files : Files)
+        (x : Sharable) → old.files ≡ Some files → sharing_in s t p c files ≡ Ok x
+        → Ends (Drivers s t p c d) old new status → (status ≡ Status.Done) ⊎ Yields status }
+    ensures done_only { (s t p c d : List ℕ) (old new : Seen)
+        → Ends (Drivers s t p c d) old new Status.Done → (files : Files) × Agrees old.files files
+        × ((x : Sharable) × (sharing_in s t p c files ≡ Ok x)) }
+    ensures no_findings { (s t p c d : List ℕ) (old new : Seen)
+        → Ends (Drivers s t p c d) old new Status.Findings → ⊥ }
+    ensures no_matching { (s t p c d : List ℕ) (old new : Seen)
+        → Ends (Drivers s t p c d) old new Status.NoMatching → ⊥ }
+    ensures no_unfinished { (s t p c d : List ℕ) (old new : Seen)
+        → Ends (Drivers s t p c d) old new Status.Unfinished → ⊥ }
 {}
 
 /// If the files are accepted and neither the store nor the sink fails, `drivers` ends with `Done` or `Memory`.
 pub fn drivers_completes()
-    ensures { (s t p c d : List ℕ) (old new : Seen) (status : Status) (files : Files) (x : Sharable) → old.files ≡ Some files → sharing_in s t p c files ≡ Ok x → (Rose old.store_faults new.store_faults → ⊥) → (Rose old.sink_faults new.sink_faults → ⊥) → Ends (Drivers s t p c d) old new status → (status ≡ Status.Done) ⊎ (status ≡ Status.Memory) }
+    ensures { (s t p c d : List ℕ) (old new : Seen) (status : Status) (files : Files) (x : Sharable)
+        → old.files ≡ Some files → sharing_in s t p c files ≡ Ok x
+        → (Rose old.store_faults new.store_faults → ⊥) → (Rose old.sink_faults new.sink_faults → ⊥)
+        → Ends (Drivers s t p c d) old new status
+        → (status ≡ Status.Done) ⊎ (status ≡ Status.Memory) }
 {}
 
 /// `roster` ends with `Done` exactly when the files are accepted and the duties are a sharing of the plan's moves, and with `Findings`
 /// exactly when they are accepted and it isn't so, unless the store, memory or the sink came first. It never ends with `NoMatching` or
 /// `Unfinished`.
 pub fn roster_done_exactly()
-    ensures done { (s t p c d : List ℕ) (old new : Seen) (status : Status) (files : Files) (x : Rosterable) → old.files ≡ Some files → rostering_in s t p c d files ≡ Ok x → SharesAll x → Ends (Roster s t p c d) old new status → (status ≡ Status.Done) ⊎ Yields status }
-    ensures done_only { (s t p c d : List ℕ) (old new : Seen) → Ends (Roster s t p c d) old new Status.Done → (files : Files) × Agrees old.files files × ((x : Rosterable) × (rostering_in s t p c d files ≡ Ok x) × SharesAll x) }
-    ensures findings { (s t p c d : List ℕ) (old new : Seen) (status : Status) (files : Files) (x : Rosterable) → old.files ≡ Some files → rostering_in s t p c d files ≡ Ok x → (SharesAll x → ⊥) → Ends (Roster s t p c d) old new status → (status ≡ Status.Findings) ⊎ Yields status }
-    ensures findings_only { (s t p c d : List ℕ) (old new : Seen) → Ends (Roster s t p c d) old new Status.Findings → (files : Files) × Agrees old.files files × ((x : Rosterable) × (rostering_in s t p c d files ≡ Ok x) × (SharesAll x → ⊥)) }
-    ensures no_matching { (s t p c d : List ℕ) (old new : Seen) → Ends (Roster s t p c d) old new Status.NoMatching → ⊥ }
-    ensures no_unfinished { (s t p c d : List ℕ) (old new : Seen) → Ends (Roster s t p c d) old new Status.Unfinished → ⊥ }
+    ensures done { (s t p c d : List ℕ) (old new : Seen) (status : Status) (files : Files)
+        (x : Rosterable) → old.files ≡ Some files → rostering_in s t p c d files ≡ Ok x
+        → SharesAll x → Ends (Roster s t p c d) old new status
+        → (status ≡ Status.Done) ⊎ Yields status }
+    ensures done_only { (s t p c d : List ℕ) (old new : Seen)
+        → Ends (Roster s t p c d) old new Status.Done → (files : Files) × Agrees old.files files
+        × ((x : Rosterable) × (rostering_in s t p c d files ≡ Ok x) × SharesAll x) }
+    ensures findings { (s t p c d : List ℕ) (old new : Seen) (status : Status) (files : Files)
+        (x : Rosterable) → old.files ≡ Some files → rostering_in s t p c d files ≡ Ok x
+        → (SharesAll x → ⊥) → Ends (Roster s t p c d) old new status
+        → (status ≡ Status.Findings) ⊎ Yields status }
+    ensures findings_only { (s t p c d : List ℕ) (old new : Seen)
+        → Ends (Roster s t p c d) old new Status.Findings → (files : Files) × Agrees old.files files
+        × ((x : Rosterable) × (rostering_in s t p c d files ≡ Ok x) × (SharesAll x → ⊥)) }
+    ensures no_matching { (s t p c d : List ℕ) (old new : Seen)
+        → Ends (Roster s t p c d) old new Status.NoMatching → ⊥ }
+    ensures no_unfinished { (s t p c d : List ℕ) (old new : Seen)
+        → Ends (Roster s t p c d) old new Status.Unfinished → ⊥ }
 {
     stated_values_are_formed();
     roster_fault_in_words();
@@ -426,13 +676,20 @@ pub fn roster_done_exactly()
 
 /// If the files are accepted and neither the store nor the sink fails, `roster` ends with `Done`, `Findings` or `Memory`.
 pub fn roster_completes()
-    ensures { (s t p c d : List ℕ) (old new : Seen) (status : Status) (files : Files) (x : Rosterable) → old.files ≡ Some files → rostering_in s t p c d files ≡ Ok x → (Rose old.store_faults new.store_faults → ⊥) → (Rose old.sink_faults new.sink_faults → ⊥) → Ends (Roster s t p c d) old new status → (status ≡ Status.Done) ⊎ ((status ≡ Status.Findings) ⊎ (status ≡ Status.Memory)) }
+    ensures { (s t p c d : List ℕ) (old new : Seen) (status : Status) (files : Files)
+        (x : Rosterable) → old.files ≡ Some files → rostering_in s t p c d files ≡ Ok x
+        → (Rose old.store_faults new.store_faults → ⊥) → (Rose old.sink_faults new.sink_faults → ⊥)
+        → Ends (Roster s t p c d) old new status
+        → (status ≡ Status.Done) ⊎ ((status ≡ Status.Findings) ⊎ (status ≡ Status.Memory)) }
 {}
 
 /// On the files that `drivers` left with `Done`, `roster` with the same words ends with `Done`, unless the store, memory or the sink
 /// comes first.
 pub fn roster_accepts_what_drivers_wrote()
-    ensures { (s t p c d : List ℕ) (a b old new : Seen) (status : Status) (files after : Files) → IsUsable (Drivers s t p c d) → a.files ≡ Some files → b.files ≡ Some after → old.files ≡ Some after → Ends (Drivers s t p c d) a b Status.Done → Ends (Roster s t p c d) old new status → (status ≡ Status.Done) ⊎ Yields status }
+    ensures { (s t p c d : List ℕ) (a b old new : Seen) (status : Status) (files after : Files)
+        → IsUsable (Drivers s t p c d) → a.files ≡ Some files → b.files ≡ Some after
+        → old.files ≡ Some after → Ends (Drivers s t p c d) a b Status.Done
+        → Ends (Roster s t p c d) old new status → (status ≡ Status.Done) ⊎ Yields status }
 {
     stated_values_are_formed();
     roster_fault_in_words();
@@ -443,212 +700,49 @@ pub fn roster_accepts_what_drivers_wrote()
 /// with `Findings` exactly when they are accepted and it isn't so, whatever cost the plan states and whichever turns were
 /// refused, unless the store, memory or the sink came first. It never ends with `NoMatching` or `Unfinished`.
 pub fn replay_done_exactly()
-    ensures done { (s t p e n : List ℕ) (old new : Seen) (status : Status) (files : Files) (x : Replayable) → old.files ≡ Some files → turns_in s t p e files ≡ Ok x → EndsFeasible x → Ends (Replay s t p e n) old new status → (status ≡ Status.Done) ⊎ Yields status }
-    ensures done_only { (s t p e n : List ℕ) (old new : Seen) → Ends (Replay s t p e n) old new Status.Done → (files : Files) × Agrees old.files files × ((x : Replayable) × (turns_in s t p e files ≡ Ok x) × EndsFeasible x) }
-    ensures findings { (s t p e n : List ℕ) (old new : Seen) (status : Status) (files : Files) (x : Replayable) → old.files ≡ Some files → turns_in s t p e files ≡ Ok x → (EndsFeasible x → ⊥) → Ends (Replay s t p e n) old new status → (status ≡ Status.Findings) ⊎ Yields status }
-    ensures findings_only { (s t p e n : List ℕ) (old new : Seen) → Ends (Replay s t p e n) old new Status.Findings → (files : Files) × Agrees old.files files × ((x : Replayable) × (turns_in s t p e files ≡ Ok x) × (EndsFeasible x → ⊥)) }
-    ensures no_matching { (s t p e n : List ℕ) (old new : Seen) → Ends (Replay s t p e n) old new Status.NoMatching → ⊥ }
-    ensures no_unfinished { (s t p e n : List ℕ) (old new : Seen) → Ends (Replay s t p e n) old new Status.Unfinished → ⊥ }
+    ensures done { (s t p e n : List ℕ) (old new : Seen) (status : Status) (files : Files)
+        (x : Replayable) → old.files ≡ Some files → turns_in s t p e files ≡ Ok x → EndsFeasible x
+        → Ends (Replay s t p e n) old new status → (status ≡ Status.Done) ⊎ Yields status }
+    ensures done_only { (s t p e n : List ℕ) (old new : Seen)
+        → Ends (Replay s t p e n) old new Status.Done → (files : Files) × Agrees old.files files
+        × ((x : Replayable) × (turns_in s t p e files ≡ Ok x) × EndsFeasible x) }
+    ensures findings { (s t p e n : List ℕ) (old new : Seen) (status : Status) (files : Files)
+        (x : Replayable) → old.files ≡ Some files → turns_in s t p e files ≡ Ok x
+        → (EndsFeasible x → ⊥) → Ends (Replay s t p e n) old new status
+        → (status ≡ Status.Findings) ⊎ Yields status }
+    ensures findings_only { (s t p e n : List ℕ) (old new : Seen)
+        → Ends (Replay s t p e n) old new Status.Findings → (files : Files) × Agrees old.files files
+        × ((x : Replayable) × (turns_in s t p e files ≡ Ok x) × (EndsFeasible x → ⊥)) }
+    ensures no_matching { (s t p e n : List ℕ) (old new : Seen)
+        → Ends (Replay s t p e n) old new Status.NoMatching → ⊥ }
+    ensures no_unfinished { (s t p e n : List ℕ) (old new : Seen)
+        → Ends (Replay s t p e n) old new Status.Unfinished → ⊥ }
 {
     laws::feasible();
 }
 
 /// If the files are accepted and neither the store nor the sink fails, `replay` ends with `Done`, `Findings` or `Memory`.
 pub fn replay_completes()
-    ensures { (s t p e n : List ℕ) (old new : Seen) (status : Status) (files : Files) (x : Replayable) → old.files ≡ Some files → turns_in s t p e files ≡ Ok x → (Rose old.store_faults new.store_faults → ⊥) → (Rose old.sink_faults new.sink_faults → ⊥) → Ends (Replay s t p e n) old new status → (status ≡ Status.Done) ⊎ ((status ≡ Status.Findings) ⊎ (status ≡ Status.Memory)) }
+    ensures { (s t p e n : List ℕ) (old new : Seen) (status : Status) (files : Files)
+        (x : Replayable) → old.files ≡ Some files → turns_in s t p e files ≡ Ok x
+        → (Rose old.store_faults new.store_faults → ⊥) → (Rose old.sink_faults new.sink_faults → ⊥)
+        → Ends (Replay s t p e n) old new status
+        → (status ≡ Status.Done) ⊎ ((status ≡ Status.Findings) ⊎ (status ≡ Status.Memory)) }
 {}
 
 /// The blocks that the turns of accepted files leave are at most 400, in range, and by ascending id: so are those of the new plan.
 pub fn replay_leaves_a_state()
-    ensures { (s t p e : List ℕ) (x : Replayable) → stated_turns s t p e ≡ Ok x → IsState x.night (last_of x) }
+    ensures { (s t p e : List ℕ) (x : Replayable) → stated_turns s t p e ≡ Ok x
+        → IsState x.night (last_of x) }
 {}
 
 /// Behind the lines of the turns before it, each turn of accepted files has the line of the state that it leaves: how many findings the
 /// blocks of that state have, which are exactly those of a fresh audit, and what these blocks cost.
 pub fn replay_prints_each_state()
-    ensures { (s t p e : List ℕ) (x : Replayable) (before : List Turn) (turn : Turn) (after : List Turn) → stated_turns s t p e ≡ Ok x → x.turns ≡ before ++ turn ∷ after
-        → (line rest : List ℕ) × IsTurnLine (length before + 1) (after_turns (bench_of x) before) turn line × (replay_lines x ≡ lines_from 1 (bench_of x) before ++ (line ++ rest)) }
+    ensures { (s t p e : List ℕ) (x : Replayable) (before : List Turn) (turn : Turn)
+        (after : List Turn) → stated_turns s t p e ≡ Ok x → x.turns ≡ before ++ turn ∷ after
+        → (line rest : List ℕ) × IsTurnLine (length before + 1) (after_turns (bench_of x) before)
+        turn line × (replay_lines x ≡ lines_from 1 (bench_of x) before ++ (line ++ rest)) }
 {
     findings();
-}
-
-/// `plan` ends with `NoMatching` exactly when both input files are accepted and no list is a matching, unless the store, memory or
-/// the sink came first. It never ends with `Findings`.
-pub fn plan_no_matching_exactly()
-    ensures there { (s t : List ℕ) (m : ℕ) (p k : List ℕ) (old new : Seen) (status : Status) (files : Files) (night : Night) → old.files ≡ Some files → stated_night (content files s) (content files t) ≡ Ok night → ((place : List ℕ) → Matches night place → ⊥) → Ends (MakePlan s t m p k) old new status → (status ≡ Status.NoMatching) ⊎ Yields status }
-    ensures only { (s t : List ℕ) (m : ℕ) (p k : List ℕ) (old new : Seen) → Ends (MakePlan s t m p k) old new Status.NoMatching → (files : Files) × Agrees old.files files × ((night : Night) × (stated_night (content files s) (content files t) ≡ Ok night) × ((place : List ℕ) → Matches night place → ⊥)) }
-    ensures no_findings { (s t : List ℕ) (m : ℕ) (p k : List ℕ) (old new : Seen) → Ends (MakePlan s t m p k) old new Status.Findings → ⊥ }
-{}
-
-/// Where `plan` ends with `Done`, the plan file holds the text of a feasible plan that states its cost, no feasible plan of the night
-/// costs less, and that cost was printed as optimal, and as the bound.
-pub fn plan_is_cheapest()
-    ensures { (s t : List ℕ) (m : ℕ) (p k : List ℕ) (old new : Seen) → Ends (MakePlan s t m p k) old new Status.Done → (files : Files) × Agrees old.files files × ((night : Night) × (stated_night (content files s) (content files t) ≡ Ok night) × ((plan : Plan) × (c : Certificate) × AreStated night [] plan c × IsCheapest night [] plan × (c.bound ≡ plan.cost) × IsWhole (planned Outcome.Done p k night plan c) old new)) }
-{
-    proved_bounds();
-}
-
-/// Where `plan` ends with `Unfinished`, the certificate file holds the text of exactly as many nodes as were allowed, whose paths are
-/// different partial plans; the plan file holds that of a feasible plan that states its cost; and every feasible plan of the night costs
-/// at least the bound that was printed, which is below the plan's cost.
-pub fn plan_is_unfinished()
-    ensures { (s t : List ℕ) (m : ℕ) (p k : List ℕ) (old new : Seen) → Ends (MakePlan s t m p k) old new Status.Unfinished → (files : Files) × Agrees old.files files × ((night : Night) × (stated_night (content files s) (content files t) ≡ Ok night) × ((plan : Plan) × (c : Certificate) × AreStated night [] plan c × IsBounded night [] plan c.bound × (c.bound < plan.cost) × AreDifferent night [] c.nodes m × IsWhole (planned Outcome.Unfinished p k night plan c) old new)) }
-{
-    few_nodes();
-    known_by_paths();
-    proved_bounds();
-    trees_by_version();
-}
-
-/// If both input files are accepted, a matching exists, and more nodes are allowed than there are partial plans, `plan` ends with
-/// `Done`, unless the store, memory or the sink came first. If neither the store nor the sink fails, it ends with `Done`,
-/// `NoMatching`, `Unfinished` or `Memory`.
-pub fn plan_completes()
-    ensures done { (s t : List ℕ) (m : ℕ) (p k : List ℕ) (old new : Seen) (status : Status) (files : Files) (night : Night) → old.files ≡ Some files → stated_night (content files s) (content files t) ≡ Ok night → ((place : List ℕ) × Matches night place) → partial_plans night [] < m → Ends (MakePlan s t m p k) old new status → (status ≡ Status.Done) ⊎ Yields status }
-    ensures ends { (s t : List ℕ) (m : ℕ) (p k : List ℕ) (old new : Seen) (status : Status) (files : Files) (night : Night) → old.files ≡ Some files → stated_night (content files s) (content files t) ≡ Ok night → (Rose old.store_faults new.store_faults → ⊥) → (Rose old.sink_faults new.sink_faults → ⊥) → Ends (MakePlan s t m p k) old new status → (status ≡ Status.Done) ⊎ ((status ≡ Status.NoMatching) ⊎ ((status ≡ Status.Unfinished) ⊎ (status ≡ Status.Memory))) }
-{}
-
-/// `pinned` ends with `Findings` exactly when its input files are accepted and the pins aren't usable, unless the store, memory or the
-/// sink came first.
-pub fn pinned_findings_exactly()
-    ensures there { (s t i : List ℕ) (m : ℕ) (p k : List ℕ) (old new : Seen) (status : Status) (files : Files) (x : Pinned) → old.files ≡ Some files → pinned_in s t i files ≡ Ok x → (AreUsable x.instance x.pins → ⊥) → Ends (MakePinned s t i m p k) old new status → (status ≡ Status.Findings) ⊎ Yields status }
-    ensures only { (s t i : List ℕ) (m : ℕ) (p k : List ℕ) (old new : Seen) → Ends (MakePinned s t i m p k) old new Status.Findings → (files : Files) × Agrees old.files files × ((x : Pinned) × (pinned_in s t i files ≡ Ok x) × (AreUsable x.instance x.pins → ⊥)) }
-{
-    laws::pins();
-}
-
-/// `pinned` ends with `NoMatching` exactly when its input files are accepted, the pins are usable, and no list is a matching of the units
-/// and positions that they leave, unless the store, memory or the sink came first.
-pub fn pinned_no_matching_exactly()
-    ensures there { (s t i : List ℕ) (m : ℕ) (p k : List ℕ) (old new : Seen) (status : Status) (files : Files) (x : Pinned) → old.files ≡ Some files → pinned_in s t i files ≡ Ok x → AreUsable x.instance x.pins → HasNoMatching x.instance (units_taken x.instance x.pins) (positions_taken x.instance x.pins) → Ends (MakePinned s t i m p k) old new status → (status ≡ Status.NoMatching) ⊎ Yields status }
-    ensures only { (s t i : List ℕ) (m : ℕ) (p k : List ℕ) (old new : Seen) → Ends (MakePinned s t i m p k) old new Status.NoMatching → (files : Files) × Agrees old.files files × ((x : Pinned) × (pinned_in s t i files ≡ Ok x) × AreUsable x.instance x.pins × HasNoMatching x.instance (units_taken x.instance x.pins) (positions_taken x.instance x.pins)) }
-{
-    laws::pins();
-}
-
-/// Where `pinned` ends with `Done`, the plan file holds the text of a feasible plan that keeps the pins and states its cost, no feasible
-/// plan of the night that keeps them costs less, and that cost was printed as optimal, and as the bound.
-pub fn pinned_is_cheapest()
-    ensures { (s t i : List ℕ) (m : ℕ) (p k : List ℕ) (old new : Seen) → Ends (MakePinned s t i m p k) old new Status.Done → (files : Files) × Agrees old.files files × ((x : Pinned) × (pinned_in s t i files ≡ Ok x) × ((plan : Plan) × (c : Certificate) × AreStated x.instance x.pins plan c × IsCheapest x.instance x.pins plan × (c.bound ≡ plan.cost) × IsWhole (planned Outcome.Done p k x.instance plan c) old new)) }
-{
-    laws::pins();
-    proved_bounds();
-}
-
-/// Where `pinned` ends with `Unfinished`, the certificate file holds the text of exactly as many nodes as were allowed, whose paths are
-/// different partial plans over the pins; the plan file holds that of a feasible plan that keeps the pins and states its cost; and every
-/// feasible plan of the night that keeps them costs at least the bound that was printed, which is below the plan's cost.
-pub fn pinned_is_unfinished()
-    ensures { (s t i : List ℕ) (m : ℕ) (p k : List ℕ) (old new : Seen) → Ends (MakePinned s t i m p k) old new Status.Unfinished → (files : Files) × Agrees old.files files × ((x : Pinned) × (pinned_in s t i files ≡ Ok x) × ((plan : Plan) × (c : Certificate) × AreStated x.instance x.pins plan c × IsBounded x.instance x.pins plan c.bound × (c.bound < plan.cost) × AreDifferent x.instance x.pins c.nodes m × IsWhole (planned Outcome.Unfinished p k x.instance plan c) old new)) }
-{
-    laws::pins();
-    few_nodes();
-    known_by_paths();
-    proved_bounds();
-    trees_by_version();
-}
-
-/// If the input files are accepted, the pins are usable, a matching of what they leave exists, and more nodes are allowed than there are
-/// partial plans over them, `pinned` ends with `Done`, unless the store, memory or the sink came first. If neither the store nor the
-/// sink fails, it ends with `Findings`, `Done`, `NoMatching`, `Unfinished` or `Memory`.
-pub fn pinned_completes()
-    ensures done { (s t i : List ℕ) (m : ℕ) (p k : List ℕ) (old new : Seen) (status : Status) (files : Files) (x : Pinned) → old.files ≡ Some files → pinned_in s t i files ≡ Ok x → AreUsable x.instance x.pins → HasMatching x.instance (units_taken x.instance x.pins) (positions_taken x.instance x.pins) → partial_plans x.instance x.pins < m → Ends (MakePinned s t i m p k) old new status → (status ≡ Status.Done) ⊎ Yields status }
-    ensures ends { (s t i : List ℕ) (m : ℕ) (p k : List ℕ) (old new : Seen) (status : Status) (files : Files) (x : Pinned) → old.files ≡ Some files → pinned_in s t i files ≡ Ok x → (Rose old.store_faults new.store_faults → ⊥) → (Rose old.sink_faults new.sink_faults → ⊥) → Ends (MakePinned s t i m p k) old new status → (status ≡ Status.Findings) ⊎ ((status ≡ Status.Done) ⊎ ((status ≡ Status.NoMatching) ⊎ ((status ≡ Status.Unfinished) ⊎ (status ≡ Status.Memory)))) }
-{
-    laws::pins();
-}
-
-/// `improve` ends with `Findings` exactly when its input files are accepted, and the pins aren't usable, or the plan in hand isn't feasible,
-/// doesn't state its cost or doesn't keep a pin, unless the store, memory or the sink came first.
-pub fn improve_findings_exactly()
-    ensures there { (s t i h : List ℕ) (m : ℕ) (p k : List ℕ) (old new : Seen) (status : Status) (files : Files) (x : Pinned × Plan) → old.files ≡ Some files → in_hand_in s t i h files ≡ Ok x → (IsReady x → ⊥) → Ends (Improve s t i h m p k) old new status → (status ≡ Status.Findings) ⊎ Yields status }
-    ensures only { (s t i h : List ℕ) (m : ℕ) (p k : List ℕ) (old new : Seen) → Ends (Improve s t i h m p k) old new Status.Findings → (files : Files) × Agrees old.files files × ((x : Pinned × Plan) × (in_hand_in s t i h files ≡ Ok x) × (IsReady x → ⊥)) }
-{
-    laws::pins();
-    laws::plan_findings();
-    kept_matchings();
-}
-
-/// Where `improve` ends with `Done`, the new plan file holds the text of a feasible plan that keeps the pins and states its cost, no feasible
-/// plan of the night that keeps them costs less, and that cost was printed as optimal, and as the bound.
-pub fn improve_is_cheapest()
-    ensures { (s t i h : List ℕ) (m : ℕ) (p k : List ℕ) (old new : Seen) → Ends (Improve s t i h m p k) old new Status.Done → (files : Files) × Agrees old.files files × ((x : Pinned × Plan) × (in_hand_in s t i h files ≡ Ok x) × ((plan : Plan) × (c : Certificate) × AreStated x.0.instance x.0.pins plan c × IsCheapest x.0.instance x.0.pins plan × (c.bound ≡ plan.cost) × IsWhole (planned Outcome.Done p k x.0.instance plan c) old new)) }
-{
-    laws::pins();
-    laws::plan_findings();
-    kept_matchings();
-    proved_bounds();
-}
-
-/// Where `improve` ends with `Unfinished`, the certificate file holds the text of exactly as many nodes as were allowed, whose paths are
-/// different partial plans over the pins; the new plan file holds that of a feasible plan that keeps the pins and states its cost; and every
-/// feasible plan of the night that keeps them costs at least the bound that was printed, which is below the plan's cost.
-pub fn improve_is_unfinished()
-    ensures { (s t i h : List ℕ) (m : ℕ) (p k : List ℕ) (old new : Seen) → Ends (Improve s t i h m p k) old new Status.Unfinished → (files : Files) × Agrees old.files files × ((x : Pinned × Plan) × (in_hand_in s t i h files ≡ Ok x) × ((plan : Plan) × (c : Certificate) × AreStated x.0.instance x.0.pins plan c × IsBounded x.0.instance x.0.pins plan c.bound × (c.bound < plan.cost) × AreDifferent x.0.instance x.0.pins c.nodes m × IsWhole (planned Outcome.Unfinished p k x.0.instance plan c) old new)) }
-{
-    laws::pins();
-    laws::plan_findings();
-    kept_matchings();
-    few_nodes();
-    known_by_paths();
-    proved_bounds();
-    trees_by_version();
-}
-
-/// Where `improve` ends with `Done` or `Unfinished`, the pins are usable, the plan in hand is feasible, states its cost and keeps them, and
-/// the new plan file holds the text of a plan that costs no more.
-pub fn improve_is_never_worse()
-    ensures done { (s t i h : List ℕ) (m : ℕ) (p k : List ℕ) (old new : Seen) → Ends (Improve s t i h m p k) old new Status.Done → (files : Files) × Agrees old.files files × ((x : Pinned × Plan) × (in_hand_in s t i h files ≡ Ok x) × IsReady x × ((plan : Plan) × (c : Certificate) × AreStated x.0.instance x.0.pins plan c × (total_cost x.0.instance plan.blocks ≤ total_cost x.0.instance x.1.blocks) × IsWhole (planned Outcome.Done p k x.0.instance plan c) old new)) }
-    ensures unfinished { (s t i h : List ℕ) (m : ℕ) (p k : List ℕ) (old new : Seen) → Ends (Improve s t i h m p k) old new Status.Unfinished → (files : Files) × Agrees old.files files × ((x : Pinned × Plan) × (in_hand_in s t i h files ≡ Ok x) × IsReady x × ((plan : Plan) × (c : Certificate) × AreStated x.0.instance x.0.pins plan c × (total_cost x.0.instance plan.blocks ≤ total_cost x.0.instance x.1.blocks) × IsWhole (planned Outcome.Unfinished p k x.0.instance plan c) old new)) }
-{
-    laws::pins();
-    laws::plan_findings();
-    kept_matchings();
-}
-
-/// If the input files are accepted, the pins are usable, the plan in hand is feasible, states its cost and keeps them, and more nodes are
-/// allowed than there are partial plans over them, `improve` ends with `Done`, unless the store, memory or the sink came first. If neither
-/// the store nor the sink fails, it ends with `Findings`, `Done`, `Unfinished` or `Memory`, and never with `NoMatching`.
-pub fn improve_completes()
-    ensures done { (s t i h : List ℕ) (m : ℕ) (p k : List ℕ) (old new : Seen) (status : Status) (files : Files) (x : Pinned × Plan) → old.files ≡ Some files → in_hand_in s t i h files ≡ Ok x → IsReady x → partial_plans x.0.instance x.0.pins < m → Ends (Improve s t i h m p k) old new status → (status ≡ Status.Done) ⊎ Yields status }
-    ensures ends { (s t i h : List ℕ) (m : ℕ) (p k : List ℕ) (old new : Seen) (status : Status) (files : Files) (x : Pinned × Plan) → old.files ≡ Some files → in_hand_in s t i h files ≡ Ok x → (Rose old.store_faults new.store_faults → ⊥) → (Rose old.sink_faults new.sink_faults → ⊥) → Ends (Improve s t i h m p k) old new status → (status ≡ Status.Findings) ⊎ ((status ≡ Status.Done) ⊎ ((status ≡ Status.Unfinished) ⊎ (status ≡ Status.Memory))) }
-    ensures no_matching { (s t i h : List ℕ) (m : ℕ) (p k : List ℕ) (old new : Seen) → Ends (Improve s t i h m p k) old new Status.NoMatching → ⊥ }
-{
-    laws::pins();
-    laws::plan_findings();
-    kept_matchings();
-}
-
-/// `check` of the files that `plan` left, whether with `Done` or with `Unfinished`, accepts them, unless the store, memory or the sink
-/// came first.
-pub fn own_plans_are_accepted()
-    ensures { (s t : List ℕ) (m : ℕ) (p k : List ℕ) (old mid before new : Seen) (first status : Status) (files : Files) → IsUsable (MakePlan s t m p k) → Ends (MakePlan s t m p k) old mid first → (first ≡ Status.Done) ⊎ (first ≡ Status.Unfinished) → mid.files ≡ Some files → before.files ≡ Some files → Ends (Check s t p k) before new status → (status ≡ Status.Done) ⊎ Yields status }
-{
-    reasons();
-    texts_of_plans();
-    texts_of_certificates();
-}
-
-/// `check-pinned` of the files that `pinned` left, whether with `Done` or with `Unfinished`, over the same pins, accepts them, unless the
-/// store, memory or the sink came first.
-pub fn own_pinned_plans_are_accepted()
-    ensures { (s t i : List ℕ) (m : ℕ) (p k : List ℕ) (old mid before new : Seen) (first status : Status) (files : Files) → IsUsable (MakePinned s t i m p k) → Ends (MakePinned s t i m p k) old mid first → (first ≡ Status.Done) ⊎ (first ≡ Status.Unfinished) → mid.files ≡ Some files → before.files ≡ Some files → Ends (CheckPinned s t i p k) before new status → (status ≡ Status.Done) ⊎ Yields status }
-{
-    laws::pins();
-    reasons();
-    texts_of_plans();
-    texts_of_certificates();
-}
-
-/// `check-pinned` of the new plan and the certificate that `improve` left, whether with `Done` or with `Unfinished`, over the same pins,
-/// accepts them, unless the store, memory or the sink came first.
-pub fn own_improved_plans_are_accepted()
-    ensures { (s t i h : List ℕ) (m : ℕ) (p k : List ℕ) (old mid before new : Seen) (first status : Status) (files : Files) → IsUsable (Improve s t i h m p k) → Ends (Improve s t i h m p k) old mid first → (first ≡ Status.Done) ⊎ (first ≡ Status.Unfinished) → mid.files ≡ Some files → before.files ≡ Some files → Ends (CheckPinned s t i p k) before new status → (status ≡ Status.Done) ⊎ Yields status }
-{
-    laws::pins();
-    laws::plan_findings();
-    kept_matchings();
-    reasons();
-    texts_of_plans();
-    texts_of_certificates();
 }

@@ -1,10 +1,13 @@
 //! The program's one call: from the words of the command line to files and output.
 #![tactic(auto)]
 
-mod delivering;
+mod delivery;
+mod execution;
 pub mod laws;
-mod replying;
-mod running;
+mod replies;
+pub mod search_laws;
+mod status;
 mod words;
 
-pub use running::{Status, run};
+pub use execution::run;
+pub use status::Status;

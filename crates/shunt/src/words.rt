@@ -1,5 +1,6 @@
 // The words of the command line.
-ghost use Rattle.std.specs.Prelude.{◌≡◌, ◌↔◌, ◌∷◌, [], ℕ, ◌<◌, ◌≤◌, length, codes, Some, IfSome, IsSome, IsTrue};
+ghost use Rattle.std.specs.Prelude.{◌≡◌, ◌↔◌, ◌∷◌, [], ℕ, ◌<◌, ◌≤◌, length, codes, Some, IfSome};
+ghost use Rattle.std.specs.Prelude.{IsSome, IsTrue};
 ghost use Rattle.std.specs.Fmt.{decimal};
 ghost use Rattle.shunt_inputs.specs.defs.Names.{AreNames};
 ghost use Rattle.shunt.specs.defs.Calls.{Call, texts, call_of};
@@ -131,7 +132,8 @@ fn are_four_names(first: &str, second: &str, third: &str, fourth: &str) -> bool
 }
 
 fn are_five_names(first: &str, second: &str, third: &str, fourth: &str, fifth: &str) -> bool
-    ensures { IsTrue result ↔ AreNames (first.now ∷ second.now ∷ third.now ∷ fourth.now ∷ fifth.now ∷ []) }
+    ensures { IsTrue result
+        ↔ AreNames (first.now ∷ second.now ∷ third.now ∷ fourth.now ∷ fifth.now ∷ []) }
 {
     if first.is_empty() {
         return false;
@@ -159,7 +161,8 @@ fn are_six_names(
     fifth: &str,
     sixth: &str,
 ) -> bool
-    ensures { IsTrue result ↔ AreNames (first.now ∷ second.now ∷ third.now ∷ fourth.now ∷ fifth.now ∷ sixth.now ∷ []) }
+    ensures { IsTrue result
+        ↔ AreNames (first.now ∷ second.now ∷ third.now ∷ fourth.now ∷ fifth.now ∷ sixth.now ∷ []) }
 {
     if first.is_empty() {
         return false;
@@ -184,8 +187,10 @@ fn are_six_names(
 
 // The command that a word and the names of two files spell.
 fn of_two_files<'w>(word: &'w String, first: &'w String, second: &'w String) -> Option<Command<'w>>
-    ensures some { IfSome result (λ c. Spells (texts (word.now ∷ first.now ∷ second.now ∷ [])) (call_of c)) }
-    ensures only { (c : Call) → Spells (texts (word.now ∷ first.now ∷ second.now ∷ [])) c → IsSome result }
+    ensures some { IfSome result
+        (λ c. Spells (texts (word.now ∷ first.now ∷ second.now ∷ [])) (call_of c)) }
+    ensures only { (c : Call) → Spells (texts (word.now ∷ first.now ∷ second.now ∷ [])) c
+        → IsSome result }
 {
     let (first, second) = (first.as_str(), second.as_str());
     match word.as_str() {
@@ -202,8 +207,10 @@ fn of_three_files<'w>(
     second: &'w String,
     third: &'w String,
 ) -> Option<Command<'w>>
-    ensures some { IfSome result (λ c. Spells (texts (word.now ∷ first.now ∷ second.now ∷ third.now ∷ [])) (call_of c)) }
-    ensures only { (c : Call) → Spells (texts (word.now ∷ first.now ∷ second.now ∷ third.now ∷ [])) c → IsSome result }
+    ensures some { IfSome result
+        (λ c. Spells (texts (word.now ∷ first.now ∷ second.now ∷ third.now ∷ [])) (call_of c)) }
+    ensures only { (c : Call)
+        → Spells (texts (word.now ∷ first.now ∷ second.now ∷ third.now ∷ [])) c → IsSome result }
 {
     let (first, second, third) = (first.as_str(), second.as_str(), third.as_str());
     match word.as_str() {
@@ -228,8 +235,11 @@ fn of_four_files<'w>(
     third: &'w String,
     fourth: &'w String,
 ) -> Option<Command<'w>>
-    ensures some { IfSome result (λ c. Spells (texts (word.now ∷ first.now ∷ second.now ∷ third.now ∷ fourth.now ∷ [])) (call_of c)) }
-    ensures only { (c : Call) → Spells (texts (word.now ∷ first.now ∷ second.now ∷ third.now ∷ fourth.now ∷ [])) c → IsSome result }
+    ensures some { IfSome result (λ c. Spells
+        (texts (word.now ∷ first.now ∷ second.now ∷ third.now ∷ fourth.now ∷ [])) (call_of c)) }
+    ensures only { (c : Call)
+        → Spells (texts (word.now ∷ first.now ∷ second.now ∷ third.now ∷ fourth.now ∷ [])) c
+        → IsSome result }
 {
     let (first, second) = (first.as_str(), second.as_str());
     let (third, fourth) = (third.as_str(), fourth.as_str());
@@ -268,8 +278,11 @@ fn of_five_files<'w>(
     fourth: &'w String,
     fifth: &'w String,
 ) -> Option<Command<'w>>
-    ensures some { IfSome result (λ c. Spells (texts (word.now ∷ first.now ∷ second.now ∷ third.now ∷ fourth.now ∷ fifth.now ∷ [])) (call_of c)) }
-    ensures only { (c : Call) → Spells (texts (word.now ∷ first.now ∷ second.now ∷ third.now ∷ fourth.now ∷ fifth.now ∷ [])) c → IsSome result }
+    ensures some { IfSome result (λ c. Spells (texts (word.now ∷ first.now ∷ second.now ∷ third.now
+        ∷ fourth.now ∷ fifth.now ∷ [])) (call_of c)) }
+    ensures only { (c : Call) → Spells
+        (texts (word.now ∷ first.now ∷ second.now ∷ third.now ∷ fourth.now ∷ fifth.now ∷ [])) c
+        → IsSome result }
 {
     let (first, second, third) = (first.as_str(), second.as_str(), third.as_str());
     let (fourth, fifth) = (fourth.as_str(), fifth.as_str());
@@ -314,8 +327,11 @@ fn of_search<'w>(
     third: &'w str,
     fourth: &'w str,
 ) -> Option<Command<'w>>
-    ensures some { IfSome result (λ c. Spells (codes "plan" ∷ first.now ∷ second.now ∷ number.now ∷ third.now ∷ fourth.now ∷ []) (call_of c)) }
-    ensures only { (c : Call) → Spells (codes "plan" ∷ first.now ∷ second.now ∷ number.now ∷ third.now ∷ fourth.now ∷ []) c → IsSome result }
+    ensures some { IfSome result (λ c. Spells (codes "plan" ∷ first.now ∷ second.now ∷ number.now
+        ∷ third.now ∷ fourth.now ∷ []) (call_of c)) }
+    ensures only { (c : Call) → Spells
+        (codes "plan" ∷ first.now ∷ second.now ∷ number.now ∷ third.now ∷ fourth.now ∷ []) c
+        → IsSome result }
 {
     let nodes = node_count(number)?;
     if are_four_names(first, second, third, fourth) {
@@ -335,8 +351,11 @@ fn of_six_words<'w>(
     fifth: &'w String,
     sixth: &'w String,
 ) -> Option<Command<'w>>
-    ensures some { IfSome result (λ c. Spells (texts (word.now ∷ first.now ∷ second.now ∷ third.now ∷ fourth.now ∷ fifth.now ∷ sixth.now ∷ [])) (call_of c)) }
-    ensures only { (c : Call) → Spells (texts (word.now ∷ first.now ∷ second.now ∷ third.now ∷ fourth.now ∷ fifth.now ∷ sixth.now ∷ [])) c → IsSome result }
+    ensures some { IfSome result (λ c. Spells (texts (word.now ∷ first.now ∷ second.now ∷ third.now
+        ∷ fourth.now ∷ fifth.now ∷ sixth.now ∷ [])) (call_of c)) }
+    ensures only { (c : Call) → Spells (texts
+        (word.now ∷ first.now ∷ second.now ∷ third.now ∷ fourth.now ∷ fifth.now ∷ sixth.now ∷ [])) c
+        → IsSome result }
 {
     let (first, second, third) = (first.as_str(), second.as_str(), third.as_str());
     let (fourth, fifth, sixth) = (fourth.as_str(), fifth.as_str(), sixth.as_str());
@@ -355,8 +374,10 @@ fn of_pinned_search<'w>(
     fourth: &'w str,
     fifth: &'w str,
 ) -> Option<Command<'w>>
-    ensures some { IfSome result (λ c. Spells (codes "pinned" ∷ first.now ∷ second.now ∷ third.now ∷ number.now ∷ fourth.now ∷ fifth.now ∷ []) (call_of c)) }
-    ensures only { (c : Call) → Spells (codes "pinned" ∷ first.now ∷ second.now ∷ third.now ∷ number.now ∷ fourth.now ∷ fifth.now ∷ []) c → IsSome result }
+    ensures some { IfSome result (λ c. Spells (codes "pinned" ∷ first.now ∷ second.now ∷ third.now
+        ∷ number.now ∷ fourth.now ∷ fifth.now ∷ []) (call_of c)) }
+    ensures only { (c : Call) → Spells (codes "pinned" ∷ first.now ∷ second.now ∷ third.now
+        ∷ number.now ∷ fourth.now ∷ fifth.now ∷ []) c → IsSome result }
 {
     let nodes = node_count(number)?;
     if are_five_names(first, second, third, fourth, fifth) {
@@ -389,8 +410,10 @@ fn of_seven_words<'w>(
     sixth: &'w String,
     seventh: &'w String,
 ) -> Option<Command<'w>>
-    ensures some { IfSome result (λ c. Spells (texts (word.now ∷ first.now ∷ second.now ∷ third.now ∷ fourth.now ∷ fifth.now ∷ sixth.now ∷ seventh.now ∷ [])) (call_of c)) }
-    ensures only { (c : Call) → Spells (texts (word.now ∷ first.now ∷ second.now ∷ third.now ∷ fourth.now ∷ fifth.now ∷ sixth.now ∷ seventh.now ∷ [])) c → IsSome result }
+    ensures some { IfSome result (λ c. Spells (texts (word.now ∷ first.now ∷ second.now ∷ third.now
+        ∷ fourth.now ∷ fifth.now ∷ sixth.now ∷ seventh.now ∷ [])) (call_of c)) }
+    ensures only { (c : Call) → Spells (texts (word.now ∷ first.now ∷ second.now ∷ third.now
+        ∷ fourth.now ∷ fifth.now ∷ sixth.now ∷ seventh.now ∷ [])) c → IsSome result }
 {
     let (first, second, third) = (first.as_str(), second.as_str(), third.as_str());
     let (fourth, fifth) = (fourth.as_str(), fifth.as_str());
@@ -412,8 +435,10 @@ fn of_improvement<'w>(
     fifth: &'w str,
     sixth: &'w str,
 ) -> Option<Command<'w>>
-    ensures some { IfSome result (λ c. Spells (codes "improve" ∷ first.now ∷ second.now ∷ third.now ∷ fourth.now ∷ number.now ∷ fifth.now ∷ sixth.now ∷ []) (call_of c)) }
-    ensures only { (c : Call) → Spells (codes "improve" ∷ first.now ∷ second.now ∷ third.now ∷ fourth.now ∷ number.now ∷ fifth.now ∷ sixth.now ∷ []) c → IsSome result }
+    ensures some { IfSome result (λ c. Spells (codes "improve" ∷ first.now ∷ second.now ∷ third.now
+        ∷ fourth.now ∷ number.now ∷ fifth.now ∷ sixth.now ∷ []) (call_of c)) }
+    ensures only { (c : Call) → Spells (codes "improve" ∷ first.now ∷ second.now ∷ third.now
+        ∷ fourth.now ∷ number.now ∷ fifth.now ∷ sixth.now ∷ []) c → IsSome result }
 {
     let nodes = node_count(number)?;
     if are_six_names(first, second, third, fourth, fifth, sixth) {
@@ -433,8 +458,10 @@ fn of_trial<'w>(
     plan: &'w str,
     certificate: &'w str,
 ) -> Option<Command<'w>>
-    ensures some { IfSome result (λ c. Spells (codes "trial" ∷ number.now ∷ units.now ∷ nodes.now ∷ station.now ∷ timetable.now ∷ plan.now ∷ certificate.now ∷ []) (call_of c)) }
-    ensures only { (c : Call) → Spells (codes "trial" ∷ number.now ∷ units.now ∷ nodes.now ∷ station.now ∷ timetable.now ∷ plan.now ∷ certificate.now ∷ []) c → IsSome result }
+    ensures some { IfSome result (λ c. Spells (codes "trial" ∷ number.now ∷ units.now ∷ nodes.now
+        ∷ station.now ∷ timetable.now ∷ plan.now ∷ certificate.now ∷ []) (call_of c)) }
+    ensures only { (c : Call) → Spells (codes "trial" ∷ number.now ∷ units.now ∷ nodes.now
+        ∷ station.now ∷ timetable.now ∷ plan.now ∷ certificate.now ∷ []) c → IsSome result }
 {
     let number = number_up_to(number, 2_147_483_647)?;
     let units = number_up_to(units, 160)?;

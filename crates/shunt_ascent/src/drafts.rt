@@ -2,12 +2,12 @@
 ghost use Rattle.std.specs.Prelude.{◌<◌, length};
 ghost use Rattle.shunt_choices.specs.defs.Paths.{IsTrailOf};
 
-use crate::ascending::{Ascent, ascend};
-use crate::evaluating::Work;
+use crate::ascent::{Ascent, ascend};
 use crate::numbers::{NOTHING, Number, at};
 use crate::points::{EVERY, Point};
 use crate::scenes::Scene;
 use crate::slots::{Slot, count_of, length_slot};
+use crate::valuation::Work;
 use shunt_base::{ArrId, DepId, PriceKind, TrackId};
 use shunt_choices::Path;
 use shunt_instance::Instance;

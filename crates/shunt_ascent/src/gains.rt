@@ -1,5 +1,4 @@
 // What a case with stacks comes to at a path, with the slopes of its numbers, the values of units among them.
-use crate::evaluating::Lightest;
 use crate::groups::{Group, NO_WAY};
 use crate::numbers::{NOTHING, Number, add_at, at, fill};
 use crate::points::{Point, Span, Values};
@@ -9,6 +8,7 @@ use crate::slopes::Slopes;
 use crate::stacks::{Space, Stacks, Ways};
 use crate::tables::{Offer, Part, Piece, Table};
 use crate::totals::Totals;
+use crate::valuation::Lightest;
 use std::alloc::{AllocError, Global};
 
 /// A path as stacks see it: what it leaves free of trains, and of each stack.

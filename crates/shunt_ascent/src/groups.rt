@@ -75,7 +75,15 @@ pub(crate) struct Groups {
 
 // A shape with an option as a block.
 pub(crate) fn block_with(shape: Shape, park: Option<Park>) -> Block
-    ensures { result ≡ record { id = 1; arr = shape.arr; p = shape.p; n = shape.n; dep = shape.dep; q = shape.q; park = park } }
+    ensures { result ≡ record {
+      id = 1;
+      arr = shape.arr;
+      p = shape.p;
+      n = shape.n;
+      dep = shape.dep;
+      q = shape.q;
+      park = park;
+    } }
 {
     Block {
         id: 1,

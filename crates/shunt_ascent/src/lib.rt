@@ -3,35 +3,35 @@
 #![tactic(auto)]
 
 mod additions;
-mod ascending;
+mod ascent;
+mod case_pairs;
+mod certificate_cases;
 mod changes;
 mod climbs;
 mod drafts;
-mod evaluating;
 mod events;
 mod gains;
 mod groups;
 mod lifts;
 mod metric;
 mod numbers;
-mod parting;
 mod points;
-mod proposing;
+mod proposal;
 mod rests;
 mod rooms;
 mod roots;
 mod scales;
 mod scenes;
-mod settling;
 mod sites;
 mod slopes;
 mod slots;
 mod stacks;
 mod stated;
-mod stating;
 mod tables;
 mod totals;
+mod valuation;
+mod whole_numbers;
 
-pub use proposing::Proposal;
+pub use proposal::Proposal;
 pub use scales::grain;
-pub use sites::{Choice, Fixed, Raise, Raised, Site};
+pub use sites::{Fixed, Raise, Raised, Site, SiteChoice};

@@ -1,11 +1,11 @@
 // Better numbers of a case with stacks by an ascent, in which the values of units change too.
+use crate::certificate_cases::Sketch;
 use crate::changes::{Changes, farthest, free_positions, free_units, longest, step_of};
 use crate::climbs::{Pace, Valued, highest};
 use crate::gains::{Gains, Place};
 use crate::numbers::{Number, ONE};
 use crate::points::{Span, Values};
-use crate::settling::{round, rounded};
-use crate::stating::Sketch;
+use crate::whole_numbers::{round, rounded};
 use std::alloc::{AllocError, Global};
 use std::num::Wrapping;
 

@@ -4,6 +4,7 @@ ghost use Rattle.shunt_choices.specs.defs.Paths.{IsTrailOf};
 ghost use Rattle.shunt_prices.specs.defs.Limits.{AreApart, AreCases};
 
 use crate::additions::{dearest, moved, slots_beside};
+use crate::certificate_cases::cases_with;
 use crate::gains::{Gains, Place};
 use crate::lifts::{Held, Lift, hold, lifted};
 use crate::numbers::{NOTHING, Number, ONE};
@@ -12,7 +13,6 @@ use crate::scenes::Scene;
 use crate::slots::Slot;
 use crate::stacks::Stacks;
 use crate::stated::values_of;
-use crate::stating::cases_with;
 use shunt_base::{Case, Cases};
 use shunt_choices::Path;
 use shunt_instance::Instance;

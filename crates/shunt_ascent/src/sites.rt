@@ -3,18 +3,17 @@ ghost use Rattle.std.specs.Prelude.{◌≡◌, ◌≤◌, All, IfOk};
 ghost use Rattle.shunt_choices.specs.defs.Paths.{IsTrailOf};
 ghost use Rattle.shunt_prices.specs.defs.Limits.{IsCase, AreApart, AreCases};
 
-use crate::ascending::{Ascent, ascend};
-use crate::evaluating::Work;
+use crate::ascent::{Ascent, ascend};
+use crate::certificate_cases::{Sketch, cases_with};
 use crate::groups::{NO_WAY, block_with, weight};
 use crate::numbers::{NOTHING, Number, at, whole};
 use crate::points::{Point, Span};
-use crate::proposing::Proposal;
+use crate::proposal::{Proposal, slots_with};
 use crate::scenes::{Entry, Row, Scene, Stand};
-use crate::settling::{round, settle};
-use crate::slots::{Slot, has_slot, slot_of};
 use crate::stated::{point_of, scaled};
-use crate::stating::{Sketch, cases_with};
-use shunt_base::{Case, Cases, Price};
+use crate::valuation::Work;
+use crate::whole_numbers::{round, settle};
+use shunt_base::{Case, Cases};
 use shunt_blocks::{Block, Park, are_runs_within, position_from, shape_of, unit_from};
 use shunt_choices::{Path, options};
 use shunt_instance::Instance;
@@ -38,7 +37,7 @@ pub struct Raised {
 
 /// A block that may come next; its id says nothing.
 #[derive(Clone, Copy)]
-pub struct Choice {
+pub struct SiteChoice {
     pub block: Block,
     entry: Entry,
 }
@@ -79,36 +78,6 @@ impl Fixed {
     pub fn to(&self) -> u8 {
         self.span.to
     }
-}
-
-// Adds the prices of a case that aren't among these.
-fn add_slots(
-    instance: &Instance,
-    prices: &[Price],
-    slots: &mut Vec<Slot>,
-) -> Result<(), AllocError> {
-    for price in prices {
-        if let Some(slot) = slot_of(instance, price) {
-            if !has_slot(slots, &slot) {
-                slots.push(slot)?;
-            }
-        }
-    }
-    Ok(())
-}
-
-/// The prices of a proposal and of these cases. Err is want of memory.
-pub(crate) fn slots_with(
-    alloc: Global,
-    instance: &Instance,
-    proposal: &Proposal,
-    cases: &Cases,
-) -> Result<Vec<Slot>, AllocError> {
-    let mut slots = proposal.slots(alloc)?;
-    for k in 0..cases.len() {
-        add_slots(instance, cases.get(k).duals.prices.as_slice(), &mut slots)?;
-    }
-    Ok(slots)
 }
 
 // All free shapes of a scene, by unit.
@@ -266,7 +235,7 @@ impl Site {
         instance: &Instance,
         u: usize,
         row: &Row,
-        choices: &mut Vec<Choice>,
+        choices: &mut Vec<SiteChoice>,
     ) -> Result<(), AllocError> {
         if !are_runs_within(instance, row.shape) {
             return Ok(());
@@ -280,7 +249,11 @@ impl Site {
     }
 
     /// The blocks that may come next, also those with which the run doesn't go through. Err is want of memory.
-    pub fn choices(&self, alloc: Global, instance: &Instance) -> Result<Vec<Choice>, AllocError> {
+    pub fn choices(
+        &self,
+        alloc: Global,
+        instance: &Instance,
+    ) -> Result<Vec<SiteChoice>, AllocError> {
         let mut choices = Vec::new(alloc);
         let Some(u) = self.free.iter().position(|free| *free) else {
             return Ok(choices);
@@ -307,7 +280,7 @@ impl Site {
         alloc: Global,
         case: &Fixed,
         sum: i64,
-        choices: &[Choice],
+        choices: &[SiteChoice],
     ) -> Result<Vec<i64>, AllocError> {
         self.work.weigh_all(&self.scene, &case.point);
         let mut sums = Vec::with_capacity(alloc, choices.len())?;
@@ -353,7 +326,7 @@ impl Site {
     }
 
     // Lets these be the blocks that may come next.
-    fn enter(&mut self, choices: &[Choice]) -> Result<(), AllocError> {
+    fn enter(&mut self, choices: &[SiteChoice]) -> Result<(), AllocError> {
         self.scene.entries.clear();
         for choice in choices {
             self.scene.entries.push(choice.entry)?;
@@ -366,7 +339,7 @@ impl Site {
         &mut self,
         alloc: Global,
         case: &Fixed,
-        choices: &[Choice],
+        choices: &[SiteChoice],
         raise: Raise,
     ) -> Result<Raised, AllocError> {
         self.enter(choices)?;
@@ -411,9 +384,9 @@ impl Site {
 }
 
 // A shape at a unit with an option.
-fn choice_of(instance: &Instance, u: usize, row: &Row, option: Option<Park>) -> Choice {
+fn choice_of(instance: &Instance, u: usize, row: &Row, option: Option<Park>) -> SiteChoice {
     let block = block_with(row.shape, option);
-    Choice {
+    SiteChoice {
         block,
         entry: Entry {
             u,

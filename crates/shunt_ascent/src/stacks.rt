@@ -5,7 +5,7 @@ use crate::numbers::Number;
 use crate::rooms::Rooms;
 use crate::scenes::Scene;
 use crate::slots::room_of;
-use crate::tables::Part;
+use crate::tables::{Part, first_leave};
 use shunt_base::{Side, TrackId};
 use shunt_blocks::{
     Block, Park, Shape, are_runs_within, block_length, in_range, position_from, shape_of, unit_from,
@@ -247,11 +247,6 @@ fn parts_of(
         room: rooms.place_of(room),
     })?;
     Ok(parts)
-}
-
-/// The number of the first leave of a block, by that of its last one and its number of units.
-pub(crate) fn first_leave(leaves: u16, n: u16) -> u16 {
-    leaves.saturating_add(1).saturating_sub(n)
 }
 
 impl Space {

@@ -1,7 +1,6 @@
 // The greatest sum of what blocks of one stack bring: a table over those events alone at which such blocks come or go.
 use crate::numbers::{NOTHING, Number, at, put_at};
 use crate::rooms::Rooms;
-use crate::stacks::first_leave;
 use std::alloc::{AllocError, Global};
 use std::num::Wrapping;
 
@@ -381,4 +380,9 @@ impl Table {
         }
         Ok(())
     }
+}
+
+/// The number of the first leave of a block, by that of its last one and its number of units.
+pub(crate) fn first_leave(leaves: u16, n: u16) -> u16 {
+    leaves.saturating_add(1).saturating_sub(n)
 }

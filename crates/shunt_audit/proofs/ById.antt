@@ -1,30 +1,31 @@
 -- The blocks by ascending id.
-use Rattle.std.proofs.Common.{◌≡◌, ◌≢◌, inl, inr, ⊎_elim, ◌↔◌, ℕ, suc, ◌<◌, ◌≤◌, List, [], ◌∷◌, length, get_or, map, sym, subst, ap, ◌∙◌, arith, IsPermutation}
+use Rattle.std.proofs.Common.{◌≡◌, ◌≢◌, inl, inr, ⊎_elim, ◌↔◌, ℕ, suc, ◌<◌, ◌≤◌, List, [], ◌∷◌, length, get_or, map, sym, subst, ap, ◌∙◌, arith, IsPermutation, refl}
 use Rattle.std.specs.Prelude.{nat_le, ◌==◌}
 use Rattle.std.specs.List.{AllByRecursion}
 use Rattle.std.specs.List.Sorted.{IsNonDecreasingBy}
-use Rattle.std.proofs.lemmas.Bool.{cases_Bool, cond-true, cond-false, leb-true, leb-false, cases_lt}
+use Rattle.std.proofs.lemmas.Bool.{cases_Bool, cond-true, cond-false, leb-true, leb-false, cases_lt, le-leb}
 use Rattle.std.proofs.lemmas.Bool.Decides.{Decides-eqb, nat_tests}
 use Rattle.std.proofs.lemmas.List.{get_or-map, length-map}
 use Rattle.std.proofs.lemmas.List.Sorted.{All-permutation, IsPermutation-refl, IsPermutation-cons, IsPermutation-sym, IsPermutation-trans, IsPermutation-middle, IsPermutation-map, length_permutation}
 use Rattle.std.proofs.lemmas.Map.Keys.{IsDistinct-IsPermutation}
 use Rattle.std.proofs.lemmas.Map.Made.{AllPairs-from_IsDistinct, IsDistinct-from_AllPairs}
-use Rattle.shunt_lists.proofs.Members.{all_in, all_from}
+use Rattle.shunt_lists.proofs.Members.{all_in, all_from, place_of}
 use Rattle.shunt_lists.specs.defs.Members.{In, AreDistinct}
-use Rattle.shunt_stays.proofs.Ascending.{Ascends, unique}
-use Rattle.shunt_stays.proofs.Sorting.{in_permuted, of_permuted}
+use Rattle.shunt_stays.proofs.AscendingLists.{Ascends, unique}
+use Rattle.shunt_stays.proofs.SortedEvents.{in_permuted, of_permuted}
 use Rattle.shunt_instance.specs.defs.Instance.{Night}
 use Rattle.shunt_blocks.specs.declared.records.Block.{Block}
 use Rattle.shunt_blocks.specs.defs.Shapes.{IsInRange}
 use Rattle.shunt_blocks.specs.defs.Lists.{AreInRange}
 use Rattle.shunt_audit.specs.defs.Listed.{insert_by_id, by_id}
+use Rattle.shunt_lists.proofs.Tests.{strictly_below as below}
 
 abbrev pub id_of : Block → ℕ
 id_of b = b.id
 
 -- ---- the sort moves blocks alone
 
-insert_moves : (b : Block) (blocks : List Block) → IsPermutation (b ∷ blocks) (insert_by_id b blocks)
+pub insert_moves : (b : Block) (blocks : List Block) → IsPermutation (b ∷ blocks) (insert_by_id b blocks)
 insert_moves b [] = IsPermutation-refl (b ∷ [])
 insert_moves b (c ∷ blocks) = elim (cases_Bool (nat_le b.id c.id)) [
   | inl is ↦ subst (IsPermutation (b ∷ c ∷ blocks)) (sym (cond-true (nat_le b.id c.id) (b ∷ c ∷ blocks) (c ∷ insert_by_id b blocks) is)) (IsPermutation-refl (b ∷ c ∷ blocks))
@@ -48,12 +49,6 @@ there blocks b = (of_permuted blocks (by_id blocks) b (moves blocks), in_permute
 abbrev pub Apart : List Block → Type 0
 Apart [] = Unit {0}
 Apart (b ∷ blocks) = AllByRecursion (λ c. b.id ≢ c.id) blocks × Apart blocks
-
--- a member stands at a place
-pub place_of : {X : Type 0} (xs : List X) (x d : X) → In x xs → (k : ℕ) × (k < length xs) × (get_or xs k d ≡ x)
-place_of [] x d h = absurd h
-place_of (y ∷ xs) x d (inl e) = (0, omega arith, sym e)
-place_of (y ∷ xs) x d (inr h) = let r = place_of xs x d h in (suc r.0, let lt = r.1 in omega arith, r.2)
 
 pub apart : (blocks : List Block) → AreDistinct (map id_of blocks) → Apart blocks
 apart [] h = tt
@@ -83,9 +78,6 @@ pub sorted_range : (night : Night) (blocks : List Block) → AreInRange night bl
 sorted_range night blocks h = range_permuted night blocks (by_id blocks) (moves blocks) h
 
 -- ---- the sort ascends, and there is one that does
-
-below : (x y : ℕ) → x ≤ y → x ≢ y → x < y
-below x y le ne = ⊎_elim (λ lt. lt) (λ ge. absurd (ne (omega arith))) (cases_lt x y)
 
 insert_ascends : (b : Block) (blocks : List Block) → AllByRecursion (λ c. b.id ≢ c.id) blocks → Ascends id_of blocks → Ascends id_of (insert_by_id b blocks)
 insert_ascends b [] new a = (tt, tt)
@@ -126,3 +118,7 @@ pub sorted_is : (blocks others : List Block) → AreDistinct (map id_of blocks) 
 sorted_is blocks others h p s =
     unique id_of others (by_id blocks) (sorted_ascends others (apart others (distinct_permuted blocks others p h)) s) (ascends blocks (apart blocks h))
     (λ b. (λ i. (there blocks b).1 (of_permuted blocks others b p i), λ i. in_permuted blocks others b p ((there blocks b).0 i)))
+
+pub put_first : (b : Block) (blocks : List Block) → AllByRecursion (λ c. b.id < c.id) blocks → insert_by_id b blocks ≡ b ∷ blocks
+put_first b [] a = refl
+put_first b (c ∷ blocks) a = cond-true (nat_le b.id c.id) (b ∷ c ∷ blocks) (c ∷ insert_by_id b blocks) (le-leb b.id c.id (let lt = a.0 in omega arith))

@@ -8,17 +8,17 @@ use Rattle.std.proofs.lemmas.List.Sorted.{sum_by-IsPermutation, IsPermutation-sy
 use Rattle.shunt_lists.proofs.Members.{in_left, in_right, in_cases, of_flat, in_flat}
 use Rattle.shunt_lists.specs.defs.Members.{In}
 use Rattle.shunt_base.specs.declared.keys.Stay.{Stay}
-use Rattle.shunt_stays.specs.defs.Crossing.{Crosses, crosses, load_after}
-use Rattle.shunt_stays.proofs.Ascending.{Ascends}
+use Rattle.shunt_stays.specs.defs.Crossings.{Crosses, crosses, load_after}
+use Rattle.shunt_stays.proofs.AscendingLists.{Ascends}
 use Rattle.shunt_stays.proofs.Crossings.{crosses_is}
-use Rattle.shunt_stays.proofs.Sorting.{in_permuted}
+use Rattle.shunt_stays.proofs.SortedEvents.{in_permuted}
 use Rattle.shunt_instance.specs.defs.Instance.{Night, unit_total, position_total}
 use Rattle.shunt_blocks.specs.declared.records.Block.{Block}
 use Rattle.shunt_blocks.specs.declared.records.Park.{Park}
 use Rattle.shunt_blocks.specs.defs.Shapes.{shape_of}
 use Rattle.shunt_blocks.specs.defs.Ways.{way_in, way_out}
 use Rattle.shunt_blocks.specs.defs.Blocks.{type_fault}
-use Rattle.shunt_blocks.specs.defs.Standing.{is_too_soon, stay_of}
+use Rattle.shunt_blocks.specs.defs.Stays.{is_too_soon, stay_of}
 use Rattle.shunt_blocks.specs.defs.Lists.{has_unit, has_position, times_unit, times_position, track_lengths, stays_of, AreInRange}
 use Rattle.shunt_audit.specs.declared.types.Finding.{Finding}
 use Rattle.shunt_audit.specs.declared.types.Finding.TheVariants.{UnitBare, UnitTwice, PlaceBare, PlaceTwice, WrongType, TooSoon, NoRouteIn, NoRouteOut, Crossing, TooLong, StatedCost}
@@ -26,8 +26,9 @@ use Rattle.shunt_audit.specs.defs.Findings.{HasBlock, HasStay, IsOver, IsFinding
 use Rattle.shunt_audit.specs.defs.Listed.{noted, noted_below, by_id, lacks_way_in, lacks_way_out, bare_units, twice_units, bare_places, twice_places, wrong_types, too_soons, no_ways_in, no_ways_out, crossings_of, crossings, too_longs, cover_findings, block_findings, clash_findings, findings_in}
 use Rattle.shunt_audit.proofs.Lists.{of_flat_noted, to_flat_noted, of_below_noted, to_below_noted}
 use Rattle.shunt_audit.proofs.ById.{id_of, apart, moves, there, ascends, range_permuted}
-use Rattle.shunt_audit.proofs.Standing.{stay_number, of_some, to_some, ascending_stays, load_permuted}
+use Rattle.shunt_audit.proofs.BlockStays.{stay_number, ascending_stays, load_permuted}
 use Rattle.shunt_audit.proofs.Order.{Rising, in_order, of_order, unique, IsStretch, one_kind, joined, below_rises, flat_rises, flat_noted_rises}
+use Rattle.shunt_lists.proofs.Options.{of_some, to_some}
 
 -- ---- tests
 

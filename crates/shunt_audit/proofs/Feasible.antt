@@ -2,12 +2,12 @@
 use Rattle.std.proofs.Common.{◌≡◌, inl, ⊎_elim, ◌↔◌, ℕ, zero, suc, ◌<◌, ◌≤◌, List, [], ◌∷◌, get_or, refl, sym, subst, ◌∙◌, arith}
 use Rattle.std.specs.Prelude.{All, IsSome, IfSome, Option, Some, None, slice_index}
 use Rattle.std.proofs.lemmas.Bool.{cases_lt, false_from_ne_true, false≢true}
-use Rattle.shunt_lists.proofs.Members.{in_place}
+use Rattle.shunt_lists.proofs.Members.{in_place, place_of}
 use Rattle.shunt_lists.specs.defs.Members.{In}
 use Rattle.shunt_base.specs.declared.ids.ArrId.{ArrId}
 use Rattle.shunt_base.specs.declared.ids.DepId.{DepId}
 use Rattle.shunt_base.specs.declared.keys.Stay.{Stay}
-use Rattle.shunt_stays.specs.defs.Crossing.{load_after}
+use Rattle.shunt_stays.specs.defs.Crossings.{load_after}
 use Rattle.shunt_stays.proofs.Crossings.{through_clear, clear_through}
 use Rattle.shunt_instance.specs.defs.Instance.{Night, IsInstance}
 use Rattle.shunt_blocks.specs.declared.records.Block.{Block}
@@ -15,28 +15,20 @@ use Rattle.shunt_blocks.specs.declared.records.Park.{Park}
 use Rattle.shunt_blocks.specs.defs.Shapes.{shape_of, IsInRange}
 use Rattle.shunt_blocks.specs.defs.Ways.{park_way_in, park_way_out, option_way_in, option_way_out}
 use Rattle.shunt_blocks.specs.defs.Blocks.{IsBlock, type_fault}
-use Rattle.shunt_blocks.specs.defs.Standing.{is_too_soon, IsSound}
+use Rattle.shunt_blocks.specs.defs.Stays.{is_too_soon, IsSoundBlock}
 use Rattle.shunt_blocks.specs.defs.Lists.{times_unit, times_position, track_lengths, stays_of, AreInRange, IsFeasible, RunsThrough}
 use Rattle.shunt_audit.specs.declared.types.Finding.{Finding}
 use Rattle.shunt_audit.specs.declared.types.Finding.TheVariants.{UnitBare, UnitTwice, PlaceBare, PlaceTwice, WrongType, TooSoon, NoRouteIn, NoRouteOut, Crossing, TooLong, StatedCost}
 use Rattle.shunt_audit.specs.defs.Findings.{kind_of, IsFinding}
 use Rattle.shunt_audit.specs.defs.Listed.{findings_in}
-use Rattle.shunt_audit.proofs.ById.{place_of}
-use Rattle.shunt_audit.proofs.Standing.{BlockLaws}
+use Rattle.shunt_audit.proofs.BlockStays.{BlockLaws}
 use Rattle.shunt_audit.proofs.Exactly.{listed_from, listed_to}
+use Rattle.shunt_lists.proofs.Options.{some_way, no_none}
 
 once : (n : ℕ) → (n ≡ 0 → ⊥) → (2 ≤ n → ⊥) → n ≡ 1
 once zero bare twice = absurd (bare refl)
 once (suc zero) bare twice = refl
 once (suc (suc n)) bare twice = absurd (twice (omega arith))
-
-some_way : (w : Option ℕ) → (w ≡ None → ⊥) → IsSome w
-some_way None h = absurd (h refl)
-some_way (Some n) h = refl
-
-no_none : (w : Option ℕ) → IsSome w → w ≡ None → ⊥
-no_none None h e = false≢true h
-no_none (Some n) h e = absurd (cc)
 
 ways_in : (night : Night) (a : ArrId) (o : Option Park) → (IsSome o × (option_way_in night a o ≡ None) → ⊥) → IfSome o (λ k. IsSome (park_way_in night a k))
 ways_in night a None h = tt
@@ -80,7 +72,7 @@ module _ (laws : BlockLaws) (night : Night) (blocks : List Block) (n : IsInstanc
       (λ b i. at_most (load_after standing b) (slice_index lengths b.track.0) (λ above. none (TooLong b.id (load_after standing b)) (omega arith)
       (record { item = b; there = i; named = refl; holds = record { is = refl; above = above } })))
 
-  sound_at : All (IsBlock night) blocks → (b : Block) → In b blocks → IsSound night b
+  sound_at : All (IsBlock night) blocks → (b : Block) → In b blocks → IsSoundBlock night b
   sound_at each b i = let r = place_of blocks b b i in (laws.sound night b).0 (subst (IsBlock night) r.2 (each r.0 b r.1))
 
   pub sound_later : All (IsBlock night) blocks → RunsThrough night blocks → (f : Finding) → 5 ≤ kind_of f → IsFinding night blocks f → ⊥

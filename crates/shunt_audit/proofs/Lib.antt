@@ -1,6 +1,6 @@
 pub mod Lists
 pub mod ById
-pub mod Standing
+pub mod BlockStays
 pub mod Order
 pub mod Exactly
 pub mod Feasible

@@ -1,5 +1,5 @@
 -- Pins have no finding but of bare units and positions exactly when they are usable.
-use Rattle.std.proofs.Common.{◌≡◌, ⊎_elim, ◌↔◌, ℕ, ◌+◌, ◌<◌, ◌≤◌, Bool, true, false, cond, List, [], ◌∷◌, get_or, refl, subst, arith, inl, inr}
+use Rattle.std.proofs.Common.{◌≡◌, ⊎_elim, ◌↔◌, ℕ, ◌+◌, ◌<◌, ◌≤◌, Bool, false, cond, List, [], ◌∷◌, get_or, refl, subst, arith, inl, inr}
 use Rattle.std.specs.Prelude.{◌==◌, ◌||◌, not, nat_le, nat_lt}
 use Rattle.std.specs.List.{count_by}
 use Rattle.std.proofs.lemmas.Bool.{cases_lt, and_parts, leb-true, ltb-true, false_from_ne_true, true≢false, not-true, not_from_false}
@@ -18,16 +18,13 @@ use Rattle.shunt_audit.specs.declared.types.Finding.TheVariants.{UnitBare, UnitT
 use Rattle.shunt_audit.specs.defs.Findings.{kind_of, IsFinding}
 use Rattle.shunt_audit.specs.defs.Listed.{findings_in}
 use Rattle.shunt_audit.specs.defs.Pins.{is_bare, pin_findings}
-use Rattle.shunt_audit.proofs.Standing.{in_range, BlockLaws}
+use Rattle.shunt_audit.proofs.BlockStays.{in_range, BlockLaws}
 use Rattle.shunt_audit.proofs.Exactly.{listed_from, listed_to}
 use Rattle.shunt_audit.proofs.Feasible.{block_of, runs, sound_later, no_member}
+use Rattle.shunt_lists.proofs.Tests.{flag_zero as zero_of}
 
 later_kind : (k : ℕ) → 5 ≤ k → (k == 1 || k == 3) ≡ false
 later_kind k le = grind (arith, nat_tests)
-
-zero_of : (t : Bool) → t ≡ false → ◌≡◌ {A = ℕ} (cond t 1 0) 0
-zero_of true e = absurd (true≢false e)
-zero_of false e = refl
 
 -- none is counted
 none_counted : {X : Type 0} (t : X → Bool) (xs : List X) → ((x : X) → In x xs → t x ≡ false) → count_by t xs ≡ 0

@@ -17,7 +17,7 @@ use Rattle.shunt_audit.specs.defs.Plans.{IsPlanFinding, ArePlanFindings, plan_fi
 use Rattle.shunt_audit.proofs.Lists.{of_noted, to_noted}
 use Rattle.shunt_audit.proofs.Order.{Rising, in_order, of_order, unique, one_kind, joined, noted_rises}
 use Rattle.shunt_audit.proofs.Exactly.{exactly, ordered, listed_stretch}
-use Rattle.shunt_audit.proofs.Standing.{BlockLaws}
+use Rattle.shunt_audit.proofs.BlockStays.{BlockLaws}
 use Rattle.shunt_audit.proofs.Feasible.{none_where_feasible}
 
 abbrev misstated : Night → Plan → Bool

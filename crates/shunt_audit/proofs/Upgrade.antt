@@ -13,7 +13,7 @@ use Rattle.shunt_audit.specs.declared.types.Finding.{Finding}
 use Rattle.shunt_audit.specs.declared.types.Finding.TheVariants.{UnitBare, UnitTwice, PlaceBare, PlaceTwice, WrongType, TooSoon, NoRouteIn, NoRouteOut, Crossing, TooLong, StatedCost}
 use Rattle.shunt_audit.specs.defs.Findings.{HasBlock, IsFinding}
 use Rattle.shunt_audit.specs.defs.v1.{IsFinding as IsFirstFinding}
-use Rattle.shunt_audit.proofs.Standing.{in_range}
+use Rattle.shunt_audit.proofs.BlockStays.{in_range}
 
 -- what the law of the upgrade of blocks says of their faults
 pub record UpgradeLaws : Type 0 where

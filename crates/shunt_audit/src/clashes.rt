@@ -1,36 +1,17 @@
 // Stays that cross, and entries after which too much stands on a track.
-ghost use Rattle.std.specs.Prelude.{◌≡◌, ◌≤◌, ◌<◌, ◌++◌, All, length, slice_index, IfOk, OnOk};
+ghost use Rattle.std.specs.Prelude.{◌≡◌, ◌≤◌, ◌<◌, ◌++◌, length, slice_index, OnOk};
 ghost use Rattle.shunt_base.specs.defs.Keys.{AreStays};
 ghost use Rattle.shunt_stays.specs.defs.Run.{AreOnTracks};
-ghost use Rattle.shunt_blocks.specs.defs.Shapes.{IsInRange};
-ghost use Rattle.shunt_blocks.specs.defs.Lists.{track_lengths, stays_of};
-ghost use Rattle.shunt_audit.specs.defs.Listed.{crossings_of, crossings, too_long_at, too_longs, clash_findings};
+ghost use Rattle.shunt_blocks.specs.defs.Lists.{track_lengths};
+ghost use Rattle.shunt_audit.specs.defs.Listed.{crossings_of, crossings, too_long_at, too_longs};
+ghost use Rattle.shunt_audit.specs.defs.Listed.{clash_findings};
 
-use crate::noting::note;
+use crate::notes::note;
 use crate::types::Finding;
 use shunt_base::Stay;
-use shunt_blocks::{Block, stay};
 use shunt_cross::{crosses, load_after};
 use shunt_instance::Instance;
-use std::alloc::{AllocError, Global};
-
-/// The stays of the blocks that have one.
-pub(crate) fn stays_of(
-    alloc: Global,
-    instance: &Instance,
-    blocks: &[Block],
-) -> Result<Vec<Stay>, AllocError>
-    requires { All (IsInRange instance.now) blocks.now }
-    ensures exact { IfOk result (λ v. v.items ≡ stays_of instance.now blocks.now) }
-{
-    let mut stays = Vec::new(alloc);
-    for block in blocks {
-        if let Some(stay) = stay(instance, block) {
-            stays.push(stay)?;
-        }
-    }
-    Ok(stays)
-}
+use std::alloc::AllocError;
 
 /// Adds the stays that cross this one by entering after it.
 fn add_crossings_of(
@@ -38,7 +19,8 @@ fn add_crossings_of(
     stays: &[Stay],
     earlier: &Stay,
 ) -> Result<(), AllocError>
-    ensures { OnOk result (findings.new.items ≡ findings.old.items ++ crossings_of stays.now earlier.now) }
+    ensures { OnOk result
+        (findings.new.items ≡ findings.old.items ++ crossings_of stays.now earlier.now) }
 {
     for later in stays {
         let is_crossed = crosses(earlier, later);
@@ -76,7 +58,8 @@ fn add_too_long_at(
     load: u64,
 ) -> Result<(), AllocError>
     requires { stay.now.track.0 < length (track_lengths instance.now.station) }
-    ensures { OnOk result (findings.new.items ≡ findings.old.items ++ too_long_at (track_lengths instance.now.station) stay.now load) }
+    ensures { OnOk result (findings.new.items ≡ findings.old.items
+        ++ too_long_at (track_lengths instance.now.station) stay.now load) }
 {
     let is_over = load > track_length(instance, stay);
     note(findings, is_over, Finding::TooLong(stay.id, load))
@@ -90,7 +73,8 @@ fn add_too_longs(
     requires stays { AreStays stays.now }
     requires tracks { AreOnTracks (track_lengths instance.now.station) stays.now }
     requires few { length stays.now ≤ 65536 }
-    ensures { OnOk result (findings.new.items ≡ findings.old.items ++ too_longs (track_lengths instance.now.station) stays.now) }
+    ensures { OnOk result (findings.new.items ≡ findings.old.items
+        ++ too_longs (track_lengths instance.now.station) stays.now) }
 {
     for stay in stays {
         add_too_long_at(findings, instance, stay, load_after(stays, stay))?;
@@ -107,7 +91,8 @@ pub(crate) fn add_clashes(
     requires stays { AreStays stays.now }
     requires tracks { AreOnTracks (track_lengths instance.now.station) stays.now }
     requires few { length stays.now ≤ 65536 }
-    ensures { OnOk result (findings.new.items ≡ findings.old.items ++ clash_findings (track_lengths instance.now.station) stays.now) }
+    ensures { OnOk result (findings.new.items ≡ findings.old.items
+        ++ clash_findings (track_lengths instance.now.station) stays.now) }
 {
     add_crossings(findings, stays)?;
     add_too_longs(findings, instance, stays)

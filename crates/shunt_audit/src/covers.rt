@@ -3,9 +3,10 @@ ghost use Rattle.std.specs.Prelude.{◌≡◌, ◌<◌, ◌≤◌, ◌++◌, ℕ
 ghost use Rattle.shunt_instance.specs.defs.Instance.{unit_total, position_total};
 ghost use Rattle.shunt_blocks.specs.defs.Shapes.{IsInRange, shape_of};
 ghost use Rattle.shunt_blocks.specs.defs.Lists.{has_unit, has_position, times_unit, times_position};
-ghost use Rattle.shunt_audit.specs.defs.Listed.{bare_units, twice_units, bare_places, twice_places, cover_findings};
+ghost use Rattle.shunt_audit.specs.defs.Listed.{bare_units, twice_units, bare_places, twice_places};
+ghost use Rattle.shunt_audit.specs.defs.Listed.{cover_findings};
 
-use crate::noting::note;
+use crate::notes::note;
 use crate::types::Finding;
 use shunt_blocks::{Block, has_position, has_unit};
 use shunt_instance::Instance;
@@ -45,7 +46,8 @@ fn add_bare_units(
     blocks: &[Block],
 ) -> Result<(), AllocError>
     requires { All (IsInRange instance.now) blocks.now }
-    ensures { OnOk result (findings.new.items ≡ findings.old.items ++ bare_units instance.now blocks.now) }
+    ensures { OnOk result
+        (findings.new.items ≡ findings.old.items ++ bare_units instance.now blocks.now) }
 {
     for unit in 0..instance.units() {
         let is_bare = times_unit(instance, blocks, unit) == 0;
@@ -60,7 +62,8 @@ fn add_twice_units(
     blocks: &[Block],
 ) -> Result<(), AllocError>
     requires { All (IsInRange instance.now) blocks.now }
-    ensures { OnOk result (findings.new.items ≡ findings.old.items ++ twice_units instance.now blocks.now) }
+    ensures { OnOk result
+        (findings.new.items ≡ findings.old.items ++ twice_units instance.now blocks.now) }
 {
     for unit in 0..instance.units() {
         let is_twice = times_unit(instance, blocks, unit) >= 2;
@@ -75,7 +78,8 @@ fn add_bare_places(
     blocks: &[Block],
 ) -> Result<(), AllocError>
     requires { All (IsInRange instance.now) blocks.now }
-    ensures { OnOk result (findings.new.items ≡ findings.old.items ++ bare_places instance.now blocks.now) }
+    ensures { OnOk result
+        (findings.new.items ≡ findings.old.items ++ bare_places instance.now blocks.now) }
 {
     for position in 0..instance.positions() {
         let is_bare = times_position(instance, blocks, position) == 0;
@@ -90,7 +94,8 @@ fn add_twice_places(
     blocks: &[Block],
 ) -> Result<(), AllocError>
     requires { All (IsInRange instance.now) blocks.now }
-    ensures { OnOk result (findings.new.items ≡ findings.old.items ++ twice_places instance.now blocks.now) }
+    ensures { OnOk result
+        (findings.new.items ≡ findings.old.items ++ twice_places instance.now blocks.now) }
 {
     for position in 0..instance.positions() {
         let is_twice = times_position(instance, blocks, position) >= 2;
@@ -106,7 +111,8 @@ pub(crate) fn add_covers(
     blocks: &[Block],
 ) -> Result<(), AllocError>
     requires { All (IsInRange instance.now) blocks.now }
-    ensures { OnOk result (findings.new.items ≡ findings.old.items ++ cover_findings instance.now blocks.now) }
+    ensures { OnOk result
+        (findings.new.items ≡ findings.old.items ++ cover_findings instance.now blocks.now) }
 {
     add_bare_units(findings, instance, blocks)?;
     add_twice_units(findings, instance, blocks)?;

@@ -1,10 +1,11 @@
 // What is wrong with blocks one by one.
 ghost use Rattle.std.specs.Prelude.{◌≡◌, ◌++◌, All, OnOk};
 ghost use Rattle.shunt_blocks.specs.defs.Shapes.{IsInRange, shape_of};
-ghost use Rattle.shunt_blocks.specs.defs.Standing.{is_too_soon as too_soon};
-ghost use Rattle.shunt_audit.specs.defs.Listed.{lacks_way_in, lacks_way_out, wrong_types, too_soons, no_ways_in, no_ways_out, block_findings};
+ghost use Rattle.shunt_blocks.specs.defs.Stays.{is_too_soon as too_soon};
+ghost use Rattle.shunt_audit.specs.defs.Listed.{lacks_way_in, lacks_way_out, wrong_types};
+ghost use Rattle.shunt_audit.specs.defs.Listed.{too_soons, no_ways_in, no_ways_out, block_findings};
 
-use crate::noting::note;
+use crate::notes::note;
 use crate::types::Finding;
 use shunt_blocks::{Block, is_too_soon, type_fault, way_in, way_out};
 use shunt_instance::Instance;
@@ -30,7 +31,8 @@ fn add_wrong_types(
     blocks: &[Block],
 ) -> Result<(), AllocError>
     requires { All (IsInRange instance.now) blocks.now }
-    ensures { OnOk result (findings.new.items ≡ findings.old.items ++ wrong_types instance.now blocks.now) }
+    ensures { OnOk result
+        (findings.new.items ≡ findings.old.items ++ wrong_types instance.now blocks.now) }
 {
     for block in blocks {
         let is_wrong = type_fault(instance, block);
@@ -45,7 +47,8 @@ fn add_too_soons(
     blocks: &[Block],
 ) -> Result<(), AllocError>
     requires { All (IsInRange instance.now) blocks.now }
-    ensures { OnOk result (findings.new.items ≡ findings.old.items ++ too_soons instance.now blocks.now) }
+    ensures { OnOk result
+        (findings.new.items ≡ findings.old.items ++ too_soons instance.now blocks.now) }
 {
     for block in blocks {
         let is_soon = is_too_soon(instance, block);
@@ -60,7 +63,8 @@ fn add_no_ways_in(
     blocks: &[Block],
 ) -> Result<(), AllocError>
     requires { All (IsInRange instance.now) blocks.now }
-    ensures { OnOk result (findings.new.items ≡ findings.old.items ++ no_ways_in instance.now blocks.now) }
+    ensures { OnOk result
+        (findings.new.items ≡ findings.old.items ++ no_ways_in instance.now blocks.now) }
 {
     for block in blocks {
         let is_missing = lacks_way_in(instance, block);
@@ -75,7 +79,8 @@ fn add_no_ways_out(
     blocks: &[Block],
 ) -> Result<(), AllocError>
     requires { All (IsInRange instance.now) blocks.now }
-    ensures { OnOk result (findings.new.items ≡ findings.old.items ++ no_ways_out instance.now blocks.now) }
+    ensures { OnOk result
+        (findings.new.items ≡ findings.old.items ++ no_ways_out instance.now blocks.now) }
 {
     for block in blocks {
         let is_missing = lacks_way_out(instance, block);
@@ -91,7 +96,8 @@ pub(crate) fn add_faults(
     blocks: &[Block],
 ) -> Result<(), AllocError>
     requires { All (IsInRange instance.now) blocks.now }
-    ensures { OnOk result (findings.new.items ≡ findings.old.items ++ block_findings instance.now blocks.now) }
+    ensures { OnOk result
+        (findings.new.items ≡ findings.old.items ++ block_findings instance.now blocks.now) }
 {
     add_wrong_types(findings, instance, blocks)?;
     add_too_soons(findings, instance, blocks)?;

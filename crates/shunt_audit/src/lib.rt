@@ -1,14 +1,14 @@
 //! What is wrong with blocks and with plans.
 #![tactic(auto)]
 
-mod auditing;
+mod auditor;
 mod clashes;
 mod covers;
 mod faults;
+mod findings;
 pub mod laws;
-mod listing;
-mod noting;
+mod notes;
 pub mod types;
 
-pub use auditing::audit;
-pub use listing::findings_of;
+pub use auditor::audit;
+pub use findings::findings_of;

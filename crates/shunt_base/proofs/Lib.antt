@@ -3,3 +3,4 @@ pub mod Minutes
 pub mod Ranks
 pub mod Sides
 pub mod Names
+mod Copied

@@ -7,15 +7,7 @@ use Rattle.std.proofs.lemmas.Bool.{cases_order}
 use Rattle.std.proofs.lemmas.Bool.Decides.{nat_tests}
 use Rattle.shunt_base.specs.defs.Keys.{rank, key_cmp, IsBefore, IsKey}
 use Rattle.shunt_base.specs.declared.keys.EventKey.{EventKey}
-
-less : (a b : ℕ) → a < b → nat_cmp a b ≡ Less
-less a b lt = grind (arith, nat_tests)
-
-greater : (a b : ℕ) → b < a → nat_cmp a b ≡ Greater
-greater a b lt = grind (arith, nat_tests)
-
-even : (a b : ℕ) → a ≡ b → nat_cmp a b ≡ Equal
-even a b e = grind (arith, nat_tests)
+use Rattle.shunt_lists.proofs.Orders.{nat_less as less, nat_greater as greater, nat_equal as even}
 
 below : (a b w x y : ℕ) → x < w → a < b → a * w + x < b * w + y
 below a b w x y small lt = omega (arith, mul-le-mul_left w (let le : a + 1 ≤ b = omega arith in le), mul_comm w (a + 1), mul_comm w b)

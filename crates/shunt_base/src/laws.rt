@@ -7,11 +7,13 @@ ghost use Rattle.shunt_base.specs.declared.keys.EventKey.{EventKey};
 ghost use Rattle.shunt_base.specs.defs.Keys.{key_cmp, IsBefore, IsKey, rank};
 ghost use Rattle.shunt_base.specs.declared.ids.Side.{Side};
 ghost use Rattle.shunt_base.specs.defs.Sides.{same_side};
-ghost use Rattle.shunt_base.specs.defs.Spelling.{IsName, is_name_text, IsDecimal, minute_text, minute_of};
+ghost use Rattle.shunt_base.specs.defs.Spelling.{IsName, is_name_text, IsDecimal, minute_text};
+ghost use Rattle.shunt_base.specs.defs.Spelling.{minute_of};
 
 /// The order of event keys is total and tells all keys apart: it is that of one number, which differs where keys do.
 pub fn key_order()
-    ensures by_rank { (k l : EventKey) → IsKey k → IsKey l → key_cmp k l ≡ nat_cmp (rank k) (rank l) }
+    ensures by_rank { (k l : EventKey) → IsKey k → IsKey l
+        → key_cmp k l ≡ nat_cmp (rank k) (rank l) }
     ensures before { (k l : EventKey) → IsKey k → IsKey l → IsBefore k l ↔ (rank k < rank l) }
     ensures exact { (k l : EventKey) → IsKey k → IsKey l → rank k ≡ rank l → k ≡ l }
 {}

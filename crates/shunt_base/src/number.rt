@@ -1,10 +1,12 @@
-ghost use Rattle.std.specs.Prelude.{◌≡◌, ◌≢◌, ◌<◌, ◌^◌, ◌↔◌, ◌+◌, ℕ, ℤ, pos, negsuc, IsTrue, IfSome, Some, All};
+ghost use Rattle.std.specs.Prelude.{◌≡◌, ◌≢◌, ◌<◌, ◌^◌, ◌↔◌, ◌+◌, ℕ, ℤ, pos, negsuc, IsTrue};
+ghost use Rattle.std.specs.Prelude.{IfSome, Some, All};
 ghost use Rattle.std.specs.List.{list_all};
 ghost use Rattle.std.specs.Char.{is_ascii_digit};
 ghost use Rattle.std.specs.Option.{SomeIff};
 ghost use Rattle.std.specs.Fmt.{decimal, signed_decimal};
 ghost use Rattle.std.specs.Str.Parse.{digits_value};
-ghost use Rattle.shunt_base.specs.defs.Spelling.{IsDecimal, IsSigned, is_decimal_text, decimal_of, negative_of, signed_of};
+ghost use Rattle.shunt_base.specs.defs.Spelling.{IsDecimal, IsSigned, is_decimal_text, decimal_of};
+ghost use Rattle.shunt_base.specs.defs.Spelling.{negative_of, signed_of};
 
 fn are_digits(bytes: &[u8]) -> bool
     ensures fact { IsTrue result ↔ All (λ b. IsTrue (is_ascii_digit b)) bytes.now }
@@ -56,8 +58,10 @@ pub fn parse_decimal(bytes: &[u8]) -> Option<u64>
 
 // What `-` before these digits spells.
 fn parse_negative(bytes: &[u8]) -> Option<i64>
-    ensures some { IfSome result (λ z. (n : ℕ) × (n + 1 < 10 ^ 18) × (z ≡ negsuc n) × (bytes.now ≡ decimal (n + 1))) }
-    ensures only { (n : ℕ) → n + 1 < 10 ^ 18 → bytes.now ≡ decimal (n + 1) → result ≡ Some (negsuc n) }
+    ensures some { IfSome result
+        (λ z. (n : ℕ) × (n + 1 < 10 ^ 18) × (z ≡ negsuc n) × (bytes.now ≡ decimal (n + 1))) }
+    ensures only { (n : ℕ) → n + 1 < 10 ^ 18 → bytes.now ≡ decimal (n + 1)
+        → result ≡ Some (negsuc n) }
     ensures value { result ≡ negative_of (decimal_of bytes.now) }
 {
     match parse_decimal(bytes) {

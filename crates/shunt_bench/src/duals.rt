@@ -54,7 +54,8 @@ fn prices(alloc: Global, instance: &Instance) -> Result<Vec<Price>, AllocError>
 
 // The same values with these prices.
 fn with_prices(duals: Duals, prices: Vec<Price>) -> Duals
-    ensures { (night : Night) → AreDuals night duals → ArePrices night prices.items → AreDuals night result }
+    ensures { (night : Night) → AreDuals night duals → ArePrices night prices.items
+        → AreDuals night result }
 {
     let Duals {
         alpha,

@@ -1,7 +1,6 @@
 -- Tests hold exactly when their facts do.
-use Rattle.std.specs.Prelude.{◌↔◌, ◌&&◌, is_some, IsTrue, Option, Some, None}
-use Rattle.std.proofs.Common.{◌≡◌, ℕ, Bool, true, false, refl, sym, arith}
-use Rattle.std.proofs.lemmas.Bool.{true≢false}
+use Rattle.std.specs.Prelude.{◌↔◌, is_some, IsTrue, Option, Some, None}
+use Rattle.std.proofs.Common.{ℕ, refl, arith}
 use Rattle.std.proofs.lemmas.Bool.Decides.{nat_tests}
 use Rattle.shunt_instance.specs.defs.Instance.{Night}
 use Rattle.shunt_blocks.specs.declared.records.Shape.{Shape}
@@ -10,6 +9,7 @@ use Rattle.shunt_blocks.specs.defs.Shapes.{HasUnit, HasPosition, IsOnTrack, IsPa
 use Rattle.shunt_blocks.specs.defs.Ways.{park_way_in, park_way_out, permits_units}
 use Rattle.shunt_blocks.specs.defs.Blocks.{IsOption, is_option}
 use Rattle.shunt_blocks.specs.defs.Lists.{has_unit, has_position}
+use Rattle.shunt_lists.proofs.Tests.{all_three, from_three}
 
 pub unit_test : (night : Night) (s : Shape) (u : ℕ) → IsTrue (has_unit night s u) ↔ HasUnit night s u
 unit_test night s u = (λ e. record { from = grind (arith, nat_tests); to = grind (arith, nat_tests) }, λ h. grind (arith, nat_tests, h.from, h.to))
@@ -19,16 +19,6 @@ position_test night s v = (λ e. record { from = grind (arith, nat_tests); to = 
 
 pub pair_test : (night : Night) (u v : ℕ) → IsTrue (is_pair night u v) ↔ IsPair night u v
 pair_test night u v = (λ e. record { kind = grind (arith, nat_tests); ready = grind (arith, nat_tests) }, λ h. grind (arith, nat_tests, h.kind, h.ready))
-
-all_three : (a b c : Bool) → (a && b && c) ≡ true → (a ≡ true) × (b ≡ true) × (c ≡ true)
-all_three true true c e = (refl, refl, e)
-all_three true false c e = absurd (true≢false (sym e))
-all_three false b c e = absurd (true≢false (sym e))
-
-from_three : (a b c : Bool) → a ≡ true → b ≡ true → c ≡ true → (a && b && c) ≡ true
-from_three true true c e f g = g
-from_three true false c e f g = f
-from_three false b c e f g = e
 
 pub option_test : (night : Night) (s : Shape) (o : Option Park) → IsOnTrack night.station o → IsTrue (is_option night s o) ↔ IsOption night s o
 unfolding is_option

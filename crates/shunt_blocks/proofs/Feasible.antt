@@ -1,48 +1,26 @@
 -- Feasible lists are few blocks in range, and are feasible with any ids that fit.
-use Rattle.std.specs.Prelude.{All, Option, Some, None}
-use Rattle.std.proofs.Common.{◌≡◌, ⊎_elim, ℕ, ◌+◌, ◌≤◌, true, List, [], ◌∷◌, length, get_or, refl, sym, subst, arith}
+use Rattle.std.specs.Prelude.{All}
+use Rattle.std.proofs.Common.{◌≡◌, ⊎_elim, ℕ, ◌+◌, ◌≤◌, List, [], ◌∷◌, length, refl, sym, subst, arith}
 use Rattle.std.proofs.lemmas.Bool.{cases_lt}
 use Rattle.std.proofs.lemmas.List.Sums.{sum_by-cons}
 use Rattle.std.proofs.lemmas.List.Elements.{All-cons, All-nil, All-tail}
-use Rattle.std.proofs.lemmas.Bool.Decides.{nat_tests}
 use Rattle.shunt_lists.specs.defs.Members.{AreDistinct}
 use Rattle.shunt_instance.specs.defs.Instance.{Night, IsInstance}
 use Rattle.shunt_instance.proofs.Orders.{opened}
 use Rattle.shunt_instance.proofs.Looked.{units_few}
-use Rattle.shunt_blocks.specs.declared.records.Shape.{Shape}
 use Rattle.shunt_blocks.specs.declared.records.Block.{Block}
-use Rattle.shunt_blocks.specs.declared.records.Park.{Park}
-use Rattle.shunt_blocks.specs.defs.Shapes.{shape_of, IsOnTrack, IsWithinTrains, HasUnit, HasPosition}
-use Rattle.shunt_blocks.specs.defs.Blocks.{IsOption, IsBlock, IsBlockButId}
+use Rattle.shunt_blocks.specs.defs.Shapes.{shape_of, IsWithinTrains}
+use Rattle.shunt_blocks.specs.defs.Blocks.{IsBlock, IsBlockButId}
 use Rattle.shunt_blocks.specs.defs.Costs.{block_cost}
 use Rattle.shunt_blocks.specs.defs.Lists.{has_unit, has_position, times_unit, times_position, Covers, ShareNothing, AreInRange, CanStand, RunsThrough, IsFeasible, total_cost, placed_from, placed}
 use Rattle.shunt_blocks.proofs.Places.{unit_in, position_in}
 use Rattle.shunt_blocks.proofs.Held.{holder}
 use Rattle.shunt_blocks.proofs.Few.{few_blocks}
-use Rattle.shunt_blocks.proofs.StaysOf.{each_one, placed_alike, placed_ids, rising, times_alike, positions_alike, ranges_stand, apart_stand, alike_runs}
-
--- ---- blocks whatever their ids
-
-on_track : (night : Night) (s : Shape) (o : Option Park) → IsOption night s o → IsOnTrack night.station o
-on_track night s None h = tt
-on_track night s (Some k) h = h.track
-
-pub is_within : (night : Night) (b : Block) → IsBlockButId night b → IsWithinTrains night b
-is_within night b h = record { runs = h.shape.within; track = on_track night (shape_of b) b.park h.option }
-
-pub all_within : (night : Night) (blocks : List Block) → All (IsBlockButId night) blocks → All (IsWithinTrains night) blocks
-all_within night blocks all k d lt = is_within night (get_or blocks k d) (all k d lt)
-
-pub but_ids : (night : Night) (blocks : List Block) → All (IsBlock night) blocks → All (IsBlockButId night) blocks
-but_ids night blocks all k d lt = let h = all k d lt in record { shape = h.shape; option = h.option }
+use Rattle.shunt_blocks.proofs.StaysOf.{placed_alike, placed_ids, times_alike, positions_alike, ranges_stand, apart_stand, alike_runs}
+use Rattle.shunt_lists.proofs.Members.{each_one, range_distinct as rising}
+use Rattle.shunt_blocks.proofs.Shapes.{all_within, has_from, has_position_from, is_within, but_ids}
 
 -- ---- what covers the night shares nothing
-
-pub has_from : (night : Night) (b : Block) (u : ℕ) → has_unit night (shape_of b) u ≡ true → HasUnit night (shape_of b) u
-has_from night b u e = record { from = grind (arith, nat_tests); to = grind (arith, nat_tests) }
-
-pub has_position_from : (night : Night) (b : Block) (v : ℕ) → has_position night (shape_of b) v ≡ true → HasPosition night (shape_of b) v
-has_position_from night b v e = record { from = grind (arith, nat_tests); to = grind (arith, nat_tests) }
 
 pub covers_apart : (night : Night) (blocks : List Block) → All (IsWithinTrains night) blocks → Covers night blocks → ShareNothing night blocks
 covers_apart night blocks within covers = record { units = units; positions = positions }

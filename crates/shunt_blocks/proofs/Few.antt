@@ -14,9 +14,7 @@ use Rattle.shunt_blocks.specs.declared.records.Block.{Block}
 use Rattle.shunt_blocks.specs.defs.Shapes.{shape_of, begins_at, IsWithinTrains}
 use Rattle.shunt_blocks.specs.defs.Lists.{has_unit, times_unit, ShareNothing}
 use Rattle.shunt_blocks.proofs.Places.{unit_in}
-
-pub begins_itself : (night : Night) (b : Block) → 1 ≤ b.n → has_unit night (shape_of b) (begins_at night b) ≡ true
-begins_itself night b some = grind (arith, nat_tests)
+use Rattle.shunt_blocks.proofs.Shapes.{begins_itself}
 
 pub one_more : (night : Night) (b : Block) (blocks : List Block) (u : ℕ) → times_unit night (b ∷ blocks) u ≡ cond (has_unit night (shape_of b) u) 1 0 + times_unit night blocks u
 one_more night b blocks u = sum_by-cons (λ c. cond (has_unit night (shape_of c) u) 1 0) b blocks

@@ -3,6 +3,8 @@ use Rattle.std.specs.Prelude.{cond, count_by}
 use Rattle.std.proofs.Common.{◌≡◌, ◌⊎◌, ⊎_elim, inl, inr, ℕ, ◌+◌, ◌≤◌, Bool, true, false, List, [], ◌∷◌, ◌++◌, refl, sym, ap, ◌∙◌, arith}
 use Rattle.std.proofs.lemmas.List.Sums.{sum_by-cons}
 use Rattle.shunt_lists.specs.defs.Members.{In}
+use Rattle.shunt_blocks.specs.declared.records.Block.{Block}
+use Rattle.shunt_blocks.specs.defs.Pins.{Keeps}
 
 one_first : {X : Type 0} (test : X → Bool) (x : X) (xs : List X) → count_by test (x ∷ xs) ≡ cond (test x) 1 0 + count_by test xs
 one_first test x xs = sum_by-cons (λ y. cond (test y) 1 0) x xs
@@ -40,3 +42,6 @@ ends (x ∷ xs) = ⊎_elim
     (λ none. inr ([], x, ap (λ ys. x ∷ ys) none))
     (λ some. inr (x ∷ some.0, some.1, ap (λ ys. x ∷ ys) some.2))
     (ends xs)
+
+pub keeps_none : (blocks : List Block) → Keeps blocks []
+keeps_none blocks = λ k d lt. absurd (omega (arith, lt))

@@ -1,14 +1,15 @@
 pub mod Held
 mod Places
 mod Few
-mod Times
+pub mod Times
 mod Sound
-mod StaysOf
+pub mod StaysOf
 mod Feasible
-mod Opening
+mod OpeningCosts
 mod Singles
 mod Started
 mod Matched
 mod Agreed
 mod Upgrade
 mod Leasts
+pub mod Shapes

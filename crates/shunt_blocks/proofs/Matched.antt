@@ -20,9 +20,9 @@ use Rattle.shunt_blocks.specs.defs.Lists.{has_unit, has_position, units_taken, p
 use Rattle.shunt_blocks.specs.defs.Pins.{AreUsable, singles}
 use Rattle.shunt_blocks.proofs.Places.{unit_in, position_in}
 use Rattle.shunt_blocks.proofs.Held.{held, holder, one_holder}
-use Rattle.shunt_blocks.proofs.StaysOf.{each_one}
-use Rattle.shunt_blocks.proofs.Feasible.{has_from, has_position_from, but_ids}
 use Rattle.shunt_blocks.proofs.Started.{one_counted, opening_feasible}
+use Rattle.shunt_lists.proofs.Members.{each_one}
+use Rattle.shunt_blocks.proofs.Shapes.{has_from, has_position_from, position_to, unit_to, but_ids}
 
 -- ---- the value at the only element that passes
 
@@ -105,12 +105,6 @@ holding night blocks u each covers lt =
 
 partner_there : (night : Night) (u : ℕ) (b : Block) → HasUnit night (shape_of b) u → HasPosition night (shape_of b) (partner_in night u b)
 partner_there night u b has = record { from = omega arith; to = omega (arith, has.from, has.to) }
-
-position_to : (night : Night) (b : Block) (v : ℕ) → HasPosition night (shape_of b) v → has_position night (shape_of b) v ≡ true
-position_to night b v has = grind (arith, nat_tests, has.from, has.to)
-
-unit_to : (night : Night) (b : Block) (u : ℕ) → HasUnit night (shape_of b) u → has_unit night (shape_of b) u ≡ true
-unit_to night b u has = grind (arith, nat_tests, has.from, has.to)
 
 pub matched : (night : Night) (blocks : List Block) → All (IsBlockButId night) blocks → Covers night blocks
     → IsMatching (unit_entries night) (position_entries night) (partners night blocks)

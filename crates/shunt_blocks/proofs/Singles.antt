@@ -16,14 +16,11 @@ use Rattle.shunt_blocks.specs.defs.Costs.{option_cost, block_cost}
 use Rattle.shunt_blocks.specs.defs.Lists.{has_unit, has_position, times_unit, times_position, Covers, total_cost}
 use Rattle.shunt_blocks.specs.defs.Pins.{IsSingle, unit_price, position_price, opening_cost}
 use Rattle.shunt_blocks.proofs.Places.{unit_in, position_in}
-use Rattle.shunt_blocks.proofs.StaysOf.{each_one}
-use Rattle.shunt_blocks.proofs.Opening.{no_sum, pick}
+use Rattle.shunt_blocks.proofs.OpeningCosts.{no_sum, pick}
+use Rattle.shunt_lists.proofs.Members.{each_one}
+use Rattle.shunt_lists.proofs.Sums.{sum_by-members as one_sum}
 
 -- ---- sums over lists
-
-pub one_sum : {X : Type 0} (xs : List X) (f g : X → ℕ) → ((x : X) → In x xs → f x ≡ g x) → sum_by f xs ≡ sum_by g xs
-one_sum [] f g h = refl
-one_sum (x ∷ xs) f g h = omega (arith, sum_by-cons f x xs, sum_by-cons g x xs, h x (inl refl), one_sum xs f g (λ y there. h y (inr there)))
 
 two_sums : {X : Type 0} (xs : List X) (f g : X → ℕ) → sum_by (λ x. f x + g x) xs ≡ sum_by f xs + sum_by g xs
 two_sums [] f g = refl

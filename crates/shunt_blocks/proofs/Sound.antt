@@ -10,7 +10,7 @@ use Rattle.shunt_blocks.specs.declared.records.Park.{Park}
 use Rattle.shunt_blocks.specs.defs.Shapes.{shape_of, AreRunsWithin, IsOnTrack, IsShape, unit_from, position_from}
 use Rattle.shunt_blocks.specs.defs.Ways.{park_way_in, park_way_out}
 use Rattle.shunt_blocks.specs.defs.Blocks.{IsOption, IsBlock, have_one_type, is_forbidden}
-use Rattle.shunt_blocks.specs.defs.Standing.{leave_minute, is_too_soon, IsSound}
+use Rattle.shunt_blocks.specs.defs.Stays.{leave_minute, is_too_soon, IsSoundBlock}
 use Rattle.shunt_blocks.proofs.Times.{leaves_is, ready_in_time}
 
 -- ---- shapes
@@ -62,7 +62,7 @@ option_made : (night : Night) (s : Shape) (o : Option Park) → IsOnTrack night.
 option_made night s None t f i u = tt
 option_made night s (Some k) t f i u = record { track = t; permitted = not-false _ f; way_in = i; way_out = u }
 
-block_sound : (night : Night) (b : Block) → IsBlock night b → IsSound night b
+block_sound : (night : Night) (b : Block) → IsBlock night b → IsSoundBlock night b
 block_sound night b h = record {
   in_range = h.in_range;
   types = neither (have_one_type night (shape_of b)) _ (one_type night (shape_of b) h.shape) (unforbidden night (shape_of b) b.park h.option);
@@ -71,12 +71,12 @@ block_sound night b h = record {
   way_out = has_way_out night (shape_of b) b.park h.option;
 }
 
-sound_block : (night : Night) (b : Block) → IsSound night b → IsBlock night b
+sound_block : (night : Night) (b : Block) → IsSoundBlock night b → IsBlock night b
 sound_block night b h = record {
   in_range = h.in_range;
   shape = shape_made night (shape_of b) h.in_range.within.runs (first_true (have_one_type night (shape_of b)) _ h.types) h.in_time;
   option = option_made night (shape_of b) b.park h.in_range.within.track (second_false (have_one_type night (shape_of b)) _ h.types) h.way_in h.way_out;
 }
 
-pub sound : (night : Night) (b : Block) → IsBlock night b ↔ IsSound night b
+pub sound : (night : Night) (b : Block) → IsBlock night b ↔ IsSoundBlock night b
 sound night b = (block_sound night b, sound_block night b)

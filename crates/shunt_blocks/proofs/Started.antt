@@ -19,12 +19,13 @@ use Rattle.shunt_instance.proofs.Facts.{unit_at_is, position_at_is, unit_entry_i
 use Rattle.shunt_blocks.specs.declared.records.Block.{Block}
 use Rattle.shunt_blocks.specs.defs.Shapes.{shape_of, unit_from, position_from, position_entry, IsPair}
 use Rattle.shunt_blocks.specs.defs.Blocks.{IsBlockButId}
-use Rattle.shunt_blocks.specs.defs.Standing.{stay_with}
+use Rattle.shunt_blocks.specs.defs.Stays.{stay_with}
 use Rattle.shunt_blocks.specs.defs.Lists.{has_unit, has_position, times_unit, times_position, units_taken, positions_taken, Covers, track_lengths, stays_of, IsFeasible, placed_from, placed}
 use Rattle.shunt_blocks.specs.defs.Pins.{AreUsable, Keeps, single, singles_below, singles}
 use Rattle.shunt_blocks.proofs.StaysOf.{placed_runs, in_placed}
-use Rattle.shunt_blocks.proofs.Feasible.{but_ids, placed_feasible}
-use Rattle.shunt_blocks.proofs.Opening.{rest_units, rest_positions}
+use Rattle.shunt_blocks.proofs.Feasible.{placed_feasible}
+use Rattle.shunt_blocks.proofs.OpeningCosts.{rest_units, rest_positions}
+use Rattle.shunt_blocks.proofs.Shapes.{but_ids}
 
 -- ---- a matching of what the pins leave
 

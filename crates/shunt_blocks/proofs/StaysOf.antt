@@ -6,15 +6,14 @@ use Rattle.std.proofs.lemmas.Option.{none-some}
 use Rattle.std.proofs.lemmas.List.{length-map, get_or-map}
 use Rattle.std.proofs.lemmas.List.Kept.{AllPairs-cons}
 use Rattle.std.proofs.lemmas.List.Elements.{All-tail, All-cons, All-nil}
-use Rattle.std.proofs.lemmas.List.FromFn.{get_or-range_with_len, length-range_with_len}
 use Rattle.std.proofs.lemmas.List.Sums.{sum_by-cons}
 use Rattle.std.proofs.lemmas.Bool.Decides.{nat_tests}
-use Rattle.shunt_lists.proofs.Members.{in_place, all_from, in_map, of_map}
+use Rattle.shunt_lists.proofs.Members.{in_place, all_from, in_map, of_map, each_one, place, range_distinct as rising}
 use Rattle.shunt_lists.specs.defs.Members.{In, AreDistinct}
 use Rattle.shunt_base.specs.declared.keys.Stay.{Stay}
 use Rattle.shunt_base.specs.defs.Keys.{IsWellFormed, AreStays}
 use Rattle.shunt_stays.specs.defs.Events.{renamed, SameButId, DifferBeforeId, AllDifferBeforeId}
-use Rattle.shunt_stays.proofs.Renaming.{finds_from, found_through}
+use Rattle.shunt_stays.proofs.OtherIds.{finds_from, found_through}
 use Rattle.shunt_stays.specs.defs.Run.{AreOnTracks}
 use Rattle.shunt_instance.specs.defs.Instance.{Night, IsInstance, IsOrderedNight, first_unit, first_position}
 use Rattle.shunt_instance.proofs.Orders.{opened}
@@ -22,11 +21,12 @@ use Rattle.shunt_instance.proofs.Looked.{units_few}
 use Rattle.shunt_blocks.specs.declared.records.Block.{Block}
 use Rattle.shunt_blocks.specs.declared.records.Park.{Park}
 use Rattle.shunt_blocks.specs.defs.Shapes.{shape_of, position_from, IsOnTrack, IsWithinTrains, begins_at}
-use Rattle.shunt_blocks.specs.defs.Standing.{is_too_soon, parked_stay, stay_with, stay_of}
+use Rattle.shunt_blocks.specs.defs.Stays.{is_too_soon, parked_stay, stay_with, stay_of}
 use Rattle.shunt_blocks.specs.defs.Lists.{has_unit, has_position, times_unit, times_position, ShareNothing, track_lengths, stays_of, CanStand, AreInRange, RunsThrough, placed_from, placed}
 use Rattle.shunt_blocks.specs.defs.Pins.{without_id}
 use Rattle.shunt_blocks.proofs.Times.{stay_formed, departure}
-use Rattle.shunt_blocks.proofs.Few.{one_more, begins_itself, few_blocks}
+use Rattle.shunt_blocks.proofs.Few.{one_more, few_blocks}
+use Rattle.shunt_blocks.proofs.Shapes.{begins_itself}
 
 -- ---- one stay
 
@@ -55,7 +55,7 @@ is_stay night b s e = let h = stay_with_is night b b.park s e in record { at = h
 -- ---- lists of stays
 
 -- a property of the list with the stay of one block more
-cons_stay : (P : List Stay → Type 0) (o : Option Stay) (stays : List Stay) → (o ≡ None → P stays) → ((s : Stay) → o ≡ Some s → P (s ∷ stays)) → P (cons_option o stays)
+pub cons_stay : (P : List Stay → Type 0) (o : Option Stay) (stays : List Stay) → (o ≡ None → P stays) → ((s : Stay) → o ≡ Some s → P (s ∷ stays)) → P (cons_option o stays)
 cons_stay P None stays none some = none refl
 cons_stay P (Some s) stays none some = some s refl
 
@@ -85,14 +85,6 @@ tail_stands night b blocks h = record {
   small = All-tail (λ c. c.id < 2 ^ 32) b blocks h.small;
   ids = λ i j d before lt. h.ids (suc i) (suc j) d (omega (arith, before)) (omega (arith, lt));
 }
-
--- a member has a place
-place : {X : Type 0} (xs : List X) (x : X) → In x xs → (k : ℕ) × (k < length xs) × ((d : X) → get_or xs k d ≡ x)
-place [] x there = absurd there
-place (y ∷ xs) x there = ⊎_elim (λ same. (0, omega arith, λ d. sym same)) (λ later. let at = place xs x later in (suc at.0, omega (arith, at.1), λ d. at.2 d)) there
-
-pub each_one : {X : Type 0} (P : X → Type 0) (xs : List X) (x : X) → All P xs → In x xs → P x
-each_one P xs x all there = let at = place xs x there in subst P (at.2 x) (all at.0 x at.1)
 
 -- the first block's id isn't that of a later one
 other_id : (night : Night) (b : Block) (blocks : List Block) → CanStand night (b ∷ blocks) → (c : Block) → In c blocks → b.id ≢ c.id
@@ -187,7 +179,7 @@ differ night b c blocks s t h apart b_in c_in there b_is c_is =
           omega (arith, places, few_places night b h b_in, few_places night c h c_in)));
     }
 
-rest_apart : (night : Night) (b : Block) (blocks : List Block) → ShareNothing night (b ∷ blocks) → ShareNothing night blocks
+pub rest_apart : (night : Night) (b : Block) (blocks : List Block) → ShareNothing night (b ∷ blocks) → ShareNothing night blocks
 rest_apart night b blocks apart = record {
   units = λ u. omega (arith, one_more night b blocks u, apart.units u);
   positions = λ v. omega (arith, one_position_more night b blocks v, apart.positions v);
@@ -333,18 +325,6 @@ placed_small k [] le = All-nil (λ b. b.id < 2 ^ 32)
 placed_small k (b ∷ blocks) le = All-cons (λ b. b.id < 2 ^ 32) (record b { id = k }) (placed_from (k + 1) blocks) (omega (arith, le))
     (placed_small (k + 1) blocks (omega (arith, le)))
 
-pub rising : (k n : ℕ) → AreDistinct (range_with_len k n)
-rising k n i j d before lt same = omega (
-  arith,
-  before,
-  same,
-  get_or-range_with_len k n i d (omega (arith, before, lt, size)),
-  get_or-range_with_len k n j d (omega (arith, lt, size)),
-)
-  where
-    size : length (range_with_len k n) ≡ n
-    size = length-range_with_len k n
-
 pub placed_stand : (night : Night) (blocks : List Block) → AreInRange night blocks → CanStand night (placed blocks)
 placed_stand night blocks h = record {
   within = placed_within night 1 blocks (ranges_stand night blocks h).within;
@@ -403,3 +383,23 @@ alone_apart night b = record {
     few : (has : Bool) (times : ℕ) → times ≡ cond has 1 0 + 0 → times ≤ 1
     few true times e = omega (arith, e)
     few false times e = omega (arith, e)
+
+pub id_where : (soon : Bool) (t s : Stay) → (if soon then None else Some t) ≡ Some s → s.id ≡ t.id
+id_where true t s e = absurd (none-some _ e)
+id_where false t s e = let same : t ≡ s = cc in sym (ap (λ (u : Stay). u.id) same)
+
+pub stay_when : (soon : Bool) (t s : Stay) → (if soon then None else Some t) ≡ Some s → s ≡ t
+stay_when true t s e = absurd (none-some _ e)
+stay_when false t s e = cc
+
+pub id_with : (night : Night) (b : Block) (o : Option Park) (s : Stay) → stay_with night b o ≡ Some s → s.id ≡ b.id
+id_with night b None s e = absurd (none-some _ e)
+id_with night b (Some k) s e = id_where (is_too_soon night (shape_of b)) (parked_stay night b k) s e
+
+pub stay_id : (night : Night) (b : Block) (s : Stay) → stay_of night b ≡ Some s → s.id ≡ b.id
+stay_id night b s e = id_with night b b.park s e
+
+pub stay_is : (night : Night) (b : Block) (o : Option Park) (s : Stay) → IsOnTrack night.station o → stay_with night b o ≡ Some s
+    → (k : Park) × (k.track.0 < length night.station.tracks) × (s ≡ parked_stay night b k)
+stay_is night b None s on e = absurd (none-some _ e)
+stay_is night b (Some k) s on e = (k, on, stay_when (is_too_soon night (shape_of b)) (parked_stay night b k) s e)

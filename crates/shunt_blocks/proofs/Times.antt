@@ -26,11 +26,11 @@ use Rattle.shunt_blocks.specs.declared.records.Shape.{Shape}
 use Rattle.shunt_blocks.specs.declared.records.Block.{Block}
 use Rattle.shunt_blocks.specs.declared.records.Park.{Park}
 use Rattle.shunt_blocks.specs.defs.Shapes.{shape_of, AreRunsWithin, IsOnTrack, IsWithinTrains, unit_from, position_from}
-use Rattle.shunt_blocks.specs.defs.Standing.{length_of, shape_length, leave_minute, is_too_soon, enter_key, leave_key, parked_stay, stay_with, stay_of}
+use Rattle.shunt_blocks.specs.defs.Stays.{length_of, shape_length, leave_minute, is_too_soon, enter_key, leave_key, parked_stay, stay_with, stay_of}
 
 -- ---- trains, units and positions
 
-minute_is : (ts : List Train) (k : ℕ) → k < length ts → minute_at ts k ≡ (train_at ts k).minute
+pub minute_is : (ts : List Train) (k : ℕ) → k < length ts → minute_at ts k ≡ (train_at ts k).minute
 minute_is ts k lt = get_or-map (λ (t : Train). t.minute) ts k _ 0 lt
 
 pub arrival : (night : Night) (a : ℕ) → IsOrderedNight night → a < length night.arrive → IsTrain night.station (train_at night.arrive a)
@@ -42,7 +42,7 @@ departure night d h lt = h.timetable.depart.each d _ lt
 abbrev no_type : UnitType
 no_type = record { name = []; length = 0; turn = 0 }
 
-turn_some : (s : Station) (kind : TypeId) → IsStation s → kind.0 < length s.types → 1 ≤ turn_of s kind
+pub turn_some : (s : Station) (kind : TypeId) → IsStation s → kind.0 < length s.types → 1 ≤ turn_of s kind
 turn_some s kind h lt = omega (arith, get_or-map (λ (t : UnitType). t.turn) s.types kind.0 no_type 0 lt, (h.types kind.0 no_type lt).turns)
 
 pub unit_is : (night : Night) (s : Shape) (k : ℕ) → AreRunsWithin night s → k < s.n
@@ -67,7 +67,7 @@ pub ready_is : (night : Night) (s : Shape) (k : ℕ) → AreRunsWithin night s �
 ready_is night s k h lt = ap (λ (u : TrainUnit). minute_at night.arrive u.train.0 + turn_of night.station u.kind) (unit_is night s k h lt)
     ∙ ap (λ (m : ℕ). m + turn_of night.station (kind_at (train_at night.arrive s.arr.0) (s.p + k))) (minute_is night.arrive s.arr.0 h.arr)
 
-kind_there : (night : Night) (s : Shape) (k : ℕ) → IsOrderedNight night → AreRunsWithin night s → k < s.n
+pub kind_there : (night : Night) (s : Shape) (k : ℕ) → IsOrderedNight night → AreRunsWithin night s → k < s.n
     → (kind_at (train_at night.arrive s.arr.0) (s.p + k)).0 < length night.station.types
 kind_there night s k h r lt = (arrival night s.arr.0 h r.arr).kinds (s.p + k - 1) _ (omega (arith, r.p, r.units, lt))
 
@@ -96,7 +96,7 @@ block_small night b h = sum_below-small b.n 5000 _ (λ k. length_small night.sta
 
 -- ---- stays
 
-before : (k l : EventKey) → k.minute < l.minute → IsBefore k l
+pub before : (k l : EventKey) → k.minute < l.minute → IsBefore k l
 before k l lt = ap (λ (o : Ordering). ordering_then o (ordering_then (bool_cmp k.enters l.enters)
     (ordering_then (nat_cmp k.train l.train) (ordering_then (nat_cmp k.place l.place) (nat_cmp k.id l.id))))) (less k.minute l.minute lt)
   where

@@ -1,7 +1,7 @@
 -- Without standing trains and permits, blocks and their costs are those of version 1.
 use Rattle.std.specs.Prelude.{◌↔◌, All, ◌==◌, ◌&&◌, ◌||◌, not, unwrap_or, IsSome, Option, Some, None}
 use Rattle.std.specs.List.{list_any}
-use Rattle.std.proofs.Common.{◌≡◌, ℕ, ◌+◌, ◌<◌, true, false, List, [], ◌∷◌, length, get_or, refl, sym, ap, subst, ◌∙◌, arith, Bool, IsTrue, ◌≢◌, zero, suc}
+use Rattle.std.proofs.Common.{◌≡◌, ℕ, ◌+◌, ◌<◌, true, false, List, [], ◌∷◌, length, get_or, refl, sym, ap, subst, ◌∙◌, arith, Bool, IsTrue, zero, suc}
 use Rattle.std.proofs.lemmas.Bool.{true≢false}
 use Rattle.std.proofs.lemmas.Bool.Decides.{nat_tests}
 use Rattle.std.proofs.lemmas.Option.{none-some}
@@ -24,13 +24,15 @@ use Rattle.shunt_instance.specs.defs.Instance.{Night, unit_at, position_at}
 use Rattle.shunt_blocks.specs.declared.records.Shape.{Shape}
 use Rattle.shunt_blocks.specs.declared.records.Block.{Block}
 use Rattle.shunt_blocks.specs.declared.records.Park.{Park}
-use Rattle.shunt_blocks.specs.defs.Shapes.{shape_of, AreRunsWithin, IsOnTrack, IsWithinTrains, IsShape, unit_from, position_from}
+use Rattle.shunt_blocks.specs.defs.Shapes.{shape_of, AreRunsWithin, IsWithinTrains, IsShape, unit_from, position_from}
 use Rattle.shunt_blocks.specs.defs.Ways.{option_way_in, option_way_out, way_in, way_out, way_from, way_to, park_way_in, park_way_out}
 use Rattle.shunt_blocks.specs.defs.Blocks.{IsOption, IsBlock, have_one_type, is_forbidden, type_fault}
 use Rattle.shunt_blocks.specs.defs.Costs.{option_cost, block_cost}
 use Rattle.shunt_blocks.specs.defs.Lists.{IsFeasible, total_cost}
 use Rattle.shunt_blocks.specs.defs.v1.{HasTwoTypes, LacksRouteIn, LacksRouteOut, IsPlain, HasShape, route, route_in, route_out, HasOption, IsBlock as IsFirstBlock, option_cost as first_option_cost, block_cost as first_block_cost, total_cost as first_total_cost, IsFeasible as IsFirstFeasible}
 use Rattle.shunt_blocks.proofs.Times.{unit_is, position_is, leaves_is, ready_is}
+use Rattle.shunt_lists.proofs.Tests.{unequal_from as unequal}
+use Rattle.shunt_blocks.proofs.Shapes.{on_track}
 
 -- ---- shapes
 
@@ -112,10 +114,6 @@ option_from night b (Some k) plain lt h = record {
   route_out = subst IsSome (ways_out night b k) h.way_out;
 }
 
-on_track : (night : Night) (s : Shape) (o : Option Park) → IsOption night s o → IsOnTrack night.station o
-on_track night s None h = tt
-on_track night s (Some k) h = h.track
-
 block_to : (night : Night) (b : Block) → IsPlain night → IsFirstBlock night b → IsBlock night b
 block_to night b plain h =
     let option = option_to night b b.park plain h.shape.arr h.option in
@@ -189,9 +187,6 @@ only_types night b plain = at (not (have_one_type night (shape_of b))) (is_forbi
     at : (s t : Bool) → t ≡ false → (s || t) ≡ s
     at true t e = refl
     at false t e = e
-
-unequal : (a b : ℕ) → (a == b) ≡ false → a ≢ b
-unequal a b e same = let is : (a == b) ≡ true = grind (arith, nat_tests, same) in true≢false (sym is ∙ e)
 
 pub two_types : (night : Night) (b : Block) → IsPlain night → AreRunsWithin night (shape_of b) → IsTrue (type_fault night b) ↔ HasTwoTypes night b
 two_types night b plain r = (

@@ -4,7 +4,7 @@ pub mod Ways
 pub mod Blocks
 pub mod Costs
 pub mod Least
-pub mod Standing
+pub mod Stays
 pub mod Lists
 pub mod Pins
 pub mod Polished

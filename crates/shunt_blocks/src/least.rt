@@ -2,7 +2,8 @@
 ghost use Rattle.std.specs.Prelude.{◌≡◌, ◌<◌, ◌≤◌, IfSome, length};
 ghost use Rattle.shunt_blocks.specs.defs.Shapes.{AreRunsWithin};
 ghost use Rattle.shunt_blocks.specs.defs.Costs.{IsCheapest};
-ghost use Rattle.shunt_blocks.specs.defs.Least.{lesser, least_way_in, least_way_out, least_on, improved, least_below};
+ghost use Rattle.shunt_blocks.specs.defs.Least.{lesser, least_way_in, least_way_out, least_on};
+ghost use Rattle.shunt_blocks.specs.defs.Least.{improved, least_below};
 
 use crate::costs::shape_cost;
 use crate::records::Shape;

@@ -2,19 +2,20 @@
 #![tactic(auto)]
 
 mod costs;
+mod firsts;
 pub mod laws;
 mod least;
+mod lists;
 mod ranges;
 mod records;
-mod standing;
+mod stays;
 mod ways;
 
 pub use costs::block_cost;
+pub use firsts::{position_from, unit_from};
 pub use least::cheapest;
-pub use ranges::{
-    are_runs_within, fits, has_position, has_unit, in_range, is_pair, position_from, type_fault,
-    unit_from,
-};
+pub use lists::{lengths_of, stays_of, track_lengths};
+pub use ranges::{are_runs_within, fits, has_position, has_unit, in_range, is_pair, type_fault};
 pub use records::{Block, Park, Shape, shape_of};
-pub use standing::{block_length, is_too_soon, stay};
+pub use stays::{block_length, is_too_soon, stay};
 pub use ways::{is_option, way_in, way_out};

@@ -1,10 +1,13 @@
 // Which blocks are in range, and which are blocks by the rules.
-ghost use Rattle.std.specs.Prelude.{◌≡◌, ◌<◌, ◌≤◌, ◌+◌, ◌↔◌, ℕ, IsTrue};
+ghost use Rattle.std.specs.Prelude.{◌≡◌, ◌<◌, ◌+◌, ◌↔◌, ℕ, IsTrue};
 ghost use Rattle.shunt_instance.specs.defs.Instance.{unit_total, position_total};
-ghost use Rattle.shunt_blocks.specs.defs.Shapes.{AreRunsWithin, IsWithinTrains, IsInRange, IsPair, IsShape, shape_of, unit_from, position_from, is_pair};
+ghost use Rattle.shunt_blocks.specs.defs.Shapes.{AreRunsWithin, IsWithinTrains, IsInRange, IsPair};
+ghost use Rattle.shunt_blocks.specs.defs.Shapes.{IsShape, shape_of, unit_from, position_from};
+ghost use Rattle.shunt_blocks.specs.defs.Shapes.{is_pair};
 ghost use Rattle.shunt_blocks.specs.defs.Blocks.{IsBlock, IsOption, have_one_type, type_fault};
 ghost use Rattle.shunt_blocks.specs.defs.Lists.{has_unit, has_position};
 
+use crate::firsts::{position_from, unit_from};
 use crate::records::{Block, Shape, shape_of};
 use crate::ways::{is_option, permits_units};
 use shunt_instance::Instance;
@@ -63,32 +66,6 @@ pub fn in_range(instance: &Instance, block: &Block) -> bool
     is_within_trains(instance, block)
 }
 
-/// The number of the first unit.
-pub fn unit_from(instance: &Instance, shape: Shape) -> usize
-    requires { AreRunsWithin instance.now shape }
-    ensures exact { result ≡ unit_from instance.now shape }
-    ensures within { result + shape.n ≤ unit_total instance.now }
-    ensures small { result + shape.n ≤ 160 }
-    ensures few { shape.n ≤ 8 }
-{
-    // Both calls tell bounds: there are at most 160 units, and 8 in a train.
-    instance.units();
-    instance.arrive(shape.arr);
-    instance.first_unit(shape.arr) + (shape.p - 1) as usize
-}
-
-/// The number of the first position.
-pub fn position_from(instance: &Instance, shape: Shape) -> usize
-    requires { AreRunsWithin instance.now shape }
-    ensures exact { result ≡ position_from instance.now shape }
-    ensures within { result + shape.n ≤ position_total instance.now }
-    ensures small { result + shape.n ≤ 160 }
-{
-    // There are at most 160 positions, which bounds the sum.
-    instance.positions();
-    instance.first_position(shape.dep) + (shape.q - 1) as usize
-}
-
 /// Whether a unit and a position are matchable.
 pub fn is_pair(instance: &Instance, u: usize, v: usize) -> bool
     requires unit { u < unit_total instance.now }
@@ -105,7 +82,8 @@ pub fn is_pair(instance: &Instance, u: usize, v: usize) -> bool
 /// Whether the units and positions are matchable pair by pair.
 fn are_pairs(instance: &Instance, shape: Shape) -> bool
     requires { AreRunsWithin instance.now shape }
-    ensures { IsTrue result ↔ ((k : ℕ) → k < shape.n → IsPair instance.now (unit_from instance.now shape + k) (position_from instance.now shape + k)) }
+    ensures { IsTrue result ↔ ((k : ℕ) → k < shape.n → IsPair instance.now
+        (unit_from instance.now shape + k) (position_from instance.now shape + k)) }
 {
     let from = unit_from(instance, shape);
     let to = position_from(instance, shape);

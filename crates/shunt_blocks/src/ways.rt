@@ -2,10 +2,11 @@
 ghost use Rattle.std.specs.Prelude.{◌≡◌, ◌<◌, ◌≤◌, ◌↔◌, IsTrue, IfSome, length};
 ghost use Rattle.shunt_instance.specs.defs.Wellformed.{IsOrigin};
 ghost use Rattle.shunt_blocks.specs.defs.Shapes.{AreRunsWithin, IsWithinTrains};
-ghost use Rattle.shunt_blocks.specs.defs.Ways.{way_from, way_to, park_way_in, park_way_out, way_in, way_out, permits_units};
+ghost use Rattle.shunt_blocks.specs.defs.Ways.{way_from, way_to, park_way_in, park_way_out, way_in};
+ghost use Rattle.shunt_blocks.specs.defs.Ways.{way_out, permits_units};
 ghost use Rattle.shunt_blocks.specs.defs.Blocks.{IsParkable, IsOption, can_park, is_option};
 
-use crate::ranges::unit_from;
+use crate::firsts::unit_from;
 use crate::records::{Block, Park, Shape};
 use shunt_base::{ArrId, DepId, Side, TrackId};
 use shunt_instance::{Instance, Origin};

@@ -7,35 +7,35 @@ const WRONG_WORDS: u32 = 2;
 
 /// A file of a run.
 #[derive(Debug, Drop)]
-pub(crate) struct File {
+pub(crate) struct RunFile {
     pub(crate) name: String,
     pub(crate) bytes: Vec<u8>,
 }
 
 /// A file that a run is to leave, and the pattern of its text.
 #[derive(Debug, Drop)]
-pub(crate) struct Wanted {
+pub(crate) struct WantedFile {
     pub(crate) name: String,
     pub(crate) pattern: String,
 }
 
 /// A run of the program, and what is to come of it.
 #[derive(Debug, Drop)]
-pub(crate) struct Case {
+pub(crate) struct ExpectedRun {
     pub(crate) words: Vec<String>,
-    pub(crate) files: Vec<File>,
+    pub(crate) files: Vec<RunFile>,
     /// The words and the names of the files, in order.
     pub(crate) names: Vec<String>,
     pub(crate) status: u32,
     pub(crate) printed: String,
-    pub(crate) written: Vec<Wanted>,
+    pub(crate) written: Vec<WantedFile>,
     /// How many calls of the store the run makes, where the case says so.
     pub(crate) calls: Option<u32>,
     /// Whether it is too slow to be run again with calls that fail.
     pub(crate) is_slow: bool,
 }
 
-impl Case {
+impl ExpectedRun {
     /// What the file of a name holds before the run. None where there is none.
     pub(crate) fn before(&self, name: &str) -> Option<&[u8]> {
         let file = self.files.iter().find(|file| file.name.as_str() == name)?;
@@ -113,7 +113,7 @@ fn size_of(lines: &str, name: &str) -> usize {
 }
 
 // Adds the files of `in`, each filled up with line ends to its size in `pad`.
-fn add_files(rt: &HostRuntime, folder: &str, files: &mut Vec<File>) -> io::Result<()> {
+fn add_files(rt: &HostRuntime, folder: &str, files: &mut Vec<RunFile>) -> io::Result<()> {
     let inputs = format!(in rt.alloc(); "{folder}/in")?;
     let pad = text_in(rt, folder, "pad")?;
     let pad = pad.as_deref().unwrap_or("");
@@ -121,18 +121,18 @@ fn add_files(rt: &HostRuntime, folder: &str, files: &mut Vec<File>) -> io::Resul
         let mut bytes = fs::read(rt, format!(in rt.alloc(); "{inputs}/{name}")?)?;
         let size = size_of(pad, &name).max(bytes.len());
         bytes.resize(size, b'\n')?;
-        files.push(File { name, bytes })?;
+        files.push(RunFile { name, bytes })?;
     }
     Ok(())
 }
 
 // The files of `after`.
-fn read_written(rt: &HostRuntime, folder: &str) -> io::Result<Vec<Wanted>> {
+fn read_written(rt: &HostRuntime, folder: &str) -> io::Result<Vec<WantedFile>> {
     let mut written = Vec::new(rt.alloc());
     let outputs = format!(in rt.alloc(); "{folder}/after")?;
     for name in names_in(rt, &outputs)? {
         let pattern = text_in(rt, &outputs, &name)?.unwrap_or(String::new(rt.alloc()));
-        written.push(Wanted { name, pattern })?;
+        written.push(WantedFile { name, pattern })?;
     }
     Ok(written)
 }
@@ -148,7 +148,7 @@ fn read_words(rt: &HostRuntime, folder: &str) -> io::Result<Vec<String>> {
 }
 
 // The case of a folder, which begins with some files.
-fn read_over(rt: &HostRuntime, folder: &str, mut files: Vec<File>) -> io::Result<Case> {
+fn read_over(rt: &HostRuntime, folder: &str, mut files: Vec<RunFile>) -> io::Result<ExpectedRun> {
     let words = read_words(rt, folder)?;
     add_files(rt, folder, &mut files)?;
     let written = read_written(rt, folder)?;
@@ -162,7 +162,7 @@ fn read_over(rt: &HostRuntime, folder: &str, mut files: Vec<File>) -> io::Result
         None if status == WRONG_WORDS => Some(0),
         calls => calls,
     };
-    Ok(Case {
+    Ok(ExpectedRun {
         words,
         files,
         names,
@@ -175,7 +175,7 @@ fn read_over(rt: &HostRuntime, folder: &str, mut files: Vec<File>) -> io::Result
 }
 
 /// The case of a folder.
-pub(crate) fn read_case(rt: &HostRuntime, folder: &str) -> io::Result<Case> {
+pub(crate) fn read_case(rt: &HostRuntime, folder: &str) -> io::Result<ExpectedRun> {
     read_over(rt, folder, Vec::new(rt.alloc()))
 }
 
@@ -183,8 +183,8 @@ pub(crate) fn read_case(rt: &HostRuntime, folder: &str) -> io::Result<Case> {
 pub(crate) fn read_next(
     rt: &HostRuntime,
     folder: &str,
-    left: Vec<File>,
-) -> io::Result<Option<Case>> {
+    left: Vec<RunFile>,
+) -> io::Result<Option<ExpectedRun>> {
     let next = format!(in rt.alloc(); "{folder}/then")?;
     match fs::metadata(rt, &next) {
         Ok(_) => Ok(Some(read_over(rt, &next, left)?)),

@@ -1,7 +1,7 @@
 // What isn't as a case has it.
-use crate::cases::{Case, File};
+use crate::cases::{ExpectedRun, RunFile};
 use crate::patterns::fits;
-use crate::runs::{Ended, Way, run_case};
+use crate::runs::{Ended, RunWay, run_case};
 use std::alloc::{AllocError, Global};
 use std::io;
 
@@ -14,15 +14,15 @@ const MOST_RUNS: u32 = 300;
 
 /// Tells what differs in a case, line by line.
 #[derive(Drop)]
-pub(crate) struct Report<'r> {
+pub(crate) struct RunReport<'r> {
     rt: &'r HostRuntime,
     name: &'r str,
     differs: bool,
 }
 
-impl<'r> Report<'r> {
-    pub(crate) fn new(rt: &'r HostRuntime, name: &'r str) -> Report<'r> {
-        Report {
+impl<'r> RunReport<'r> {
+    pub(crate) fn new(rt: &'r HostRuntime, name: &'r str) -> RunReport<'r> {
+        RunReport {
             rt,
             name,
             differs: false,
@@ -34,7 +34,7 @@ impl<'r> Report<'r> {
         self.differs
     }
 
-    fn tell(&mut self, way: Way, what: &str) -> io::Result<()> {
+    fn tell(&mut self, way: RunWay, what: &str) -> io::Result<()> {
         self.differs = true;
         let name = self.name;
         println!(self.rt; "{name}{way}: {what}")
@@ -48,29 +48,29 @@ fn short(bytes: &[u8]) -> &str {
 }
 
 // What a run that isn't disturbed printed and left, against the case.
-fn check_plain(report: &mut Report<'_>, case: &Case, ended: &Ended) -> io::Result<()> {
+fn check_plain(report: &mut RunReport<'_>, case: &ExpectedRun, ended: &Ended) -> io::Result<()> {
     let alloc = report.rt.alloc();
     let (status, wanted) = (ended.status, case.status);
     if status != wanted {
         report.tell(
-            Way::Whole,
+            RunWay::Whole,
             &format!(in alloc; "status {status}, and not {wanted}")?,
         )?;
     }
     if !fits(ended.out.bytes(), &case.printed) {
         let printed = short(ended.out.bytes());
-        report.tell(Way::Whole, &format!(in alloc; "it printed {printed:?}")?)?;
+        report.tell(RunWay::Whole, &format!(in alloc; "it printed {printed:?}")?)?;
     }
     for name in &case.names {
         if let Some(what) = unlike(case, ended, name) {
-            report.tell(Way::Whole, &format!(in alloc; "file {name} {what}")?)?;
+            report.tell(RunWay::Whole, &format!(in alloc; "file {name} {what}")?)?;
         }
     }
     Ok(())
 }
 
 // What isn't as the case has it of the file of a name.
-fn unlike(case: &Case, ended: &Ended, name: &str) -> Option<&'static str> {
+fn unlike(case: &ExpectedRun, ended: &Ended, name: &str) -> Option<&'static str> {
     let now = ended.store.file(name);
     match case.pattern_of(name) {
         Some(pattern) => match now {
@@ -84,13 +84,13 @@ fn unlike(case: &Case, ended: &Ended, name: &str) -> Option<&'static str> {
 }
 
 // Whether two runs of a case ended alike.
-fn is_same(case: &Case, first: &Ended, second: &Ended) -> bool {
+fn is_same(case: &ExpectedRun, first: &Ended, second: &Ended) -> bool {
     first.status == second.status
         && first.out.bytes() == second.out.bytes()
         && leaves_same(case, first, second)
 }
 
-fn leaves_same(case: &Case, first: &Ended, second: &Ended) -> bool {
+fn leaves_same(case: &ExpectedRun, first: &Ended, second: &Ended) -> bool {
     case.names
         .iter()
         .all(|name| first.store.file(name) == second.store.file(name))
@@ -102,7 +102,7 @@ fn is_whole(before: Option<&[u8]>, whole: Option<&[u8]>, now: Option<&[u8]>) -> 
 }
 
 // What must not be where a call of the store failed.
-fn wrong_of_store(case: &Case, plain: &Ended, ended: &Ended) -> Option<&'static str> {
+fn wrong_of_store(case: &ExpectedRun, plain: &Ended, ended: &Ended) -> Option<&'static str> {
     if ended.status != STORE_FAILED {
         return Some("the status is not 4");
     }
@@ -119,7 +119,7 @@ fn wrong_of_store(case: &Case, plain: &Ended, ended: &Ended) -> Option<&'static 
 }
 
 // What must not be where a call of the sink failed.
-fn wrong_of_sink(case: &Case, plain: &Ended, ended: &Ended) -> Option<&'static str> {
+fn wrong_of_sink(case: &ExpectedRun, plain: &Ended, ended: &Ended) -> Option<&'static str> {
     if ended.status != SINK_FAILED {
         return Some("the status is not 8");
     }
@@ -142,10 +142,10 @@ fn next_call(call: u64) -> u64 {
 }
 
 // Calls of the store fail in turn, up to the first run that makes fewer.
-fn check_store(report: &mut Report<'_>, case: &Case, plain: &Ended) -> io::Result<()> {
+fn check_store(report: &mut RunReport<'_>, case: &ExpectedRun, plain: &Ended) -> io::Result<()> {
     let mut call = 1u64;
     for _ in 0..MOST_RUNS {
-        let way = Way::PieceFails(call);
+        let way = RunWay::PieceFails(call);
         let ended = run_case(report.rt.alloc(), case, way)?;
         if is_same(case, plain, &ended) {
             break;
@@ -159,9 +159,9 @@ fn check_store(report: &mut Report<'_>, case: &Case, plain: &Ended) -> io::Resul
 }
 
 // Each call of the sink fails in turn, up to the first run that makes fewer.
-fn check_sink(report: &mut Report<'_>, case: &Case, plain: &Ended) -> io::Result<()> {
+fn check_sink(report: &mut RunReport<'_>, case: &ExpectedRun, plain: &Ended) -> io::Result<()> {
     for call in 1..MOST_RUNS {
-        let way = Way::SinkFails(u64::from(call));
+        let way = RunWay::SinkFails(u64::from(call));
         let ended = run_case(report.rt.alloc(), case, way)?;
         if is_same(case, plain, &ended) {
             break;
@@ -174,16 +174,16 @@ fn check_sink(report: &mut Report<'_>, case: &Case, plain: &Ended) -> io::Result
 }
 
 // The last of that many calls of the store is one that the run makes, and the next one isn't.
-fn check_calls(report: &mut Report<'_>, case: &Case, plain: &Ended) -> io::Result<()> {
+fn check_calls(report: &mut RunReport<'_>, case: &ExpectedRun, plain: &Ended) -> io::Result<()> {
     let Some(calls) = case.calls else {
         return Ok(());
     };
-    let last = Way::CallFails(u64::from(calls));
+    let last = RunWay::CallFails(u64::from(calls));
     let ended = run_case(report.rt.alloc(), case, last)?;
     if calls > 0 && ended.status != STORE_FAILED {
         report.tell(last, "the run makes fewer calls")?;
     }
-    let next = Way::CallFails(u64::from(calls).saturating_add(1));
+    let next = RunWay::CallFails(u64::from(calls).saturating_add(1));
     let ended = run_case(report.rt.alloc(), case, next)?;
     if !is_same(case, plain, &ended) {
         report.tell(next, "the run makes more calls")?;
@@ -192,15 +192,15 @@ fn check_calls(report: &mut Report<'_>, case: &Case, plain: &Ended) -> io::Resul
 }
 
 /// Runs a case in all ways, says what differs, and hands out the run that isn't disturbed.
-pub(crate) fn check(report: &mut Report<'_>, case: &Case) -> io::Result<Ended> {
-    let plain = run_case(report.rt.alloc(), case, Way::Whole)?;
+pub(crate) fn check(report: &mut RunReport<'_>, case: &ExpectedRun) -> io::Result<Ended> {
+    let plain = run_case(report.rt.alloc(), case, RunWay::Whole)?;
     check_plain(report, case, &plain)?;
     if report.differs {
         return Ok(plain);
     }
-    let pieces = run_case(report.rt.alloc(), case, Way::Pieces)?;
+    let pieces = run_case(report.rt.alloc(), case, RunWay::Pieces)?;
     if !is_same(case, &plain, &pieces) {
-        report.tell(Way::Pieces, "it ends otherwise")?;
+        report.tell(RunWay::Pieces, "it ends otherwise")?;
     }
     if !case.is_slow {
         check_calls(report, case, &plain)?;
@@ -211,12 +211,16 @@ pub(crate) fn check(report: &mut Report<'_>, case: &Case) -> io::Result<Ended> {
 }
 
 /// The files that a run of a case left.
-pub(crate) fn left_by(alloc: Global, case: &Case, ended: &Ended) -> Result<Vec<File>, AllocError> {
+pub(crate) fn left_by(
+    alloc: Global,
+    case: &ExpectedRun,
+    ended: &Ended,
+) -> Result<Vec<RunFile>, AllocError> {
     let mut files = Vec::new(alloc);
     for name in &case.names {
         if let Some(bytes) = ended.store.file(name) {
             let bytes = Vec::from_slice(alloc, bytes)?;
-            files.push(File {
+            files.push(RunFile {
                 name: name.clone()?,
                 bytes,
             })?;

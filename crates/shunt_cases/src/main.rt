@@ -8,14 +8,14 @@ mod patterns;
 mod runs;
 
 use cases::{folders_in, read_case, read_next};
-use checks::{Report, check, left_by};
+use checks::{RunReport, check, left_by};
 use std::process::ExitCode;
 use std::{env, io};
 
 // Whether all that the case of a folder has is so, and the case behind it, where one goes on with the files that it leaves.
 fn passes(rt: &HostRuntime, folder: &str) -> io::Result<bool> {
     let case = read_case(rt, folder)?;
-    let mut report = Report::new(rt, folder);
+    let mut report = RunReport::new(rt, folder);
     let plain = check(&mut report, &case)?;
     let left = left_by(rt.alloc(), &case, &plain)?;
     if let Some(next) = read_next(rt, folder, left)? {

@@ -2,7 +2,7 @@
 ghost use Rattle.std.specs.Prelude.{◌≡◌, IfOk};
 ghost use Rattle.shunt_store.specs.defs.Files.{Closed};
 
-use crate::cases::{Case, File};
+use crate::cases::{ExpectedRun, RunFile};
 use shunt::run;
 use shunt_store::{MemSink, MemStore};
 use std::alloc::{AllocError, Global};
@@ -13,7 +13,7 @@ const PIECE: usize = 7;
 
 /// How a case is run.
 #[derive(Clone, Copy, Debug)]
-pub(crate) enum Way {
+pub(crate) enum RunWay {
     Whole,
     Pieces,
     /// This call of the store fails.
@@ -24,17 +24,17 @@ pub(crate) enum Way {
     SinkFails(u64),
 }
 
-impl fmt::Display for Way {
+impl fmt::Display for RunWay {
     fn fmt<W: fmt::Write>(&self, f: &mut fmt::Formatter<W>) -> fmt::Result {
         match self {
-            Way::Whole => Ok(()),
-            Way::Pieces => write!(f, ", by pieces of {PIECE} bytes"),
-            Way::CallFails(call) => write!(f, ", where call {call} of the store fails"),
-            Way::PieceFails(call) => write!(
+            RunWay::Whole => Ok(()),
+            RunWay::Pieces => write!(f, ", by pieces of {PIECE} bytes"),
+            RunWay::CallFails(call) => write!(f, ", where call {call} of the store fails"),
+            RunWay::PieceFails(call) => write!(
                 f,
                 ", by pieces of {PIECE} bytes, where call {call} of the store fails"
             ),
-            Way::SinkFails(call) => write!(f, ", where call {call} of the sink fails"),
+            RunWay::SinkFails(call) => write!(f, ", where call {call} of the sink fails"),
         }
     }
 }
@@ -47,7 +47,7 @@ pub(crate) struct Ended {
     pub(crate) store: MemStore,
 }
 
-fn store_of(alloc: Global, files: &[File]) -> Result<MemStore, AllocError>
+fn store_of(alloc: Global, files: &[RunFile]) -> Result<MemStore, AllocError>
     ensures { IfOk result (λ s. s.stage ≡ Closed) }
 {
     let mut store = MemStore::new(alloc);
@@ -58,18 +58,22 @@ fn store_of(alloc: Global, files: &[File]) -> Result<MemStore, AllocError>
 }
 
 /// Runs a case over its files.
-pub(crate) fn run_case(alloc: Global, case: &Case, way: Way) -> Result<Ended, AllocError> {
+pub(crate) fn run_case(
+    alloc: Global,
+    case: &ExpectedRun,
+    way: RunWay,
+) -> Result<Ended, AllocError> {
     let mut store = store_of(alloc, &case.files)?;
     let mut out = MemSink::new(alloc);
     match way {
-        Way::Whole => {}
-        Way::Pieces => store.set_piece(PIECE),
-        Way::CallFails(call) => store.fail_at(call)?,
-        Way::PieceFails(call) => {
+        RunWay::Whole => {}
+        RunWay::Pieces => store.set_piece(PIECE),
+        RunWay::CallFails(call) => store.fail_at(call)?,
+        RunWay::PieceFails(call) => {
             store.set_piece(PIECE);
             store.fail_at(call)?;
         }
-        Way::SinkFails(call) => out.fail_at(call)?,
+        RunWay::SinkFails(call) => out.fail_at(call)?,
     }
     let status = run(alloc, &case.words, &mut store, &mut out) as u32;
     Ok(Ended { status, out, store })

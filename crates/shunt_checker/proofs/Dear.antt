@@ -1,8 +1,8 @@
 -- Ways that cost no less than a number, and shapes that are too dear to be light.
 use Rattle.std.specs.Prelude.{◌≤ℤ◌, Option, Some, None, IfSome, IsSome, unwrap_or}
-use Rattle.std.proofs.Common.{◌≡◌, ◌≢◌, ⊎_elim, ℕ, ◌+◌, ◌*◌, ◌<◌, ◌≤◌, List, length, get_or, set, ℤ, pos, sym, ap, subst, arith, get_or-set_same, get_or-set_other}
+use Rattle.std.proofs.Common.{◌≡◌, ⊎_elim, ℕ, ◌+◌, ◌*◌, ◌<◌, ◌≤◌, List, ℤ, pos, sym, ap, subst, arith}
 use Rattle.std.proofs.lemmas.Int.{ints}
-use Rattle.std.proofs.lemmas.Bool.{cases_lt, cases_eq}
+use Rattle.std.proofs.lemmas.Bool.{cases_lt}
 use Rattle.shunt_base.specs.declared.ids.Side.{Side}
 use Rattle.shunt_base.specs.declared.ids.Side.TheVariants.{A, B}
 use Rattle.shunt_base.specs.declared.ids.TrackId.{TrackId}
@@ -52,25 +52,6 @@ under_more way t least here less le le_here before at k lt =
     (λ (earlier : k.track.0 < t). weaker (way k) less least le (before k earlier))
     (λ (past : t ≤ k.track.0). weaker (way k) less here le_here (at k (let e : k.track.0 ≡ t = omega (arith, lt, past) in ap (λ (w : ℕ). record { 0 = w }) e)))
     (cases_lt k.track.0 t)
-
--- from the trains below one to one more
-pub train_more : (Fits : ℕ → ℕ → Type 0) (costs : List ℕ) (t cost : ℕ) → t < length costs → Fits t cost → ((a : ℕ) → a < t → Fits a (get_or costs a 0))
-    → (a : ℕ) → a < t + 1 → Fits a (get_or (set costs t cost) a 0)
-train_more Fits costs t cost inside here before a lt =
-    ⊎_elim
-    (λ (e : a ≡ t).
-    subst (λ (w : ℕ). Fits w (get_or (set costs t cost) w 0)) (sym e) (subst (Fits t) (sym (get_or-set_same costs t cost 0 inside)) here))
-    (λ (ne : a ≢ t). subst (Fits a) (sym (get_or-set_other costs t a cost 0 ne)) (before a (omega (arith, lt, ne))))
-    (cases_eq a t)
-
-pub small_at : (costs : List ℕ) (t cost most : ℕ) → t < length costs → cost ≤ most → ((a : ℕ) → get_or costs a 0 ≤ most) → (a : ℕ) → get_or (set costs t cost) a 0 ≤ most
-small_at costs t cost most inside le before a =
-    ⊎_elim
-    (λ (e : a ≡ t).
-    let at : get_or (set costs t cost) a 0 ≡ cost = subst (λ (w : ℕ). get_or (set costs t cost) w 0 ≡ cost) (sym e) (get_or-set_same costs t cost 0 inside) in
-    omega (arith, at, le))
-    (λ (ne : a ≢ t). omega (arith, get_or-set_other costs t a cost 0 ne, before a))
-    (cases_eq a t)
 
 -- ---- shapes
 

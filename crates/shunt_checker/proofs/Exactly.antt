@@ -9,7 +9,6 @@ use Rattle.shunt_blocks.specs.declared.records.Block.{Block}
 use Rattle.shunt_blocks.specs.defs.Pins.{AreUsable, Keeps}
 use Rattle.shunt_blocks.specs.defs.Shapes.{AreRunsWithin, unit_from}
 use Rattle.shunt_choices.specs.defs.Paths.{IsPartialPlan}
-use Rattle.shunt_choices.proofs.Given.{all_within}
 use Rattle.shunt_prices.specs.defs.Limits.{AreCases}
 use Rattle.shunt_plan.specs.declared.records.Plan.{Plan}
 use Rattle.shunt_plan.specs.defs.Plans.{IsPlanInRange}
@@ -28,11 +27,12 @@ use Rattle.shunt_proof.specs.defs.Accepted.{AreLeanIn, IsAccepted}
 use Rattle.shunt_checker.specs.declared.verdict.Reason.{Reason}
 use Rattle.shunt_checker.specs.declared.verdict.Verdict.{Verdict}
 use Rattle.shunt_checker.specs.declared.verdict.Verdict.TheVariants as verdict
-use Rattle.shunt_checker.specs.defs.Verdicts.{IsSound, IsFirstReason, Answers, IsVerdict, Accepts}
+use Rattle.shunt_checker.specs.defs.Verdicts.{IsSoundVerdict, IsFirstReason, Answers, IsVerdict, Accepts}
 use Rattle.shunt_checker.proofs.Chosen.{choice_is, no_choice, not_whole}
 use Rattle.shunt_checker.proofs.Refuted.{plan_sound, node_sound}
 use Rattle.shunt_checker.proofs.Versioned.{IsSolid, BoundLaws}
-use Rattle.shunt_checker.proofs.Accepting.{feasible, states, placed_there, node_right, node_lean}
+use Rattle.shunt_checker.proofs.Acceptance.{feasible, states, placed_there, node_right, node_lean}
+use Rattle.shunt_blocks.proofs.Shapes.{all_within}
 
 -- what follows below, of one night
 pub record Laws (night : Night) : Type 0 where
@@ -67,7 +67,7 @@ module _ (night : Night) (laws : Laws night) (formed : IsInstance night) (pins s
       (subst (λ (w : ℕ). depth_at c.nodes w ≡ 0) (sym e) (cert.nodes.root cert.some))
 
   -- where nothing is wrong
-  module _ (h : IsSound night start plan c) where
+  module _ (h : IsSoundVerdict night start plan c) where
     all_placed : (k : ℕ) → 1 ≤ k → k < length c.nodes → IsPlaced night start c.nodes k
     all_placed k later lt = let l = laws.choice c.nodes k cert.nodes later lt in placed_there night start c k (h.before.of_nodes k lt) l.0 l.1
 
@@ -99,7 +99,7 @@ module _ (night : Night) (laws : Laws night) (formed : IsInstance night) (pins s
       lean = all_lean;
     }
 
-  pub nothing_wrong : IsAccepted night pins plan.blocks plan.cost c → IsSound night start plan c
+  pub nothing_wrong : IsAccepted night pins plan.blocks plan.cost c → IsSoundVerdict night start plan c
   nothing_wrong h =
       let e : h.start ≡ start = laws.one_start pins h.start start h.begins begins in
       let right : AreRightIn c.version night start c.nodes (pos c.bound) =
@@ -115,7 +115,8 @@ module _ (night : Night) (laws : Laws night) (formed : IsInstance night) (pins s
 
 -- ---- verdicts
 
-pub unsound : (night : Night) (start : List Block) (plan : Plan) (c : Certificate) (row : ℕ) (r : Reason) → IsFirstReason night start plan c row r → IsSound night start plan c → ⊥
+pub unsound : (night : Night) (start : List Block) (plan : Plan) (c : Certificate) (row : ℕ) (r : Reason) → IsFirstReason night start plan c row r
+    → IsSoundVerdict night start plan c → ⊥
 unsound night start plan c row r (inl p) h = h.before.of_plan p.fault p.first.is
 unsound night start plan c row r (inr (inl n)) h = h.before.of_nodes n.node n.there n.first.fault r n.first.is
 unsound night start plan c row r (inr (inr e)) h = e.other h.cost

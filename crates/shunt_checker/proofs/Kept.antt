@@ -16,7 +16,7 @@ use Rattle.shunt_checker.specs.defs.Breaks.{IsBreakIn, BreakBefore}
 use Rattle.shunt_checker.specs.defs.Lights.{IsFreeLight}
 use Rattle.shunt_checker.proofs.Looked.{against}
 use Rattle.shunt_checker.proofs.Versioned.{held_by}
-use Rattle.shunt_checker.proofs.Breaking.{its_light}
+use Rattle.shunt_checker.proofs.Breaks.{its_light}
 
 -- the list has no such case at the places below one
 abbrev pub HasNotBelow : List Case → Case → ℕ → Type 0

@@ -28,7 +28,7 @@ side A B = inr (λ e. cc)
 side B A = inr (λ e. cc)
 side B B = inl refl
 
-park_from : (k l : Park) → k.track.0 ≡ l.track.0 → k.side_in ≡ l.side_in → k.side_out ≡ l.side_out → k ≡ l
+pub park_from : (k l : Park) → k.track.0 ≡ l.track.0 → k.side_in ≡ l.side_in → k.side_out ≡ l.side_out → k ≡ l
 park_from k l et ei eo =
     let tracks : k.track ≡ l.track = ap (λ (w : ℕ). record { 0 = w }) et in
     let a : k ≡ record { track = l.track; side_in = k.side_in; side_out = k.side_out } = ap

@@ -26,8 +26,8 @@ use Rattle.shunt_checker.specs.defs.Children.{HasChild, said}
 use Rattle.shunt_checker.specs.defs.Misses.{IsMissed}
 use Rattle.shunt_checker.specs.defs.Tallies.{IsLone}
 use Rattle.shunt_checker.proofs.Looked.{against, refuted}
-use Rattle.shunt_checker.proofs.Opened.{either_test}
 use Rattle.shunt_checker.proofs.Twofold.{OpensFirst}
+use Rattle.shunt_lists.proofs.Tests.{either_test}
 
 -- ---- sums
 

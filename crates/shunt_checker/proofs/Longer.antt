@@ -15,7 +15,7 @@ use Rattle.shunt_prices.specs.defs.Prices.{price_part_with}
 use Rattle.shunt_prices.specs.defs.Cases.{IsFreeBlock, weight, weight_with, duals_over}
 use Rattle.shunt_prices.specs.defs.Bounds.{sum_at}
 use Rattle.shunt_checker.specs.defs.Lows.{offer_of}
-use Rattle.shunt_checker.proofs.Summed.{no_part}
+use Rattle.shunt_prices.proofs.Counts.{no_part}
 
 pub unparked : (night : Night) (prices : List Price) (s : Shape) (park : Option Park) → park ≡ None → 0 ≡ price_part_with night prices s park
 unparked night prices s park e = sym (ap (price_part_with night prices s) e ∙ no_part night prices s)

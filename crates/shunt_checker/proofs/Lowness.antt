@@ -16,7 +16,7 @@ use Rattle.shunt_proof.specs.declared.records.Version.TheVariants.{Prices, Stack
 use Rattle.shunt_proof.specs.defs.Versions.{IsStepBoundIn}
 use Rattle.shunt_checker.specs.defs.NodeFaults.{IsStepLow}
 use Rattle.shunt_checker.specs.defs.Lows.{IsLowIn, IsLowBy}
-use Rattle.shunt_checker.proofs.Opened.{either_test, last_test, few_test}
+use Rattle.shunt_lists.proofs.Tests.{either_test, last_test, few_test}
 
 low_sum : (sum bound : ℤ) (L : ℕ) → sum ≤ℤ (pos 1000 *ℤ bound) → bound <ℤ pos L → (sum +ℤ pos 1000) ≤ℤ pos (1000 * L)
 low_sum sum bound L enough low = omega (arith, ints, enough, low)

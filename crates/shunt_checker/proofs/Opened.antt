@@ -1,24 +1,16 @@
 -- The least bound of cases, from those before a number to one more.
-use Rattle.std.specs.Prelude.{true, ◌==◌, ◌||◌, nat_le, Some, slice_get, ◌≤ℤ◌}
+use Rattle.std.specs.Prelude.{Some, slice_get, ◌≤ℤ◌}
 use Rattle.std.proofs.Common.{◌≡◌, ◌⊎◌, inl, inr, ⊎_elim, ℕ, ◌+◌, ◌<◌, ◌≤◌, List, length, ℤ, sym, subst, arith}
 use Rattle.std.proofs.lemmas.Int.{ints}
-use Rattle.std.proofs.lemmas.Bool.{cases_lt, cases_eq}
-use Rattle.std.proofs.lemmas.Bool.Decides.{nat_tests}
-use Rattle.std.proofs.lemmas.Option.{get_or_from_slice_get}
+use Rattle.std.proofs.lemmas.Bool.{cases_lt}
 use Rattle.shunt_base.specs.declared.duals.Case.{Case}
 use Rattle.shunt_instance.specs.defs.Instance.{Night}
 use Rattle.shunt_blocks.specs.declared.records.Block.{Block}
-use Rattle.shunt_prices.specs.defs.Limits.{case_at, from_of, IsCase, AreCases}
+use Rattle.shunt_prices.specs.defs.Limits.{case_at, from_of}
 use Rattle.shunt_prices.specs.defs.Bounds.{IsBoundOf, IsOpenAt, IsCasesBound, case_sum, sum_at, unparked_in}
-use Rattle.shunt_prices.proofs.Signed.{bound_rises}
 use Rattle.shunt_checker.specs.defs.Opened.{IsLeastBelow}
-
--- the case that was got is the one with its number
-pub got : (cases : List Case) (k : ℕ) (c : Case) → slice_get cases k ≡ Some c → case_at cases k ≡ c
-got cases k c e = get_or_from_slice_get cases k c _ e
-
-pub got_is : (night : Night) (cases : List Case) (k : ℕ) (c : Case) → slice_get cases k ≡ Some c → k < length cases → AreCases night cases → IsCase night c
-got_is night cases k c e lt are = subst (IsCase night) (got cases k c e) (are.each k _ lt)
+use Rattle.shunt_lists.proofs.Tests.{either_test, last_test, few_test}
+use Rattle.shunt_prices.proofs.Counts.{one_bound, got}
 
 pub case_sum_is : (night : Night) (path : List Block) (cases : List Case) (k : ℕ) (case : Case) (from : ℕ) (s : ℤ) → slice_get cases k ≡ Some case → from ≡ from_of cases k
     → s ≡ sum_at night path from case → s ≡ case_sum night path cases k
@@ -29,19 +21,6 @@ pub sum_of_case : (night : Night) (path : List Block) (cases : List Case) (k : �
     → s ≡ case_sum night path cases k → s ≡ sum_at night path from case
 sum_of_case night path cases k case from s e ef is =
     subst (λ (f : ℕ). s ≡ sum_at night path f case) (sym ef) (subst (λ (c : Case). s ≡ sum_at night path (from_of cases k) c) (got cases k case e) is)
-
--- two bounds of one sum
-pub one_bound : (sum bound other : ℤ) → IsBoundOf sum bound → IsBoundOf sum other → bound ≤ℤ other
-one_bound sum bound other h k = bound_rises sum sum bound other (omega (arith, ints)) h k
-
-pub either_test : (a b p q : ℕ) → ((a == b) || nat_le p q) ≡ true → (a ≡ b) ⊎ (p ≤ q)
-either_test a b p q e = ⊎_elim (λ (h : a ≡ b). inl h) (λ (ne : a ≡ b → ⊥). inr (grind (arith, nat_tests))) (cases_eq a b)
-
-pub last_test : (a b p q : ℕ) → a ≡ b → ((a == b) || nat_le p q) ≡ true
-last_test a b p q e = grind (arith, nat_tests)
-
-pub few_test : (a b p q : ℕ) → p ≤ q → ((a == b) || nat_le p q) ≡ true
-few_test a b p q le = grind (arith, nat_tests)
 
 module _ (night : Night) (path : List Block) (cases : List Case) (k : ℕ) (least : ℤ) where
   pub closed : (case_at cases k).to < unparked_in path → IsLeastBelow night path cases k least → IsLeastBelow night path cases (k + 1) least

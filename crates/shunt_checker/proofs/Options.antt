@@ -1,6 +1,6 @@
 -- Options of one shape by their numbers.
 use Rattle.std.specs.Prelude.{Option, Some, None}
-use Rattle.std.proofs.Common.{◌≡◌, ⊎_elim, inl, inr, ℕ, ◌+◌, ◌*◌, ◌<◌, ◌≤◌, length, refl, ap, subst, ◌∙◌, arith}
+use Rattle.std.proofs.Common.{◌≡◌, ⊎_elim, inl, inr, ℕ, ◌+◌, ◌*◌, ◌<◌, ◌≤◌, length, refl, ap, subst, arith}
 use Rattle.std.proofs.lemmas.Bool.{cases_lt}
 use Rattle.shunt_base.specs.declared.ids.Side.{Side}
 use Rattle.shunt_base.specs.declared.ids.Side.TheVariants.{A, B}
@@ -17,7 +17,8 @@ use Rattle.shunt_checker.specs.defs.Searches.{IsOneOfShape}
 use Rattle.shunt_checker.specs.defs.NodeFaults.{EarlierChoice}
 use Rattle.shunt_checker.specs.defs.Lows.{offer_of}
 use Rattle.shunt_checker.specs.defs.Misses.{side_number, option_number}
-use Rattle.shunt_checker.proofs.Parking.{by_option}
+use Rattle.shunt_checker.proofs.Parks.{by_option}
+use Rattle.shunt_checker.proofs.Listed.{park_from as park_is}
 
 small : (s : Side) → side_number s ≤ 1
 small A = omega arith
@@ -44,16 +45,6 @@ numbers_rise (Some k) (Some l) (inr (same, inr (sides, (a, b)))) =
     let first : side_number k.side_out ≡ 0 = ap side_number a in
     let second : side_number l.side_out ≡ 1 = ap side_number b in
     omega (arith, e, s, first, second)
-
-park_is : (k l : Park) → k.track.0 ≡ l.track.0 → k.side_in ≡ l.side_in → k.side_out ≡ l.side_out → k ≡ l
-park_is k l et ei eo =
-    let tracks : k.track ≡ l.track = ap (λ (w : ℕ). record { 0 = w }) et in
-    let a : k ≡ record { track = l.track; side_in = k.side_in; side_out = k.side_out } = ap
-    (λ (t : TrackId). record { track = t; side_in = k.side_in; side_out = k.side_out }) tracks in
-    let b : record { track = l.track; side_in = k.side_in; side_out = k.side_out }
-    ≡ record { track = l.track; side_in = l.side_in; side_out = k.side_out } = ap (λ (s : Side). record { track = l.track; side_in = s; side_out = k.side_out }) ei in
-    let c : record { track = l.track; side_in = l.side_in; side_out = k.side_out } ≡ l = ap (λ (s : Side). record { track = l.track; side_in = l.side_in; side_out = s }) eo in
-    a ∙ (b ∙ c)
 
 pub one_option : (o p : Option Park) → option_number o ≡ option_number p → o ≡ p
 one_option None None e = refl

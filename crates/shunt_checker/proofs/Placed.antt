@@ -15,7 +15,7 @@ use Rattle.shunt_proof.specs.defs.Versions.{IsStepBoundIn}
 use Rattle.shunt_checker.specs.declared.verdict.Reason.{Reason}
 use Rattle.shunt_checker.specs.declared.verdict.Reason.TheVariants as reason
 use Rattle.shunt_checker.specs.defs.NodeFaults.{IsThere, IsNotLean, HasTwin, IsFirstNodeFault}
-use Rattle.shunt_checker.specs.defs.NodeSteps.{NodeFrom, JudgesBelow, JudgesChild, Leads}
+use Rattle.shunt_checker.specs.defs.NodeSteps.{NodeFrom, JudgesBelow, JudgesChild, LeadsDown}
 use Rattle.shunt_checker.proofs.Looked.{against}
 use Rattle.shunt_checker.proofs.NodeOrder.{from_start, from_next, none_there, none_twice, none_lean, there_first, twice_first, lean_first}
 
@@ -33,7 +33,7 @@ module _ (night : Night) (c : Certificate) (k : ℕ) (choice : Choice) (is : (no
         (subst (λ (p : List Block). IsChoiceAt night p (choice_from night p choice)) (sym at) h.there))
 
     module _ (new : List Block) (en : new ≡ longer_by old (choice_from night old choice)) (b : Bool) (through : IsTrue b ↔ RunsThrough night (placed new)) where
-      pub leads : Leads night c k old new
+      pub leads : LeadsDown night c k old new
       leads = λ start at. en ∙ sym (path_k start at)
 
       pub not_through : b ≡ false → JudgesBelow night c k old 1 2 (Some (reason.ChildNotThere choice))
@@ -56,8 +56,8 @@ there_told night c k old best r s e h =
     let here : JudgesBelow night c k old 1 2 (Some s) = subst (JudgesBelow night c k old 1 2) e h in
     λ start at eb. here start at (from_start night start c k)
 
-pub led : (night : Night) (c : Certificate) (k : ℕ) (old new : List Block) (r : Option Reason) → r ≡ None → IfNone r (Leads night c k old new) → Leads night c k old new
-led night c k old new r e h = subst (λ (o : Option Reason). IfNone o (Leads night c k old new)) e h
+pub led : (night : Night) (c : Certificate) (k : ℕ) (old new : List Block) (r : Option Reason) → r ≡ None → IfNone r (LeadsDown night c k old new) → LeadsDown night c k old new
+led night c k old new r e h = subst (λ (o : Option Reason). IfNone o (LeadsDown night c k old new)) e h
 
 module _ (night : Night) (c : Certificate) (k : ℕ) (choice : Choice) (is : (node_at c.nodes k).choice ≡ Some choice) (old : List Block) (best : ℕ) (r : Option Reason)
     (e : r ≡ None) (there : JudgesBelow night c k old 1 2 r) where
@@ -70,7 +70,7 @@ module _ (night : Night) (c : Certificate) (k : ℕ) (choice : Choice) (is : (no
     pub twice_told : b ≡ true → JudgesChild night c k old best (Some (reason.ChildTwice choice))
     twice_told t = λ start at eb. twice_first night start c k (from_two start at) choice is (twin.0 t)
 
-    module _ (f : b ≡ false) (new : List Block) (leads : Leads night c k old new) (cases : List Case) (above : ℕ) (ed : cases ≡ duals_at c.nodes above)
+    module _ (f : b ≡ false) (new : List Block) (leads : LeadsDown night c k old new) (cases : List Case) (above : ℕ) (ed : cases ≡ duals_at c.nodes above)
         (ea : above ≡ parent c.nodes k)
         (step : (start : List Block) → path_at night start c.nodes k ≡ longer_with night (path_at night start c.nodes (parent c.nodes k)) (node_at c.nodes k).choice)
         (one : (path longer : List Block) (cs : List Case) (x y : ℤ) → IsStepBoundIn c.version night path longer cs x → IsStepBoundIn c.version night path longer cs y → x ≡ y)

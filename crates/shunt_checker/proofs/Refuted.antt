@@ -1,6 +1,6 @@
 -- If a certificate is accepted, nothing is wrong.
-use Rattle.std.specs.Prelude.{◌≢◌, ◌≤ℤ◌, IsSome, is_some, is_ok, Err}
-use Rattle.std.proofs.Common.{◌≡◌, ◌⊎◌, ⊎_elim, ℕ, ◌≤◌, ℤ, pos, List, Option, Some, None, refl, sym, ap, subst, ◌∙◌, arith}
+use Rattle.std.specs.Prelude.{◌≢◌, ◌≤ℤ◌, is_ok, Err}
+use Rattle.std.proofs.Common.{◌≡◌, ◌⊎◌, ⊎_elim, ℕ, ◌≤◌, ℤ, pos, List, Some, None, refl, sym, ap, subst, ◌∙◌, arith}
 use Rattle.std.proofs.lemmas.Int.{ints}
 use Rattle.std.proofs.lemmas.Bool.{cases_lt, true≢false}
 use Rattle.std.proofs.lemmas.List.Elements.{recursion_from_All}
@@ -29,6 +29,8 @@ use Rattle.shunt_checker.specs.declared.verdict.PlanFault.TheVariants as fault
 use Rattle.shunt_checker.specs.defs.PlanFaults.{IsPlanSound}
 use Rattle.shunt_checker.specs.defs.NodeFaults.{NotThere, Twice, NotLean, OtherKind, Broken, LowLeaf, LowWhole, Missing, IsThere, IsNodeSound, IsOtherKind, IsLow, IsStepLow}
 use Rattle.shunt_checker.proofs.Versioned.{held_at}
+use Rattle.shunt_lists.proofs.Options.{no_none as not_both}
+use Rattle.shunt_checker.proofs.Acceptance.{one_choice}
 
 -- ---- plans
 
@@ -44,12 +46,6 @@ plan_sound night plan h e (fault.Over id load) f = stopped night plan.blocks (Ov
 plan_sound night plan h e (fault.Cost stated real) f = f.2 (f.0 ∙ (e ∙ sym f.1))
 
 -- ---- nodes
-
-one_choice : (o : Option Choice) (a b : Choice) → o ≡ Some a → o ≡ Some b → a ≡ b
-one_choice o a b ea eb = let e : Some a ≡ Some b = sym ea ∙ eb in cc
-
-not_both : (o : Option ℕ) → IsSome o → o ≡ None → ⊥
-not_both o some none = true≢false (sym some ∙ ap is_some none)
 
 module _ (version : Version) (night : Night) (path : List Block) (cases : List Case) (IsKnown : PathChoice → Type 0) (L : ℤ) where
   shown_to_hold : (kind : NodeKind) → kind ≢ Whole → ShowsIn version night path cases kind IsKnown L → HoldIn version night path cases

@@ -10,7 +10,8 @@ use Rattle.shunt_prices.specs.defs.Limits.{case_at}
 use Rattle.shunt_prices.specs.defs.Bounds.{IsBoundOf, IsOpenAt, unparked_in}
 use Rattle.shunt_stacks.specs.defs.Bounds.{IsLeastBound, IsStackSum, IsStackBound, IsChoiceSum, IsChoiceBound}
 use Rattle.shunt_checker.proofs.Looked.{against}
-use Rattle.shunt_checker.proofs.Opened.{one_bound, either_test, last_test, few_test}
+use Rattle.shunt_lists.proofs.Tests.{either_test, last_test, few_test}
+use Rattle.shunt_prices.proofs.Counts.{one_bound}
 
 -- it is the least bound over the opened cases of what is their sum
 pub record IsLeast (cases : List Case) (path : List Block) (Is : ℕ → ℤ → Type 0) (bound : ℤ) : Type 0 where

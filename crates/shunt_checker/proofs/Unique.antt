@@ -38,7 +38,8 @@ use Rattle.shunt_checker.specs.defs.NodeFaults.{NodeFault, NotThere, Twice, NotL
 use Rattle.shunt_checker.specs.defs.Verdicts.{IsFirstReason, Answers, IsVerdict}
 use Rattle.shunt_checker.proofs.Exactly.{Laws, unsound}
 use Rattle.shunt_checker.specs.defs.Children.{said}
-use Rattle.shunt_checker.proofs.Searching.{shape_is}
+use Rattle.shunt_checker.proofs.Searches.{shape_is}
+use Rattle.shunt_checker.proofs.Acceptance.{one_choice}
 
 -- neither number is less
 level : (a b : ℕ) → (a < b → ⊥) → (b < a → ⊥) → a ≡ b
@@ -153,9 +154,6 @@ module _ (night : Night) (unit_law : (s : Shape) (k : ℕ) → AreRunsWithin nig
       ap (λ (s : Shape). record { shape = s; option = d.option }) shape ∙ ap (λ (o : Option Park). record { shape = e.shape; option = o }) option
 
 -- ---- nodes
-
-one_choice : (o : Option Choice) (a b : Choice) → o ≡ Some a → o ≡ Some b → a ≡ b
-one_choice o a b ea eb = let e : Some a ≡ Some b = sym ea ∙ eb in cc
 
 there_within : (night : Night) (path : List Block) (o : Option ℕ) (d : PathChoice) → IsSomeAnd o (λ u. IsChoice night (masks_of night path) u d) → AreRunsWithin night d.shape
 there_within night path None d never = absurd never

@@ -6,8 +6,8 @@ ghost use Rattle.shunt_checker.specs.defs.Asked.{HoldsBy};
 ghost use Rattle.shunt_checker.specs.defs.Firsts.{Finds};
 ghost use Rattle.shunt_checker.specs.defs.Breaks.{IsBreak, IsBreakIn, BreakBefore, numbered};
 
-use crate::holding::first_light;
 use crate::known::is_known;
+use crate::light_shapes::first_light;
 use crate::offer::Offer;
 use shunt_base::Cases;
 use shunt_choices::Covered;
@@ -59,8 +59,10 @@ fn break_in(
     requires covered { AreMasksOf instance.now covered.now }
     requires cases { AreCases instance.now cases.now }
     requires there { k < length cases.now }
-    requires known { IfSome known (λ held. All (HoldsBy version instance.now covered.now) held.now) }
-    ensures { IfOk result (Finds (IsBreakIn version instance.now covered.now cases.now k) (BreakBefore instance.now)) }
+    requires known { IfSome known
+        (λ held. All (HoldsBy version instance.now covered.now) held.now) }
+    ensures { IfOk result (Finds (IsBreakIn version instance.now covered.now cases.now k)
+        (BreakBefore instance.now)) }
 {
     let case = cases.get(k);
     if is_known(known, case) {
@@ -81,8 +83,10 @@ pub(crate) fn first_break(
 ) -> Result<Option<Break>, AllocError>
     requires covered { AreMasksOf instance.now covered.now }
     requires cases { AreCases instance.now cases.now }
-    requires known { IfSome known (λ held. All (HoldsBy version instance.now covered.now) held.now) }
-    ensures { IfOk result (Finds (IsBreak version instance.now covered.now cases.now) (BreakBefore instance.now)) }
+    requires known { IfSome known
+        (λ held. All (HoldsBy version instance.now covered.now) held.now) }
+    ensures { IfOk result
+        (Finds (IsBreak version instance.now covered.now cases.now) (BreakBefore instance.now)) }
 {
     for k in 0..cases.len() {
         if let Some(found) = break_in(alloc, instance, version, covered, cases, k, known)? {

@@ -77,7 +77,8 @@ pub(crate) fn has_child(instance: &Instance, nodes: &[Node], k: usize, choice: C
 pub(crate) fn lists(instance: &Instance, nodes: &[Node], k: usize, choice: Choice) -> bool
     requires nodes { AreNodes instance.now nodes.now }
     requires there { k < length nodes.now }
-    ensures { (start : List ABlock) → IsTrue result ↔ IsListed instance.now start nodes.now k (choice_from instance.now (path_at instance.now start nodes.now k) choice) }
+    ensures { (start : List ABlock) → IsTrue result ↔ IsListed instance.now start nodes.now k
+        (choice_from instance.now (path_at instance.now start nodes.now k) choice) }
 {
     has_child(instance, nodes, k, choice)
 }

@@ -1,5 +1,6 @@
 // Whether a node's choice leads on from its parent's path.
-ghost use Rattle.std.specs.Prelude.{◌≡◌, ◌<◌, ◌≤◌, ◌≤ℤ◌, ◌<ℤ◌, ◌↔◌, IsTrue, IfOk, IfSome, IfNone, All, Some, pos, length};
+ghost use Rattle.std.specs.Prelude.{◌≡◌, ◌<◌, ◌≤◌, ◌≤ℤ◌, ◌<ℤ◌, ◌↔◌, IsTrue, IfOk, IfSome, IfNone};
+ghost use Rattle.std.specs.Prelude.{All, Some, pos, length};
 ghost use Rattle.shunt_blocks.specs.defs.Blocks.{IsBlockButId};
 ghost use Rattle.shunt_blocks.specs.defs.Lists.{RunsThrough, placed};
 ghost use Rattle.shunt_choices.specs.defs.Paths.{IsTrailOf};
@@ -9,11 +10,11 @@ ghost use Rattle.shunt_proof.specs.defs.Trees.{parent, duals_at, IsChildOf};
 ghost use Rattle.shunt_checker.specs.declared.verdict.Reason.TheVariants as reason;
 ghost use Rattle.shunt_checker.specs.defs.NodeFaults.{HasTwin};
 ghost use Rattle.shunt_checker.specs.defs.Tallies.{IsOneMore};
-ghost use Rattle.shunt_checker.specs.defs.NodeSteps.{JudgesBelow, JudgesChild, Leads};
+ghost use Rattle.shunt_checker.specs.defs.NodeSteps.{JudgesBelow, JudgesChild, LeadsDown};
 
 use crate::children::has_twin;
-use crate::placing::{is_there, push_choice};
-use crate::running::runs_placed;
+use crate::node_choices::{is_there, push_choice};
+use crate::runs::runs_placed;
 use crate::verdict::Reason;
 use crate::versions::step_bound;
 use shunt_base::Cases;
@@ -69,8 +70,10 @@ fn there_fault(
     requires choice { (node_at certificate.now.nodes k).choice ≡ Some choice }
     requires fits { FitsChoice instance.now choice }
     ensures found { IfOk result (JudgesBelow instance.now certificate.now k path.old.blocks 1 2) }
-    ensures leads { IfOk result (λ r. IfNone r (Leads instance.now certificate.now k path.old.blocks path.new.blocks)) }
-    ensures more { IfOk result (λ r. IfNone r (IsOneMore instance.now path.old.blocks path.new.blocks)) }
+    ensures leads { IfOk result
+        (λ r. IfNone r (LeadsDown instance.now certificate.now k path.old.blocks path.new.blocks)) }
+    ensures more { IfOk result
+        (λ r. IfNone r (IsOneMore instance.now path.old.blocks path.new.blocks)) }
     ensures of { IsTrailOf instance.now path.new }
     ensures pins { path.new.pins ≡ path.old.pins }
 {
@@ -105,7 +108,8 @@ fn is_twice(
 /// What is told of a bound that isn't below the best cost.
 fn lean_reason(bound: i64, best: u64) -> Option<Reason>
     requires { best ≤ 4000000000 }
-    ensures some { IfSome result (λ r. (pos best ≤ℤ bound) × (r ≡ reason.ChildNotLean bound (pos best))) }
+    ensures some { IfSome result
+        (λ r. (pos best ≤ℤ bound) × (r ≡ reason.ChildNotLean bound (pos best))) }
     ensures none { IfNone result (bound <ℤ pos best) }
 {
     let best = best as i64;
@@ -137,8 +141,10 @@ pub(crate) fn child_fault(
     requires pins { path.old.pins ≤ length path.old.blocks }
     requires best { best ≤ 4000000000 }
     ensures found { IfOk result (JudgesChild instance.now certificate.now k path.old.blocks best) }
-    ensures leads { IfOk result (λ r. IfNone r (Leads instance.now certificate.now k path.old.blocks path.new.blocks)) }
-    ensures through { IfOk result (λ r. IfNone r (RunsThrough instance.now (placed path.new.blocks))) }
+    ensures leads { IfOk result
+        (λ r. IfNone r (LeadsDown instance.now certificate.now k path.old.blocks path.new.blocks)) }
+    ensures through { IfOk result
+        (λ r. IfNone r (RunsThrough instance.now (placed path.new.blocks))) }
     ensures each { IfOk result (λ r. IfNone r (All (IsBlockButId instance.now) path.new.blocks)) }
     ensures of { IsTrailOf instance.now path.new }
     ensures pins { path.new.pins ≡ path.old.pins }

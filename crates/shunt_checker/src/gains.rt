@@ -1,7 +1,8 @@
 // What one more choice adds to the sum of a case at a path.
-ghost use Rattle.std.specs.Prelude.{◌≡◌, ◌⊎◌, ◌<◌, ◌≤◌, ◌+◌, ◌*◌, ◌+ℤ◌, ◌≤ℤ◌, ◌↔◌, IsTrue, pos, is_none, if◌then◌else◌, length};
+ghost use Rattle.std.specs.Prelude.{◌≡◌, ◌⊎◌, ◌<◌, ◌≤◌, ◌+◌, ◌*◌, ◌+ℤ◌, ◌≤ℤ◌, ◌↔◌, IsTrue, pos};
+ghost use Rattle.std.specs.Prelude.{is_none, if◌then◌else◌, length};
 ghost use Rattle.shunt_blocks.specs.defs.Shapes.{AreRunsWithin, IsOnTrack};
-ghost use Rattle.shunt_blocks.specs.defs.Standing.{shape_length};
+ghost use Rattle.shunt_blocks.specs.defs.Stays.{shape_length};
 ghost use Rattle.shunt_choices.specs.defs.Paths.{IsTrailOf};
 ghost use Rattle.shunt_choices.specs.defs.Choices.{longer_by};
 ghost use Rattle.shunt_prices.specs.defs.Sums.{IsWithin};
@@ -11,7 +12,7 @@ ghost use Rattle.shunt_prices.specs.defs.Cases.{IsFreeBlock, weight_with};
 ghost use Rattle.shunt_prices.specs.defs.Bounds.{sum_at};
 ghost use Rattle.shunt_checker.specs.defs.Lows.{AreGains, offer_of};
 
-use crate::pricing::{cost_with, sum_over, taken_on_tracks};
+use crate::prices::{cost_with, sum_over, taken_on_tracks};
 use shunt_base::{Case, Cases};
 use shunt_blocks::{Park, Shape};
 use shunt_choices::Path;
@@ -112,7 +113,8 @@ pub(crate) fn longer_sum(
     requires gains { AreGains instance.now case.now shape gains.now }
     requires track { IsOnTrack instance.now.station park }
     requires free { IsFreeBlock instance.now path.now.covered shape park }
-    ensures exact { result ≡ sum_at instance.now (longer_by path.now.blocks (offer_of shape park)) from case.now }
+    ensures exact { result
+        ≡ sum_at instance.now (longer_by path.now.blocks (offer_of shape park)) from case.now }
     ensures small { IsWithin 4040000000000000000 result }
 {
     longer_paths();

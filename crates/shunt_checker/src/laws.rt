@@ -13,7 +13,7 @@ ghost use Rattle.shunt_proof.specs.defs.Trees.{IsStart};
 ghost use Rattle.shunt_proof.specs.defs.Accepted.{IsAccepted};
 ghost use Rattle.shunt_checker.specs.declared.verdict.Verdict.{Verdict};
 ghost use Rattle.shunt_checker.specs.declared.verdict.Verdict.TheVariants as verdict;
-ghost use Rattle.shunt_checker.specs.defs.Verdicts.{IsSound, IsVerdict, Accepts};
+ghost use Rattle.shunt_checker.specs.defs.Verdicts.{IsSoundVerdict, IsVerdict, Accepts};
 
 use shunt_blocks::laws::places;
 use shunt_prices::laws::bounds;
@@ -24,15 +24,24 @@ use shunt_proof::version_laws::{bounds_by_version, proved_by_version, trees_by_v
 /// stacks the pins are to be usable. So the verdict is that it is accepted exactly when it is; and there is one verdict. If it is accepted, each feasible plan that keeps the pins costs at
 /// least the bound that the verdict names.
 pub fn reasons()
-    ensures none { (night : Night) (pins start : List Block) (plan : Plan) (c : Certificate) → IsInstance night → IsPlanInRange night plan → Keeps plan.blocks pins →
-        IsCertificate night c → (c.version ≡ Stacks → AreUsable night pins) → IsStart night pins start → IsSound night start plan c ↔ IsAccepted night pins plan.blocks plan.cost c }
-    ensures verdict { (night : Night) (pins : List Block) (plan : Plan) (c : Certificate) (v : Verdict) → IsInstance night → IsPlanInRange night plan → Keeps plan.blocks pins →
-        IsCertificate night c → (c.version ≡ Stacks → AreUsable night pins) → IsVerdict night pins plan c v → Accepts v ↔ IsAccepted night pins plan.blocks plan.cost c }
-    ensures one { (night : Night) (pins : List Block) (plan : Plan) (c : Certificate) (v other : Verdict) → IsVerdict night pins plan c v → IsVerdict night pins plan c other →
-        v ≡ other }
-    ensures bound { (night : Night) (pins : List Block) (plan : Plan) (c : Certificate) (bound : ℕ) (other : List Block) → IsInstance night → IsPlanInRange night plan →
-        Keeps plan.blocks pins → IsCertificate night c → AreUsable night pins → IsVerdict night pins plan c (verdict.Accepted bound) → IsFeasible night other → Keeps other pins →
-        bound ≤ total_cost night other }
+    ensures none { (night : Night) (pins start : List Block) (plan : Plan) (c : Certificate)
+        → IsInstance night → IsPlanInRange night plan → Keeps plan.blocks pins
+        → IsCertificate night c → (c.version ≡ Stacks → AreUsable night pins)
+        → IsStart night pins start → IsSoundVerdict night start plan c
+        ↔ IsAccepted night pins plan.blocks plan.cost c }
+    ensures verdict { (night : Night) (pins : List Block) (plan : Plan) (c : Certificate)
+        (v : Verdict) → IsInstance night → IsPlanInRange night plan → Keeps plan.blocks pins
+        → IsCertificate night c → (c.version ≡ Stacks → AreUsable night pins)
+        → IsVerdict night pins plan c v → Accepts v
+        ↔ IsAccepted night pins plan.blocks plan.cost c }
+    ensures one { (night : Night) (pins : List Block) (plan : Plan) (c : Certificate)
+        (v other : Verdict) → IsVerdict night pins plan c v → IsVerdict night pins plan c other
+        → v ≡ other }
+    ensures bound { (night : Night) (pins : List Block) (plan : Plan) (c : Certificate) (bound : ℕ)
+        (other : List Block) → IsInstance night → IsPlanInRange night plan → Keeps plan.blocks pins
+        → IsCertificate night c → AreUsable night pins
+        → IsVerdict night pins plan c (verdict.Accepted bound) → IsFeasible night other
+        → Keeps other pins → bound ≤ total_cost night other }
 {
     places();
     bounds();

@@ -1,5 +1,6 @@
 // Bounds with stacks: of a path by its cases, and of a block that comes to it.
-ghost use Rattle.std.specs.Prelude.{◌≡◌, ◌⊎◌, ◌<◌, ◌≤◌, ◌++◌, [], ◌∷◌, ◌↔◌, ◌≤ℤ◌, IsTrue, IfOk, All, length};
+ghost use Rattle.std.specs.Prelude.{◌≡◌, ◌⊎◌, ◌<◌, ◌≤◌, ◌++◌, [], ◌∷◌, ◌↔◌, ◌≤ℤ◌, IsTrue, IfOk};
+ghost use Rattle.std.specs.Prelude.{All, length};
 ghost use Rattle.shunt_blocks.specs.defs.Shapes.{shape_of, IsWithinTrains};
 ghost use Rattle.shunt_blocks.specs.defs.Blocks.{IsBlockButId};
 ghost use Rattle.shunt_blocks.specs.defs.Lists.{RunsThrough, placed};
@@ -10,7 +11,7 @@ ghost use Rattle.shunt_prices.specs.defs.Bounds.{unparked_in};
 ghost use Rattle.shunt_stacks.specs.defs.Bounds.{IsStackBound, IsChoiceBound};
 ghost use Rattle.shunt_checker.specs.defs.Tallies.{IsInWord};
 
-use crate::bounding::{rounded_up, unparked_in};
+use crate::bounds::{rounded_up, unparked_in};
 use crate::gains::unparked_with;
 use crate::sums::{choice_sum, path_sum};
 use shunt_base::Cases;

@@ -1,32 +1,33 @@
 //! The separate checker: whether a certificate proves its bound, with loops of its own.
 #![tactic(auto)]
 
-mod bounding;
+mod bounds;
 mod cases;
-mod checking;
+mod checker;
 mod children;
 mod descent;
+mod first_choices;
+mod free_shapes;
 mod gains;
-mod holding;
 mod known;
 pub mod laws;
 mod leasts;
-mod missing;
+mod light_shapes;
+mod missed_choices;
+mod node_choices;
 mod nodes;
 mod offer;
 mod omissions;
-mod opening;
-mod placing;
-mod planning;
-mod pricing;
+mod opening_costs;
+mod plan_faults;
+mod prices;
 mod rows;
-mod running;
-mod seeking;
+mod runs;
 mod sums;
 mod verdict;
 mod versions;
 mod walk;
 mod ways;
 
-pub use checking::{check, check_pinned};
+pub use checker::{check, check_pinned};
 pub use verdict::{PlanFault, Reason, Verdict};

@@ -1,5 +1,6 @@
 // What is the first to be wrong with a node at its path.
-ghost use Rattle.std.specs.Prelude.{◌≡◌, ◌≢◌, ◌<◌, ◌≤◌, ◌≤ℤ◌, ◌<ℤ◌, ◌↔◌, IsTrue, IfOk, IfSome, IfNone, All, Some, pos, length};
+ghost use Rattle.std.specs.Prelude.{◌≡◌, ◌≢◌, ◌<◌, ◌≤◌, ◌≤ℤ◌, ◌<ℤ◌, ◌↔◌, IsTrue, IfOk, IfSome};
+ghost use Rattle.std.specs.Prelude.{IfNone, All, Some, pos, length};
 ghost use Rattle.shunt_blocks.specs.defs.Shapes.{IsWithinTrains, AreRunsWithin, IsOnTrack};
 ghost use Rattle.shunt_blocks.specs.defs.Blocks.{IsBlockButId};
 ghost use Rattle.shunt_blocks.specs.defs.Lists.{RunsThrough, placed, total_cost};
@@ -19,13 +20,13 @@ ghost use Rattle.shunt_checker.specs.defs.Misses.{IsMissed};
 ghost use Rattle.shunt_checker.specs.defs.NodeFaults.{IsOtherKind, EarlierChoice};
 ghost use Rattle.shunt_checker.specs.defs.NodeSteps.{Judges};
 
-use crate::bounding::{case_sum, unparked_in, weight};
+use crate::bounds::{case_sum, unparked_in, weight};
 use crate::cases::{Break, case_in, first_break, offer_in};
-use crate::missing::{Branch, first_missed};
+use crate::missed_choices::{Branch, first_missed};
+use crate::node_choices::stated_in;
 use crate::offer::{Offer, block_in, shape_in};
 use crate::omissions::first_omitted;
-use crate::placing::stated_in;
-use crate::pricing::sum_over;
+use crate::prices::sum_over;
 use crate::verdict::Reason;
 use crate::versions::{offer_bound, path_bound};
 use shunt_base::Cases;
@@ -107,7 +108,8 @@ fn break_reason(instance: &Instance, cases: &Cases, found: &Break) -> Reason
     requires there { found.now.case < length cases.now }
     requires within { AreRunsWithin instance.now found.now.offer.shape }
     requires track { IsOnTrack instance.now.station found.now.offer.option }
-    ensures { result ≡ reason.DualBroken (chosen 0 found.now.offer) (weight_with instance.now (case_at cases.now found.now.case) found.now.offer.shape found.now.offer.option)
+    ensures { result ≡ reason.DualBroken (chosen 0 found.now.offer) (weight_with instance.now
+        (case_at cases.now found.now.case) found.now.offer.shape found.now.offer.option)
         (duals_over instance.now (case_at cases.now found.now.case).duals found.now.offer.shape) }
 {
     let offer = offer_in(found);
@@ -134,7 +136,8 @@ fn dual_fault(
     requires kind { (node_at certificate.now.nodes k).kind ≢ shows.Whole }
     requires cases { AreCases instance.now cases.now }
     requires duals { cases.now ≡ duals_at certificate.now.nodes k }
-    requires known { IfSome known (λ held. HoldIn certificate.now.version instance.now path.now.blocks held.now) }
+    requires known { IfSome known
+        (λ held. HoldIn certificate.now.version instance.now path.now.blocks held.now) }
     ensures { IfOk result (Judges instance.now certificate.now k path.now.blocks 5 6) }
 {
     let version = certificate.version;
@@ -149,7 +152,8 @@ fn dual_fault(
 /// What is told of a leaf's bound.
 fn leaf_reason(bound: i64, stated: u64) -> Option<Reason>
     requires { stated ≤ 1000000000000 }
-    ensures some { IfSome result (λ r. (bound <ℤ pos stated) × (r ≡ reason.LeafLow bound (pos stated))) }
+    ensures some { IfSome result
+        (λ r. (bound <ℤ pos stated) × (r ≡ reason.LeafLow bound (pos stated))) }
     ensures none { IfNone result (pos stated ≤ℤ bound) }
 {
     let stated = stated as i64;
@@ -163,7 +167,8 @@ fn leaf_reason(bound: i64, stated: u64) -> Option<Reason>
 fn whole_reason(cost: u64, stated: u64) -> Option<Reason>
     requires cost { cost ≤ 1600000000 }
     requires stated { stated ≤ 1000000000000 }
-    ensures some { IfSome result (λ r. (cost < stated) × (r ≡ reason.WholeLow (pos cost) (pos stated))) }
+    ensures some { IfSome result
+        (λ r. (cost < stated) × (r ≡ reason.WholeLow (pos cost) (pos stated))) }
     ensures none { IfNone result (stated ≤ cost) }
 {
     if cost < stated {
@@ -256,7 +261,9 @@ fn missed_by_prices(
     requires cases { AreCases instance.now cases.now }
     requires bound { certificate.now.bound ≤ 1000000000000 }
     requires next { next_of path.now.covered ≡ Some u }
-    ensures { IfOk result (Finds (IsOneAt instance.now path.now.covered (IsMissed Prices instance.now path.now.blocks cases.now certificate.now.nodes k certificate.now.bound) u) (EarlierChoice instance.now)) }
+    ensures { IfOk result
+        (Finds (IsOneAt instance.now path.now.covered (IsMissed Prices instance.now path.now.blocks
+        cases.now certificate.now.nodes k certificate.now.bound) u) (EarlierChoice instance.now)) }
 {
     // There are at most 160 units, and blocks that share nothing are no more.
     instance.units();
@@ -297,7 +304,9 @@ fn missed_by_stacks(
     requires cases { AreCases instance.now cases.now }
     requires bound { certificate.now.bound ≤ 1000000000000 }
     requires next { next_of path.now.covered ≡ Some u }
-    ensures { IfOk result (Finds (IsOneAt instance.now path.now.covered (IsMissed Stacks instance.now path.now.blocks cases.now certificate.now.nodes k certificate.now.bound) u) (EarlierChoice instance.now)) }
+    ensures { IfOk result
+        (Finds (IsOneAt instance.now path.now.covered (IsMissed Stacks instance.now path.now.blocks
+        cases.now certificate.now.nodes k certificate.now.bound) u) (EarlierChoice instance.now)) }
 {
     let nodes = certificate.nodes.as_slice();
     first_omitted(alloc, instance, path, cases, nodes, k, certificate.bound, u)
@@ -321,7 +330,9 @@ fn missed_at(
     requires cases { AreCases instance.now cases.now }
     requires bound { certificate.now.bound ≤ 1000000000000 }
     requires next { next_of path.now.covered ≡ Some u }
-    ensures { IfOk result (Finds (IsOneAt instance.now path.now.covered (IsMissed certificate.now.version instance.now path.now.blocks cases.now certificate.now.nodes k certificate.now.bound) u) (EarlierChoice instance.now)) }
+    ensures { IfOk result (Finds (IsOneAt instance.now path.now.covered
+        (IsMissed certificate.now.version instance.now path.now.blocks cases.now
+        certificate.now.nodes k certificate.now.bound) u) (EarlierChoice instance.now)) }
 {
     match certificate.version {
         Version::Prices => missed_by_prices(alloc, instance, certificate, k, path, cases, u),
@@ -385,7 +396,8 @@ pub(crate) fn shown_fault(
     requires kind { (node_at certificate.now.nodes k).kind ≢ shows.Whole }
     requires cases { AreCases instance.now cases.now }
     requires duals { cases.now ≡ duals_at certificate.now.nodes k }
-    requires known { IfSome known (λ held. HoldIn certificate.now.version instance.now path.old.blocks held.now) }
+    requires known { IfSome known
+        (λ held. HoldIn certificate.now.version instance.now path.old.blocks held.now) }
     requires bound { certificate.now.bound ≤ 1000000000000 }
     ensures found { IfOk result (Judges instance.now certificate.now k path.old.blocks 5 8) }
     ensures kept { IfOk result (λ r. IfNone r (path.new ≡ path.old)) }

@@ -1,5 +1,6 @@
 // Which choice at a branch's path is the first that the branch would have to list and doesn't, with stacks.
-ghost use Rattle.std.specs.Prelude.{◌≡◌, ◌<◌, ◌≤◌, ◌+◌, ◌*◌, ◌+ℤ◌, ◌-ℤ◌, ◌↔◌, IsTrue, IfOk, All, Some, false, length, pos};
+ghost use Rattle.std.specs.Prelude.{◌≡◌, ◌<◌, ◌≤◌, ◌+◌, ◌*◌, ◌+ℤ◌, ◌-ℤ◌, ◌↔◌, IsTrue, IfOk, All};
+ghost use Rattle.std.specs.Prelude.{Some, false, length, pos};
 ghost use Rattle.shunt_blocks.specs.defs.Shapes.{unit_from, AreRunsWithin, IsOnTrack};
 ghost use Rattle.shunt_blocks.specs.defs.Blocks.{IsBlockButId};
 ghost use Rattle.shunt_blocks.specs.defs.Lists.{RunsThrough, placed};
@@ -21,14 +22,14 @@ ghost use Rattle.shunt_checker.specs.defs.Misses.{IsMissed};
 ghost use Rattle.shunt_checker.specs.defs.Tallies.{IsTally, IsLone, IsStackedLook};
 
 use crate::children::has_child;
+use crate::first_choices::{Sought, found_at};
 use crate::gains::{Gains, gains_in, is_below, unparked_with, weight_of};
 use crate::leasts::{has_open_first, unparked_on};
-use crate::missing::{goes_through, most_options, option_at, said};
+use crate::missed_choices::{goes_through, most_options, option_at, said};
+use crate::node_choices::next_block;
 use crate::offer::{Offer, park_in};
-use crate::placing::next_block;
-use crate::pricing::length_of;
-use crate::seeking::{Sought, found_at};
-use crate::sums::{Tally, fall_in, tally_in};
+use crate::prices::length_of;
+use crate::sums::{StackedSum, fall_in, tally_in};
 use shunt_base::Cases;
 use shunt_blocks::{Block, Park, Shape, is_option};
 use shunt_choices::{Covered, Path};
@@ -45,8 +46,8 @@ pub(crate) struct Stacked<'a> {
     pub(crate) unparked: usize,
     pub(crate) cases: &'a Cases,
     pub(crate) last: usize,
-    pub(crate) early: &'a Tally,
-    pub(crate) late: &'a Tally,
+    pub(crate) early: &'a StackedSum,
+    pub(crate) late: &'a StackedSum,
     pub(crate) nodes: &'a [Node],
     pub(crate) node: usize,
     pub(crate) stated: u64,
@@ -85,18 +86,22 @@ fn is_low_in(
     instance: &Instance,
     branch: &Stacked,
     k: usize,
-    tally: &Tally,
+    tally: &StackedSum,
     lone: i64,
     offer: Offer,
 ) -> Result<bool, AllocError>
     requires branch { IsStackedLook instance.now branch.now }
     requires opens { IsOpenAt branch.now.cases.now (longer_by branch.now.path.now.blocks offer) k }
-    requires tally { IsTally instance.now branch.now.path.now.blocks branch.now.cases.now k tally.now }
-    requires lone { IsLone instance.now branch.now.path.now.blocks branch.now.cases.now k offer lone }
+    requires tally { IsTally instance.now branch.now.path.now.blocks branch.now.cases.now k
+        tally.now }
+    requires lone { IsLone instance.now branch.now.path.now.blocks branch.now.cases.now k offer
+        lone }
     requires small { IsWithin 4080000000000000000 lone }
     requires free { IsFreeBlock instance.now branch.now.path.now.covered offer.shape offer.option }
-    requires longer { RunsThrough instance.now (placed (longer_by branch.now.path.now.blocks offer)) }
-    ensures { IfOk result (λ b. IsTrue b ↔ IsLowIn Stacks instance.now branch.now.path.now.blocks branch.now.cases.now branch.now.stated k offer) }
+    requires longer { RunsThrough instance.now
+        (placed (longer_by branch.now.path.now.blocks offer)) }
+    ensures { IfOk result (λ b. IsTrue b ↔ IsLowIn Stacks instance.now branch.now.path.now.blocks
+        branch.now.cases.now branch.now.stated k offer) }
 {
     // A choice has one sum.
     one_gain();
@@ -123,13 +128,17 @@ fn is_low(
     offer: Offer,
 ) -> Result<bool, AllocError>
     requires branch { IsStackedLook instance.now branch.now }
-    requires early { IsLone instance.now branch.now.path.now.blocks branch.now.cases.now 0 offer early }
+    requires early { IsLone instance.now branch.now.path.now.blocks branch.now.cases.now 0 offer
+        early }
     requires early_small { IsWithin 4080000000000000000 early }
-    requires late { IsLone instance.now branch.now.path.now.blocks branch.now.cases.now branch.now.last offer late }
+    requires late { IsLone instance.now branch.now.path.now.blocks branch.now.cases.now
+        branch.now.last offer late }
     requires late_small { IsWithin 4080000000000000000 late }
     requires free { IsFreeBlock instance.now branch.now.path.now.covered offer.shape offer.option }
-    requires longer { RunsThrough instance.now (placed (longer_by branch.now.path.now.blocks offer)) }
-    ensures { IfOk result (λ b. IsTrue b ↔ IsLowBy Stacks instance.now branch.now.path.now.blocks branch.now.cases.now branch.now.stated offer) }
+    requires longer { RunsThrough instance.now
+        (placed (longer_by branch.now.path.now.blocks offer)) }
+    ensures { IfOk result (λ b. IsTrue b ↔ IsLowBy Stacks instance.now branch.now.path.now.blocks
+        branch.now.cases.now branch.now.stated offer) }
 {
     let low = is_low_in(
         alloc,
@@ -153,12 +162,15 @@ fn is_low(
 /// Whether the bound of a choice would be below the one that is stated if the gain of its stack didn't fall. No fall is below 0.
 fn is_near(instance: &Instance, branch: &Stacked, early: i64, late: i64, offer: Offer) -> bool
     requires branch { IsStackedLook instance.now branch.now }
-    requires early { IsLone instance.now branch.now.path.now.blocks branch.now.cases.now 0 offer early }
+    requires early { IsLone instance.now branch.now.path.now.blocks branch.now.cases.now 0 offer
+        early }
     requires early_small { IsWithin 4080000000000000000 early }
-    requires late { IsLone instance.now branch.now.path.now.blocks branch.now.cases.now branch.now.last offer late }
+    requires late { IsLone instance.now branch.now.path.now.blocks branch.now.cases.now
+        branch.now.last offer late }
     requires late_small { IsWithin 4080000000000000000 late }
     requires free { IsFreeBlock instance.now branch.now.path.now.covered offer.shape offer.option }
-    ensures { result ≡ false → IsLowBy Stacks instance.now branch.now.path.now.blocks branch.now.cases.now branch.now.stated offer → ⊥ }
+    ensures { result ≡ false → IsLowBy Stacks instance.now branch.now.path.now.blocks
+        branch.now.cases.now branch.now.stated offer → ⊥ }
 {
     instance.units();
     one_gain();
@@ -180,13 +192,17 @@ fn is_omitted(
     park: Option<Park>,
 ) -> Result<bool, AllocError>
     requires branch { IsStackedLook instance.now branch.now }
-    requires early { IsLone instance.now branch.now.path.now.blocks branch.now.cases.now 0 (offer_of shape park) early }
+    requires early { IsLone instance.now branch.now.path.now.blocks branch.now.cases.now 0
+        (offer_of shape park) early }
     requires early_small { IsWithin 4080000000000000000 early }
-    requires late { IsLone instance.now branch.now.path.now.blocks branch.now.cases.now branch.now.last (offer_of shape park) late }
+    requires late { IsLone instance.now branch.now.path.now.blocks branch.now.cases.now
+        branch.now.last (offer_of shape park) late }
     requires late_small { IsWithin 4080000000000000000 late }
     requires free { IsFreeBlock instance.now branch.now.path.now.covered shape park }
     requires track { IsOnTrack instance.now.station park }
-    ensures { IfOk result (λ b. IsTrue b ↔ IsMissed Stacks instance.now branch.now.path.now.blocks branch.now.cases.now branch.now.nodes.now branch.now.node branch.now.stated (offer_of shape park)) }
+    ensures { IfOk result (λ b. IsTrue b
+        ↔ IsMissed Stacks instance.now branch.now.path.now.blocks branch.now.cases.now
+        branch.now.nodes.now branch.now.node branch.now.stated (offer_of shape park)) }
 {
     let offer = Offer { shape, park };
     if !is_near(instance, branch, early, late, offer) {
@@ -214,10 +230,14 @@ fn is_missed(
 ) -> Result<bool, AllocError>
     requires branch { IsStackedLook instance.now branch.now }
     requires first { AreGains instance.now (case_at branch.now.cases.now 0) shape first.now }
-    requires last { AreGains instance.now (case_at branch.now.cases.now branch.now.last) shape last.now }
-    requires free { IsFreeShape instance.now branch.now.path.now.covered (unit_from instance.now shape) shape }
+    requires last { AreGains instance.now
+        (case_at branch.now.cases.now branch.now.last) shape last.now }
+    requires free { IsFreeShape instance.now branch.now.path.now.covered
+        (unit_from instance.now shape) shape }
     requires track { IsOnTrack instance.now.station park }
-    ensures { IfOk result (λ b. IsTrue b ↔ IsMissed Stacks instance.now branch.now.path.now.blocks branch.now.cases.now branch.now.nodes.now branch.now.node branch.now.stated (offer_of shape park)) }
+    ensures { IfOk result (λ b. IsTrue b
+        ↔ IsMissed Stacks instance.now branch.now.path.now.blocks branch.now.cases.now
+        branch.now.nodes.now branch.now.node branch.now.stated (offer_of shape park)) }
 {
     if !is_option(instance, shape, park) {
         return Ok(false);
@@ -253,8 +273,12 @@ fn missed_option(
     shape: Shape,
 ) -> Result<Option<Offer>, AllocError>
     requires branch { IsStackedLook instance.now branch.now }
-    requires free { IsFreeShape instance.now branch.now.path.now.covered (unit_from instance.now shape) shape }
-    ensures { IfOk result (Finds (IsOneOfShape (IsMissed Stacks instance.now branch.now.path.now.blocks branch.now.cases.now branch.now.nodes.now branch.now.node branch.now.stated) shape) (EarlierChoice instance.now)) }
+    requires free { IsFreeShape instance.now branch.now.path.now.covered
+        (unit_from instance.now shape) shape }
+    ensures { IfOk result
+        (Finds (IsOneOfShape (IsMissed Stacks instance.now branch.now.path.now.blocks
+        branch.now.cases.now branch.now.nodes.now branch.now.node branch.now.stated) shape)
+        (EarlierChoice instance.now)) }
 {
     let long = length_of(instance, shape);
     let first = gains_in(instance, branch.cases, 0, shape, long);
@@ -272,7 +296,8 @@ fn missed_option(
 impl Sought for Stacked<'_> {
     ghost fits = { λ s night covered. IsStackedLook night s × (covered ≡ s.path.now.covered) };
 
-    ghost holds = { λ s night. IsMissed Stacks night s.path.now.blocks s.cases.now s.nodes.now s.node s.stated };
+    ghost holds = { λ s night. IsMissed Stacks night s.path.now.blocks s.cases.now s.nodes.now
+        s.node s.stated };
 
     fn first_option(
         &self,
@@ -294,7 +319,9 @@ fn first_missed(
 ) -> Result<Option<Offer>, AllocError>
     requires branch { IsStackedLook instance.now branch.now }
     requires next { next_of branch.now.path.now.covered ≡ Some u }
-    ensures { IfOk result (Finds (IsOneAt instance.now branch.now.path.now.covered (IsMissed Stacks instance.now branch.now.path.now.blocks branch.now.cases.now branch.now.nodes.now branch.now.node branch.now.stated) u) (EarlierChoice instance.now)) }
+    ensures { IfOk result (Finds (IsOneAt instance.now branch.now.path.now.covered
+        (IsMissed Stacks instance.now branch.now.path.now.blocks branch.now.cases.now
+        branch.now.nodes.now branch.now.node branch.now.stated) u) (EarlierChoice instance.now)) }
 {
     found_at(alloc, instance, branch.path.covered(), branch, u)
 }
@@ -318,7 +345,9 @@ pub(crate) fn first_omitted(
     requires there { node < length nodes.now }
     requires stated { stated ≤ 1000000000000 }
     requires next { next_of path.now.covered ≡ Some u }
-    ensures { IfOk result (Finds (IsOneAt instance.now path.now.covered (IsMissed Stacks instance.now path.now.blocks cases.now nodes.now node stated) u) (EarlierChoice instance.now)) }
+    ensures { IfOk result (Finds (IsOneAt instance.now path.now.covered
+        (IsMissed Stacks instance.now path.now.blocks cases.now nodes.now node stated) u)
+        (EarlierChoice instance.now)) }
 {
     let unparked = unparked_on(instance, path);
     let last = cases.len() - 1;

@@ -2,7 +2,8 @@
 ghost use Rattle.std.specs.Prelude.{◌≡◌, ◌≤◌, [], ◌∷◌, length};
 ghost use Rattle.shunt_prices.specs.defs.Limits.{AreCases};
 ghost use Rattle.shunt_proof.specs.defs.Nodes.{FitsNode, AreNodes};
-ghost use Rattle.shunt_proof.specs.defs.CertificateRows.{is_plain, duals_count, cases_count, row_count, row_of};
+ghost use Rattle.shunt_proof.specs.defs.CertificateRows.{is_plain, duals_count, cases_count};
+ghost use Rattle.shunt_proof.specs.defs.CertificateRows.{row_count, row_of};
 
 use shunt_base::{Case, Cases};
 use shunt_instance::Instance;

@@ -13,8 +13,8 @@ ghost use Rattle.shunt_stacks.specs.defs.Bounds.{IsFall, IsStackSum, IsChoiceSum
 ghost use Rattle.shunt_recount.specs.defs.Recounts.{IsRecountOf};
 ghost use Rattle.shunt_checker.specs.defs.Tallies.{IsTally};
 
-use crate::bounding::{case_sum, weight};
-use crate::pricing::sum_over;
+use crate::bounds::{case_sum, weight};
+use crate::prices::sum_over;
 use shunt_base::Cases;
 use shunt_blocks::{Block, shape_of};
 use shunt_choices::Path;
@@ -24,7 +24,7 @@ use std::alloc::{AllocError, Global};
 
 /// What a case comes to at a path with stacks: its sum, and what the stacks gain.
 #[derive(Drop)]
-pub(crate) struct Tally {
+pub(crate) struct StackedSum {
     pub(crate) sum: i64,
     pub(crate) counted: Recount,
 }
@@ -64,7 +64,8 @@ pub(crate) fn fall_in(
     requires counted { IsRecountOf instance.now path.now.blocks (case_at cases.now k) counted.now }
     requires free { IsFreeBlock instance.now path.now.covered (shape_of block.now) block.now.park }
     requires longer { RunsThrough instance.now (placed (path.now.blocks ++ block.now ∷ [])) }
-    ensures exact { IfOk result (IsFall instance.now path.now.blocks block.now (case_at cases.now k) (stack_of block.now.park)) }
+    ensures exact { IfOk result (IsFall instance.now path.now.blocks block.now (case_at cases.now k)
+        (stack_of block.now.park)) }
     ensures small { IfOk result (IsWithin 639999999999360) }
 {
     fall(alloc, instance, path, cases.get(k), counted, block)
@@ -102,7 +103,7 @@ pub(crate) fn tally_in(
     path: &Path,
     cases: &Cases,
     k: usize,
-) -> Result<Tally, AllocError>
+) -> Result<StackedSum, AllocError>
     requires path { IsTrailOf instance.now path.now }
     requires through { RunsThrough instance.now (placed path.now.blocks) }
     requires each { All (IsBlockButId instance.now) path.now.blocks }
@@ -112,7 +113,7 @@ pub(crate) fn tally_in(
 {
     let counted = recount_in(alloc, instance, path, cases, k)?;
     let sum = stack_sum(instance, path, cases, k, &counted);
-    Ok(Tally { sum, counted })
+    Ok(StackedSum { sum, counted })
 }
 
 /// The sum with stacks at a path of the case with a number.

@@ -10,10 +10,10 @@ ghost use Rattle.shunt_proof.specs.declared.records.Version.TheVariants.{Stacks}
 ghost use Rattle.shunt_proof.specs.defs.Versions.{IsBoundIn, IsStepBoundIn};
 ghost use Rattle.shunt_checker.specs.defs.Tallies.{IsInWord, IsOneMore};
 
-use crate::bounding::cases_bound;
+use crate::bounds::cases_bound;
 use crate::leasts::{choice_bound, stack_bound};
+use crate::node_choices::{next_block, push_offer};
 use crate::offer::Offer;
-use crate::placing::{next_block, push_offer};
 use shunt_base::Cases;
 use shunt_blocks::laws::{few_blocks, ids_do_not_matter};
 use shunt_choices::Path;
@@ -54,7 +54,8 @@ fn last_bound(
     requires some { path.old.pins < length path.old.blocks }
     requires more { (front : List ABlock) × IsOneMore instance.now front path.old.blocks }
     requires cases { AreCases instance.now cases.now }
-    ensures bound { IfOk result (λ z. (front : List ABlock) (b : ABlock) → path.old.blocks ≡ front ++ b ∷ [] → IsStepBoundIn Stacks instance.now front path.old.blocks cases.now z) }
+    ensures bound { IfOk result (λ z. (front : List ABlock) (b : ABlock) → path.old.blocks ≡ front
+        ++ b ∷ [] → IsStepBoundIn Stacks instance.now front path.old.blocks cases.now z) }
     ensures word { IfOk result IsInWord }
     ensures kept { path.new.blocks ≡ path.old.blocks }
     ensures of { IsTrailOf instance.now path.new }
@@ -83,7 +84,8 @@ pub(crate) fn step_bound(
     requires some { path.old.pins < length path.old.blocks }
     requires more { (front : List ABlock) × IsOneMore instance.now front path.old.blocks }
     requires cases { AreCases instance.now cases.now }
-    ensures bound { IfOk result (λ z. (front : List ABlock) (b : ABlock) → path.old.blocks ≡ front ++ b ∷ [] → IsStepBoundIn version instance.now front path.old.blocks cases.now z) }
+    ensures bound { IfOk result (λ z. (front : List ABlock) (b : ABlock) → path.old.blocks ≡ front
+        ++ b ∷ [] → IsStepBoundIn version instance.now front path.old.blocks cases.now z) }
     ensures word { IfOk result IsInWord }
     ensures kept { path.new.blocks ≡ path.old.blocks }
     ensures of { IsTrailOf instance.now path.new }
@@ -111,7 +113,8 @@ fn offer_choice_bound(
     requires there { IsChoice instance.now path.now.covered u offer }
     requires longer { RunsThrough instance.now (placed (longer_by path.now.blocks offer)) }
     ensures word { IfOk result IsInWord }
-    ensures is { IfOk result (IsStepBoundIn Stacks instance.now path.now.blocks (longer_by path.now.blocks offer) cases.now) }
+    ensures is { IfOk result (IsStepBoundIn Stacks instance.now path.now.blocks
+        (longer_by path.now.blocks offer) cases.now) }
 {
     // There are at most 160 units, and blocks that share nothing are no more.
     instance.units();
@@ -139,7 +142,8 @@ pub(crate) fn offer_bound(
     requires there { IsChoice instance.now path.old.covered u offer }
     requires longer { RunsThrough instance.now (placed (longer_by path.old.blocks offer)) }
     ensures word { IfOk result IsInWord }
-    ensures is { IfOk result (IsStepBoundIn version instance.now path.old.blocks (longer_by path.old.blocks offer) cases.now) }
+    ensures is { IfOk result (IsStepBoundIn version instance.now path.old.blocks
+        (longer_by path.old.blocks offer) cases.now) }
 {
     match version {
         Version::Prices => {

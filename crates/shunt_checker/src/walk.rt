@@ -1,5 +1,6 @@
 // From node to node of a certificate, with the duals that hold there and the best cost.
-ghost use Rattle.std.specs.Prelude.{◌≡◌, ◌<◌, ◌≤◌, ◌+◌, ◌-◌, ◌↔◌, IsTrue, IfOk, IfSome, IfNone, All, List, take, length};
+ghost use Rattle.std.specs.Prelude.{◌≡◌, ◌<◌, ◌≤◌, ◌+◌, ◌-◌, ◌↔◌, IsTrue, IfOk, IfSome, IfNone};
+ghost use Rattle.std.specs.Prelude.{All, List, take, length};
 ghost use Rattle.shunt_blocks.specs.declared.records.Block.{Block as ABlock};
 ghost use Rattle.shunt_blocks.specs.defs.Blocks.{IsBlockButId};
 ghost use Rattle.shunt_blocks.specs.defs.Lists.{RunsThrough, placed, total_cost};
@@ -10,13 +11,14 @@ ghost use Rattle.shunt_proof.specs.defs.Nodes.{node_at, AreNodes};
 ghost use Rattle.shunt_proof.specs.defs.Trees.{depth_at, parent, duals_at, best_with};
 ghost use Rattle.shunt_proof.specs.defs.Versions.{HoldIn};
 ghost use Rattle.shunt_proof.specs.defs.Certificates.{IsCertificate};
-ghost use Rattle.shunt_checker.specs.defs.NodeSteps.{Judges, JudgesChild, Leads};
-ghost use Rattle.shunt_checker.specs.defs.Walks.{IsOwner, AreOwn, Owns, IsFrame, AreFrames, IsWalk, Settles, FindsFault, front_of};
+ghost use Rattle.shunt_checker.specs.defs.NodeSteps.{Judges, JudgesChild, LeadsDown};
+ghost use Rattle.shunt_checker.specs.defs.Walks.{IsOwner, AreOwn, Owns, IsFrame, AreFrames, IsWalk};
+ghost use Rattle.shunt_checker.specs.defs.Walks.{Settles, FindsFault, front_of};
 
 use crate::children::depth_of;
 use crate::descent::child_fault;
 use crate::nodes::{is_whole, kind_fault, kind_of, path_cost, shown_fault, whole_fault};
-use crate::opening::opening_cost;
+use crate::opening_costs::opening_cost;
 use crate::verdict::Reason;
 use shunt_base::Cases;
 use shunt_blocks::laws::few_blocks;
@@ -152,9 +154,12 @@ fn parent_fault(
     requires long { path.old.pins + depth_at certificate.now.nodes k ≤ length path.old.blocks + 1 }
     requires frame { IsFrame certificate.now.nodes (parent certificate.now.nodes k) frame }
     requires best { best ≤ 4000000000 }
-    ensures found { IfOk result (JudgesChild instance.now certificate.now k (front_of certificate.now.nodes k path.old) best) }
-    ensures leads { IfOk result (λ r. IfNone r (Leads instance.now certificate.now k (front_of certificate.now.nodes k path.old) path.new.blocks)) }
-    ensures through { IfOk result (λ r. IfNone r (RunsThrough instance.now (placed path.new.blocks))) }
+    ensures found { IfOk result (JudgesChild instance.now certificate.now k
+        (front_of certificate.now.nodes k path.old) best) }
+    ensures leads { IfOk result (λ r. IfNone r (LeadsDown instance.now certificate.now k
+        (front_of certificate.now.nodes k path.old) path.new.blocks)) }
+    ensures through { IfOk result
+        (λ r. IfNone r (RunsThrough instance.now (placed path.new.blocks))) }
     ensures each { IfOk result (λ r. IfNone r (All (IsBlockButId instance.now) path.new.blocks)) }
     ensures of { IsTrailOf instance.now path.new }
     ensures pins { path.new.pins ≡ path.old.pins }
@@ -196,7 +201,8 @@ fn own_fault(
     requires owner { Owns certificate.now.nodes k owner }
     requires through { RunsThrough instance.now (placed path.old.blocks) }
     requires each { All (IsBlockButId instance.now) path.old.blocks }
-    requires known { IfSome known (λ held. HoldIn certificate.now.version instance.now path.old.blocks held.now) }
+    requires known { IfSome known
+        (λ held. HoldIn certificate.now.version instance.now path.old.blocks held.now) }
     requires bound { certificate.now.bound ≤ 1000000000000 }
     ensures found { IfOk result (Judges instance.now certificate.now k path.old.blocks 4 8) }
     ensures kept { IfOk result (λ r. IfNone r (path.new ≡ path.old)) }
@@ -278,7 +284,8 @@ fn best_after(
 ) -> u64
     requires there { k < length certificate.now.nodes }
     requires path { IsTrailOf instance.now path.now }
-    ensures exact { result ≡ best_with (node_at certificate.now.nodes k).kind (total_cost instance.now path.now.blocks) best }
+    ensures exact { result ≡ best_with (node_at certificate.now.nodes k).kind
+        (total_cost instance.now path.now.blocks) best }
     ensures small { result ≤ best }
 {
     if !is_whole(kind_of(certificate, k)) {

@@ -12,7 +12,7 @@ use Rattle.shunt_choices.proofs.Given.{PlaceLaws}
 use Rattle.shunt_choices.proofs.Trails.{length_units}
 use Rattle.shunt_choices.proofs.Offered.{choices_are}
 
-next_in : (night : Night) (blocks : List Block) (u : ℕ) → next_of (masks_of night blocks) ≡ Some u → u < unit_total night
+pub next_in : (night : Night) (blocks : List Block) (u : ℕ) → next_of (masks_of night blocks) ≡ Some u → u < unit_total night
 next_in night blocks u e = omega (arith, (position-Some (λ c. not c) (masks_of night blocks).units u false e).0, length_units night blocks)
 
 pub choices_at_are : (places : PlaceLaws) (night : Night) (blocks : List Block) (c : Choice) → IsInstance night → In c (choices_at night blocks) ↔ IsChoiceAt night blocks c

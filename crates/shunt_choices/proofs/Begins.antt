@@ -12,12 +12,13 @@ use Rattle.shunt_blocks.specs.defs.Blocks.{IsBlockButId}
 use Rattle.shunt_blocks.specs.defs.Lists.{has_unit, has_position, times_unit, times_position, ShareNothing, RunsThrough, IsFeasible, placed}
 use Rattle.shunt_blocks.specs.defs.Pins.{IsKept, Keeps}
 use Rattle.shunt_blocks.proofs.Held.{held, holder, one_holder}
-use Rattle.shunt_choices.proofs.Given.{BlockLaws, all_within, but_ids, begins_itself, each_one}
+use Rattle.shunt_choices.proofs.Given.{BlockLaws}
 use Rattle.shunt_choices.specs.defs.Paths.{masks_of, next_of}
 use Rattle.shunt_choices.specs.defs.Choices.{Choice, IsChoice, IsChoiceAt, chosen, longer_by}
-use Rattle.shunt_choices.proofs.Trails.{has_from, has_position_from}
 use Rattle.shunt_choices.proofs.Grown.{IsNext, next_is, IsFreeBlock, grown_apart, choice_of, free_choice}
 use Rattle.shunt_choices.proofs.Partial.{choice_there}
+use Rattle.shunt_lists.proofs.Members.{each_one}
+use Rattle.shunt_blocks.proofs.Shapes.{all_within, has_from, has_position_from, begins_itself, but_ids}
 
 -- a kept block is within the trains
 kept_within : (night : Night) (plan : List Block) (b : Block) → All (IsWithinTrains night) plan → IsKept plan b → IsWithinTrains night b

@@ -1,15 +1,14 @@
 -- The lists of shapes, options and choices have exactly those, in their order.
-use Rattle.std.specs.Prelude.{◌↔◌, ◌&&◌, ◌==◌, not, nat_le, slice_index_or}
+use Rattle.std.specs.Prelude.{◌↔◌, ◌==◌, not, nat_le, slice_index_or}
 use Rattle.std.specs.List.{range_with_len}
-use Rattle.std.proofs.Common.{◌≡◌, ◌⊎◌, ⊎_elim, inl, inr, ℕ, ◌+◌, ◌-◌, ◌<◌, ◌≤◌, Bool, true, false, length, refl, sym, ap, subst, ◌∙◌, arith}
-use Rattle.std.proofs.lemmas.Bool.{cases_lt, true≢false, and_parts, and_from, not-true, not_from_false, leb-true, le-leb, eqb-true, eq-eqb}
+use Rattle.std.proofs.Common.{◌≡◌, ◌⊎◌, ⊎_elim, inl, inr, ℕ, ◌+◌, ◌-◌, ◌<◌, ◌≤◌, true, false, length, refl, sym, ap, subst, ◌∙◌, arith}
+use Rattle.std.proofs.lemmas.Bool.{cases_lt, and_parts, and_from, not-true, not_from_false, leb-true, le-leb, eqb-true, eq-eqb}
 use Rattle.shunt_lists.proofs.TestsBelow.{each_passes, all_pass}
 use Rattle.shunt_lists.proofs.Members.{in_map, of_map, filter_from, filter_to, of_flat, in_flat}
 use Rattle.shunt_lists.specs.defs.Members.{In}
 use Rattle.shunt_instance.specs.declared.records.Unit.{Unit as TrainUnit}
 use Rattle.shunt_instance.specs.declared.records.Position.{Position}
 use Rattle.shunt_instance.specs.defs.Words.{train_at, kind_at}
-use Rattle.shunt_instance.specs.defs.Wellformed.{IsTrain}
 use Rattle.shunt_instance.specs.defs.Instance.{Night, IsOrderedNight, IsInstance, make_unit, make_position, unit_at, position_at, ready, leaves, unit_total, position_total, first_position}
 use Rattle.shunt_instance.proofs.Facts.{unit_at_is, position_at_is, unit_there, position_there}
 use Rattle.shunt_instance.proofs.Numbers.{counts_more}
@@ -20,18 +19,8 @@ use Rattle.shunt_choices.specs.defs.Free.{is_bare, is_free_pair, is_free_run, ha
 use Rattle.shunt_choices.specs.defs.Choices.{IsFreeShape, ShapeBefore, shape_at, shapes_of_length, shapes_of}
 use Rattle.shunt_choices.proofs.Given.{PlaceLaws}
 use Rattle.shunt_choices.proofs.Ordered.{Follows, follows_map, follows_filter, follows_flat, follows_range, range_in, in_range}
-
--- ---- tests and what they tell
-
-pub three_true : (a b c : Bool) → (a && b && c) ≡ true → (a ≡ true) × (b ≡ true) × (c ≡ true)
-three_true true true c e = (refl, refl, e)
-three_true true false c e = absurd (true≢false (sym e))
-three_true false b c e = absurd (true≢false (sym e))
-
-pub from_three : (a b c : Bool) → a ≡ true → b ≡ true → c ≡ true → (a && b && c) ≡ true
-from_three true true c e f g = g
-from_three true false c e f g = f
-from_three false b c e f g = e
+use Rattle.shunt_lists.proofs.Tests.{all_three as three_true, from_three}
+use Rattle.shunt_blocks.proofs.Times.{arrival}
 
 -- ---- pairs
 
@@ -131,9 +120,6 @@ free_run night covered u s h =
       position = h.positions (position_from night s + k) (record { from = omega arith; to = omega arith });
       pair = h.shape.pairs k lt;
     })))
-
-arrival : (night : Night) (a : ℕ) → IsOrderedNight night → a < length night.arrive → IsTrain night.station (train_at night.arrive a)
-arrival night a h lt = h.timetable.arrive.each a _ lt
 
 at_most_eight : (night : Night) (s : Shape) → IsOrderedNight night → AreRunsWithin night s → s.n ≤ 8
 at_most_eight night s h w = omega (arith, w.units, w.p, (arrival night s.arr.0 h w.arr).few)

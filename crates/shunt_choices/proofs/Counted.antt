@@ -1,31 +1,28 @@
 -- How many partial plans begin with a list of blocks: one and those that its choices give, whatever the order of the list.
-use Rattle.std.specs.Prelude.{All, map, not, ◌==◌, if◌then◌else◌, sum_by, Option, Some, None, IsPermutation}
+use Rattle.std.specs.Prelude.{All, not, ◌==◌, if◌then◌else◌, sum_by, Option, Some, None, IsPermutation}
 use Rattle.std.specs.List.{range_with_len}
-use Rattle.std.proofs.Common.{◌≡◌, inl, inr, ℕ, zero, suc, ◌+◌, ◌≤◌, Bool, true, false, List, [], ◌∷◌, ◌++◌, length, refl, sym, ap, subst, ◌∙◌, arith}
+use Rattle.std.proofs.Common.{◌≡◌, ℕ, zero, suc, ◌+◌, ◌≤◌, Bool, true, false, List, [], ◌∷◌, ◌++◌, length, refl, sym, ap, subst, ◌∙◌, arith}
 use Rattle.std.proofs.lemmas.List.{length-append}
 use Rattle.std.proofs.lemmas.List.Elements.{All-push}
-use Rattle.std.proofs.lemmas.List.Sums.{sum_by-cons}
 use Rattle.std.proofs.lemmas.List.Sorted.{All-permutation, sum_by-IsPermutation, length_permutation, IsPermutation-append_left, IsPermutation-sym}
 use Rattle.shunt_lists.specs.defs.Members.{In}
-use Rattle.shunt_stays.proofs.Sorting.{of_permuted}
+use Rattle.shunt_stays.proofs.SortedEvents.{of_permuted}
 use Rattle.shunt_instance.specs.defs.Instance.{Night, IsInstance, unit_total, position_total}
 use Rattle.shunt_blocks.specs.declared.records.Block.{Block}
 use Rattle.shunt_blocks.specs.defs.Shapes.{IsWithinTrains}
 use Rattle.shunt_blocks.specs.defs.Lists.{times_unit, times_position, units_taken, positions_taken, ShareNothing, RunsThrough, placed}
-use Rattle.shunt_choices.proofs.Given.{BlockLaws, is_within}
+use Rattle.shunt_choices.proofs.Given.{BlockLaws}
 use Rattle.shunt_choices.specs.defs.Paths.{Masks, masks_of, next_of}
 use Rattle.shunt_choices.specs.defs.Choices.{Choice, chosen, choices_where, choices_at, longer_by, runs_placed, plans_from, partial_plans}
-use Rattle.shunt_choices.proofs.Rising.{share_nothing}
+use Rattle.shunt_choices.proofs.SortedBlocks.{share_nothing}
 use Rattle.shunt_choices.proofs.AtPaths.{choices_at_are}
 use Rattle.shunt_choices.proofs.Grown.{next_is, grown_apart, choice_free, choice_fits}
 use Rattle.shunt_choices.proofs.Partial.{next_unit}
+use Rattle.shunt_lists.proofs.Sums.{sum_by-members as one_sum}
+use Rattle.shunt_lists.proofs.Lists.{map_same as same_values}
+use Rattle.shunt_blocks.proofs.Shapes.{is_within}
 
 -- ---- sums over lists
-
--- values that are one at each element have one sum
-one_sum : {X : Type 0} (xs : List X) (f g : X → ℕ) → ((x : X) → In x xs → f x ≡ g x) → sum_by f xs ≡ sum_by g xs
-one_sum [] f g h = refl
-one_sum (x ∷ xs) f g h = omega (arith, sum_by-cons f x xs, sum_by-cons g x xs, h x (inl refl), one_sum xs f g (λ y there. h y (inr there)))
 
 where_true : (t s : Bool) (m n : ℕ) → t ≡ s → m ≡ n → (if t then m else 0) ≡ (if s then n else 0)
 where_true t s m n e f = ap {B = ℕ} (λ b. if b then m else 0) e ∙ ap {B = ℕ} (λ k. if s then k else 0) f
@@ -80,11 +77,7 @@ counted laws night blocks is within apart = sym (steady laws (unit_total night) 
 
 -- ---- the order of the blocks
 
-same_values : {X Y : Type 0} (f g : X → Y) (xs : List X) → ((x : X) → f x ≡ g x) → map f xs ≡ map g xs
-same_values f g [] h = refl
-same_values f g (x ∷ xs) h = let one = h x in let rest = same_values f g xs h in cc
-
-same_masks : (night : Night) (blocks others : List Block) → IsPermutation blocks others → masks_of night blocks ≡ masks_of night others
+pub same_masks : (night : Night) (blocks others : List Block) → IsPermutation blocks others → masks_of night blocks ≡ masks_of night others
 same_masks night blocks others same =
     let units : units_taken night blocks ≡ units_taken night others = same_values (λ u. not (times_unit night blocks u == 0)) (λ u. not (times_unit night others u == 0))
     (range_with_len 0 (unit_total night)) (λ u. ap (λ n. not (n == 0)) (sym (sum_by-IsPermutation _ blocks others same))) in

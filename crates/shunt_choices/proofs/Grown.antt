@@ -1,12 +1,10 @@
 -- Lists of blocks that grow by a block of uncovered units and positions.
-use Rattle.std.specs.Prelude.{not, ◌==◌, map, slice_index_or, position, Option, Some, None}
-use Rattle.std.specs.List.{range_with_len, position_or_len}
-use Rattle.std.proofs.Common.{◌≡◌, ⊎_elim, ℕ, ◌<◌, ◌≤◌, Bool, true, false, List, [], ◌∷◌, ◌++◌, length, get_or, refl, sym, ap, ◌∙◌, arith}
+use Rattle.std.specs.Prelude.{not, ◌==◌, map, slice_index_or, Option, Some, None}
+use Rattle.std.specs.List.{range_with_len}
+use Rattle.std.proofs.Common.{◌≡◌, ⊎_elim, ℕ, ◌<◌, ◌≤◌, Bool, true, false, List, [], ◌∷◌, ◌++◌, refl, ap, ◌∙◌, arith}
 use Rattle.std.proofs.lemmas.Bool.{cases_lt, not-true, not-false}
 use Rattle.std.proofs.lemmas.Bool.Decides.{nat_tests}
-use Rattle.std.proofs.lemmas.Grind.{common_steps}
 use Rattle.std.proofs.lemmas.List.Quantifiers.{position-Some}
-use Rattle.std.proofs.lemmas.List.Sums.{fails_before_first}
 use Rattle.std.proofs.lemmas.List.FromFn.{get_or-map-range_with_len}
 use Rattle.shunt_instance.specs.defs.Instance.{Night, unit_total, position_total}
 use Rattle.shunt_blocks.specs.declared.records.Block.{Block}
@@ -17,7 +15,9 @@ use Rattle.shunt_choices.proofs.Given.{PlaceLaws}
 use Rattle.shunt_choices.specs.defs.Paths.{masks_of, next_of}
 use Rattle.shunt_choices.specs.defs.Choices.{Choice, IsChoice, chosen}
 use Rattle.shunt_choices.proofs.Masks.{unit_more, position_more}
-use Rattle.shunt_choices.proofs.Trails.{length_units, has_from, has_position_from, not_taken, few_more}
+use Rattle.shunt_choices.proofs.Trails.{length_units, not_taken, few_more}
+use Rattle.shunt_lists.proofs.Lists.{none_passes, count_some as taken}
+use Rattle.shunt_blocks.proofs.Shapes.{has_from, has_position_from}
 
 -- ---- the least uncovered unit
 
@@ -26,15 +26,6 @@ pub record IsNext (night : Night) (blocks : List Block) (u : ℕ) : Type 0 where
   pub there : u < unit_total night
   pub free : times_unit night blocks u ≡ 0
   pub before : (w : ℕ) → w < u → 1 ≤ times_unit night blocks w
-
--- a list of counts has true only if the count isn't 0
-taken : (count : ℕ → ℕ) (total i : ℕ) (d : Bool) → i < total → slice_index_or (map (λ k. not (count k == 0)) (range_with_len 0 total)) i d ≡ true → 1 ≤ count i
-taken count total i d lt e =
-    let at = get_or-map-range_with_len (λ k. not (count k == 0)) 0 total i i d lt (omega arith) in
-    some (count i) (sym at ∙ e)
-  where
-    some : (n : ℕ) → not (n == 0) ≡ true → 1 ≤ n
-    some n h = grind (arith, nat_tests)
 
 -- and false where it is
 pub left_free : (count : ℕ → ℕ) (total i : ℕ) (d : Bool) → i < total → count i ≡ 0 → slice_index_or (map (λ k. not (count k == 0)) (range_with_len 0 total)) i d ≡ false
@@ -53,11 +44,6 @@ next_is night blocks u e =
       free = not_taken (times_unit night blocks) (unit_total night) u false lt (not-true _ found.1);
       before = λ w less. taken (times_unit night blocks) (unit_total night) w false (omega (arith, less, lt)) (not-false _ (found.2 w less));
     }
-
-none_passes : {X : Type 0} (p : X → Bool) (xs : List X) (k : ℕ) (d : X) → position p xs ≡ None → k < length xs → p (get_or xs k d) ≡ false
-none_passes p xs k d e lt =
-    let past : length xs ≤ position_or_len p xs = grind (arith, common_steps) in
-    fails_before_first p xs k d (omega (arith, past, lt))
 
 pub next_at : (night : Night) (blocks : List Block) (u : ℕ) → IsNext night blocks u → next_of (masks_of night blocks) ≡ Some u
 next_at night blocks u h = at (next_of (masks_of night blocks)) refl
@@ -116,6 +102,3 @@ free_choice places night blocks b fits free = record {
   };
   option = fits.option;
 }
-
-pub alone_apart : (night : Night) (b : Block) → ShareNothing night (b ∷ [])
-alone_apart night b = grown_apart night [] b (record { units = λ u. omega arith; positions = λ v. omega arith }) (record { units = λ w has. refl; positions = λ v has. refl })

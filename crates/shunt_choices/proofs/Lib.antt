@@ -1,8 +1,8 @@
 pub mod Given
 pub mod Masks
 pub mod Trails
-pub mod Rising
-mod Remaining
+pub mod SortedBlocks
+mod Rests
 mod Runs
 mod Progress
 mod Ordered

@@ -11,7 +11,7 @@ use Rattle.shunt_instance.specs.defs.Instance.{Night, unit_total, position_total
 use Rattle.shunt_blocks.specs.declared.records.Block.{Block}
 use Rattle.shunt_blocks.specs.defs.Shapes.{shape_of, unit_from, position_from}
 use Rattle.shunt_blocks.specs.defs.Lists.{has_unit, has_position, times_unit, times_position, ShareNothing}
-use Rattle.shunt_choices.specs.defs.Filling.{filled}
+use Rattle.shunt_choices.specs.defs.EntryRuns.{filled}
 use Rattle.shunt_choices.specs.defs.Paths.{masks_of}
 
 -- ---- filled lists

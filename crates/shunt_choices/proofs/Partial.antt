@@ -8,23 +8,24 @@ use Rattle.std.proofs.lemmas.List.{append-nil, append_assoc, map-append, same_fr
 use Rattle.std.proofs.lemmas.List.Sums.{sum_by-append}
 use Rattle.std.proofs.lemmas.List.Sorted.{All-permutation, sum_by-IsPermutation}
 use Rattle.std.proofs.lemmas.List.Elements.{All-push}
-use Rattle.shunt_lists.proofs.Members.{in_place, in_left, in_right}
+use Rattle.shunt_lists.proofs.Members.{in_left, in_right, each_one, place, pairs_more as rises_more}
 use Rattle.shunt_lists.specs.defs.Members.{In}
-use Rattle.shunt_stays.proofs.Sorting.{of_permuted}
+use Rattle.shunt_stays.proofs.SortedEvents.{of_permuted}
 use Rattle.shunt_instance.specs.defs.Instance.{Night, IsInstance, unit_total}
 use Rattle.shunt_blocks.specs.declared.records.Block.{Block}
 use Rattle.shunt_blocks.specs.defs.Shapes.{shape_of, begins_at, HasUnit}
 use Rattle.shunt_blocks.specs.defs.Blocks.{IsBlockButId}
 use Rattle.shunt_blocks.specs.defs.Lists.{has_unit, has_position, times_unit, ShareNothing, RunsThrough, placed}
 use Rattle.shunt_blocks.specs.defs.Pins.{without_id, AreUsable}
-use Rattle.shunt_choices.proofs.Given.{BlockLaws, all_within, but_ids, begins_itself, each_one, place}
+use Rattle.shunt_choices.proofs.Given.{BlockLaws}
 use Rattle.shunt_choices.specs.defs.Paths.{masks_of, next_of, AreInOrder, IsPartialPlan}
 use Rattle.shunt_choices.specs.defs.Choices.{Choice, IsChoice, IsChoiceAt, chosen, longer_by}
 use Rattle.shunt_choices.proofs.Masks.{unit_more, position_more}
-use Rattle.shunt_choices.proofs.Trails.{has_from, front_apart}
-use Rattle.shunt_choices.proofs.Rising.{share_nothing}
+use Rattle.shunt_choices.proofs.Trails.{front_apart}
+use Rattle.shunt_choices.proofs.SortedBlocks.{share_nothing}
 use Rattle.shunt_blocks.proofs.Held.{held, holder, ends}
 use Rattle.shunt_choices.proofs.Grown.{IsNext, next_is, next_at, IsFreeBlock, grown_apart, choice_free, choice_fits, choice_of, free_choice}
+use Rattle.shunt_blocks.proofs.Shapes.{all_within, has_from, begins_itself, but_ids}
 
 -- ---- the pins alone
 
@@ -53,18 +54,6 @@ pins_alone laws night pins start is usable same rise =
     times u = sum_by-IsPermutation _ pins start same
 
 -- ---- a choice more
-
-rises_more : {X : Type 0} (R : X → X → Type 0) (xs : List X) (x : X) → AllPairs R xs → ((y : X) → In y xs → R y x) → AllPairs R (xs ++ x ∷ [])
-rises_more R xs x rise last i j d before lt = ⊎_elim
-    (λ inside.
-    subst (λ z. R z (get_or (xs ++ x ∷ []) j d)) (sym (get_or_append_left xs (x ∷ []) d i (omega (arith, before, inside))))
-    (subst (λ z. R (get_or xs i d) z) (sym (get_or_append_left xs (x ∷ []) d j inside)) (rise i j d before inside)))
-    (λ ge.
-    let at : j ≡ length xs = omega (arith, ge, lt, length-append xs (x ∷ [])) in
-    let is : get_or (xs ++ x ∷ []) j d ≡ x = get_or_push xs x d j (sym at) in
-    subst (λ z. R z (get_or (xs ++ x ∷ []) j d)) (sym (get_or_append_left xs (x ∷ []) d i (omega (arith, before, at))))
-    (subst (λ z. R (get_or xs i d) z) (sym is) (last (get_or xs i d) (in_place xs i d (omega (arith, before, at))))))
-    (cases_lt j (length xs))
 
 rises_to : {X : Type 0} (R : X → X → Type 0) (xs : List X) (x y : X) → AllPairs R (xs ++ x ∷ []) → In y xs → R y x
 rises_to R xs x y rise there =

@@ -1,7 +1,7 @@
 -- Paths stay paths when a block comes or goes, and they have no more blocks than there are units.
 use Rattle.std.specs.Prelude.{not, ◌==◌, map, cond, All, slice_index_or, Some}
 use Rattle.std.specs.List.{range_with_len}
-use Rattle.std.proofs.Common.{◌≡◌, ℕ, ◌+◌, ◌-◌, ◌<◌, ◌≤◌, Bool, true, false, List, [], ◌∷◌, ◌++◌, length, take, get_or, refl, sym, ap, subst, ◌∙◌, arith}
+use Rattle.std.proofs.Common.{◌≡◌, ℕ, ◌+◌, ◌-◌, ◌<◌, ◌≤◌, Bool, true, false, List, [], ◌∷◌, ◌++◌, length, take, get_or, refl, sym, ap, subst, ◌∙◌, arith, ℤ}
 use Rattle.std.proofs.lemmas.Bool.{true≢false, not-true}
 use Rattle.std.proofs.lemmas.Bool.Decides.{nat_tests}
 use Rattle.std.proofs.lemmas.List.{length-append, get_or_append_left, take_more}
@@ -13,18 +13,12 @@ use Rattle.shunt_instance.specs.defs.Instance.{Night, unit_total, position_total
 use Rattle.shunt_blocks.specs.declared.records.Block.{Block}
 use Rattle.shunt_blocks.specs.defs.Shapes.{shape_of, unit_from, position_from, IsInRange, HasUnit, HasPosition, begins_at}
 use Rattle.shunt_blocks.specs.defs.Lists.{has_unit, has_position, times_unit, times_position, ShareNothing}
-use Rattle.shunt_choices.specs.defs.Filling.{filled}
+use Rattle.shunt_choices.specs.defs.EntryRuns.{filled}
 use Rattle.shunt_choices.specs.defs.Paths.{Masks, masks_of, Trail, IsTrailOf, next_of}
 use Rattle.shunt_choices.proofs.Given.{PlaceLaws, FewerLaw}
 use Rattle.shunt_choices.proofs.Masks.{unit_more, position_more, units_pushed, positions_pushed, units_popped, positions_popped}
-
--- ---- tests of units and positions
-
-pub has_from : (night : Night) (b : Block) (u : ℕ) → has_unit night (shape_of b) u ≡ true → HasUnit night (shape_of b) u
-has_from night b u e = record { from = grind (arith, nat_tests); to = grind (arith, nat_tests) }
-
-pub has_position_from : (night : Night) (b : Block) (v : ℕ) → has_position night (shape_of b) v ≡ true → HasPosition night (shape_of b) v
-has_position_from night b v e = record { from = grind (arith, nat_tests); to = grind (arith, nat_tests) }
+use Rattle.shunt_blocks.proofs.Shapes.{has_from, has_position_from}
+use Rattle.shunt_choices.specs.defs.Free.{AreMasksOf}
 
 -- ---- a block more
 
@@ -163,3 +157,22 @@ pub only_position : (night : Night) (b : Block) (covered : Masks) → b.n ≡ 1 
 only_position night b covered one free v has =
     let same : position_from night (shape_of b) ≡ v = omega (arith, one, has.from, has.to) in
     subst (λ w. slice_index_or covered.places w true ≡ false) same free
+
+pub units_long : (night : Night) (t : Trail) (covered : Masks) (cs : List Bool) → cs ≡ covered.units → covered ≡ t.covered → IsTrailOf night t
+    → cs ≡ (masks_of night t.blocks).units
+units_long night t covered cs e ec of = e ∙ ap (λ (m : Masks). m.units) (ec ∙ of.covered)
+
+pub places_long : (night : Night) (t : Trail) (covered : Masks) (cs : List Bool) → cs ≡ covered.places → covered ≡ t.covered → IsTrailOf night t
+    → cs ≡ (masks_of night t.blocks).places
+places_long night t covered cs e ec of = e ∙ ap (λ (m : Masks). m.places) (ec ∙ of.covered)
+
+pub as_many_units : (night : Night) (path : List Block) (cs : List Bool) (zs ys : List ℤ) → cs ≡ (masks_of night path).units → zs ≡ ys → length ys ≡ unit_total night
+    → length cs ≡ length zs
+as_many_units night path cs zs ys e ez en = ap length e ∙ length_units night path ∙ sym en ∙ sym (ap length ez)
+
+pub as_many_places : (night : Night) (path : List Block) (cs : List Bool) (zs ys : List ℤ) → cs ≡ (masks_of night path).places → zs ≡ ys → length ys ≡ position_total night
+    → length cs ≡ length zs
+as_many_places night path cs zs ys e ez en = ap length e ∙ length_places night path ∙ sym en ∙ sym (ap length ez)
+
+pub masks_fit : (night : Night) (path : Trail) (covered : Masks) → covered ≡ path.covered → IsTrailOf night path → AreMasksOf night covered
+masks_fit night path covered e of = subst (AreMasksOf night) (sym (e ∙ of.covered)) (record { units = length_units night path.blocks; places = length_places night path.blocks })

@@ -1,5 +1,5 @@
 -- The definitions of this crate.
-pub mod Filling
+pub mod EntryRuns
 pub mod Paths
 pub mod Free
 pub mod Choices

@@ -40,7 +40,8 @@ impl<'a> Model for Shapes<'a> {
 
     ghost view = { λ a. shapes_left a.instance.now a.u a.reach a.most a.n a.v };
 
-    ghost invariant = { λ a. (a.u < unit_total a.instance.now) × (a.v ≤ position_total a.instance.now) };
+    ghost invariant = { λ a. (a.u < unit_total a.instance.now)
+        × (a.v ≤ position_total a.instance.now) };
 }
 
 /// A shape by the numbers of its first unit and its first position.

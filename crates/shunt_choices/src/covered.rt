@@ -1,9 +1,10 @@
 // Which units and positions are covered.
 ghost use Rattle.std.specs.Prelude.{◌≡◌, ◌+◌, ◌≤◌, [], false, length, replicate, All, IfOk};
 ghost use Rattle.shunt_instance.specs.defs.Instance.{unit_total, position_total};
-ghost use Rattle.shunt_blocks.specs.defs.Shapes.{AreRunsWithin, IsInRange, unit_from, position_from};
+ghost use Rattle.shunt_blocks.specs.defs.Shapes.{AreRunsWithin, IsInRange, unit_from};
+ghost use Rattle.shunt_blocks.specs.defs.Shapes.{position_from};
 ghost use Rattle.shunt_choices.specs.defs.Paths.{Masks, masks_of};
-ghost use Rattle.shunt_choices.specs.defs.Filling.{filled};
+ghost use Rattle.shunt_choices.specs.defs.EntryRuns.{filled};
 
 use shunt_blocks::{Block, Shape, laws, position_from, shape_of, unit_from};
 use shunt_instance::Instance;
@@ -93,8 +94,10 @@ impl Covered {
         requires within { AreRunsWithin instance.now shape }
         requires units { length self.old.units ≡ unit_total instance.now }
         requires places { length self.old.places ≡ position_total instance.now }
-        ensures units { self.new.units ≡ filled self.old.units (unit_from instance.now shape) shape.n covered }
-        ensures places { self.new.places ≡ filled self.old.places (position_from instance.now shape) shape.n covered }
+        ensures units { self.new.units
+            ≡ filled self.old.units (unit_from instance.now shape) shape.n covered }
+        ensures places { self.new.places
+            ≡ filled self.old.places (position_from instance.now shape) shape.n covered }
     {
         let n = shape.n as usize;
         fill(&mut self.units, unit_from(instance, shape), n, covered);

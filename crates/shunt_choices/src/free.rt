@@ -1,7 +1,8 @@
 // How far runs of uncovered units and positions go.
 ghost use Rattle.std.specs.Prelude.{◌≡◌, ◌<◌, ◌≤◌, ◌&&◌, ◌+◌, ℕ, nat_le, length, slice_index_or};
 ghost use Rattle.shunt_instance.specs.defs.Instance.{unit_total, position_total};
-ghost use Rattle.shunt_choices.specs.defs.Free.{AreMasksOf, is_bare, is_free_pair, is_free_run, has_units, has_positions};
+ghost use Rattle.shunt_choices.specs.defs.Free.{AreMasksOf, is_bare, is_free_pair, is_free_run};
+ghost use Rattle.shunt_choices.specs.defs.Free.{has_units, has_positions};
 
 use crate::covered::Covered;
 use shunt_blocks::is_pair;
@@ -36,7 +37,8 @@ fn room(instance: &Instance, u: usize, v: usize) -> u8
     ensures few { result ≤ 8 }
     ensures few_units { u + result ≤ 160 }
     ensures few_positions { v + result ≤ 160 }
-    ensures exact { (n : ℕ) → nat_le n result ≡ (has_units instance.now u n && has_positions instance.now v n) }
+    ensures exact { (n : ℕ)
+        → nat_le n result ≡ (has_units instance.now u n && has_positions instance.now v n) }
 {
     // The first two calls tell bounds: there are at most 160 units and positions.
     instance.units();
@@ -93,7 +95,8 @@ fn zeros() -> [u8; 160]
 pub(crate) fn reaches(instance: &Instance, covered: &Covered, u: usize) -> [u8; 160]
     requires covered { AreMasksOf instance.now covered.now }
     requires unit { u < unit_total instance.now }
-    ensures exact { (n v : ℕ) → 1 ≤ n → v < position_total instance.now → nat_le n (slice_index_or result v 0) ≡ is_free_run instance.now covered.now u n v }
+    ensures exact { (n v : ℕ) → 1 ≤ n → v < position_total instance.now
+        → nat_le n (slice_index_or result v 0) ≡ is_free_run instance.now covered.now u n v }
     ensures few { (v : ℕ) → slice_index_or result v 0 ≤ 8 }
 {
     let mut reach = zeros();

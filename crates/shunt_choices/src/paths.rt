@@ -1,7 +1,10 @@
 // Paths: lists of blocks that begin with pins and grow block by block.
-ghost use Rattle.std.specs.Prelude.{◌≡◌, ◌≤◌, ◌<◌, [], ◌∷◌, ◌++◌, ℕ, true, false, length, vec_capacity, slice_index_or, All, Some, IfOk, IfSome, IfNone, IsPermutation};
+ghost use Rattle.std.specs.Prelude.{◌≡◌, ◌≤◌, ◌<◌, [], ◌∷◌, ◌++◌, ℕ, true, false, length};
+ghost use Rattle.std.specs.Prelude.{vec_capacity, slice_index_or, All, Some, IfOk, IfSome, IfNone};
+ghost use Rattle.std.specs.Prelude.{IsPermutation};
 ghost use Rattle.shunt_instance.specs.defs.Instance.{unit_total};
-ghost use Rattle.shunt_blocks.specs.defs.Shapes.{shape_of, IsInRange, HasUnit, HasPosition, begins_at};
+ghost use Rattle.shunt_blocks.specs.defs.Shapes.{shape_of, IsInRange, HasUnit, HasPosition};
+ghost use Rattle.shunt_blocks.specs.defs.Shapes.{begins_at};
 ghost use Rattle.shunt_blocks.specs.defs.Lists.{ShareNothing};
 ghost use Rattle.shunt_choices.specs.defs.Paths.{Trail, IsTrailOf, masks_of, next_of, AreInOrder};
 
@@ -53,7 +56,8 @@ fn in_order(alloc: Global, instance: &Instance, pins: &[Block]) -> Result<Vec<Bl
 impl Path {
     /// The path without blocks and without pins.
     pub fn start(alloc: Global, instance: &Instance) -> Result<Path, AllocError>
-        ensures empty { IfOk result (λ p. p ≡ record { blocks = []; covered = masks_of instance.now []; pins = 0 }) }
+        ensures empty { IfOk result
+            (λ p. p ≡ record { blocks = []; covered = masks_of instance.now []; pins = 0 }) }
         ensures of { IfOk result (IsTrailOf instance.now) }
     {
         let blocks = Vec::with_capacity(alloc, instance.units())?;
@@ -121,9 +125,14 @@ impl Path {
         requires of { IsTrailOf instance.now self.old }
         requires in_range { IsInRange instance.now block }
         requires next { next_of self.old.covered ≡ Some (begins_at instance.now block) }
-        requires units { (u : ℕ) → HasUnit instance.now (shape_of block) u → slice_index_or self.old.covered.units u true ≡ false }
-        requires positions { (v : ℕ) → HasPosition instance.now (shape_of block) v → slice_index_or self.old.covered.places v true ≡ false }
-        ensures new { self.new ≡ record self.old { blocks = self.old.blocks ++ block ∷ []; covered = masks_of instance.now (self.old.blocks ++ block ∷ []) } }
+        requires units { (u : ℕ) → HasUnit instance.now (shape_of block) u
+            → slice_index_or self.old.covered.units u true ≡ false }
+        requires positions { (v : ℕ) → HasPosition instance.now (shape_of block) v
+            → slice_index_or self.old.covered.places v true ≡ false }
+        ensures new { self.new ≡ record self.old {
+          blocks = self.old.blocks ++ block ∷ [];
+          covered = masks_of instance.now (self.old.blocks ++ block ∷ []);
+        } }
         ensures of { IsTrailOf instance.now self.new }
     {
         laws::places();
@@ -137,8 +146,10 @@ impl Path {
     /// Takes the last block away. None exactly when the path holds no more blocks than the pins that it began with.
     pub fn pop(&mut self, instance: &Instance) -> Option<Block>
         requires of { IsTrailOf instance.now self.old }
-        ensures some { IfSome result (λ b. (self.old.pins < length self.old.blocks) × (self.old.blocks ≡ self.new.blocks ++ b ∷ [])) }
-        ensures none { IfNone result ((length self.old.blocks ≤ self.old.pins) × (self.new ≡ self.old)) }
+        ensures some { IfSome result (λ b. (self.old.pins < length self.old.blocks)
+            × (self.old.blocks ≡ self.new.blocks ++ b ∷ [])) }
+        ensures none { IfNone result
+            ((length self.old.blocks ≤ self.old.pins) × (self.new ≡ self.old)) }
         ensures of { IsTrailOf instance.now self.new }
         ensures pins { self.new.pins ≡ self.old.pins }
     {

@@ -32,7 +32,8 @@ impl<'a> Model for Options<'a> {
 
     ghost view = { λ a. options_left a.instance.now a.shape a.at };
 
-    ghost invariant = { λ a. AreRunsWithin a.instance.now a.shape × (a.at ≤ 4 * length a.instance.now.station.tracks + 1) };
+    ghost invariant = { λ a. AreRunsWithin a.instance.now a.shape
+        × (a.at ≤ 4 * length a.instance.now.station.tracks + 1) };
 }
 
 /// Side A for 0.

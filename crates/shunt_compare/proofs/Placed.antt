@@ -1,6 +1,5 @@
 -- Which block of a feasible plan has a unit.
-use Rattle.std.proofs.Common.{◌≡◌, ℕ, ◌<◌, ◌≤◌, true, List, arith, subst, sym, ap, ◌∙◌}
-use Rattle.std.proofs.lemmas.Bool.Decides.{nat_tests}
+use Rattle.std.proofs.Common.{◌≡◌, ℕ, ◌<◌, true, List, arith, subst, sym, ap, ◌∙◌}
 use Rattle.shunt_lists.specs.defs.Members.{In}
 use Rattle.shunt_lists.proofs.Members.{in_to}
 use Rattle.shunt_instance.specs.defs.Instance.{Night, unit_total}
@@ -10,11 +9,9 @@ use Rattle.shunt_blocks.specs.defs.Blocks.{IsBlock}
 use Rattle.shunt_blocks.specs.defs.Lists.{IsFeasible, has_unit}
 use Rattle.shunt_compare.specs.declared.records.Placement.{Placement}
 use Rattle.shunt_compare.specs.declared.records.Change.{Change}
-use Rattle.shunt_compare.specs.defs.Changes.{placement_of, IsPlaced, IsChange, IsRegrouped}
+use Rattle.shunt_compare.specs.defs.Changes.{placement_of, IsPlacement, IsChange, IsRegrouped}
 use Rattle.shunt_blocks.proofs.Held.{holder, one_holder}
-
-pub begins : (night : Night) (b : Block) → 1 ≤ b.n → has_unit night (shape_of b) (begins_at night b) ≡ true
-begins night b some = grind (arith, nat_tests)
+use Rattle.shunt_blocks.proofs.Shapes.{begins_itself as begins}
 
 module _ (night : Night) (blocks : List Block) (h : IsFeasible night blocks) where
   pub is_block : (b : Block) → In b blocks → IsBlock night b
@@ -27,7 +24,7 @@ module _ (night : Night) (blocks : List Block) (h : IsFeasible night blocks) whe
   one_with u b c lt = one_holder (λ x. has_unit night (shape_of x) u) blocks b c (omega (arith, h.covers.units u lt))
 
   -- what the plan does with a unit is one thing
-  pub one_placement : (u : ℕ) (x y : Placement) → u < unit_total night → IsPlaced night blocks u x → IsPlaced night blocks u y → x ≡ y
+  pub one_placement : (u : ℕ) (x y : Placement) → u < unit_total night → IsPlacement night blocks u x → IsPlacement night blocks u y → x ≡ y
   one_placement u x y lt p q = p.is ∙ (ap (λ (b : Block). placement_of night b u) (one_with u p.block q.block lt p.there q.there p.has q.has) ∙ sym q.is)
 
   -- the block that begins at a unit is the one that has it
@@ -37,16 +34,16 @@ module _ (night : Night) (blocks : List Block) (h : IsFeasible night blocks) whe
 
 -- no unit that both plans place alike is changed
 pub no_change : (night : Night) (was now : List Block) (u : ℕ) (x y : Placement) → IsFeasible night was → IsFeasible night now → u < unit_total night →
-    IsPlaced night was u x → IsPlaced night now u y → x ≡ y → (c : Change) → c.unit ≡ u → IsChange night was now c → ⊥
-no_change night was now u x y before after lt p q e c at h = h.differs (one_placement night was before u c.was x lt (subst (λ (v : ℕ). IsPlaced night was v c.was) at h.before) p
-    ∙ (e ∙ one_placement night now after u y c.now lt q (subst (λ (v : ℕ). IsPlaced night now v c.now) at h.after)))
+    IsPlacement night was u x → IsPlacement night now u y → x ≡ y → (c : Change) → c.unit ≡ u → IsChange night was now c → ⊥
+no_change night was now u x y before after lt p q e c at h = h.differs (one_placement night was before u c.was x lt (subst (λ (v : ℕ). IsPlacement night was v c.was) at h.before) p
+    ∙ (e ∙ one_placement night now after u y c.now lt q (subst (λ (v : ℕ). IsPlacement night now v c.now) at h.after)))
 
 -- each unit is changed in one way
 pub one_change : (night : Night) (was now : List Block) → IsFeasible night was → IsFeasible night now → (c d : Change) → c.unit < unit_total night → d.unit ≡ c.unit →
     IsChange night was now c → IsChange night was now d → d ≡ c
 one_change night was now before after c d lt e h k = same e
-    (one_placement night was before c.unit d.was c.was lt (subst (λ (v : ℕ). IsPlaced night was v d.was) e k.before) h.before)
-    (one_placement night now after c.unit d.now c.now lt (subst (λ (v : ℕ). IsPlaced night now v d.now) e k.after) h.after)
+    (one_placement night was before c.unit d.was c.was lt (subst (λ (v : ℕ). IsPlacement night was v d.was) e k.before) h.before)
+    (one_placement night now after c.unit d.now c.now lt (subst (λ (v : ℕ). IsPlacement night now v d.now) e k.after) h.after)
   where
     same : d.unit ≡ c.unit → d.was ≡ c.was → d.now ≡ c.now → d ≡ c
     same u w n = ap (λ (x : ℕ). record { unit = x; was = d.was; now = d.now }) u

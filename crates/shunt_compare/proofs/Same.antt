@@ -3,7 +3,7 @@ use Rattle.std.specs.Prelude.{Option, Some, None, ◌↔◌, ◌≢◌}
 use Rattle.std.proofs.Common.{◌≡◌, ◌⊎◌, inl, inr, ⊎_elim, ℕ, ◌+◌, ◌<◌, true, List, [], ◌∷◌, get_or, refl, sym, subst, ap, ◌∙◌, arith}
 use Rattle.std.proofs.lemmas.Bool.{cases_eq}
 use Rattle.shunt_lists.specs.defs.Members.{In}
-use Rattle.shunt_lists.proofs.Members.{in_to, in_place}
+use Rattle.shunt_lists.proofs.Members.{in_to, in_place, no_member}
 use Rattle.shunt_base.specs.declared.ids.ArrId.{ArrId}
 use Rattle.shunt_base.specs.declared.ids.Side.{Side}
 use Rattle.shunt_base.specs.declared.ids.Side.TheVariants as side
@@ -20,7 +20,8 @@ use Rattle.shunt_compare.specs.declared.records.Placement.{Placement}
 use Rattle.shunt_compare.specs.declared.records.Change.{Change}
 use Rattle.shunt_compare.specs.declared.records.Comparison.{Comparison}
 use Rattle.shunt_compare.specs.defs.Changes.{placement_of, IsChange, HaveSameUnits, IsRegrouped, IsComparison}
-use Rattle.shunt_compare.proofs.Placed.{begins, is_block, some_with, one_with}
+use Rattle.shunt_compare.proofs.Placed.{is_block, some_with, one_with}
+use Rattle.shunt_blocks.proofs.Shapes.{begins_itself as begins}
 
 -- what the laws of places say
 pub record PlaceLaws : Type 0 where
@@ -86,10 +87,6 @@ grouped_or b (x ∷ was) = ⊎_elim
     apart : (c : Block) → In c (x ∷ was) → HaveSameUnits b c → (HaveSameUnits b x → ⊥) → ((d : Block) → In d was → HaveSameUnits b d → ⊥) → ⊥
     apart c (inl e) same differs none = differs (subst (HaveSameUnits b) e same)
     apart c (inr h) same differs none = none c h same
-
-no_member : {X : Type 0} (xs : List X) → ((x : X) → In x xs → ⊥) → xs ≡ []
-no_member [] h = refl
-no_member (x ∷ xs) h = absurd (h x (inl refl))
 
 -- ---- single blocks
 

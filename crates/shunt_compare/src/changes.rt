@@ -1,10 +1,12 @@
 // The units that another plan places otherwise.
-ghost use Rattle.std.specs.Prelude.{◌≡◌, ◌↔◌, ◌<◌, ◌+◌, true, All, IsTrue, IfOk, IfSome, IfNone, OnOk};
+ghost use Rattle.std.specs.Prelude.{◌≡◌, ◌↔◌, ◌<◌, ◌+◌, true, All, IsTrue, IfOk, IfSome, IfNone};
+ghost use Rattle.std.specs.Prelude.{OnOk};
 ghost use Rattle.shunt_lists.specs.defs.Members.{In};
 ghost use Rattle.shunt_instance.specs.defs.Instance.{unit_total};
 ghost use Rattle.shunt_blocks.specs.defs.Shapes.{IsWithinTrains, shape_of};
 ghost use Rattle.shunt_blocks.specs.defs.Lists.{IsFeasible, has_unit, times_unit};
-ghost use Rattle.shunt_compare.specs.defs.Changes.{placement_of, AreBelow, IsPlaced, IsChange, AreChanges};
+ghost use Rattle.shunt_compare.specs.defs.Changes.{placement_of, AreBelow, IsPlacement, IsChange};
+ghost use Rattle.shunt_compare.specs.defs.Changes.{AreChanges};
 
 use crate::records::{Change, Placement};
 use shunt_blocks::{Block, has_unit, position_from, shape_of, unit_from};
@@ -44,7 +46,7 @@ fn placement_of(instance: &Instance, block: &Block, unit: usize) -> Placement
 fn placement(instance: &Instance, blocks: &[Block], unit: usize) -> Placement
     requires feasible { IsFeasible instance.now blocks.now }
     requires unit { unit < unit_total instance.now }
-    ensures { IsPlaced instance.now blocks.now unit result }
+    ensures { IsPlacement instance.now blocks.now unit result }
 {
     let block = block_with(instance, blocks, unit);
     placement_of(instance, &block, unit)
@@ -63,7 +65,8 @@ fn change_of(instance: &Instance, was: &[Block], now: &[Block], unit: u16) -> Op
     requires unit { unit < unit_total instance.now }
     ensures unit { IfSome result (λ c. c.unit ≡ unit) }
     ensures some { IfSome result (IsChange instance.now was.now now.now) }
-    ensures none { IfNone result ((c : Change) → c.unit ≡ unit → IsChange instance.now was.now now.now c → ⊥) }
+    ensures none { IfNone result
+        ((c : Change) → c.unit ≡ unit → IsChange instance.now was.now now.now c → ⊥) }
 {
     let before = placement(instance, was, usize::from(unit));
     let after = placement(instance, now, usize::from(unit));
@@ -88,8 +91,10 @@ fn add_change(
     requires was { IsFeasible instance.now was.now }
     requires now { IsFeasible instance.now now.now }
     requires unit { unit < unit_total instance.now }
-    requires changes { AreBelow (λ c. c.unit) (IsChange instance.now was.now now.now) unit changes.old.items }
-    ensures { OnOk result (AreBelow (λ c. c.unit) (IsChange instance.now was.now now.now) (unit + 1) changes.new.items) }
+    requires changes { AreBelow (λ c. c.unit)
+        (IsChange instance.now was.now now.now) unit changes.old.items }
+    ensures { OnOk result (AreBelow (λ c. c.unit) (IsChange instance.now was.now now.now)
+        (unit + 1) changes.new.items) }
 {
     let Some(change) = change_of(instance, was, now, unit) else {
         return Ok(());

@@ -11,8 +11,9 @@ use shunt_blocks::laws::places;
 
 /// Another feasible plan does nothing otherwise exactly when each of the two keeps the other's blocks, whatever their ids.
 pub fn same_plans()
-    ensures { (night : Night) (was now : List Block) (c : Comparison) → IsInstance night → IsFeasible night was → IsFeasible night now → IsComparison night was now c →
-        ((c.changes ≡ []) × (c.regrouped ≡ [])) ↔ (Keeps was now × Keeps now was) }
+    ensures { (night : Night) (was now : List Block) (c : Comparison) → IsInstance night
+        → IsFeasible night was → IsFeasible night now → IsComparison night was now c
+        → ((c.changes ≡ []) × (c.regrouped ≡ [])) ↔ (Keeps was now × Keeps now was) }
 {
     places();
 }

@@ -2,10 +2,10 @@
 #![tactic(auto)]
 
 mod changes;
-mod comparing;
+mod comparison;
 pub mod laws;
 mod records;
 mod regrouped;
 
-pub use comparing::compare;
+pub use comparison::compare;
 pub use records::{Change, Comparison, Placement};

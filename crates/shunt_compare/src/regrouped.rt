@@ -4,7 +4,8 @@ ghost use Rattle.shunt_lists.specs.defs.Members.{In};
 ghost use Rattle.shunt_instance.specs.defs.Instance.{unit_total};
 ghost use Rattle.shunt_blocks.specs.defs.Shapes.{begins_at};
 ghost use Rattle.shunt_blocks.specs.defs.Lists.{IsFeasible};
-ghost use Rattle.shunt_compare.specs.defs.Changes.{AreBelow, HaveSameUnits, IsRegrouped, AreRegrouped};
+ghost use Rattle.shunt_compare.specs.defs.Changes.{AreBelow, HaveSameUnits, IsRegrouped};
+ghost use Rattle.shunt_compare.specs.defs.Changes.{AreRegrouped};
 
 use crate::changes::block_with;
 use shunt_blocks::{Block, shape_of, unit_from};
@@ -41,7 +42,8 @@ fn regrouped_at(instance: &Instance, was: &[Block], now: &[Block], unit: usize) 
     requires unit { unit < unit_total instance.now }
     ensures begins { IfSome result (λ b. begins_at instance.now b ≡ unit) }
     ensures some { IfSome result (IsRegrouped was.now now.now) }
-    ensures none { IfNone result ((b : Block) → begins_at instance.now b ≡ unit → IsRegrouped was.now now.now b → ⊥) }
+    ensures none { IfNone result
+        ((b : Block) → begins_at instance.now b ≡ unit → IsRegrouped was.now now.now b → ⊥) }
 {
     let block = block_with(instance, now, unit);
     if unit_from(instance, shape_of(&block)) != unit {
@@ -63,8 +65,10 @@ fn add_regrouped(
 ) -> Result<(), AllocError>
     requires now { IsFeasible instance.now now.now }
     requires unit { unit < unit_total instance.now }
-    requires blocks { AreBelow (begins_at instance.now) (IsRegrouped was.now now.now) unit blocks.old.items }
-    ensures { OnOk result (AreBelow (begins_at instance.now) (IsRegrouped was.now now.now) (unit + 1) blocks.new.items) }
+    requires blocks { AreBelow (begins_at instance.now)
+        (IsRegrouped was.now now.now) unit blocks.old.items }
+    ensures { OnOk result (AreBelow (begins_at instance.now) (IsRegrouped was.now now.now)
+        (unit + 1) blocks.new.items) }
 {
     let Some(block) = regrouped_at(instance, was, now, unit) else {
         return Ok(());

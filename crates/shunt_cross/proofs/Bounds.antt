@@ -1,37 +1,15 @@
 -- Counts and sums stay within their types.
-use Rattle.std.proofs.Common.{◌≡◌, inl, inr, ⊎_elim, ℕ, ◌+◌, ◌*◌, ◌<◌, ◌≤◌, Bool, true, false, cond, List, [], ◌∷◌, length, get_or, take, refl, sym, ap, ◌∙◌, arith, sum_by}
+use Rattle.std.proofs.Common.{◌≡◌, ⊎_elim, ℕ, ◌+◌, ◌*◌, ◌<◌, ◌≤◌, Bool, true, false, cond, List, [], length, get_or, take, refl, ap, arith, sum_by}
 use Rattle.std.specs.List.{count_by}
-use Rattle.std.proofs.lemmas.Bool.{cases_Bool, true≢false}
-use Rattle.std.proofs.lemmas.List.Sums.{sum_by-cons, count_by-le-length, sum_by_more_le}
-use Rattle.shunt_lists.specs.defs.Members.{In}
+use Rattle.std.proofs.lemmas.Bool.{cases_Bool}
+use Rattle.std.proofs.lemmas.List.Sums.{sum_by_more_le}
 use Rattle.shunt_base.specs.declared.keys.EventKey.{EventKey}
 use Rattle.shunt_base.specs.declared.keys.Stay.{Stay}
 use Rattle.shunt_base.specs.defs.Keys.{AreStays, IsWellFormed}
-use Rattle.shunt_stays.specs.defs.Crossing.{crosses, stands_at, load_at}
+use Rattle.shunt_stays.specs.defs.Crossings.{crosses, stands_at, load_at}
 use Rattle.shunt_stays.proofs.Halves.{formed}
 use Rattle.shunt_stays.proofs.Crossings.{crosses_is, never_itself}
-
-one : (b : Bool) → cond b 1 0 ≤ 1
-one true = omega arith
-one false = omega arith
-
-zero_of : (b : Bool) → b ≡ false → ◌≡◌ {A = ℕ} (cond b 1 0) 0
-zero_of true e = absurd (true≢false e)
-zero_of false e = refl
-
--- one isn't counted
-count_below : {X : Type 0} (p : X → Bool) (xs : List X) (x : X) → In x xs → p x ≡ false → count_by p xs < length xs
-count_below p [] x h e = absurd h
-count_below p (y ∷ xs) x (inl s) e =
-    let r = count_by-le-length p xs in
-    let none = zero_of (p y) (ap p (sym s) ∙ e) in
-    omega (arith, sum_by-cons (λ z. cond (p z) 1 0) y xs)
-count_below p (y ∷ xs) x (inr h) e = let r = count_below p xs x h e in let o = one (p y) in omega (arith, sum_by-cons (λ z. cond (p z) 1 0) y xs)
-
--- the items so far, each within a bound
-sum_within : {X : Type 0} (f : X → ℕ) (n : ℕ) (xs : List X) → ((x : X) → In x xs → f x ≤ n) → sum_by f xs ≤ length xs * n
-sum_within f n [] h = omega arith
-sum_within f n (x ∷ xs) h = let r = sum_within f n xs (λ y i. h y (inr i)) in let o = h x (inl refl) in omega (arith, sum_by-cons f x xs)
+use Rattle.shunt_lists.proofs.Sums.{count_below, sum_at_most as sum_within}
 
 -- a stay doesn't cross itself
 not_itself : (b : Stay) → IsWellFormed b → (t : Bool) → crosses b b ≡ t → t ≡ false

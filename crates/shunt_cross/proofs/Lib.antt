@@ -1,2 +1,2 @@
 mod Bounds
-mod Through
+pub mod Through

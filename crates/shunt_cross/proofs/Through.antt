@@ -6,7 +6,7 @@ use Rattle.shunt_base.specs.declared.keys.Stay.{Stay}
 use Rattle.shunt_base.specs.defs.Keys.{AreStays}
 use Rattle.shunt_stays.specs.defs.Run.{Through, Stop, AreOnTracks, GoesThrough, run_of}
 use Rattle.shunt_stays.specs.defs.Run.Stop.{Blocked, Over}
-use Rattle.shunt_stays.specs.defs.Crossing.{pairs_in, overs_in}
+use Rattle.shunt_stays.specs.defs.Crossings.{pairs_in, overs_in}
 use Rattle.shunt_stays.proofs.Crossings.{through_clear, clear_through, no_pairs, no_overs}
 use Rattle.shunt_tracks.specs.declared.run.Ran.{Ran}
 use Rattle.shunt_tracks.specs.defs.Answer.{answer}

@@ -2,9 +2,9 @@
 ghost use Rattle.std.specs.Prelude.{◌≡◌, ◌↔◌, ◌≤◌, length};
 ghost use Rattle.shunt_base.specs.defs.Keys.{AreStays};
 ghost use Rattle.shunt_stays.specs.defs.Run.{AreOnTracks, GoesThrough};
-ghost use Rattle.shunt_stays.specs.defs.Crossing.{pairs_in, overs_in};
+ghost use Rattle.shunt_stays.specs.defs.Crossings.{pairs_in, overs_in};
 
-use crate::crossing::crossed_by;
+use crate::crossings::crossed_by;
 use crate::loads::is_over;
 use shunt_base::Stay;
 

@@ -10,6 +10,7 @@ ghost use Rattle.shunt_cross.specs.defs.Clashes.{clash_of, no_clash, IsThrough};
 
 /// `clashes` is 0 and 0 exactly when `run_lists` answers `Through`.
 pub fn clash_law_in_code()
-    ensures { (lengths : List ℕ) (stays : List Stay) (clash : Clash) (ran : Ran) → AreStays stays → AreOnTracks lengths stays →
-        clash ≡ clash_of lengths stays → ran ≡ answer (run_of lengths stays) → (clash ≡ no_clash) ↔ IsThrough ran }
+    ensures { (lengths : List ℕ) (stays : List Stay) (clash : Clash) (ran : Ran) → AreStays stays
+        → AreOnTracks lengths stays → clash ≡ clash_of lengths stays
+        → ran ≡ answer (run_of lengths stays) → (clash ≡ no_clash) ↔ IsThrough ran }
 {}

@@ -2,10 +2,10 @@
 #![tactic(auto)]
 
 mod clash;
-mod crossing;
+mod crossings;
 pub mod laws;
 mod loads;
 
 pub use clash::{Clash, clashes};
-pub use crossing::crosses;
+pub use crossings::crosses;
 pub use loads::load_after;

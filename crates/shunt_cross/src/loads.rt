@@ -1,9 +1,9 @@
 // The lengths of the stays that stand on a track at a moment.
 ghost use Rattle.std.specs.Prelude.{◌≡◌, ◌≤◌, ◌<◌, length, slice_index, nat_lt, if◌then◌else◌};
 ghost use Rattle.shunt_base.specs.defs.Keys.{AreStays};
-ghost use Rattle.shunt_stays.specs.defs.Crossing.{stands_at, load_after as load};
+ghost use Rattle.shunt_stays.specs.defs.Crossings.{stands_at, load_after as load};
 
-use crate::crossing::{is_before, is_by};
+use crate::crossings::{is_before, is_by};
 use shunt_base::{EventKey, Stay, TrackId};
 
 fn stands(stay: &Stay, track: TrackId, moment: EventKey) -> bool

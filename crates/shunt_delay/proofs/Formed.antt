@@ -1,39 +1,32 @@
 -- The stays of a night in which one train is late are stays.
-use Rattle.std.specs.Prelude.{IfSome, Option, option_map, Some, None, if◌then◌else◌}
+use Rattle.std.specs.Prelude.{IfSome, Option, option_map, Some, None}
 use Rattle.std.specs.List.{AllByRecursion, cons_option}
-use Rattle.std.specs.Ordering.{nat_cmp, bool_cmp, ordering_then}
-use Rattle.std.specs.declared.cmp.Ordering.{Ordering}
-use Rattle.std.specs.declared.cmp.Ordering.TheVariants.{Less}
-use Rattle.std.proofs.Common.{◌≡◌, ◌≢◌, inl, inr, ⊎_elim, ℕ, ◌+◌, ◌-◌, ◌^◌, ◌<◌, ◌≤◌, Bool, true, false, List, [], ◌∷◌, length, refl, sym, subst, ap, ◌∙◌, arith}
+use Rattle.std.proofs.Common.{◌≡◌, ◌≢◌, inl, inr, ⊎_elim, ℕ, ◌+◌, ◌^◌, ◌<◌, ◌≤◌, false, List, [], ◌∷◌, refl, sym, subst, ap, ◌∙◌, arith}
 use Rattle.std.proofs.lemmas.Bool.{cases_Bool, cond-true, cond-false, leb-true, not-false}
-use Rattle.std.proofs.lemmas.Bool.Decides.{nat_tests}
-use Rattle.std.proofs.lemmas.List.{get_or-map}
 use Rattle.shunt_lists.proofs.Members.{all_in, all_from}
 use Rattle.shunt_lists.proofs.TestsBelow.{each_passes}
 use Rattle.shunt_lists.specs.defs.Members.{In}
-use Rattle.shunt_base.specs.declared.ids.TypeId.{TypeId}
-use Rattle.shunt_base.specs.declared.keys.EventKey.{EventKey}
 use Rattle.shunt_base.specs.declared.keys.Stay.{Stay}
-use Rattle.shunt_base.specs.defs.Keys.{IsBefore, IsWellFormed, AreStays}
+use Rattle.shunt_base.specs.defs.Keys.{IsWellFormed, AreStays}
 use Rattle.shunt_stays.specs.defs.Run.{AreOnTracks}
-use Rattle.shunt_instance.specs.declared.records.Station.{Station}
-use Rattle.shunt_instance.specs.declared.records.Train.{Train}
-use Rattle.shunt_instance.specs.declared.records.UnitType.{UnitType}
 use Rattle.shunt_instance.specs.declared.records.Unit.{Unit as TrainUnit}
 use Rattle.shunt_instance.specs.defs.Words.{train_at, kind_at, minute_at, turn_of}
-use Rattle.shunt_instance.specs.defs.Wellformed.{IsStation, IsTrain}
+use Rattle.shunt_instance.specs.defs.Wellformed.{IsTrain}
 use Rattle.shunt_instance.specs.defs.Instance.{Night, IsInstance, IsOrderedNight, ready}
 use Rattle.shunt_blocks.specs.declared.records.Shape.{Shape}
 use Rattle.shunt_blocks.specs.declared.records.Block.{Block}
-use Rattle.shunt_blocks.specs.declared.records.Park.{Park}
 use Rattle.shunt_blocks.specs.defs.Shapes.{shape_of, unit_from, AreRunsWithin, IsWithinTrains, IsInRange}
-use Rattle.shunt_blocks.specs.defs.Standing.{leave_minute, is_too_soon, parked_stay, stay_with, stay_of}
+use Rattle.shunt_blocks.specs.defs.Stays.{leave_minute, stay_of}
 use Rattle.shunt_blocks.specs.defs.Lists.{AreInRange, CanStand, track_lengths, stays_of}
 use Rattle.shunt_audit.proofs.ById.{Apart, apart}
-use Rattle.shunt_audit.proofs.Standing.{of_some, stay_id, in_range}
+use Rattle.shunt_audit.proofs.BlockStays.{in_range}
 use Rattle.shunt_delay.specs.defs.Late.{late}
 use Rattle.shunt_delay.specs.defs.Kept.{late_by, is_too_soon_by, later}
 use Rattle.shunt_delay.proofs.Lately.{Units, late_stay, stay_late, which}
+use Rattle.shunt_lists.proofs.Options.{some_same, of_some}
+use Rattle.shunt_blocks.proofs.Times.{before, minute_is, turn_some, kind_there}
+use Rattle.shunt_instance.proofs.Orders.{opened}
+use Rattle.shunt_blocks.proofs.StaysOf.{stay_id, is_stay}
 
 -- what the laws of blocks say
 pub record Laws : Type 0 where
@@ -44,23 +37,10 @@ pub record Laws : Type 0 where
 
 -- ---- units are ready after their train's arrival
 
-minute_is : (ts : List Train) (k : ℕ) → k < length ts → minute_at ts k ≡ (train_at ts k).minute
-minute_is ts k lt = get_or-map (λ (t : Train). t.minute) ts k _ 0 lt
-
-abbrev no_type : UnitType
-no_type = record { name = []; length = 0; turn = 0 }
-
-turn_some : (s : Station) (kind : TypeId) → IsStation s → kind.0 < length s.types → 1 ≤ turn_of s kind
-turn_some s kind h lt = omega (arith, get_or-map (λ (t : UnitType). t.turn) s.types kind.0 no_type 0 lt, (h.types kind.0 no_type lt).turns)
-
 ready_is : Units → (night : Night) (s : Shape) (k : ℕ) → AreRunsWithin night s → k < s.n
     → ready night (unit_from night s + k) ≡ (train_at night.arrive s.arr.0).minute + turn_of night.station (kind_at (train_at night.arrive s.arr.0) (s.p + k))
 ready_is units night s k h lt = ap (λ (u : TrainUnit). minute_at night.arrive u.train.0 + turn_of night.station u.kind) (units night s k h lt)
     ∙ ap (λ (m : ℕ). m + turn_of night.station (kind_at (train_at night.arrive s.arr.0) (s.p + k))) (minute_is night.arrive s.arr.0 h.arr)
-
-kind_there : (night : Night) (s : Shape) (k : ℕ) → IsOrderedNight night → AreRunsWithin night s → k < s.n
-    → (kind_at (train_at night.arrive s.arr.0) (s.p + k)).0 < length night.station.types
-kind_there night s k h r lt = (h.timetable.arrive.each s.arr.0 _ r.arr).kinds (s.p + k - 1) _ (omega (arith, r.p, r.units, lt))
 
 in_time : (night : Night) (d : ℕ) (s : Shape) (k : ℕ) → is_too_soon_by night d s ≡ false → k < s.n → ready night (unit_from night s + k) + d ≤ leave_minute night s
 in_time night d s k soon lt = leb-true _ _ (each_passes s.n _ (not-false _ soon) k lt)
@@ -76,25 +56,14 @@ enters_first units night d s h r soon = omega (
 
 -- ---- stays of blocks
 
--- what a stay says of its block
-pub record IsStayOf (night : Night) (b : Block) (s : Stay) : Type 0 where
+-- what a stay says of its block's trains
+pub record HasTimesOf (night : Night) (b : Block) (s : Stay) : Type 0 where
   pub train : s.enter.train ≡ b.arr.0
   pub enters : s.enter.minute ≡ (train_at night.arrive b.arr.0).minute
   pub leaves : s.leave.minute ≡ leave_minute night (shape_of b)
 
-some_same : {X : Type 0} (x y : X) → Some x ≡ Some y → x ≡ y
-some_same x y e = cc
-
-stay_if : (night : Night) (b : Block) (k : Park) (s : Stay) (t : Bool) → (if t then None else Some (parked_stay night b k)) ≡ Some s → IsStayOf night b s
-stay_if night b k s true e = absurd (cc)
-stay_if night b k s false e = subst (IsStayOf night b) (some_same (parked_stay night b k) s e) (record { train = refl; enters = refl; leaves = refl })
-
-stay_with_is : (night : Night) (b : Block) (o : Option Park) (s : Stay) → stay_with night b o ≡ Some s → IsStayOf night b s
-stay_with_is night b None s e = absurd (cc)
-stay_with_is night b (Some k) s e = stay_if night b k s (is_too_soon night (shape_of b)) e
-
-pub stay_is : (night : Night) (b : Block) (s : Stay) → stay_of night b ≡ Some s → IsStayOf night b s
-stay_is night b s e = stay_with_is night b b.park s e
+pub times_of : (night : Night) (b : Block) (s : Stay) → stay_of night b ≡ Some s → HasTimesOf night b s
+times_of night b s e = subst (HasTimesOf night b) (sym (is_stay night b s e).is) (record { train = refl; enters = refl; leaves = refl })
 
 pub of_later : (d : ℕ) (o : Option Stay) (s : Stay) → option_map (later d) o ≡ Some s → (t : Stay) × (o ≡ Some t) × (s ≡ later d t)
 of_later d None s e = absurd (cc)
@@ -122,13 +91,6 @@ pub to_late : (night : Night) (d : ℕ) (b : Block) (t : Stay) → stay_of night
 to_late night d b t e late_enough = cond-false (is_too_soon_by night d (shape_of b)) None (option_map (later d) (stay_of night b)) late_enough
     ∙ ap (λ (o : Option Stay). option_map (later d) o) e
 
-before : (k l : EventKey) → k.minute < l.minute → IsBefore k l
-before k l lt = ap (λ (o : Ordering). ordering_then o (ordering_then (bool_cmp k.enters l.enters)
-    (ordering_then (nat_cmp k.train l.train) (ordering_then (nat_cmp k.place l.place) (nat_cmp k.id l.id))))) (less k.minute l.minute lt)
-  where
-    less : (a b : ℕ) → a < b → nat_cmp a b ≡ Less
-    less a b lt = grind (arith, nat_tests)
-
 later_formed : (d : ℕ) (t : Stay) → IsWellFormed t → t.enter.minute + d < t.leave.minute → t.enter.minute + d < 2 ^ 16 → IsWellFormed (later d t)
 later_formed d t h lt small = record {
   enters = h.enters;
@@ -142,10 +104,6 @@ later_formed d t h lt small = record {
   track_in = h.track_in;
 }
 
-opened : (night : Night) → IsInstance night → IsOrderedNight night
-unfolding IsInstance
-opened night n = n
-
 pub arrives : (night : Night) (b : Block) → IsInstance night → AreRunsWithin night (shape_of b) → (train_at night.arrive b.arr.0).minute < 2880
 arrives night b n r = let t : IsTrain night.station (train_at night.arrive b.arr.0) = (opened night n).timetable.arrive.each b.arr.0 _ r.arr in omega (arith, t.minute)
 
@@ -155,7 +113,7 @@ some_formed o t e h = subst (λ (p : Option Stay). IfSome p IsWellFormed) e h
 pub formed_late : Laws → (i d : ℕ) (night : Night) (b : Block) (s : Stay) → IsInstance night → IsInRange night b → d ≤ 120 → stay_of (late i d night) b ≡ Some s → IsWellFormed s
 formed_late laws i d night b s n h few e =
     let r = of_late night (late_by i d b) b s (sym (stay_late laws.units i d night b h.within.runs) ∙ e) in
-    let of_block = stay_is night b r.stay r.of in
+    let of_block = times_of night b r.stay r.of in
     let first = enters_first laws.units night (late_by i d b) (shape_of b) (opened night n) h.within.runs r.in_time in
     let enters = of_block.enters in
     let leaves = of_block.leaves in

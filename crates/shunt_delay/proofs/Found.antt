@@ -2,7 +2,7 @@
 use Rattle.std.specs.Prelude.{is_some, Option, Some, None, slice_index, nat_le, nat_lt, ◌==◌}
 use Rattle.std.specs.List.{flat_map, filter}
 use Rattle.std.proofs.Common.{◌≡◌, ◌≢◌, inl, inr, ⊎_elim, ℕ, zero, suc, ◌<◌, ◌≤◌, Bool, true, false, List, [], ◌∷◌, ◌++◌, length, take, get_or, refl, sym, subst, ap, ◌∙◌, arith}
-use Rattle.std.proofs.lemmas.Bool.{cases_Bool, ne_eqb, cases_lt, lt-ltb, ltb-true, false_from_ne_true, false≢true}
+use Rattle.std.proofs.lemmas.Bool.{cases_Bool, ne_eqb, cases_lt, ltb-true, false_from_ne_true, false≢true}
 use Rattle.std.proofs.lemmas.List.{take_all}
 use Rattle.std.proofs.lemmas.List.Concat.{flat_map-cons}
 use Rattle.std.proofs.lemmas.List.Elements.{filter-append}
@@ -11,13 +11,13 @@ use Rattle.shunt_lists.specs.defs.Members.{In}
 use Rattle.shunt_base.specs.declared.keys.Stay.{Stay}
 use Rattle.shunt_base.specs.defs.Keys.{AreStays}
 use Rattle.shunt_stays.specs.defs.Run.{AreOnTracks}
-use Rattle.shunt_stays.specs.defs.Crossing.{crosses, load_after}
+use Rattle.shunt_stays.specs.defs.Crossings.{crosses, load_after}
 use Rattle.shunt_stays.proofs.Crossings.{through_clear, clear_through}
 use Rattle.shunt_instance.specs.defs.Instance.{Night, unit_total, position_total}
 use Rattle.shunt_blocks.specs.declared.records.Block.{Block}
 use Rattle.shunt_blocks.specs.defs.Shapes.{shape_of}
 use Rattle.shunt_blocks.specs.defs.Blocks.{type_fault}
-use Rattle.shunt_blocks.specs.defs.Standing.{is_too_soon}
+use Rattle.shunt_blocks.specs.defs.Stays.{is_too_soon}
 use Rattle.shunt_blocks.specs.defs.Lists.{times_unit, times_position, track_lengths, stays_of}
 use Rattle.shunt_audit.specs.declared.types.Finding.{Finding}
 use Rattle.shunt_audit.specs.declared.types.Finding.TheVariants.{UnitBare, UnitTwice, PlaceBare, PlaceTwice, WrongType, TooSoon, NoRouteIn, NoRouteOut, Crossing, TooLong, StatedCost}
@@ -28,6 +28,7 @@ use Rattle.shunt_audit.proofs.Exactly.{exactly}
 use Rattle.shunt_audit.proofs.Feasible.{no_member}
 use Rattle.shunt_delay.specs.defs.Kept.{of_train, AreOthersApart, AreOthersWithin, too_longs_of}
 use Rattle.shunt_delay.specs.defs.Delays.{StaysFeasible, is_of_delay, delay_findings, first}
+use Rattle.shunt_lists.proofs.Tests.{lt_true}
 
 -- ---- which findings are those of a delay
 
@@ -246,9 +247,6 @@ pub own_crossers : (i : ℕ) (stays own : List Stay) (b : Stay) (o : Option Find
 own_crossers i stays own b o is apart there other e =
     e ∙ ap (λ (l : List Stay). first (crossings_of l b)) is ∙ ap first (flat_filtered (of_train i) (λ (c : Stay). noted (crosses b c) (Crossing b.id c.id)) stays
     (λ c j p. ap (λ (t : Bool). noted t (Crossing b.id c.id)) (apart b c there j (ne_eqb b.enter.train i other) p)))
-
-lt_true : (m n : ℕ) → m < n → nat_lt m n ≡ true
-lt_true m n lt = lt-ltb m n lt
 
 -- the entries of other trains fit, so that only the late train's may not
 pub own_longs : (i : ℕ) (lengths : List ℕ) (stays own : List Stay) → own ≡ filter (of_train i) stays → AreOthersWithin i lengths stays

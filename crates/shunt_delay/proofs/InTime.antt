@@ -8,7 +8,7 @@ use Rattle.shunt_instance.specs.defs.Instance.{Night, ready}
 use Rattle.shunt_blocks.specs.declared.records.Shape.{Shape}
 use Rattle.shunt_blocks.specs.declared.records.Block.{Block}
 use Rattle.shunt_blocks.specs.defs.Shapes.{shape_of, unit_from, AreRunsWithin}
-use Rattle.shunt_blocks.specs.defs.Standing.{leave_minute, is_too_soon}
+use Rattle.shunt_blocks.specs.defs.Stays.{leave_minute, is_too_soon}
 use Rattle.shunt_delay.specs.defs.Late.{late}
 use Rattle.shunt_delay.specs.defs.Kept.{is_too_soon_by}
 use Rattle.shunt_delay.proofs.Lately.{Units, soon_own, soon_other}

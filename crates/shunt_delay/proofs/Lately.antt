@@ -16,7 +16,7 @@ use Rattle.shunt_blocks.specs.declared.records.Shape.{Shape}
 use Rattle.shunt_blocks.specs.declared.records.Block.{Block}
 use Rattle.shunt_blocks.specs.declared.records.Park.{Park}
 use Rattle.shunt_blocks.specs.defs.Shapes.{shape_of, unit_from, AreRunsWithin, IsInRange}
-use Rattle.shunt_blocks.specs.defs.Standing.{length_of, leave_minute, is_too_soon, block_length, leave_key, parked_stay, stay_with, stay_of}
+use Rattle.shunt_blocks.specs.defs.Stays.{length_of, leave_minute, is_too_soon, block_length, leave_key, parked_stay, stay_with, stay_of}
 use Rattle.shunt_blocks.specs.defs.Lists.{AreInRange}
 use Rattle.shunt_delay.specs.defs.Late.{delayed, late}
 use Rattle.shunt_delay.specs.defs.Kept.{late_by, is_too_soon_by, later}

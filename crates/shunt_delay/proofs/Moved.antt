@@ -1,37 +1,19 @@
 -- Stays that come to timelines and go again.
 use Rattle.std.specs.Prelude.{◌↔◌, All, IfSome, IfNone, OnSome, Option, Some, None, map}
-use Rattle.std.proofs.Common.{◌≡◌, ◌≢◌, ◌⊎◌, inl, inr, ⊎_elim, ℕ, zero, suc, ◌+◌, ◌<◌, List, [], ◌∷◌, ◌++◌, length, take, get_or, refl, sym, subst, ap, ◌∙◌, arith, IsPermutation}
-use Rattle.std.proofs.lemmas.List.Sorted.{IsPermutation-refl, IsPermutation-cons, IsPermutation-sym, IsPermutation-trans, IsPermutation-middle, length_permutation}
-use Rattle.shunt_lists.proofs.Members.{all_in, in_place, in_map, of_map}
+use Rattle.std.proofs.Common.{◌≡◌, ◌≢◌, ◌⊎◌, inl, inr, ⊎_elim, ℕ, zero, suc, ◌+◌, ◌<◌, List, [], ◌∷◌, length, take, get_or, refl, sym, subst, ap, ◌∙◌, arith, IsPermutation}
+use Rattle.std.proofs.lemmas.List.Sorted.{length_permutation}
+use Rattle.shunt_lists.proofs.Members.{all_in, in_place, in_map, of_map, each_one as of_all, to_all}
 use Rattle.shunt_lists.specs.defs.Members.{In}
 use Rattle.shunt_base.specs.declared.keys.Stay.{Stay}
 use Rattle.shunt_base.specs.defs.Keys.{IsWellFormed, AreStays}
-use Rattle.shunt_stays.proofs.Sorting.{in_permuted, of_permuted, stays_permuted, tracks_within}
+use Rattle.shunt_stays.proofs.SortedEvents.{in_permuted, of_permuted, tracks_within, same_members}
 use Rattle.shunt_stays.specs.defs.Run.{AreOnTracks, GoesThrough}
 use Rattle.shunt_stays.proofs.Fewer.{part_through}
 use Rattle.shunt_timeline.specs.defs.Holdings.{Holding}
-use Rattle.shunt_audit.proofs.ById.{place_of}
 use Rattle.shunt_delay.specs.defs.Kept.{later, IsApart, CanCome}
-
-pub of_all : {X : Type 0} (P : X → Type 0) (xs : List X) (x : X) → All P xs → In x xs → P x
-of_all P xs x h i = let r = place_of xs x x i in subst P r.2 (h r.0 x r.1)
-
-pub to_all : {X : Type 0} (P : X → Type 0) (xs : List X) → ((x : X) → In x xs → P x) → All P xs
-to_all P xs h k d lt = h (get_or xs k d) (in_place xs k d lt)
+use Rattle.shunt_stays.proofs.Halves.{formed as member_formed}
 
 -- ---- members of stays
-
-pub member_formed : (xs : List Stay) (s : Stay) → AreStays xs → In s xs → IsWellFormed s
-member_formed [] s a i = absurd i
-member_formed (x ∷ xs) s a (inl e) = subst IsWellFormed (sym e) a.0
-member_formed (x ∷ xs) s a (inr i) = member_formed xs s a.2 i
-
-pub one_id : (xs : List Stay) (s t : Stay) → AreStays xs → In s xs → In t xs → s.id ≡ t.id → s ≡ t
-one_id [] s t a i j e = absurd i
-one_id (x ∷ xs) s t a (inl p) (inl q) e = p ∙ sym q
-one_id (x ∷ xs) s t a (inl p) (inr j) e = absurd (all_in (λ u. x.id ≢ u.id) xs t a.1 j (ap (λ (u : Stay). u.id) (sym p) ∙ e))
-one_id (x ∷ xs) s t a (inr i) (inl q) e = absurd (all_in (λ u. x.id ≢ u.id) xs s a.1 i (ap (λ (u : Stay). u.id) (sym q) ∙ sym e))
-one_id (x ∷ xs) s t a (inr i) (inr j) e = one_id xs s t a.2 i j e
 
 -- the members up to one more
 pub next_in : {X : Type 0} (xs : List X) (k : ℕ) (d t : X) → k < length xs → In t (take (suc k) xs) → In t (take k xs) ⊎ (t ≡ get_or xs k d)
@@ -198,32 +180,6 @@ runs_through own minutes before with_own stays come lengths formed on go listed 
     (tracks_within with_own.lengths with_own.stays stays on within) within go)
 
 -- ---- stays of the same members are as many
-
-record Split (x : Stay) (xs : List Stay) : Type 0 where
-  front : List Stay
-  back : List Stay
-  is : xs ≡ front ++ x ∷ back
-
-split : (x : Stay) (xs : List Stay) → In x xs → Split x xs
-split x [] i = absurd i
-split x (y ∷ xs) (inl e) = record { front = []; back = xs; is = ap (λ (z : Stay). z ∷ xs) (sym e) }
-split x (y ∷ xs) (inr i) = let r = split x xs i in record { front = y ∷ r.front; back = r.back; is = ap (λ (l : List Stay). y ∷ l) r.is }
-
-same_members : (xs ys : List Stay) → AreStays xs → AreStays ys → ((s : Stay) → In s xs ↔ In s ys) → IsPermutation xs ys
-same_members [] [] a b same = IsPermutation-refl []
-same_members [] (y ∷ ys) a b same = absurd ((same y).1 (inl refl))
-same_members (x ∷ xs) ys a b same =
-    let r = split x ys ((same x).0 (inl refl)) in
-    let moved : IsPermutation ys (x ∷ (r.front ++ r.back)) = subst (λ (l : List Stay). IsPermutation l (x ∷ (r.front ++ r.back))) (sym r.is)
-    (IsPermutation-middle r.front x r.back) in
-    let others : AreStays (x ∷ (r.front ++ r.back)) = stays_permuted ys (x ∷ (r.front ++ r.back)) b moved in
-    let rest : IsPermutation xs (r.front ++ r.back) = same_members xs (r.front ++ r.back) a.2 others.2 (λ s. (
-      λ i. ⊎_elim (λ e. absurd (all_in (λ t. x.id ≢ t.id) xs s a.1 i (ap (λ (t : Stay). t.id) (sym e)))) (λ j. j)
-          (in_permuted ys (x ∷ (r.front ++ r.back)) s moved ((same s).0 (inr i))),
-      λ i. ⊎_elim (λ e. absurd (all_in (λ t. x.id ≢ t.id) (r.front ++ r.back) s others.1 i (ap (λ (t : Stay). t.id) (sym e)))) (λ j. j)
-          ((same s).1 (of_permuted ys (x ∷ (r.front ++ r.back)) s moved (inr i))),
-    )) in
-    IsPermutation-trans (x ∷ xs) (x ∷ (r.front ++ r.back)) ys (IsPermutation-cons x xs (r.front ++ r.back) rest) (IsPermutation-sym ys (x ∷ (r.front ++ r.back)) moved)
 
 pub as_many : (xs ys : List Stay) → AreStays xs → AreStays ys → ((s : Stay) → In s xs ↔ In s ys) → length xs ≡ length ys
 as_many xs ys a b same = omega (arith, length_permutation xs ys (same_members xs ys a b same))

@@ -8,23 +8,25 @@ use Rattle.shunt_lists.specs.defs.Members.{In}
 use Rattle.shunt_base.specs.declared.keys.Stay.{Stay}
 use Rattle.shunt_base.specs.defs.Keys.{IsWellFormed, AreStays}
 use Rattle.shunt_stays.specs.defs.Run.{GoesThrough}
-use Rattle.shunt_stays.specs.defs.Crossing.{crosses, load_after}
+use Rattle.shunt_stays.specs.defs.Crossings.{crosses, load_after}
 use Rattle.shunt_stays.proofs.Crossings.{crosses_is, through_clear}
 use Rattle.shunt_stays.proofs.Fewer.{stays_filter, on_tracks}
 use Rattle.shunt_instance.specs.defs.Instance.{Night, IsInstance}
 use Rattle.shunt_blocks.specs.declared.records.Block.{Block}
 use Rattle.shunt_blocks.specs.defs.Shapes.{shape_of}
-use Rattle.shunt_blocks.specs.defs.Standing.{is_too_soon, stay_of}
+use Rattle.shunt_blocks.specs.defs.Stays.{is_too_soon, stay_of}
 use Rattle.shunt_blocks.specs.defs.Lists.{AreInRange, track_lengths, stays_of}
 use Rattle.shunt_timeline.specs.defs.Holdings.{Holding}
-use Rattle.shunt_audit.proofs.Standing.{of_some, to_some, in_range, few_stays}
+use Rattle.shunt_audit.proofs.BlockStays.{in_range, few_stays}
 use Rattle.shunt_delay.specs.defs.Late.{late}
 use Rattle.shunt_delay.specs.defs.Delays.{StaysFeasible}
 use Rattle.shunt_delay.specs.defs.Kept.{late_by, is_too_soon_by, later, IsApart, CanCome, Hold, of_train, AreAll, AreOthers, AreOthersApart, AreOthersWithin}
 use Rattle.shunt_delay.proofs.Lately.{stay_late, soon_late, which, never_late}
-use Rattle.shunt_delay.proofs.Formed.{Laws, stay_is, of_late, to_late, arrives, stays_late}
+use Rattle.shunt_delay.proofs.Formed.{Laws, times_of, of_late, to_late, arrives, stays_late}
 use Rattle.shunt_delay.proofs.Loads.{loads_less}
-use Rattle.shunt_delay.proofs.Moved.{member_formed, one_id, as_many}
+use Rattle.shunt_delay.proofs.Moved.{as_many}
+use Rattle.shunt_lists.proofs.Options.{of_some, to_some}
+use Rattle.shunt_stays.proofs.Halves.{formed as member_formed, same_id as one_id}
 
 abbrev own_of : Night → List Block → ℕ → List Stay
 own_of night blocks i = filter (of_train i) (stays_of night blocks)
@@ -35,13 +37,13 @@ on_time t = ap (λ (m : ℕ). record t { enter = record t.enter { minute = m } }
 
 -- a stay is of train i where its block is
 is_of : (i : ℕ) (night : Night) (b : Block) (t : Stay) → stay_of night b ≡ Some t → b.arr.0 ≡ i → of_train i t ≡ true
-is_of i night b t e same = eq-eqb t.enter.train i ((stay_is night b t e).train ∙ same)
+is_of i night b t e same = eq-eqb t.enter.train i ((times_of night b t e).train ∙ same)
 
 isnt_of : (i : ℕ) (night : Night) (b : Block) (t : Stay) → stay_of night b ≡ Some t → b.arr.0 ≢ i → of_train i t ≡ false
-isnt_of i night b t e apart = ne_eqb t.enter.train i (λ same. apart (sym (stay_is night b t e).train ∙ same))
+isnt_of i night b t e apart = ne_eqb t.enter.train i (λ same. apart (sym (times_of night b t e).train ∙ same))
 
 of_is : (i : ℕ) (night : Night) (b : Block) (t : Stay) → stay_of night b ≡ Some t → of_train i t ≡ true → b.arr.0 ≡ i
-of_is i night b t e same = sym (stay_is night b t e).train ∙ eqb-true t.enter.train i same
+of_is i night b t e same = sym (times_of night b t e).train ∙ eqb-true t.enter.train i same
 
 of_isnt : (i : ℕ) (night : Night) (b : Block) (t : Stay) → stay_of night b ≡ Some t → of_train i t ≡ false → b.arr.0 ≢ i
 of_isnt i night b t e apart same = false≢true (sym apart ∙ is_of i night b t e same)
@@ -157,7 +159,7 @@ module _ (laws : Laws) (night : Night) (blocks : List Block) (n : IsInstance nig
   own_begins : (s : Stay) → In s (stays_of night blocks) → s.enter.minute < 2880
   own_begins s j =
       let r = of_some (stay_of night) blocks s j in
-      let e = (stay_is night r.0 s r.2).enters in
+      let e = (times_of night r.0 s r.2).enters in
       omega (arith, e, arrives night r.0 n (in_range night blocks r.0 h r.1).within.runs)
 
   own_tracks : (s : Stay) → In s (stays_of night blocks) → s.track.0 < length (track_lengths night.station)

@@ -1,39 +1,34 @@
 -- The blocks of a plan by ascending id, and their delays.
-use Rattle.std.specs.Prelude.{All, None, map, not, nat_le, ◌==◌, if◌then◌else◌}
-use Rattle.std.specs.List.{filter, range_with_len, AllByRecursion}
+use Rattle.std.specs.Prelude.{All, None, map, not, ◌==◌, if◌then◌else◌}
+use Rattle.std.specs.List.{filter, range_with_len}
 use Rattle.std.proofs.Common.{◌≡◌, inl, inr, ⊎_elim, ℕ, zero, suc, ◌+◌, ◌<◌, ◌≤◌, Bool, true, false, List, [], ◌∷◌, ◌++◌, length, get_or, refl, sym, subst, ap, ◌∙◌, arith}
-use Rattle.std.proofs.lemmas.Bool.{cond-true, le-leb}
 use Rattle.std.proofs.lemmas.List.{map-append, append-nil}
 use Rattle.std.proofs.lemmas.List.Elements.{filter-append}
-use Rattle.shunt_lists.proofs.Members.{filter_yes, filter_no, filter_from, in_map, in_place, in_cases, of_one}
+use Rattle.shunt_lists.proofs.Members.{filter_yes, filter_no, filter_from, in_map, in_place, in_cases, of_one, each_one as of_all, to_all, place_of}
 use Rattle.shunt_lists.specs.defs.Members.{In}
 use Rattle.shunt_stays.specs.defs.Run.{AreOnTracks, GoesThrough}
-use Rattle.shunt_stays.proofs.Ascending.{Ascends}
+use Rattle.shunt_stays.proofs.AscendingLists.{Ascends}
 use Rattle.shunt_stays.proofs.Fewer.{part_through}
 use Rattle.shunt_instance.specs.defs.Words.{train_at, is_standing}
 use Rattle.shunt_instance.specs.defs.Instance.{Night, IsInstance}
 use Rattle.shunt_blocks.specs.declared.records.Block.{Block}
 use Rattle.shunt_blocks.specs.defs.Blocks.{IsBlock}
-use Rattle.shunt_blocks.specs.defs.Standing.{stay_of, IsSound}
+use Rattle.shunt_blocks.specs.defs.Stays.{stay_of, IsSoundBlock}
 use Rattle.shunt_blocks.specs.defs.Lists.{AreInRange, IsFeasible, track_lengths, stays_of}
 use Rattle.shunt_audit.specs.declared.types.Finding.{Finding}
 use Rattle.shunt_audit.specs.defs.Listed.{insert_by_id, by_id}
-use Rattle.shunt_audit.proofs.ById.{id_of, moves, there, apart, sorted_range, ascends, place_of}
-use Rattle.shunt_audit.proofs.Standing.{of_some, to_some}
+use Rattle.shunt_audit.proofs.ById.{id_of, moves, there, apart, sorted_range, ascends, put_first}
 use Rattle.shunt_audit.proofs.Exactly.{any_order}
 use Rattle.shunt_delay.specs.declared.records.Delay.{Delay}
 use Rattle.shunt_delay.specs.defs.Late.{late}
 use Rattle.shunt_delay.specs.defs.Delays.{StaysFeasible, is_of_delay, delay_findings, first, IsDelay, comers, AreDelays}
-use Rattle.shunt_delay.specs.defs.Kept.{IsReady}
+use Rattle.shunt_delay.specs.defs.Kept.{AreReadyBlocks}
 use Rattle.shunt_delay.proofs.Lately.{in_range_late, never_late}
 use Rattle.shunt_delay.proofs.Formed.{Laws, stays_late}
-use Rattle.shunt_delay.proofs.Moved.{of_all, to_all}
+use Rattle.shunt_lists.proofs.Options.{of_some, to_some}
+use Rattle.shunt_lists.proofs.Lists.{range_more_to as range_more}
 
 -- ---- blocks that ascend already
-
-put_first : (b : Block) (blocks : List Block) → AllByRecursion (λ c. b.id < c.id) blocks → insert_by_id b blocks ≡ b ∷ blocks
-put_first b [] a = refl
-put_first b (c ∷ blocks) a = cond-true (nat_le b.id c.id) (b ∷ c ∷ blocks) (c ∷ insert_by_id b blocks) (le-leb b.id c.id (let lt = a.0 in omega arith))
 
 by_id_is : (blocks : List Block) → Ascends id_of blocks → by_id blocks ≡ blocks
 by_id_is [] a = refl
@@ -83,9 +78,9 @@ module _ (laws : Laws) (night : Night) (n : IsInstance night) where
     each = λ k e lt. same_delay blocks (get_or delays k e) h (subst (λ (bs : List Block). IsDelay night bs (get_or delays k e)) is (a.each k e lt));
   }
 
-  pub ready : ((b : Block) → IsBlock night b → IsSound night b) → (blocks sorted : List Block) → AreInRange night blocks → IsFeasible night blocks → sorted ≡ by_id blocks
-      → IsReady night sorted
-  ready sound blocks sorted h f is = subst (IsReady night) (sym is) (record {
+  pub ready : ((b : Block) → IsBlock night b → IsSoundBlock night b) → (blocks sorted : List Block) → AreInRange night blocks → IsFeasible night blocks → sorted ≡ by_id blocks
+      → AreReadyBlocks night sorted
+  ready sound blocks sorted h f is = subst (AreReadyBlocks night) (sym is) (record {
     in_range = sorted_range night blocks h;
     sorted = by_id_is (by_id blocks) (ascends blocks (apart blocks h.ids));
     feasible = record {
@@ -118,10 +113,6 @@ comes night i = not (is_standing (train_at night.arrive i))
 
 abbrev numbers : List Delay → List ℕ
 numbers delays = map (λ d. d.train.0) delays
-
-range_more : (a n j : ℕ) → a + n ≡ j → range_with_len a (suc n) ≡ range_with_len a n ++ j ∷ []
-range_more a zero j e = let same : a ≡ j = omega arith in ap (λ (x : ℕ). x ∷ []) same
-range_more a (suc n) j e = ap (λ (xs : List ℕ). a ∷ xs) (range_more (a + 1) n j (omega arith))
 
 next_number : (night : Night) (k : ℕ) → filter (comes night) (range_with_len 0 (k + 1)) ≡ filter (comes night) (range_with_len 0 k) ++ filter (comes night) (k ∷ [])
 next_number night k =

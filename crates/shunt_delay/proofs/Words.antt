@@ -11,7 +11,7 @@ use Rattle.shunt_stays.specs.defs.Run.{AreOnTracks}
 use Rattle.shunt_instance.specs.defs.Instance.{Night, IsInstance}
 use Rattle.shunt_blocks.specs.declared.records.Block.{Block}
 use Rattle.shunt_blocks.specs.defs.Shapes.{shape_of, AreRunsWithin}
-use Rattle.shunt_blocks.specs.defs.Standing.{is_too_soon, stay_of}
+use Rattle.shunt_blocks.specs.defs.Stays.{is_too_soon, stay_of}
 use Rattle.shunt_blocks.specs.defs.Lists.{AreInRange, track_lengths, stays_of}
 use Rattle.shunt_audit.specs.declared.types.Finding.{Finding}
 use Rattle.shunt_audit.specs.defs.Findings.{IsFinding, FindingBefore}

@@ -7,11 +7,11 @@ ghost use Rattle.shunt_blocks.specs.defs.Lists.{track_lengths};
 ghost use Rattle.shunt_audit.specs.defs.Listed.{too_soons, crossings_of, crossings, too_longs};
 ghost use Rattle.shunt_delay.specs.defs.Late.{late};
 ghost use Rattle.shunt_delay.specs.defs.Delays.{is_of_delay, delay_findings, first, told};
-ghost use Rattle.shunt_delay.specs.defs.Kept.{Stops, IsReady, of_train, AreOthersApart, too_longs_of};
+ghost use Rattle.shunt_delay.specs.defs.Kept.{Stops, AreReadyBlocks, of_train, AreOthersApart};
+ghost use Rattle.shunt_delay.specs.defs.Kept.{too_longs_of};
 
-use crate::late::{becomes_too_soon, late_stays};
+use crate::late::{becomes_too_soon, late_stays, stays_of_train};
 use crate::records::Stop;
-use crate::train::stays_of_train;
 use shunt_audit::types::Finding;
 use shunt_base::{ArrId, Stay};
 use shunt_blocks::{Block, laws};
@@ -26,7 +26,7 @@ fn first_too_soon(
     train: ArrId,
     minutes: u16,
 ) -> Option<Finding>
-    requires ready { IsReady instance.now blocks.now }
+    requires ready { AreReadyBlocks instance.now blocks.now }
     requires few { minutes ≤ 120 }
     ensures { result ≡ first (too_soons (late train.0 minutes instance.now) blocks.now) }
 {
@@ -91,7 +91,8 @@ fn first_too_long(instance: &Instance, stays: &[Stay], own: &[Stay]) -> Option<F
     requires stays { AreStays stays.now }
     requires few { length stays.now ≤ 65536 }
     requires tracks { AreOnTracks (track_lengths instance.now.station) own.now }
-    requires alone { too_longs_of (track_lengths instance.now.station) stays.now own.now ≡ too_longs (track_lengths instance.now.station) stays.now }
+    requires alone { too_longs_of (track_lengths instance.now.station) stays.now own.now
+        ≡ too_longs (track_lengths instance.now.station) stays.now }
     ensures { result ≡ first (too_longs (track_lengths instance.now.station) stays.now) }
 {
     for stay in own {
@@ -111,9 +112,10 @@ fn first_finding(
     train: ArrId,
     minutes: u16,
 ) -> Result<Option<Finding>, AllocError>
-    requires ready { IsReady instance.now blocks.now }
+    requires ready { AreReadyBlocks instance.now blocks.now }
     requires few { minutes ≤ 120 }
-    ensures { IfOk result (λ o. o ≡ first (delay_findings (late train.0 minutes instance.now) blocks.now)) }
+    ensures { IfOk result
+        (λ o. o ≡ first (delay_findings (late train.0 minutes instance.now) blocks.now)) }
 {
     // The calls tell that the night is well formed, and which units and stays blocks have.
     instance.station();
@@ -156,7 +158,7 @@ pub(crate) fn first_stop(
     train: ArrId,
     minutes: u16,
 ) -> Result<Option<Stop>, AllocError>
-    requires ready { IsReady instance.now blocks.now }
+    requires ready { AreReadyBlocks instance.now blocks.now }
     requires few { minutes ≤ 120 }
     ensures { IfOk result (λ o. Stops (late train.0 minutes instance.now) blocks.now o) }
 {

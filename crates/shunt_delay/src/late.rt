@@ -1,12 +1,11 @@
 // Blocks and stays of a night in which one train is late.
-ghost use Rattle.std.specs.Prelude.{◌≡◌, ℕ, ◌<◌, ◌≤◌, false, All, IfOk};
+ghost use Rattle.std.specs.Prelude.{◌≡◌, ℕ, ◌<◌, ◌≤◌, false, All, IfOk, filter};
 ghost use Rattle.shunt_blocks.specs.defs.Shapes.{IsInRange, IsWithinTrains, shape_of};
-ghost use Rattle.shunt_blocks.specs.defs.Standing.{is_too_soon, stay_of};
+ghost use Rattle.shunt_blocks.specs.defs.Stays.{is_too_soon, stay_of};
 ghost use Rattle.shunt_blocks.specs.defs.Lists.{stays_of};
 ghost use Rattle.shunt_delay.specs.defs.Late.{late};
-ghost use Rattle.shunt_delay.specs.defs.Kept.{late_by, is_too_soon_by, later};
+ghost use Rattle.shunt_delay.specs.defs.Kept.{late_by, is_too_soon_by, later, of_train};
 
-use crate::train::LIMIT;
 use shunt_base::{ArrId, EventKey, Stay};
 use shunt_blocks::{Block, laws, shape_of, stay, unit_from};
 use shunt_instance::Instance;
@@ -63,7 +62,8 @@ pub(crate) fn minutes_in_time(instance: &Instance, block: &Block, train: ArrId) 
     requires within { IsWithinTrains instance.now block.now }
     requires in_time { is_too_soon instance.now (shape_of block.now) ≡ false }
     ensures few { result ≤ 120 }
-    ensures in_time { (d : ℕ) → d ≤ result → is_too_soon (late train.0 d instance.now) (shape_of block.now) ≡ false }
+    ensures in_time { (d : ℕ) → d ≤ result
+        → is_too_soon (late train.0 d instance.now) (shape_of block.now) ≡ false }
 {
     // It says which units a shape has.
     laws::places();
@@ -131,4 +131,24 @@ pub(crate) fn late_stays(
         }
     }
     Ok(stays)
+}
+
+/// No greater delay is tried, in minutes.
+pub(crate) const LIMIT: u16 = 120;
+
+/// The stays of a train.
+pub(crate) fn stays_of_train(
+    alloc: Global,
+    stays: &[Stay],
+    train: ArrId,
+) -> Result<Vec<Stay>, AllocError>
+    ensures { IfOk result (λ v. v.items ≡ filter (of_train train.0) stays.now) }
+{
+    let mut own = Vec::new(alloc);
+    for stay in stays {
+        if stay.enter.train == train.0 {
+            own.push(*stay)?;
+        }
+    }
+    Ok(own)
 }

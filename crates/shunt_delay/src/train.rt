@@ -1,13 +1,14 @@
 // How late one train can be.
-ghost use Rattle.std.specs.Prelude.{◌≡◌, ℕ, ◌≤◌, filter, IfOk};
+ghost use Rattle.std.specs.Prelude.{◌≡◌, ℕ, ◌≤◌, IfOk};
 ghost use Rattle.shunt_blocks.specs.defs.Lists.{stays_of};
 ghost use Rattle.shunt_delay.specs.defs.Late.{late};
 ghost use Rattle.shunt_delay.specs.defs.Delays.{IsDelay};
-ghost use Rattle.shunt_delay.specs.defs.Kept.{AreInTime, IsReady, AreOthers, AreAll, Hold, Stops, of_train};
+ghost use Rattle.shunt_delay.specs.defs.Kept.{AreInTime, AreReadyBlocks, AreOthers, AreAll, Hold};
+ghost use Rattle.shunt_delay.specs.defs.Kept.{Stops};
 
 use crate::first::first_stop;
-use crate::late::minutes_in_time;
-use crate::moving::{goes_through, put, take};
+use crate::late::{LIMIT, minutes_in_time, stays_of_train};
+use crate::moved_stays::{goes_through, put, take};
 use crate::records::{Delay, Stop};
 use shunt_base::{ArrId, Stay};
 use shunt_blocks::{Block, laws};
@@ -15,12 +16,9 @@ use shunt_instance::Instance;
 use shunt_timeline::Timelines;
 use std::alloc::{AllocError, Global};
 
-/// No greater delay is tried, in minutes.
-pub(crate) const LIMIT: u16 = 120;
-
 /// How late a train may be, in minutes up to 120, so that none of its blocks is too soon.
 fn train_in_time(instance: &Instance, blocks: &[Block], train: ArrId) -> u16
-    requires { IsReady instance.now blocks.now }
+    requires { AreReadyBlocks instance.now blocks.now }
     ensures few { result ≤ 120 }
     ensures in_time { (d : ℕ) → d ≤ result → AreInTime (late train.0 d instance.now) blocks.now }
 {
@@ -43,7 +41,7 @@ fn stop_at(
     timelines: &mut Timelines,
     minutes: u16,
 ) -> Result<Option<Stop>, AllocError>
-    requires ready { IsReady instance.now blocks.now }
+    requires ready { AreReadyBlocks instance.now blocks.now }
     requires few { minutes ≤ 120 }
     requires in_time { AreInTime (late train.0 minutes instance.now) blocks.now }
     requires others { AreOthers instance.now blocks.now train.0 own.now timelines.old }
@@ -71,7 +69,7 @@ fn greatest(
     own: &[Stay],
     timelines: &mut Timelines,
 ) -> Result<Delay, AllocError>
-    requires ready { IsReady instance.now blocks.now }
+    requires ready { AreReadyBlocks instance.now blocks.now }
     requires others { AreOthers instance.now blocks.now train.0 own.now timelines.old }
     ensures delay { IfOk result (λ d. (d.train ≡ train) × IsDelay instance.now blocks.now d) }
     ensures same { Hold timelines.old timelines.new }
@@ -98,23 +96,6 @@ fn greatest(
     })
 }
 
-/// The stays of a train.
-pub(crate) fn stays_of_train(
-    alloc: Global,
-    stays: &[Stay],
-    train: ArrId,
-) -> Result<Vec<Stay>, AllocError>
-    ensures { IfOk result (λ v. v.items ≡ filter (of_train train.0) stays.now) }
-{
-    let mut own = Vec::new(alloc);
-    for stay in stays {
-        if stay.enter.train == train.0 {
-            own.push(*stay)?;
-        }
-    }
-    Ok(own)
-}
-
 /// The delay of a train, on timelines that hold all stays.
 pub(crate) fn delay_of(
     alloc: Global,
@@ -124,7 +105,7 @@ pub(crate) fn delay_of(
     train: ArrId,
     timelines: &mut Timelines,
 ) -> Result<Delay, AllocError>
-    requires ready { IsReady instance.now blocks.now }
+    requires ready { AreReadyBlocks instance.now blocks.now }
     requires stays { stays.now ≡ stays_of instance.now blocks.now }
     requires all { AreAll instance.now blocks.now timelines.old }
     ensures delay { IfOk result (λ d. (d.train ≡ train) × IsDelay instance.now blocks.now d) }

@@ -1,12 +1,12 @@
 //! The commands for the night dispatcher: `delay`, `sheet`, `follow` and `compare`.
 #![tactic(auto)]
 
-mod comparing;
-mod delaying;
-mod following;
-mod ordering;
+mod comparison;
+mod delay;
+mod followed_orders;
+mod sheet;
 
-pub use comparing::Compare;
-pub use delaying::Delay;
-pub use following::Follow;
-pub use ordering::Sheet;
+pub use comparison::CompareCommand;
+pub use delay::DelayCommand;
+pub use followed_orders::FollowCommand;
+pub use sheet::SheetCommand;

@@ -1,8 +1,8 @@
 //! The commands that show a plan: `draw` and `page`.
 #![tactic(auto)]
 
-mod drawing;
-mod paging;
+mod page;
+mod picture;
 
-pub use drawing::Draw;
-pub use paging::Page;
+pub use page::PageCommand;
+pub use picture::DrawCommand;

@@ -8,9 +8,9 @@ use Rattle.std.proofs.lemmas.List.{get_or-map, length-map, map-append, take_more
 use Rattle.std.proofs.lemmas.List.Elements.{All-weaker}
 use Rattle.shunt_lists.specs.defs.Members.{In}
 use Rattle.shunt_lists.proofs.Members.{in_to}
-use Rattle.shunt_drivers.specs.declared.sharing.Span.{Span}
-use Rattle.shunt_drivers.specs.declared.sharing.Share.{Share}
-use Rattle.shunt_drivers.specs.defs.Sharing.{runs_at, running, AreApart, IsSharing, IsBusy, IsLeast, Adds}
+use Rattle.shunt_drivers.specs.declared.shares.MoveSpan.{MoveSpan}
+use Rattle.shunt_drivers.specs.declared.shares.MoveShare.{MoveShare}
+use Rattle.shunt_drivers.specs.defs.SharedMoves.{runs_at, running, AreSharesApart, IsSharing, IsBusy, IsLeast, AddsShare}
 use Rattle.shunt_drivers.proofs.Greedy.{many, one, flag, Running, Holds, Follows, Busy, IsGreedy, by_free, by_new}
 
 -- ---- names, of which one is taken out
@@ -33,23 +33,23 @@ split (n ∷ names) x (inr i) = let s = split names x i in (n ∷ s.0, (let long
 
 -- ---- moves with their drivers
 
-abbrev Runs : ℕ → Span × ℕ → Bool
+abbrev Runs : ℕ → MoveSpan × ℕ → Bool
 Runs t p = runs_at t p.0
 
-apart_from : (p : Span × ℕ) (pairs : List (Span × ℕ)) → AllPairs AreApart (p ∷ pairs) → (q : Span × ℕ) → In q pairs → AreApart p q
-apart_from p pairs all q i = let c = in_to pairs q i in subst (AreApart p) c.2 (all 0 (suc c.0) q (omega arith) (let lt = c.1 in omega (arith, lt)))
+apart_from : (p : MoveSpan × ℕ) (pairs : List (MoveSpan × ℕ)) → AllPairs AreSharesApart (p ∷ pairs) → (q : MoveSpan × ℕ) → In q pairs → AreSharesApart p q
+apart_from p pairs all q i = let c = in_to pairs q i in subst (AreSharesApart p) c.2 (all 0 (suc c.0) q (omega arith) (let lt = c.1 in omega (arith, lt)))
 
-later_apart : (p : Span × ℕ) (pairs : List (Span × ℕ)) → AllPairs AreApart (p ∷ pairs) → AllPairs AreApart pairs
+later_apart : (p : MoveSpan × ℕ) (pairs : List (MoveSpan × ℕ)) → AllPairs AreSharesApart (p ∷ pairs) → AllPairs AreSharesApart pairs
 later_apart p pairs all = λ i j d lt small. all (suc i) (suc j) d (omega (arith, lt)) (omega (arith, small))
 
-no_more : (t : ℕ) (pairs : List (Span × ℕ)) (names : List ℕ) → AllPairs AreApart pairs → ((q : Span × ℕ) → In q pairs → Runs t q ≡ true → In q.1 names)
+no_more : (t : ℕ) (pairs : List (MoveSpan × ℕ)) (names : List ℕ) → AllPairs AreSharesApart pairs → ((q : MoveSpan × ℕ) → In q pairs → Runs t q ≡ true → In q.1 names)
     → many (Runs t) pairs ≤ length names
 no_more t [] names apart named = omega arith
 no_more t (p ∷ pairs) names apart named =
     ⊎_elim (runs (λ rest. no_more t pairs rest (later_apart p pairs apart))) (rests (no_more t pairs names (later_apart p pairs apart) (λ q i r. named q (inr i) r)))
     (cases_Bool (Runs t p))
   where
-    runs : ((rest : List ℕ) → ((q : Span × ℕ) → In q pairs → Runs t q ≡ true → In q.1 rest) → many (Runs t) pairs ≤ length rest) → Runs t p ≡ true
+    runs : ((rest : List ℕ) → ((q : MoveSpan × ℕ) → In q pairs → Runs t q ≡ true → In q.1 rest) → many (Runs t) pairs ≤ length rest) → Runs t p ≡ true
         → many (Runs t) (p ∷ pairs) ≤ length names
     runs less now =
         let s = split names p.1 (named p (inl refl) now) in
@@ -60,70 +60,75 @@ no_more t (p ∷ pairs) names apart named =
     rests : many (Runs t) pairs ≤ length names → Runs t p ≡ false → many (Runs t) (p ∷ pairs) ≤ length names
     rests few idle = omega (arith, one (Runs t) p pairs, ap flag idle, few)
 
-of_zip : (spans : List Span) (given : List ℕ) (q : Span × ℕ) → In q (zip spans given) → In q.1 given
+of_zip : (spans : List MoveSpan) (given : List ℕ) (q : MoveSpan × ℕ) → In q (zip spans given) → In q.1 given
 of_zip [] given q i = absurd i
 of_zip (s ∷ spans) [] q i = absurd i
-of_zip (s ∷ spans) (d ∷ given) q (inl e) = inl (ap (λ (w : Span × ℕ). w.1) e)
+of_zip (s ∷ spans) (d ∷ given) q (inl e) = inl (ap (λ (w : MoveSpan × ℕ). w.1) e)
 of_zip (s ∷ spans) (d ∷ given) q (inr i) = inr (of_zip spans given q i)
 
-running_zip : (t : ℕ) (spans : List Span) (given : List ℕ) → length given ≡ length spans → running spans t ≡ many (Runs t) (zip spans given)
+running_zip : (t : ℕ) (spans : List MoveSpan) (given : List ℕ) → length given ≡ length spans → running spans t ≡ many (Runs t) (zip spans given)
 running_zip t [] given e = refl
 running_zip t (s ∷ spans) [] e = absurd (omega (arith, e))
 running_zip t (s ∷ spans) (d ∷ given) e = omega (arith, one (runs_at t) s spans, one (Runs t) (s, d) (zip spans given), running_zip t spans given (omega (arith, e)))
 
-no_fewer : (t : ℕ) (spans : List Span) (given names : List ℕ) → IsSharing spans given → ((driver : ℕ) → In driver given → In driver names) → running spans t ≤ length names
+no_fewer : (t : ℕ) (spans : List MoveSpan) (given names : List ℕ) → IsSharing spans given → ((driver : ℕ) → In driver given → In driver names) → running spans t ≤ length names
 no_fewer t spans given names s named = omega (arith, running_zip t spans given s.each, no_more t (zip spans given) names s.apart (λ q i r. named q.1 (of_zip spans given q i)))
 
 -- ---- what was shared
 
-running_map : (t : ℕ) (shares : List Share) → running (map (λ s. s.span) shares) t ≡ Running shares t
+running_map : (t : ℕ) (shares : List MoveShare) → running (map (λ s. s.span) shares) t ≡ Running shares t
 running_map t [] = refl
-running_map t (s ∷ shares) = omega (arith, one (runs_at t) s.span (map (λ (x : Share). x.span) shares), one (λ (x : Share). runs_at t x.span) s shares, running_map t shares)
+running_map t (s ∷ shares) = omega (
+  arith,
+  one (runs_at t) s.span (map (λ (x : MoveShare). x.span) shares),
+  one (λ (x : MoveShare). runs_at t x.span) s shares,
+  running_map t shares,
+)
 
-abbrev both : Share → Span × ℕ
+abbrev both : MoveShare → MoveSpan × ℕ
 both s = (s.span, s.driver)
 
-zipped : (shares : List Share) → zip (map (λ s. s.span) shares) (map (λ s. s.driver) shares) ≡ map both shares
+zipped : (shares : List MoveShare) → zip (map (λ s. s.span) shares) (map (λ s. s.driver) shares) ≡ map both shares
 zipped [] = refl
 zipped (s ∷ shares) = ap (λ l. both s ∷ l) (zipped shares)
 
-before_end : (t : ℕ) (s : Span) → runs_at t s ≡ true → t < s.end
+before_end : (t : ℕ) (s : MoveSpan) → runs_at t s ≡ true → t < s.end
 before_end t s e = grind (arith, nat_tests)
 
-from_start : (t : ℕ) (s : Span) → runs_at t s ≡ true → s.start ≤ t
+from_start : (t : ℕ) (s : MoveSpan) → runs_at t s ≡ true → s.start ≤ t
 from_start t s e = grind (arith, nat_tests)
 
-follow_apart : (a b : Share) → Follows a b → AreApart (both a) (both b)
+follow_apart : (a b : MoveShare) → Follows a b → AreSharesApart (both a) (both b)
 follow_apart a b follows = λ same t first second. absurd (let le = follows same in let lt = before_end t a.span first in let from = from_start t b.span second in omega
     (arith, le, lt, from))
 
-shares_apart : (shares : List Share) → AllPairs Follows shares → AllPairs AreApart (map both shares)
+shares_apart : (shares : List MoveShare) → AllPairs Follows shares → AllPairs AreSharesApart (map both shares)
 shares_apart shares all = λ i j d lt small.
-    let z : Share = record { span = d.0; driver = d.1 } in
+    let z : MoveShare = record { span = d.0; driver = d.1 } in
     let inside : j < length shares = omega (arith, small, length-map shares both) in
     let first : get_or (map both shares) i d ≡ both (get_or shares i z) = get_or-map both shares i z d (omega (arith, lt, inside)) in
     let second : get_or (map both shares) j d ≡ both (get_or shares j z) = get_or-map both shares j z d inside in
-    subst (λ (x : Span × ℕ). AreApart x (get_or (map both shares) j d)) (sym first)
-    (subst (AreApart (both (get_or shares i z))) (sym second) (follow_apart (get_or shares i z) (get_or shares j z) (all i j z lt inside)))
+    subst (λ (x : MoveSpan × ℕ). AreSharesApart x (get_or (map both shares) j d)) (sym first)
+    (subst (AreSharesApart (both (get_or shares i z))) (sym second) (follow_apart (get_or shares i z) (get_or shares j z) (all i j z lt inside)))
 
-busy_is : (shares : List Share) (n last : ℕ) (b : Option ℕ) → Busy shares n b last → IsBusy (map (λ s. s.span) shares) n b
-busy_is shares n last None h = (ap (map (λ (s : Share). s.span)) h.0, h.1)
+busy_is : (shares : List MoveShare) (n last : ℕ) (b : Option ℕ) → Busy shares n b last → IsBusy (map (λ s. s.span) shares) n b
+busy_is shares n last None h = (ap (map (λ (s : MoveShare). s.span)) h.0, h.1)
 busy_is shares n last (Some b) h = (h.1, running_map b shares ∙ h.2, λ t early. let few = h.3 t early in omega (arith, running_map t shares, few))
 
 -- none are needed, or as many as run at the busy minute
-at_least : (spans : List Span) (n : ℕ) (b : Option ℕ) → IsBusy spans n b → (given names : List ℕ) → IsSharing spans given → ((driver : ℕ) → In driver given → In driver names)
+at_least : (spans : List MoveSpan) (n : ℕ) (b : Option ℕ) → IsBusy spans n b → (given names : List ℕ) → IsSharing spans given → ((driver : ℕ) → In driver given → In driver names)
     → n ≤ length names
 at_least spans n None h given names s named = omega (arith, h.1)
 at_least spans n (Some b) h given names s named = omega (arith, h.1, no_fewer b spans given names s named)
 
-least_of : (shares : List Share) (free : List ℕ) (busy : Option ℕ) (last : ℕ) → IsGreedy shares free busy last → IsLeast (map (λ s. s.span) shares) shares (length free) busy
+least_of : (shares : List MoveShare) (free : List ℕ) (busy : Option ℕ) (last : ℕ) → IsGreedy shares free busy last → IsLeast (map (λ s. s.span) shares) shares (length free) busy
 least_of shares free busy last g =
     let busy_so = busy_is shares (length free) last busy g.at_busy in
     record {
       spans_are = refl;
       sharing = record {
-        each = omega (arith, length-map shares (λ (s : Share). s.driver), length-map shares (λ (s : Share). s.span));
-        apart = subst (AllPairs AreApart) (sym (zipped shares)) (shares_apart shares g.apart);
+        each = omega (arith, length-map shares (λ (s : MoveShare). s.driver), length-map shares (λ (s : MoveShare). s.span));
+        apart = subst (AllPairs AreSharesApart) (sym (zipped shares)) (shares_apart shares g.apart);
       };
       numbered = All-weaker (Holds free) (λ s. s.driver < length free) (λ s h. h.0) shares g.held;
       used = g.used;
@@ -131,15 +136,17 @@ least_of shares free busy last g =
       fewest = at_least (map (λ s. s.span) shares) (length free) busy busy_so;
     }
 
-pub least : (spans : List Span) (shares : List Share) (free : List ℕ) (n : ℕ) (busy : Option ℕ) (last : ℕ) → IsGreedy shares free busy last → map (λ s. s.span) shares ≡ spans
+pub least : (spans : List MoveSpan) (shares : List MoveShare) (free : List ℕ) (n : ℕ) (busy : Option ℕ) (last : ℕ) → IsGreedy shares free busy last
+    → map (λ s. s.span) shares ≡ spans
     → n ≡ length free → IsLeast spans shares n busy
 least spans shares free n busy last g are many_of = subst (λ k. IsLeast spans shares k busy) (sym many_of)
     (subst (λ l. IsLeast l shares (length free) busy) are (least_of shares free busy last g))
 
 -- ---- one move more
 
-added : (shares after : List Share) (free free_after : List ℕ) (busy now : Option ℕ) (last : ℕ) (span : Span) (new : Bool) → IsGreedy shares free busy last → last ≤ span.start
-    → span.start < span.end → Adds shares after free free_after span new
+added : (shares after : List MoveShare) (free free_after : List ℕ) (busy now : Option ℕ) (last : ℕ) (span : MoveSpan) (new : Bool) → IsGreedy shares free busy last
+    → last ≤ span.start
+    → span.start < span.end → AddsShare shares after free free_after span new
     → now ≡ cond new (Some span.start) busy → IsGreedy after free_after now span.start
 added shares after free free_after busy now last span new g le runs a is = ⊎_elim reused grown a.took
   where
@@ -160,42 +167,43 @@ added shares after free free_after busy now last span new g le runs a is = ⊎_e
 
 -- ---- the place in the list of moves
 
-so_far : (spans : List Span) (shares after : List Share) (i : ℕ) (span d : Span) (driver : ℕ) → i < length spans → span ≡ get_or spans i d
+so_far : (spans : List MoveSpan) (shares after : List MoveShare) (i : ℕ) (span d : MoveSpan) (driver : ℕ) → i < length spans → span ≡ get_or spans i d
     → after ≡ shares ++ record { span = span; driver = driver } ∷ [] → map (λ s. s.span) shares ≡ take i spans
     → map (λ s. s.span) after ≡ take (i + 1) spans
 so_far spans shares after i span d driver lt at grown are =
-    ap (map (λ (s : Share). s.span)) grown ∙ spans_push shares span driver ∙ ap (λ (l : List Span). l ++ span ∷ []) are ∙ ap (λ (s : Span). take i spans ++ s ∷ []) at
+    ap (map (λ (s : MoveShare). s.span)) grown ∙ spans_push shares span driver ∙ ap (λ (l : List MoveSpan). l ++ span ∷ []) are ∙ ap (λ (s : MoveSpan). take i spans ++ s ∷ []) at
     ∙ sym (take_more spans i d lt)
   where
-    spans_push : (shares : List Share) (span : Span) (driver : ℕ) → map (λ (s : Share). s.span) (shares ++ record { span = span; driver = driver } ∷ [])
-        ≡ map (λ (s : Share). s.span) shares ++ span ∷ []
-    spans_push shares span driver = map-append (λ (s : Share). s.span) shares (record { span = span; driver = driver } ∷ [])
+    spans_push : (shares : List MoveShare) (span : MoveSpan) (driver : ℕ) → map (λ (s : MoveShare). s.span) (shares ++ record { span = span; driver = driver } ∷ [])
+        ≡ map (λ (s : MoveShare). s.span) shares ++ span ∷ []
+    spans_push shares span driver = map-append (λ (s : MoveShare). s.span) shares (record { span = span; driver = driver } ∷ [])
 
-last_start : (spans : List Span) (i : ℕ) (span d : Span) → AllPairs (λ (a b : Span). a.start ≤ b.start) spans → i < length spans → span ≡ get_or spans i d
+last_start : (spans : List MoveSpan) (i : ℕ) (span d : MoveSpan) → AllPairs (λ (a b : MoveSpan). a.start ≤ b.start) spans → i < length spans → span ≡ get_or spans i d
     → slice_index (0 ∷ map (λ s. s.start) spans) i ≤ span.start
 last_start spans zero span d rise lt at = omega arith
 last_start spans (suc i) span d rise lt at =
-    let start : slice_index (map (λ (s : Span). s.start) spans) i ≡ (get_or spans i d).start = get_or-map (λ (s : Span). s.start) spans i d 0 (omega (arith, lt)) in
+    let start : slice_index (map (λ (s : MoveSpan). s.start) spans) i ≡ (get_or spans i d).start = get_or-map (λ (s : MoveSpan). s.start) spans i d 0 (omega (arith, lt)) in
     let le = rise i (suc i) d (omega arith) lt in
-    omega (arith, start, le, ap (λ (s : Span). s.start) at)
+    omega (arith, start, le, ap (λ (s : MoveSpan). s.start) at)
 
-this_start : (spans : List Span) (i : ℕ) (span d : Span) → i < length spans → span ≡ get_or spans i d → slice_index (0 ∷ map (λ s. s.start) spans) (i + 1) ≡ span.start
-this_start spans i span d lt at = ap (slice_index (0 ∷ map (λ (s : Span). s.start) spans)) next ∙ get_or-map (λ (s : Span). s.start) spans i d 0 lt
-    ∙ ap (λ (s : Span). s.start) (sym at)
+this_start : (spans : List MoveSpan) (i : ℕ) (span d : MoveSpan) → i < length spans → span ≡ get_or spans i d → slice_index (0 ∷ map (λ s. s.start) spans) (i + 1) ≡ span.start
+this_start spans i span d lt at = ap (slice_index (0 ∷ map (λ (s : MoveSpan). s.start) spans)) next ∙ get_or-map (λ (s : MoveSpan). s.start) spans i d 0 lt
+    ∙ ap (λ (s : MoveSpan). s.start) (sym at)
   where
     next : i + 1 ≡ suc i
     next = omega arith
 
 -- one turn
-pub turn : (spans : List Span) (i : ℕ) (d : Span) (shares after : List Share) (free free_after : List ℕ) (busy now : Option ℕ) (new : Bool)
-    → AllPairs (λ (a b : Span). a.start ≤ b.start) spans → All (λ (s : Span). s.start < s.end) spans → i < length spans
-    → map (λ s. s.span) shares ≡ take i spans → IsGreedy shares free busy (slice_index (0 ∷ map (λ s. s.start) spans) i) → Adds shares after free free_after (get_or spans i d) new
+pub turn : (spans : List MoveSpan) (i : ℕ) (d : MoveSpan) (shares after : List MoveShare) (free free_after : List ℕ) (busy now : Option ℕ) (new : Bool)
+    → AllPairs (λ (a b : MoveSpan). a.start ≤ b.start) spans → All (λ (s : MoveSpan). s.start < s.end) spans → i < length spans
+    → map (λ s. s.span) shares ≡ take i spans → IsGreedy shares free busy (slice_index (0 ∷ map (λ s. s.start) spans) i)
+    → AddsShare shares after free free_after (get_or spans i d) new
     → now ≡ cond new (Some (get_or spans i d).start) busy
     → (map (λ s. s.span) after ≡ take (i + 1) spans) × IsGreedy after free_after now (slice_index (0 ∷ map (λ s. s.start) spans) (i + 1))
 turn spans i d shares after free free_after busy now new rise run lt are greedy adds is =
     let span = get_or spans i d in (
       so_far spans shares after i span d adds.driver lt refl adds.shared are,
       subst (IsGreedy after free_after now) (sym (this_start spans i span d lt refl))
-          (added shares after free free_after busy now (slice_index (0 ∷ map (λ (s : Span). s.start) spans) i) span new greedy (last_start spans i span d rise lt refl)
+          (added shares after free free_after busy now (slice_index (0 ∷ map (λ (s : MoveSpan). s.start) spans) i) span new greedy (last_start spans i span d rise lt refl)
           (run i d lt) adds is),
     )

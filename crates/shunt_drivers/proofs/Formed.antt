@@ -17,8 +17,8 @@ use Rattle.shunt_rows.specs.defs.Records.{at}
 use Rattle.shunt_rows.specs.defs.Checks.{answer}
 use Rattle.shunt_rows.specs.defs.Fields.{is_word, side_in}
 use Rattle.shunt_rows.specs.defs.Formats.{reading}
-use Rattle.shunt_rows.proofs.Holding.{says, in_either}
-use Rattle.shunt_rows.proofs.Keeping.{all_kept, formed}
+use Rattle.shunt_rows.proofs.Answered.{says, in_either}
+use Rattle.shunt_rows.proofs.KeptStates.{all_kept, formed}
 use Rattle.shunt_rows.proofs.Named.{distinct_push}
 use Rattle.shunt_rows.proofs.Spelled.{there, within}
 use Rattle.shunt_instance.specs.declared.records.Station.{Station}
@@ -28,13 +28,14 @@ use Rattle.shunt_zones.specs.defs.ZonesFormat.{way_from, way_in}
 use Rattle.shunt_drivers.specs.declared.records.Takes.{Takes}
 use Rattle.shunt_drivers.specs.declared.records.Crew.{Crew}
 use Rattle.shunt_drivers.specs.declared.records.Duty.{Duty}
-use Rattle.shunt_drivers.specs.defs.CrewFormat.{Draft, no_crew, way_of, takes_over, is_over, stands, first_of, takes_in, takes_of, else_of, later_of, crew_of, crew_format, AreMinutes, IsTakes, IsCrew}
+use Rattle.shunt_drivers.specs.defs.CrewFormat.{CrewDraft, no_crew, way_of, takes_over, is_over, stands, first_of, takes_in, takes_of, else_of, later_of, crew_of, crew_format, AreMinutes, IsTakes, IsCrew}
 use Rattle.shunt_drivers.specs.defs.RosterFormat.{MoveName, name_of, named_by, is_one, move_named, enters_of, no_move, driver_in, move_in, duty_by, duty_of, roster_first, duties_of, roster_later, roster_format, IsSpelled, IsRoster}
-use Rattle.shunt_drivers.proofs.MoveNames.{one_tells, tells_one, some_same, found_in, number_small}
+use Rattle.shunt_drivers.proofs.MoveNames.{one_tells, tells_one, found_in, number_small}
+use Rattle.shunt_lists.proofs.Options.{some_same}
 
 -- ---- crews
 
-record IsDraft (s : Station) (d : Draft) : Type 0 where
+record IsDraft (s : Station) (d : CrewDraft) : Type 0 where
   takes : All (IsTakes s) d.takes
   ways_differ : AreDistinct (map way_of d.takes)
   other : (minutes : ℕ) → d.other ≡ Some minutes → AreMinutes minutes
@@ -44,7 +45,7 @@ over_itself w t e =
     subst (λ (v : Way). (t.platform.0 == v.platform.0 && t.track.0 == v.track.0 && same_side t.side v.side) ≡ true) e
     (and_from _ _ (and_from _ _ (eq-eqb t.platform.0 t.platform.0 refl) (eq-eqb t.track.0 t.track.0 refl)) (same_side_itself t.side))
 
-takes_formed : (s : Station) (n : ℕ) (d t : Draft) (row : List (List ℕ)) → IsDraft s d → answer n (takes_of s d row) ≡ Ok t → IsDraft s t
+takes_formed : (s : Station) (n : ℕ) (d t : CrewDraft) (row : List (List ℕ)) → IsDraft s d → answer n (takes_of s d row) ≡ Ok t → IsDraft s t
 unfolding takes_of way_in takes_in stands
 takes_formed s n d t row f e =
     let all = says n (takes_of s d row) t e in
@@ -66,7 +67,7 @@ takes_formed s n d t row f e =
       route = route.0;
       minutes = within 1 120 minutes range.0;
     } in
-    let next : Draft = record d { takes = d.takes ++ y ∷ [] } in
+    let next : CrewDraft = record d { takes = d.takes ++ y ∷ [] } in
     let grown : IsDraft s next = record {
       takes = All-push (IsTakes s) d.takes y f.takes is;
       ways_differ = distinct_push way_of (is_over way) d.takes y (λ x same. over_itself way x same) f.ways_differ (not-true _ new.0);
@@ -74,17 +75,17 @@ takes_formed s n d t row f e =
     } in
     subst (IsDraft s) all.1 grown
 
-else_formed : (s : Station) (n : ℕ) (d t : Draft) (row : List (List ℕ)) → IsDraft s d → answer n (else_of d row) ≡ Ok t → IsDraft s t
+else_formed : (s : Station) (n : ℕ) (d t : CrewDraft) (row : List (List ℕ)) → IsDraft s d → answer n (else_of d row) ≡ Ok t → IsDraft s t
 unfolding else_of
 else_formed s n d t row f e =
     let all = says n (else_of d row) t e in
     let minutes = unwrap_or (decimal_of (at row 2)) 0 in
     let range = within 1 120 minutes all.0.1.1.1.0 in
-    let next : Draft = record d { other = Some minutes } in
+    let next : CrewDraft = record d { other = Some minutes } in
     let is : IsDraft s next = record { takes = f.takes; ways_differ = f.ways_differ; other = λ other same. subst AreMinutes (some_same minutes other same) range } in
     subst (IsDraft s) all.1 is
 
-later_formed : (s : Station) (n : ℕ) (d t : Draft) (row : List (List ℕ)) → IsDraft s d → answer n (later_of s d row) ≡ Ok t → IsDraft s t
+later_formed : (s : Station) (n : ℕ) (d t : CrewDraft) (row : List (List ℕ)) → IsDraft s d → answer n (later_of s d row) ≡ Ok t → IsDraft s t
 unfolding later_of
 later_formed s n d t row f =
     in_either n (is_word row (codes "takes")) _ _ t (IsDraft s t) (λ w. takes_formed s n d t row f)
@@ -93,7 +94,7 @@ later_formed s n d t row f =
 none_formed : (s : Station) → IsDraft s no_crew
 none_formed s = record { takes = All-nil (IsTakes s); ways_differ = no_pairs (λ m n. m ≢ n); other = λ minutes e. absurd (none-some minutes e) }
 
-first_formed : (s : Station) (d : Draft) (row : List (List ℕ)) → answer 1 (first_of row) ≡ Ok d → IsDraft s d
+first_formed : (s : Station) (d : CrewDraft) (row : List (List ℕ)) → answer 1 (first_of row) ≡ Ok d → IsDraft s d
 unfolding first_of
 first_formed s d row e = subst (IsDraft s) (says 1 (first_of row) d e).1 (none_formed s)
 

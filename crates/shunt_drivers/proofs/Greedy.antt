@@ -9,9 +9,10 @@ use Rattle.std.proofs.lemmas.List.Quantifiers.{all_pairs_push}
 use Rattle.shunt_lists.specs.defs.Members.{In}
 use Rattle.shunt_lists.proofs.Members.{in_left, in_right}
 use Rattle.shunt_lists.proofs.Lists.{no_pairs}
-use Rattle.shunt_drivers.specs.declared.sharing.Span.{Span}
-use Rattle.shunt_drivers.specs.declared.sharing.Share.{Share}
-use Rattle.shunt_drivers.specs.defs.Sharing.{runs_at}
+use Rattle.shunt_drivers.specs.declared.shares.MoveSpan.{MoveSpan}
+use Rattle.shunt_drivers.specs.declared.shares.MoveShare.{MoveShare}
+use Rattle.shunt_drivers.specs.defs.SharedMoves.{runs_at}
+use Rattle.shunt_lists.proofs.Tests.{lt_true}
 
 -- ---- how many of a list pass a test
 
@@ -51,24 +52,24 @@ many_all p (x ∷ xs) all = let rest = many_all p xs (λ k d lt. all (suc k) d (
 
 -- ---- what is kept while moves are shared
 
-abbrev pub Running : List Share → ℕ → ℕ
-Running shares t = many (λ (s : Share). runs_at t s.span) shares
+abbrev pub Running : List MoveShare → ℕ → ℕ
+Running shares t = many (λ (s : MoveShare). runs_at t s.span) shares
 
 abbrev pub Free : List ℕ → ℕ → ℕ
 Free free t = many (λ f. nat_lt t f) free
 
 -- its driver isn't free before its end
-abbrev pub Holds : List ℕ → Share → Type 0
+abbrev pub Holds : List ℕ → MoveShare → Type 0
 Holds free s = (s.driver < length free) × (s.span.end ≤ slice_index free s.driver)
 
-abbrev pub Follows : Share → Share → Type 0
+abbrev pub Follows : MoveShare → MoveShare → Type 0
 Follows a b = a.driver ≡ b.driver → a.span.end ≤ b.span.start
 
-abbrev pub Busy : List Share → ℕ → Option ℕ → ℕ → Type 0
+abbrev pub Busy : List MoveShare → ℕ → Option ℕ → ℕ → Type 0
 Busy shares n None last = (shares ≡ []) × (n ≡ 0)
 Busy shares n (Some b) last = (b ≤ last) × (0 < n) × (Running shares b ≡ n) × ((t : ℕ) → t < b → Running shares t < n)
 
-pub record IsGreedy (shares : List Share) (free : List ℕ) (busy : Option ℕ) (last : ℕ) : Type 0 where
+pub record IsGreedy (shares : List MoveShare) (free : List ℕ) (busy : Option ℕ) (last : ℕ) : Type 0 where
   pub held : All (Holds free) shares
   pub apart : AllPairs Follows shares
   pub used : (driver : ℕ) → driver < length free → In driver (map (λ s. s.driver) shares)
@@ -87,35 +88,32 @@ at_first = record {
   at_busy = (refl, refl);
 }
 
-abbrev share : Span → ℕ → Share
+abbrev share : MoveSpan → ℕ → MoveShare
 share span driver = record { span = span; driver = driver }
 
-not_yet : (t : ℕ) (s : Span) → t < s.start → flag (runs_at t s) ≡ 0
+not_yet : (t : ℕ) (s : MoveSpan) → t < s.start → flag (runs_at t s) ≡ 0
 not_yet t s lt = grind (arith, nat_tests)
 
-started : (t : ℕ) (s : Span) → s.start ≤ t → flag (runs_at t s) ≡ flag (nat_lt t s.end)
+started : (t : ℕ) (s : MoveSpan) → s.start ≤ t → flag (runs_at t s) ≡ flag (nat_lt t s.end)
 started t s le = grind (arith, nat_tests)
 
-running_on : (t : ℕ) (s : Span) → s.start ≤ t → t < s.end → flag (runs_at t s) ≡ 1
+running_on : (t : ℕ) (s : MoveSpan) → s.start ≤ t → t < s.end → flag (runs_at t s) ≡ 1
 running_on t s le lt = grind (arith, nat_tests)
 
 over : (t f : ℕ) → f ≤ t → flag (nat_lt t f) ≡ 0
 over t f le = grind (arith, nat_tests)
 
-lt_true : (t f : ℕ) → t < f → nat_lt t f ≡ true
-lt_true t f lt = grind (arith, nat_tests)
-
-drivers_more : (shares : List Share) (s : Share) → map (λ (x : Share). x.driver) (shares ++ s ∷ []) ≡ map (λ (x : Share). x.driver) shares ++ s.driver ∷ []
+drivers_more : (shares : List MoveShare) (s : MoveShare) → map (λ (x : MoveShare). x.driver) (shares ++ s ∷ []) ≡ map (λ (x : MoveShare). x.driver) shares ++ s.driver ∷ []
 drivers_more [] s = refl
 drivers_more (x ∷ shares) s = ap (λ l. x.driver ∷ l) (drivers_more shares s)
 
-module _ (shares : List Share) (free : List ℕ) (busy : Option ℕ) (last : ℕ) (g : IsGreedy shares free busy last) (span : Span) (le : last ≤ span.start)
+module _ (shares : List MoveShare) (free : List ℕ) (busy : Option ℕ) (last : ℕ) (g : IsGreedy shares free busy last) (span : MoveSpan) (le : last ≤ span.start)
     (runs : span.start < span.end) where
   before : (driver t : ℕ) → t < span.start → Running (shares ++ share span driver ∷ []) t ≡ Running shares t
-  before driver t lt = omega (arith, many_push (λ (s : Share). runs_at t s.span) shares (share span driver), not_yet t span lt)
+  before driver t lt = omega (arith, many_push (λ (s : MoveShare). runs_at t s.span) shares (share span driver), not_yet t span lt)
 
   now : (driver t : ℕ) → span.start ≤ t → Running (shares ++ share span driver ∷ []) t ≡ Running shares t + flag (nat_lt t span.end)
-  now driver t from = omega (arith, many_push (λ (s : Share). runs_at t s.span) shares (share span driver), started t span from)
+  now driver t from = omega (arith, many_push (λ (s : MoveShare). runs_at t s.span) shares (share span driver), started t span from)
 
   by_span : (driver : ℕ) (n : ℕ) (after : List ℕ) → length after ≡ n → ((t : ℕ) → span.start ≤ t → Running (shares ++ share span driver ∷ []) t ≡ Free after t) → length free ≤ n
       → (t : ℕ) → Running (shares ++ share span driver ∷ []) t ≤ n
@@ -123,7 +121,7 @@ module _ (shares : List Share) (free : List ℕ) (busy : Option ℕ) (last : ℕ
       ⊎_elim (λ lt. omega (arith, before driver t lt, g.most t, fewer)) (λ from. omega (arith, counts t from, many_few (λ f. nat_lt t f) after, long)) (cases_lt t span.start)
 
   kept_used : (driver d : ℕ) → In d (map (λ s. s.driver) shares) → In d (map (λ s. s.driver) (shares ++ share span driver ∷ []))
-  kept_used driver d i = subst (In d) (sym (drivers_more shares (share span driver))) (in_left (map (λ (s : Share). s.driver) shares) (driver ∷ []) d i)
+  kept_used driver d i = subst (In d) (sym (drivers_more shares (share span driver))) (in_left (map (λ (s : MoveShare). s.driver) shares) (driver ∷ []) d i)
 
   -- a driver who is free takes the move
   module _ (k : ℕ) (lt : k < length free) (from : slice_index free k ≤ span.start) where
@@ -132,7 +130,7 @@ module _ (shares : List Share) (free : List ℕ) (busy : Option ℕ) (last : ℕ
         let old = over t (get_or free k 0) (omega (arith, from, late)) in
         omega (arith, now k t late, g.counts t (omega (arith, le, late)), many_set (λ f. nat_lt t f) free k span.end 0 lt, old)
 
-    still : (s : Share) → Holds free s → Holds (set free k span.end) s
+    still : (s : MoveShare) → Holds free s → Holds (set free k span.end) s
     still s h = (omega (arith, h.0, length-set free k span.end), ⊎_elim same other (cases_eq s.driver k))
       where
         same : s.driver ≡ k → s.span.end ≤ slice_index (set free k span.end) s.driver
@@ -144,7 +142,7 @@ module _ (shares : List Share) (free : List ℕ) (busy : Option ℕ) (last : ℕ
         other : s.driver ≢ k → s.span.end ≤ slice_index (set free k span.end) s.driver
         other ne = omega (arith, h.1, get_or-set_other free k s.driver span.end 0 ne)
 
-    follows : (j : ℕ) (d : Share) → j < length shares → Follows (get_or shares j d) (share span k)
+    follows : (j : ℕ) (d : MoveShare) → j < length shares → Follows (get_or shares j d) (share span k)
     follows j d small same =
         let h = g.held j d small in
         let mine : slice_index free (get_or shares j d).driver ≡ slice_index free k = ap (slice_index free) same in
@@ -187,10 +185,10 @@ module _ (shares : List Share) (free : List ℕ) (busy : Option ℕ) (last : ℕ
     longer : length (free ++ span.end ∷ []) ≡ length free + 1
     longer = length_push free span.end
 
-    still_held : (s : Share) → Holds free s → Holds (free ++ span.end ∷ []) s
+    still_held : (s : MoveShare) → Holds free s → Holds (free ++ span.end ∷ []) s
     still_held s h = (omega (arith, h.0, longer), omega (arith, h.1, get_or_append_left free (span.end ∷ []) 0 s.driver h.0))
 
-    new_follows : (j : ℕ) (d : Share) → j < length shares → Follows (get_or shares j d) (share span (length free))
+    new_follows : (j : ℕ) (d : MoveShare) → j < length shares → Follows (get_or shares j d) (share span (length free))
     new_follows j d small same = let h = g.held j d small in absurd (omega (arith, h.0, same))
 
     new_busy : Busy (shares ++ share span (length free) ∷ []) (length free + 1) (Some span.start) span.start
@@ -205,7 +203,7 @@ module _ (shares : List Share) (free : List ℕ) (busy : Option ℕ) (last : ℕ
     new_used : (d : ℕ) → d < length free + 1 → In d (map (λ s. s.driver) (shares ++ share span (length free) ∷ []))
     new_used d small = ⊎_elim (λ lt. kept_used (length free) d (g.used d lt)) (λ ge. let same : d
         ≡ length free = omega (arith, ge, small) in subst (In d) (sym (drivers_more shares (share span (length free))))
-        (in_right (map (λ (s : Share). s.driver) shares) (length free ∷ []) d (inl same))) (cases_lt d (length free))
+        (in_right (map (λ (s : MoveShare). s.driver) shares) (length free ∷ []) d (inl same))) (cases_lt d (length free))
 
     pub by_new : IsGreedy (shares ++ share span (length free) ∷ []) (free ++ span.end ∷ []) (Some span.start) span.start
     by_new = record {

@@ -7,6 +7,6 @@ mod Formed
 mod RoundTrip
 mod Lengths
 mod Apart
-mod Spanning
+mod SpanCounts
 mod MovesShared
 mod RosterWords

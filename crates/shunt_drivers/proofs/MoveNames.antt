@@ -11,14 +11,10 @@ use Rattle.shunt_lists.specs.defs.Members.{In}
 use Rattle.shunt_base.specs.defs.Spelling.{IsDecimal, is_decimal_text, decimal_of}
 use Rattle.shunt_base.proofs.Decimal.{small}
 use Rattle.shunt_drivers.specs.defs.RosterFormat.{MoveName, is_one}
+use Rattle.shunt_lists.proofs.Options.{some_same}
+use Rattle.shunt_lists.proofs.Tests.{alike_is}
 
 -- ---- names
-
-alike_is : (a b : Bool) → (if a then b else not b) ≡ true → a ≡ b
-alike_is true true e = refl
-alike_is true false e = absurd cc
-alike_is false true e = absurd cc
-alike_is false false e = refl
 
 is_alike : (a : Bool) → (if a then a else not a) ≡ true
 is_alike true = refl
@@ -37,9 +33,6 @@ tells_one a b e = subst (λ (x : MoveName). is_one a x ≡ true) e (one_itself a
 
 -- ---- what is found
 
-pub some_same : {X : Type 0} (x y : X) → Some x ≡ Some y → x ≡ y
-some_same x y e = cc
-
 pub found_in : {X : Type 0} (p : X → Bool) (xs : List X) (x : X) → find p xs ≡ Some x → In x xs × (p x ≡ true)
 found_in p [] x e = absurd (none-some x e)
 found_in p (y ∷ ys) x e = ⊎_elim here (later (λ rest. found_in p ys x rest)) (cases_Bool (p y))
@@ -56,9 +49,6 @@ finds p [] x i t = absurd i
 finds p (y ∷ ys) x (inl e) t = (y, cond-true (p y) (Some y) (find p ys) (subst (λ z. p z ≡ true) e t))
 finds p (y ∷ ys) x (inr i) t =
     ⊎_elim (λ here. (y, cond-true (p y) (Some y) (find p ys) here)) (λ f. let r = finds p ys x i t in (r.0, cond-false (p y) (Some y) (find p ys) f ∙ r.1)) (cases_Bool (p y))
-
-pub never_both : (b : Bool) → b ≡ true → b ≡ false → ⊥
-never_both b t f = absurd cc
 
 pub none_passes : {X : Type 0} (p : X → Bool) (xs : List X) (x : X) → find p xs ≡ None → In x xs → p x ≡ false
 none_passes p xs x e i = ⊎_elim (λ t. let f = finds p xs x i t in absurd (none-some f.0 (sym e ∙ f.1))) (λ f. f) (cases_Bool (p x))

@@ -10,27 +10,27 @@ use Rattle.shunt_lists.specs.defs.Members.{In, AreDistinct}
 use Rattle.shunt_lists.proofs.Members.{in_to, in_place, in_map, of_map}
 use Rattle.shunt_instance.specs.defs.Instance.{Night}
 use Rattle.shunt_tracks.specs.declared.run.Event.{Event}
-use Rattle.shunt_zones.specs.defs.Meeting.{Before}
+use Rattle.shunt_zones.specs.defs.Meetings.{Before}
 use Rattle.shunt_drivers.specs.declared.records.Crew.{Crew}
 use Rattle.shunt_drivers.specs.declared.records.Duty.{Duty}
-use Rattle.shunt_drivers.specs.declared.sharing.Span.{Span}
-use Rattle.shunt_drivers.specs.declared.sharing.Share.{Share}
+use Rattle.shunt_drivers.specs.declared.shares.MoveSpan.{MoveSpan}
+use Rattle.shunt_drivers.specs.declared.shares.MoveShare.{MoveShare}
 use Rattle.shunt_drivers.specs.defs.RosterFormat.{MoveName, name_of, named_by, is_one, no_move, duty_by, IsRoster}
 use Rattle.shunt_drivers.specs.defs.Spans.{span_of, spans_of}
-use Rattle.shunt_drivers.specs.defs.Sharing.{AreApart, IsSharing, IsLeast}
+use Rattle.shunt_drivers.specs.defs.SharedMoves.{AreSharesApart, IsSharing, IsLeast}
 use Rattle.shunt_drivers.specs.defs.Shared.{IsDutyOf, HasDuty, Overlap, IsSharingOf, drivers_of, IsFewest}
 use Rattle.shunt_drivers.specs.defs.Dealt.{dealt}
 use Rattle.shunt_drivers.specs.defs.RosterFaults.{duty_for}
 use Rattle.shunt_drivers.proofs.MoveNames.{one_tells, tells_one, found_in, finds}
-use Rattle.shunt_drivers.proofs.Spanning.{few_drivers}
+use Rattle.shunt_drivers.proofs.SpanCounts.{few_drivers}
 
 abbrev no_duty : Duty
 no_duty = record { driver = 0; enters = true; id = 0 }
 
-abbrev no_span : Span
+abbrev no_span : MoveSpan
 no_span = record { start = 0; end = 0 }
 
-abbrev no_share : Share
+abbrev no_share : MoveShare
 no_share = record { span = no_span; driver = 0 }
 
 -- ---- places
@@ -71,7 +71,7 @@ picked duties e has =
 -- ---- duties dealt out to moves
 
 -- one more move is dealt
-pub one_dealt : (moves : List Event) (shares : List Share) (i : ℕ) (e : Event) (s : Share) (d : Duty) (duties more : List Duty) → i < length moves → i < length shares
+pub one_dealt : (moves : List Event) (shares : List MoveShare) (i : ℕ) (e : Event) (s : MoveShare) (d : Duty) (duties more : List Duty) → i < length moves → i < length shares
     → d ≡ duty_by ((get_or shares i s).driver + 1) (get_or moves i e)
     → more ≡ duties ++ d ∷ [] → more ++ dealt (drop (i + 1) moves) (drop (i + 1) shares) ≡ duties ++ dealt (drop i moves) (drop i shares)
 one_dealt moves shares i e s d duties more lt within is push =
@@ -84,15 +84,15 @@ one_dealt moves shares i e s d duties more lt within is push =
 pub small_dealt : (d : Duty) (duties more : List Duty) → d.id < 2 ^ 32 → All (λ (x : Duty). x.id < 2 ^ 32) duties → more ≡ duties ++ d ∷ [] → All (λ (x : Duty). x.id < 2 ^ 32) more
 small_dealt d duties more small all push = subst (All (λ (x : Duty). x.id < 2 ^ 32)) (sym push) (All-push (λ (x : Duty). x.id < 2 ^ 32) duties d all small)
 
-dealt_names : (moves : List Event) (shares : List Share) → length shares ≡ length moves → map named_by (dealt moves shares) ≡ map name_of moves
+dealt_names : (moves : List Event) (shares : List MoveShare) → length shares ≡ length moves → map named_by (dealt moves shares) ≡ map name_of moves
 dealt_names [] shares e = refl
 dealt_names (m ∷ moves) [] e = absurd (omega (arith, e))
 dealt_names (m ∷ moves) (s ∷ shares) e = ap (λ l. name_of m ∷ l) (dealt_names moves shares (omega (arith, e)))
 
-abbrev numbers : List Share → List ℕ
+abbrev numbers : List MoveShare → List ℕ
 numbers shares = map (λ s. s.driver + 1) shares
 
-dealt_drivers : (moves : List Event) (shares : List Share) → length shares ≡ length moves → drivers_of (dealt moves shares) ≡ numbers shares
+dealt_drivers : (moves : List Event) (shares : List MoveShare) → length shares ≡ length moves → drivers_of (dealt moves shares) ≡ numbers shares
 dealt_drivers [] [] e = refl
 dealt_drivers [] (s ∷ shares) e = absurd (omega (arith, e))
 dealt_drivers (m ∷ moves) [] e = absurd (omega (arith, e))
@@ -107,19 +107,19 @@ has_each moves duties named e i =
     let at : get_or (map named_by duties) c.0 (name_of e) ≡ named_by (get_or duties c.0 no_duty) = get_or-map named_by duties c.0 no_duty (name_of e) inside in
     (get_or duties c.0 no_duty, (in_place duties c.0 no_duty inside, sym at ∙ ap (λ l. get_or l c.0 (name_of e)) named ∙ c.2))
 
-used_one : (shares : List Share) (k : ℕ) → In k (map (λ (s : Share). s.driver) shares) → In (k + 1) (numbers shares)
+used_one : (shares : List MoveShare) (k : ℕ) → In k (map (λ (s : MoveShare). s.driver) shares) → In (k + 1) (numbers shares)
 used_one [] k i = absurd i
 used_one (s ∷ shares) k (inl e) = inl (ap (λ (x : ℕ). x + 1) e)
 used_one (s ∷ shares) k (inr i) = inr (used_one shares k i)
 
-module _ (night : Night) (crew : Crew) (moves : List Event) (shares : List Share) (duties : List Duty) (drivers : ℕ) (busy : Option ℕ)
+module _ (night : Night) (crew : Crew) (moves : List Event) (shares : List MoveShare) (duties : List Duty) (drivers : ℕ) (busy : Option ℕ)
     (least : IsLeast (spans_of night crew moves) shares drivers busy) (named : map named_by duties ≡ map name_of moves)
     (numbered : drivers_of duties ≡ numbers shares) (differ : AreDistinct (map name_of moves)) where
   many_duties : length duties ≡ length moves
   many_duties = omega (arith, ap length named, length-map duties named_by, length-map moves name_of)
 
   many_shares : length shares ≡ length duties
-  many_shares = omega (arith, ap length numbered, length-map duties (λ (d : Duty). d.driver), length-map shares (λ (s : Share). s.driver + 1))
+  many_shares = omega (arith, ap length numbered, length-map duties (λ (d : Duty). d.driver), length-map shares (λ (s : MoveShare). s.driver + 1))
 
   -- the duty of a move stands at its place
   at_move : (i : ℕ) (e : Event) (a : Duty) → i < length moves → get_or moves i e ≡ e → IsDutyOf duties e a → get_or duties i a ≡ a
@@ -134,11 +134,11 @@ module _ (night : Night) (crew : Crew) (moves : List Event) (shares : List Share
       ap (λ k. get_or duties k a) same ∙ c.2
 
   -- its driver is the one of the span at this place
-  driver_at : (i : ℕ) (a : Duty) → i < length duties → get_or duties i a ≡ a → get_or (map (λ (s : Share). s.driver) shares) i 0 + 1 ≡ a.driver
+  driver_at : (i : ℕ) (a : Duty) → i < length duties → get_or duties i a ≡ a → get_or (map (λ (s : MoveShare). s.driver) shares) i 0 + 1 ≡ a.driver
   driver_at i a lt at =
       let inside : i < length shares = omega (arith, lt, many_shares) in
-      let first : get_or (map (λ (s : Share). s.driver) shares) i 0 ≡ (get_or shares i no_share).driver = get_or-map (λ (s : Share). s.driver) shares i no_share 0 inside in
-      let second : get_or (numbers shares) i 0 ≡ (get_or shares i no_share).driver + 1 = get_or-map (λ (s : Share). s.driver + 1) shares i no_share 0 inside in
+      let first : get_or (map (λ (s : MoveShare). s.driver) shares) i 0 ≡ (get_or shares i no_share).driver = get_or-map (λ (s : MoveShare). s.driver) shares i no_share 0 inside in
+      let second : get_or (numbers shares) i 0 ≡ (get_or shares i no_share).driver + 1 = get_or-map (λ (s : MoveShare). s.driver + 1) shares i no_share 0 inside in
       let third : get_or (drivers_of duties) i 0 ≡ a.driver = get_or-map (λ (d : Duty). d.driver) duties i a 0 lt ∙ ap (λ (d : Duty). d.driver) at in
       omega (arith, first, second, third, ap (λ l. get_or l i 0) numbered)
 
@@ -146,13 +146,13 @@ module _ (night : Night) (crew : Crew) (moves : List Event) (shares : List Share
   span_at i e lt at = get_or-map (span_of night crew) moves i e no_span lt ∙ ap (span_of night crew) at
 
   abbrev given : List ℕ
-  given = map (λ (s : Share). s.driver) shares
+  given = map (λ (s : MoveShare). s.driver) shares
 
   pair_at : (i : ℕ) (e : Event) → i < length moves → get_or moves i e ≡ e → get_or (zip (spans_of night crew moves) given) i (no_span, 0) ≡ (span_of night crew e, get_or given i 0)
   pair_at i e lt at =
       get_or-zip (spans_of night crew moves) given i (no_span, 0) (omega (arith, lt, length-map moves (span_of night crew)))
-      (omega (arith, lt, many_shares, many_duties, length-map shares (λ (s : Share). s.driver)))
-      ∙ ap (λ (a : Span). let p : Span × ℕ = (a, get_or given i 0) in p) (span_at i e lt at)
+      (omega (arith, lt, many_shares, many_duties, length-map shares (λ (s : MoveShare). s.driver)))
+      ∙ ap (λ (a : MoveSpan). let p : MoveSpan × ℕ = (a, get_or given i 0) in p) (span_at i e lt at)
 
   apart : (e f : Event) (a b : Duty) → Before e f moves → Overlap night crew duties e f a b → ⊥
   apart e f a b before o =
@@ -171,12 +171,12 @@ module _ (night : Night) (crew : Crew) (moves : List Event) (shares : List Share
         many_duties,
         length-zip (spans_of night crew moves) given,
         length-map moves (span_of night crew),
-        length-map shares (λ (s : Share). s.driver),
+        length-map shares (λ (s : MoveShare). s.driver),
       ) in
       let two = least.sharing.apart i j (no_span, 0) lt long in
-      let three : AreApart (span_of night crew e, get_or given i 0) (get_or (zip (spans_of night crew moves) given) j (no_span, 0)) = subst
-      (λ q. AreApart q (get_or (zip (spans_of night crew moves) given) j (no_span, 0))) (pair_at i e inside p.4) two in
-      let four : AreApart (span_of night crew e, get_or given i 0) (span_of night crew f, get_or given j 0) = subst (AreApart (span_of night crew e, get_or given i 0))
+      let three : AreSharesApart (span_of night crew e, get_or given i 0) (get_or (zip (spans_of night crew moves) given) j (no_span, 0)) = subst
+      (λ q. AreSharesApart q (get_or (zip (spans_of night crew moves) given) j (no_span, 0))) (pair_at i e inside p.4) two in
+      let four : AreSharesApart (span_of night crew e, get_or given i 0) (span_of night crew f, get_or given j 0) = subst (AreSharesApart (span_of night crew e, get_or given i 0))
       (pair_at j f small p.5) three in
       four (omega (arith, first, second, o.driver)) o.minute o.runs o.runs_too
 
@@ -185,7 +185,7 @@ module _ (night : Night) (crew : Crew) (moves : List Event) (shares : List Share
       let a = get_or duties k no_duty in
       let same : get_or duties k d ≡ a = get_or_default duties k d no_duty lt in
       let at = driver_at k a lt (get_or_default duties k a no_duty lt) in
-      let share : get_or given k 0 ≡ (get_or shares k no_share).driver = get_or-map (λ (s : Share). s.driver) shares k no_share 0 (omega (arith, lt, many_shares)) in
+      let share : get_or given k 0 ≡ (get_or shares k no_share).driver = get_or-map (λ (s : MoveShare). s.driver) shares k no_share 0 (omega (arith, lt, many_shares)) in
       let less : (get_or shares k no_share).driver < drivers = least.numbered k no_share (omega (arith, lt, many_shares)) in
       (omega (arith, at, ap (λ (x : Duty). x.driver) same), omega (arith, at, share, less, ap (λ (x : Duty). x.driver) same))
 
@@ -196,14 +196,14 @@ module _ (night : Night) (crew : Crew) (moves : List Event) (shares : List Share
       subst (In (suc k)) (sym numbered) (subst (λ n. In n (numbers shares)) next (used_one shares k (least.used k (omega (arith, within)))))
 
   -- a move's span beside its driver
-  pair_of : (other : List Duty) (i : ℕ) (d : Span × ℕ) → i < length moves → get_or (zip (spans_of night crew moves) (map (λ e. (pick other e).driver) moves)) i d
+  pair_of : (other : List Duty) (i : ℕ) (d : MoveSpan × ℕ) → i < length moves → get_or (zip (spans_of night crew moves) (map (λ e. (pick other e).driver) moves)) i d
       ≡ (span_of night crew (get_or moves i no_move), (pick other (get_or moves i no_move)).driver)
   pair_of other i d lt =
       let theirs = map (λ (e : Event). (pick other e).driver) moves in
       let spans = spans_of night crew moves in
       get_or-zip spans theirs i d (omega (arith, lt, length-map moves (span_of night crew))) (omega (arith, lt, length-map moves (λ (e : Event). (pick other e).driver)))
-      ∙ ap (λ (a : Span). let p : Span × ℕ = (a, get_or theirs i d.1) in p) (get_or-map (span_of night crew) moves i no_move d.0 lt)
-      ∙ ap (λ (n : ℕ). let p : Span × ℕ = (span_of night crew (get_or moves i no_move), n) in p) (get_or-map (λ (e : Event). (pick other e).driver) moves i no_move d.1 lt)
+      ∙ ap (λ (a : MoveSpan). let p : MoveSpan × ℕ = (a, get_or theirs i d.1) in p) (get_or-map (span_of night crew) moves i no_move d.0 lt)
+      ∙ ap (λ (n : ℕ). let p : MoveSpan × ℕ = (span_of night crew (get_or moves i no_move), n) in p) (get_or-map (λ (e : Event). (pick other e).driver) moves i no_move d.1 lt)
 
   -- a sharing of the moves is one of the spans
   as_spans : (other : List Duty) → IsSharingOf night crew moves other → IsSharing (spans_of night crew moves) (map (λ e. (pick other e).driver) moves)
@@ -223,7 +223,7 @@ module _ (night : Night) (crew : Crew) (moves : List Event) (shares : List Share
         let f = get_or moves j no_move in
         let first : get_or (zip spans theirs) i d ≡ (span_of night crew e, (pick other e).driver) = pair_of other i d (omega (arith, lt, inside)) in
         let second : get_or (zip spans theirs) j d ≡ (span_of night crew f, (pick other f).driver) = pair_of other j d inside in
-        subst (λ q. AreApart q (get_or (zip spans theirs) j d)) (sym first) (subst (AreApart (span_of night crew e, (pick other e).driver)) (sym second)
+        subst (λ q. AreSharesApart q (get_or (zip spans theirs) j d)) (sym first) (subst (AreSharesApart (span_of night crew e, (pick other e).driver)) (sym second)
         (λ same t runs runs_too. s.apart e f (pick other e) (pick other f) (places_before moves i j no_move lt inside) (record {
           first = (picked other e (s.each e (in_place moves i no_move (omega (arith, lt, inside))))).1;
           second = (picked other f (s.each f (in_place moves j no_move inside))).1;
@@ -268,7 +268,7 @@ module _ (night : Night) (crew : Crew) (moves : List Event) (shares : List Share
   }
 
 -- the same of the shares as they are seen
-pub all_shared : (night : Night) (crew : Crew) (moves : List Event) (shares seen : List Share) (duties : List Duty) (drivers n : ℕ) (busy b : Option ℕ)
+pub all_shared : (night : Night) (crew : Crew) (moves : List Event) (shares seen : List MoveShare) (duties : List Duty) (drivers n : ℕ) (busy b : Option ℕ)
     → IsLeast (spans_of night crew moves) shares drivers busy → seen ≡ shares → length shares ≡ length moves → duties ≡ dealt moves seen
     → AreDistinct (map name_of moves) → n ≡ drivers → b ≡ busy → IsFewest night crew moves duties n b
 all_shared night crew moves shares seen duties drivers n busy b least same many is differ count minute =
@@ -276,7 +276,7 @@ all_shared night crew moves shares seen duties drivers n busy b least same many 
     subst (λ k. IsFewest night crew moves duties k b) (sym count) (subst (IsFewest night crew moves duties drivers) (sym minute)
     (shared night crew moves shares duties drivers busy least (ap (map named_by) all ∙ dealt_names moves shares many) (ap drivers_of all ∙ dealt_drivers moves shares many) differ))
 
-pub all_written : (night : Night) (crew : Crew) (moves : List Event) (shares seen : List Share) (duties : List Duty) (drivers : ℕ) (busy : Option ℕ)
+pub all_written : (night : Night) (crew : Crew) (moves : List Event) (shares seen : List MoveShare) (duties : List Duty) (drivers : ℕ) (busy : Option ℕ)
     → IsLeast (spans_of night crew moves) shares drivers busy → seen ≡ shares → length shares ≡ length moves → duties ≡ dealt moves seen
     → AreDistinct (map name_of moves) → length moves ≤ 800 → All (λ (d : Duty). d.id < 2 ^ 32) duties → IsRoster moves duties
 all_written night crew moves shares seen duties drivers busy least same many is differ few small =

@@ -1,12 +1,11 @@
 -- Records of minutes and of duties, by what their parts say.
 use Rattle.std.proofs.Common.{◌≡◌, ℕ, true, List, [], ◌∷◌, ◌++◌, length, sym, ap, subst, ◌∙◌}
 use Rattle.std.specs.Prelude.{Ok, Err, Result}
-use Rattle.std.specs.Result.{IsErrAnd}
 use Rattle.shunt_rows.specs.declared.fault.RowFault.{RowFault}
 use Rattle.shunt_rows.specs.defs.Checks.{Judged, answer, says}
 use Rattle.shunt_rows.specs.defs.Checks as judging
 use Rattle.shunt_rows.specs.defs.Fields.{is_within, fields_in}
-use Rattle.shunt_rows.proofs.Holding.{passes_on}
+use Rattle.shunt_rows.proofs.Answered.{passes_on}
 use Rattle.shunt_rows.proofs.Joins.{part_ok, part_err}
 use Rattle.shunt_instance.specs.declared.records.Station.{Station}
 use Rattle.shunt_tracks.specs.declared.run.Event.{Event}
@@ -14,33 +13,33 @@ use Rattle.shunt_zones.specs.declared.ways.Way.{Way}
 use Rattle.shunt_zones.specs.defs.ZonesFormat.{way_in}
 use Rattle.shunt_drivers.specs.declared.records.Takes.{Takes}
 use Rattle.shunt_drivers.specs.declared.records.Duty.{Duty}
-use Rattle.shunt_drivers.specs.defs.CrewFormat.{Draft, takes_in, takes_of}
+use Rattle.shunt_drivers.specs.defs.CrewFormat.{CrewDraft, takes_in, takes_of}
 use Rattle.shunt_drivers.specs.defs.RosterFormat.{driver_in, move_in, duty_by, duty_of, duties_of}
 
 -- ---- minutes of a way
 
-abbrev with_takes : Draft → Takes → Judged Draft
+abbrev with_takes : CrewDraft → Takes → Judged CrewDraft
 with_takes d t = says (record d { takes = d.takes ++ t ∷ [] })
 
-abbrev with_way : Draft → List (List ℕ) → Way → Judged Draft
+abbrev with_way : CrewDraft → List (List ℕ) → Way → Judged CrewDraft
 with_way d row way = judging.◌>>=◌ (takes_in d.takes way row) (with_takes d)
 
-pub fields_fail : (n : ℕ) (s : Station) (d : Draft) (row : List (List ℕ)) (e : RowFault) → Err e ≡ answer n (fields_in row 5 5) → answer n (takes_of s d row) ≡ Err e
+pub fields_fail : (n : ℕ) (s : Station) (d : CrewDraft) (row : List (List ℕ)) (e : RowFault) → Err e ≡ answer n (fields_in row 5 5) → answer n (takes_of s d row) ≡ Err e
 unfolding takes_of
 fields_fail n s d row e fails = part_err n (fields_in row 5 5) (λ _. judging.◌>>=◌ (way_in s row) (with_way d row)) e (sym fails)
 
 -- behind its fields and its way
-after_way : (n : ℕ) (s : Station) (d : Draft) (row : List (List ℕ)) (way : Way) → is_within 5 5 (length row) ≡ true → Ok way ≡ answer n (way_in s row)
+after_way : (n : ℕ) (s : Station) (d : CrewDraft) (row : List (List ℕ)) (way : Way) → is_within 5 5 (length row) ≡ true → Ok way ≡ answer n (way_in s row)
     → answer n (takes_of s d row) ≡ answer n (with_way d row way)
 unfolding takes_of
 after_way n s d row way five is = passes_on _ _ _ _ five (part_ok n (way_in s row) (with_way d row) way (sym is))
 
-pub way_fails : (n : ℕ) (s : Station) (d : Draft) (row : List (List ℕ)) (e : RowFault) → is_within 5 5 (length row) ≡ true → Err e ≡ answer n (way_in s row)
+pub way_fails : (n : ℕ) (s : Station) (d : CrewDraft) (row : List (List ℕ)) (e : RowFault) → is_within 5 5 (length row) ≡ true → Err e ≡ answer n (way_in s row)
     → answer n (takes_of s d row) ≡ Err e
 unfolding takes_of
 way_fails n s d row e five fails = passes_on _ _ _ _ five (part_err n (way_in s row) (with_way d row) e (sym fails))
 
-pub takes_fail : (n : ℕ) (s : Station) (d inside : Draft) (row : List (List ℕ)) (way : Way) (takes : List Takes) (e : RowFault) → d ≡ inside → is_within 5 5 (length row) ≡ true
+pub takes_fail : (n : ℕ) (s : Station) (d inside : CrewDraft) (row : List (List ℕ)) (way : Way) (takes : List Takes) (e : RowFault) → d ≡ inside → is_within 5 5 (length row) ≡ true
     → Ok way ≡ answer n (way_in s row)
     → takes ≡ inside.takes → Err e ≡ answer n (takes_in takes way row) → answer n (takes_of s d row) ≡ Err e
 takes_fail n s d inside row way takes e same five is has fails =
@@ -48,7 +47,8 @@ takes_fail n s d inside row way takes e same five is has fails =
     ∙ part_err n (takes_in inside.takes way row) (with_takes inside) e
     (ap (λ l. answer n (takes_in l way row)) (sym has) ∙ sym fails)
 
-pub takes_ok : (n : ℕ) (s : Station) (d inside : Draft) (row : List (List ℕ)) (way : Way) (takes items : List Takes) (t : Takes) → d ≡ inside → is_within 5 5 (length row) ≡ true
+pub takes_ok : (n : ℕ) (s : Station) (d inside : CrewDraft) (row : List (List ℕ)) (way : Way) (takes items : List Takes) (t : Takes) → d ≡ inside
+    → is_within 5 5 (length row) ≡ true
     → Ok way ≡ answer n (way_in s row)
     → takes ≡ inside.takes → Ok t ≡ answer n (takes_in takes way row) → items ≡ inside.takes ++ t ∷ [] → answer n (takes_of s d row) ≡ Ok (record inside { takes = items })
 takes_ok n s d inside row way takes items t same five is has reads more =
@@ -58,11 +58,6 @@ takes_ok n s d inside row way takes items t same five is has reads more =
     ∙ ap (λ l. Ok (record inside { takes = l })) (sym more)
 
 -- ---- one more duty
-
--- an error is handed on by `?`
-pub err_is : {X : Type 0} (r : Result X RowFault) (e : RowFault) (stated : Result X RowFault) → IsErrAnd r (λ f. f ≡ e) → stated ≡ Err e → r ≡ stated
-err_is (Ok x) e stated same is = absurd same
-err_is {X = X} (Err f) e stated same is = ap (λ (g : RowFault). let s : Result X RowFault = Err g in s) same ∙ sym is
 
 abbrev with_driver : List Event → List Duty → List (List ℕ) → ℕ → Judged Duty
 with_driver moves duties row driver = judging.◌>>=◌ (move_in moves duties row) (λ e. says (duty_by driver e))

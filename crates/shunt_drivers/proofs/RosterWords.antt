@@ -11,23 +11,24 @@ use Rattle.shunt_lists.proofs.Members.{in_to, in_right, in_left}
 use Rattle.shunt_instance.specs.defs.Instance.{Night}
 use Rattle.shunt_tracks.specs.declared.run.Event.{Event}
 use Rattle.shunt_plan.specs.declared.records.Plan.{Plan}
-use Rattle.shunt_zones.specs.defs.Meeting.{Before}
+use Rattle.shunt_zones.specs.defs.Meetings.{Before}
 use Rattle.shunt_zones.specs.defs.Moves.{moves_of}
 use Rattle.shunt_drivers.specs.declared.records.Crew.{Crew}
 use Rattle.shunt_drivers.specs.declared.records.Duty.{Duty}
 use Rattle.shunt_drivers.specs.declared.records.RosterFault.{RosterFault}
 use Rattle.shunt_drivers.specs.declared.records.RosterFault.TheVariants as faults
-use Rattle.shunt_drivers.specs.declared.sharing.Span.{Span}
-use Rattle.shunt_drivers.specs.declared.judging.Task.{Task}
+use Rattle.shunt_drivers.specs.declared.shares.MoveSpan.{MoveSpan}
+use Rattle.shunt_drivers.specs.declared.faults.Task.{Task}
 use Rattle.shunt_drivers.specs.defs.CrewFormat.{IsCrew}
 use Rattle.shunt_drivers.specs.defs.RosterFormat.{MoveName, name_of, named_by, is_one, AreDuties}
-use Rattle.shunt_drivers.specs.defs.Sharing.{runs_at}
+use Rattle.shunt_drivers.specs.defs.SharedMoves.{runs_at}
 use Rattle.shunt_drivers.specs.defs.Spans.{span_of}
 use Rattle.shunt_drivers.specs.defs.Shared.{IsDutyOf, HasDuty, Overlap, IsSharingOf}
 use Rattle.shunt_drivers.specs.defs.RosterFaults.{duty_for, absence_of, tasks_of, overlaps, overlap_of, overlap_with, overlap_in, fault_of, fault_in, IsFirstAbsent, IsFirstOverlap, InWords}
-use Rattle.shunt_drivers.proofs.MoveNames.{some_same, found_in, none_passes, one_tells}
-use Rattle.shunt_drivers.proofs.Spanning.{minutes_within}
+use Rattle.shunt_drivers.proofs.MoveNames.{found_in, none_passes, one_tells}
+use Rattle.shunt_drivers.proofs.SpanCounts.{minutes_within}
 use Rattle.shunt_drivers.proofs.MovesShared.{same_place, pick, picked}
+use Rattle.shunt_lists.proofs.Options.{some_same}
 
 -- ---- the first of a list that passes
 
@@ -141,10 +142,10 @@ module _ (night : Night) (crew : Crew) (is : IsCrew night.station crew) (duties 
   abbrev hit : Event → Event → Bool
   hit e f = overlaps (task e) (task f)
 
-  runs : (t : ℕ) (a : Span) → a.start ≤ t → t < a.end → runs_at t a ≡ true
+  runs : (t : ℕ) (a : MoveSpan) → a.start ≤ t → t < a.end → runs_at t a ≡ true
   runs t a from lt = and_from (nat_le a.start t) (nat_lt t a.end) (le-leb a.start t from) (lt-ltb t a.end lt)
 
-  runs_from : (t : ℕ) (a : Span) → runs_at t a ≡ true → (a.start ≤ t) × (t < a.end)
+  runs_from : (t : ℕ) (a : MoveSpan) → runs_at t a ≡ true → (a.start ≤ t) × (t < a.end)
   runs_from t a e = let both = and_parts (nat_le a.start t) (nat_lt t a.end) e in (leb-true a.start t both.0, ltb-true t a.end both.1)
 
   some_minutes : (e : Event) → (span_of night crew e).start < (span_of night crew e).end

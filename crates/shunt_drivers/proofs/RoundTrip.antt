@@ -13,7 +13,7 @@ use Rattle.shunt_rows.specs.defs.Formats.{reading}
 use Rattle.shunt_rows.specs.defs.Records.{records_of, text_of_row, text_of_rows, IsPlainField, IsPlainRow, ArePlain, ReadsBack}
 use Rattle.shunt_rows.specs.defs.Written.{Written}
 use Rattle.shunt_rows.proofs.Again.{again}
-use Rattle.shunt_rows.proofs.Holding.{holding}
+use Rattle.shunt_rows.proofs.Answered.{holding}
 use Rattle.shunt_rows.proofs.Named.{not_before, of_middle, fewer}
 use Rattle.shunt_rows.proofs.Plain.{plain_number, plain_word, plain_map}
 use Rattle.shunt_rows.proofs.Sections.{section, all_read}

@@ -9,22 +9,22 @@ use Rattle.shunt_instance.specs.declared.records.Station.{Station}
 use Rattle.shunt_tracks.specs.declared.run.Event.{Event}
 use Rattle.shunt_zones.specs.defs.ZonesFormat.{way_in}
 use Rattle.shunt_drivers.specs.declared.records.Duty.{Duty}
-use Rattle.shunt_drivers.specs.defs.CrewFormat.{Draft, first_of, takes_in, takes_of, else_of, later_of, crew_format}
+use Rattle.shunt_drivers.specs.defs.CrewFormat.{CrewDraft, first_of, takes_in, takes_of, else_of, later_of, crew_format}
 use Rattle.shunt_drivers.specs.defs.RosterFormat.{driver_in, move_in, duty_of, roster_first, duties_of, roster_later, roster_format}
 
 first_up : (row : List (List ℕ)) → HasChecksInOrder (first_of row)
 unfolding first_of
 first_up row = record { up = refl }
 
-takes_up : (s : Station) (d : Draft) (row : List (List ℕ)) → HasChecksInOrder (takes_of s d row)
+takes_up : (s : Station) (d : CrewDraft) (row : List (List ℕ)) → HasChecksInOrder (takes_of s d row)
 unfolding takes_of way_in takes_in
 takes_up s d row = record { up = refl }
 
-else_up : (d : Draft) (row : List (List ℕ)) → HasChecksInOrder (else_of d row)
+else_up : (d : CrewDraft) (row : List (List ℕ)) → HasChecksInOrder (else_of d row)
 unfolding else_of
 else_up d row = record { up = refl }
 
-later_up : (s : Station) (d : Draft) (row : List (List ℕ)) → HasChecksInOrder (later_of s d row)
+later_up : (s : Station) (d : CrewDraft) (row : List (List ℕ)) → HasChecksInOrder (later_of s d row)
 unfolding later_of
 later_up s d row = in_if (is_word row (codes "takes")) (takes_up s d row) (in_if (is_word row (codes "else")) (else_up d row) (no_word_up d))
 

@@ -1,5 +1,5 @@
 -- The definitions of this crate.
-pub mod Sharing
+pub mod SharedMoves
 pub mod CrewFormat
 pub mod RosterFormat
 pub mod RosterRows

@@ -6,7 +6,8 @@ ghost use Rattle.shunt_rows.specs.defs.Checks.{answer};
 ghost use Rattle.shunt_rows.specs.defs.Formats.{reading};
 ghost use Rattle.shunt_rows.specs.defs.Given.{Gives};
 ghost use Rattle.shunt_instance.specs.defs.Wellformed.{IsStation};
-ghost use Rattle.shunt_drivers.specs.defs.CrewFormat.{Draft, is_over, stands, takes_in, takes_of, else_of, crew_format, IsCrew};
+ghost use Rattle.shunt_drivers.specs.defs.CrewFormat.{CrewDraft, is_over, stands, takes_in};
+ghost use Rattle.shunt_drivers.specs.defs.CrewFormat.{takes_of, else_of, crew_format, IsCrew};
 
 use crate::records::{Crew, Takes};
 use shunt_base::Side;
@@ -22,17 +23,17 @@ use std::marker::{Model, PhantomData};
 
 // What the records so far state.
 #[derive(Drop)]
-struct Draft<'s> {
+struct CrewDraft<'s> {
     takes: Vec<Takes>,
     other: Option<u16>,
     // The station outlives what is read over it.
     station: PhantomData<&'s Station>,
 }
 
-impl<'s> Model for Draft<'s> {
-    ghost use Rattle.shunt_drivers.specs.defs.CrewFormat.{Draft};
+impl<'s> Model for CrewDraft<'s> {
+    ghost use Rattle.shunt_drivers.specs.defs.CrewFormat.{CrewDraft};
 
-    ghost Value = { Draft };
+    ghost Value = { CrewDraft };
 
     ghost view = { λ d. record { takes = d.takes.items; other = d.other } };
 }
@@ -78,7 +79,7 @@ fn read_new(all: &[Takes], way: Way, row: &Row, n: u32) -> Result<Takes, RowFaul
     })
 }
 
-impl<'s> Draft<'s> {
+impl<'s> CrewDraft<'s> {
     fn read_takes(&mut self, station: &KnownStation, n: u32, row: &Row) -> Result<(), ReadError>
         ensures { Gives (λ _. self.new) result (answer n (takes_of station.now self.old row.now)) }
     {
@@ -101,7 +102,7 @@ impl<'s> Draft<'s> {
     }
 }
 
-impl<'r, 's> FormatReader<'r> for Draft<'s> {
+impl<'r, 's> FormatReader<'r> for CrewDraft<'s> {
     type Context = KnownStation<'s>;
 
     type Output = Crew;
@@ -115,9 +116,9 @@ impl<'r, 's> FormatReader<'r> for Draft<'s> {
         _: &'r KnownStation<'s>,
         alloc: Global,
         row: &'r Row,
-    ) -> Result<Draft<'s>, ReadError> {
+    ) -> Result<CrewDraft<'s>, ReadError> {
         read_first(row, b"crew")?;
-        Ok(Draft {
+        Ok(CrewDraft {
             takes: Vec::new(alloc),
             other: None,
             station: PhantomData,
@@ -165,5 +166,5 @@ pub fn read_crew(alloc: Global, station: &Station, rows: &Vec<Row>) -> Result<Cr
     ensures formed { IfOk result (IsCrew station.now) }
 {
     let known = KnownStation::of(alloc, station)?;
-    read::<Draft>(&known, alloc, rows)
+    read::<CrewDraft>(&known, alloc, rows)
 }

@@ -1,9 +1,10 @@
 // The moves of a plan, shared among drivers.
-ghost use Rattle.std.specs.Prelude.{◌≡◌, ◌≤◌, ◌<◌, ◌+◌, ◌^◌, All, AllPairs, IfOk, IfSome, length, map};
+ghost use Rattle.std.specs.Prelude.{◌≡◌, ◌≤◌, ◌<◌, ◌+◌, ◌^◌, All, AllPairs, IfOk, IfSome, length};
+ghost use Rattle.std.specs.Prelude.{map};
 ghost use Rattle.shunt_lists.specs.defs.Members.{AreDistinct};
 ghost use Rattle.shunt_plan.specs.defs.Plans.{IsPlanInRange};
 ghost use Rattle.shunt_zones.specs.defs.Moves.{moves_of, IsMoveOf};
-ghost use Rattle.shunt_drivers.specs.defs.Sharing.{IsLeast};
+ghost use Rattle.shunt_drivers.specs.defs.SharedMoves.{IsLeast};
 ghost use Rattle.shunt_drivers.specs.defs.CrewFormat.{IsCrew};
 ghost use Rattle.shunt_drivers.specs.defs.RosterFormat.{name_of, IsRoster};
 ghost use Rattle.shunt_drivers.specs.defs.Spans.{spans_of};
@@ -11,7 +12,7 @@ ghost use Rattle.shunt_drivers.specs.defs.Dealt.{dealt};
 ghost use Rattle.shunt_drivers.specs.defs.Shared.{IsFewest};
 
 use crate::records::{Crew, Duty, Sharing};
-use crate::sharing::{Share, Shares, share_spans};
+use crate::shares::{MoveShare, MoveShares, share_spans};
 use crate::spans::spans_of;
 use shunt_base::Minute;
 use shunt_blocks::laws;
@@ -27,12 +28,13 @@ fn shares_of(
     instance: &Instance,
     crew: &Crew,
     moves: &[Event],
-) -> Result<Shares, AllocError>
+) -> Result<MoveShares, AllocError>
     requires of_night { All (IsMoveOf instance.now) moves.now }
     requires crew { IsCrew instance.now.station crew.now }
     requires rise { AllPairs (λ e f. e.key.minute ≤ f.key.minute) moves.now }
     requires few { length moves.now ≤ 800 }
-    ensures least { IfOk result (λ s. IsLeast (spans_of instance.now crew.now moves.now) s.shares.items s.drivers s.busy) }
+    ensures least { IfOk result
+        (λ s. IsLeast (spans_of instance.now crew.now moves.now) s.shares.items s.drivers s.busy) }
     ensures many { IfOk result (λ s. length s.shares.items ≡ length moves.now) }
     ensures numbered { IfOk result (λ s. All (λ x. x.driver < 800) s.shares.items) }
     ensures below { IfOk result (λ s. s.drivers ≤ 800) }
@@ -56,7 +58,7 @@ fn duty_by(driver: usize, enters: bool, id: u32) -> Duty
 }
 
 // The duties of these moves, each with its share's driver, counted from 1.
-fn duties_of(alloc: Global, moves: &[Event], shares: &[Share]) -> Result<Vec<Duty>, AllocError>
+fn duties_of(alloc: Global, moves: &[Event], shares: &[MoveShare]) -> Result<Vec<Duty>, AllocError>
     requires many { length shares.now ≡ length moves.now }
     requires numbered { All (λ s. s.driver < 800) shares.now }
     ensures exact { IfOk result (λ v. v.items ≡ dealt moves.now shares.now) }
@@ -99,7 +101,8 @@ fn shared(
     requires rise { AllPairs (λ e f. e.key.minute ≤ f.key.minute) moves.now }
     requires differ { AreDistinct (map name_of moves.now) }
     requires few { length moves.now ≤ 800 }
-    ensures fewest { IfOk result (λ s. IsFewest instance.now crew.now moves.now s.duties.items s.drivers s.busy) }
+    ensures fewest { IfOk result
+        (λ s. IsFewest instance.now crew.now moves.now s.duties.items s.drivers s.busy) }
     ensures roster { IfOk result (λ s. IsRoster moves.now s.duties.items) }
 {
     let shares = shares_of(alloc, instance, crew, moves)?;
@@ -125,8 +128,10 @@ pub fn share_moves(
 ) -> Result<Sharing, AllocError>
     requires plan { IsPlanInRange instance.now plan.now }
     requires crew { IsCrew instance.now.station crew.now }
-    ensures fewest { IfOk result (λ s. IsFewest instance.now crew.now (moves_of instance.now plan.now.blocks) s.duties.items s.drivers s.busy) }
-    ensures roster { IfOk result (λ s. IsRoster (moves_of instance.now plan.now.blocks) s.duties.items) }
+    ensures fewest { IfOk result (λ s. IsFewest instance.now crew.now
+        (moves_of instance.now plan.now.blocks) s.duties.items s.drivers s.busy) }
+    ensures roster { IfOk result
+        (λ s. IsRoster (moves_of instance.now plan.now.blocks) s.duties.items) }
 {
     // The calls tell that the night is well formed, what its stays are, and that the minutes of moves rise.
     instance.station();

@@ -22,26 +22,34 @@ pub fn crew_or_first_fault()
 
 /// Over any moves, records state duties or have a first fault, and never both, and reading them says which.
 pub fn roster_or_first_fault()
-    ensures { (moves : List Event) (rows : List (List (List ℕ))) → Tells (roster_format moves) rows }
+    ensures { (moves : List Event) (rows : List (List (List ℕ)))
+        → Tells (roster_format moves) rows }
 {}
 
 /// The crew that records state has minutes from 1 to 120 for some ways of the station, each once, and for every other move. The
 /// duties that records state are at most 800, with drivers from 1 to 800; each is of one of the moves, and no two are of one.
 pub fn stated_values_are_formed()
-    ensures crew { (station : Station) (rows : List (List (List ℕ))) (c : Crew) → reading (crew_format station) rows ≡ Ok c → IsCrew station c }
-    ensures roster { (moves : List Event) (rows : List (List (List ℕ))) (duties : List Duty) → reading (roster_format moves) rows ≡ Ok duties → IsRoster moves duties }
+    ensures crew { (station : Station) (rows : List (List (List ℕ))) (c : Crew)
+        → reading (crew_format station) rows ≡ Ok c → IsCrew station c }
+    ensures roster { (moves : List Event) (rows : List (List (List ℕ))) (duties : List Duty)
+        → reading (roster_format moves) rows ≡ Ok duties → IsRoster moves duties }
 {}
 
 /// The records of duties that a file can state state them, and their text reads back as them and has at most 27,209 bytes.
 pub fn texts_of_rosters()
-    ensures rows { (moves : List Event) (duties : List Duty) → IsRoster moves duties → reading (roster_format moves) (rows_of duties) ≡ Ok duties }
-    ensures again { (moves : List Event) (duties : List Duty) → IsRoster moves duties → ReadsAsRoster moves duties (text_of_rows (rows_of duties)) }
-    ensures short { (moves : List Event) (duties : List Duty) → IsRoster moves duties → length (text_of_rows (rows_of duties)) ≤ 27209 }
+    ensures rows { (moves : List Event) (duties : List Duty) → IsRoster moves duties
+        → reading (roster_format moves) (rows_of duties) ≡ Ok duties }
+    ensures again { (moves : List Event) (duties : List Duty) → IsRoster moves duties
+        → ReadsAsRoster moves duties (text_of_rows (rows_of duties)) }
+    ensures short { (moves : List Event) (duties : List Duty) → IsRoster moves duties
+        → length (text_of_rows (rows_of duties)) ≤ 27209 }
 {}
 
 /// With a crew that a file can state, duties of a plan's moves, none of them twice, have no fault exactly when they are a sharing;
 /// the fault is Absent exactly with the first move without a duty, and Overlap exactly with the first pair of one driver that runs
 /// at one minute, where every move has a duty.
 pub fn roster_fault_in_words()
-    ensures { (night : Night) (crew : Crew) (plan : Plan) (duties : List Duty) → IsCrew night.station crew → AreDuties (moves_of night plan.blocks) duties → InWords night crew plan duties }
+    ensures { (night : Night) (crew : Crew) (plan : Plan) (duties : List Duty)
+        → IsCrew night.station crew → AreDuties (moves_of night plan.blocks) duties
+        → InWords night crew plan duties }
 {}

@@ -3,18 +3,18 @@
 
 mod crew;
 mod drivers;
-mod judging;
+mod faults;
 pub mod laws;
 mod records;
 mod roster;
-mod sharing;
+mod shares;
 mod spans;
-mod writing;
+mod writer;
 
 pub use crew::read_crew;
 pub use drivers::share_moves;
-pub use judging::roster_fault;
+pub use faults::roster_fault;
 pub use records::{Crew, Duty, RosterFault, Sharing, Takes};
 pub use roster::read_roster;
-pub use sharing::{Share, Shares, Span, share_spans};
-pub use writing::write_roster;
+pub use shares::{MoveShare, MoveShares, MoveSpan, share_spans};
+pub use writer::write_roster;

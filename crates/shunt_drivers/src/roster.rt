@@ -6,7 +6,10 @@ ghost use Rattle.shunt_rows.specs.defs.Formats.{reading};
 ghost use Rattle.shunt_rows.specs.defs.Given.{Gives};
 ghost use Rattle.shunt_plan.specs.defs.Plans.{IsPlanInRange};
 ghost use Rattle.shunt_zones.specs.defs.Moves.{moves_of};
-ghost use Rattle.shunt_drivers.specs.defs.RosterFormat.{is_one, name_of, named_by, move_named, has_duty, enters_of, driver_in, move_in, duty_of, duties_of, roster_format, IsRoster};
+ghost use Rattle.shunt_drivers.specs.defs.RosterFormat.{is_one, name_of, named_by, move_named};
+ghost use Rattle.shunt_drivers.specs.defs.RosterFormat.{has_duty, enters_of, driver_in, move_in};
+ghost use Rattle.shunt_drivers.specs.defs.RosterFormat.{duty_of, duties_of, roster_format};
+ghost use Rattle.shunt_drivers.specs.defs.RosterFormat.{IsRoster};
 
 use crate::records::Duty;
 use shunt_base::parse_decimal;
@@ -114,7 +117,8 @@ fn read_duty(moves: &[Event], duties: &[Duty], row: &Row, n: u32) -> Result<Duty
 
 // Adds the duty of a record to these duties.
 fn read_more(moves: &[Event], duties: &mut Vec<Duty>, row: &Row, n: u32) -> Result<(), ReadError>
-    ensures { Gives (λ _. duties.new.items) result (answer n (duties_of moves.now duties.old.items row.now)) }
+    ensures { Gives (λ _. duties.new.items) result
+        (answer n (duties_of moves.now duties.old.items row.now)) }
 {
     let duty = read_duty(moves, duties, row, n)?;
     duties.push(duty)?;
@@ -176,7 +180,8 @@ impl<'r> FormatReader<'r> for Duties {
 
 // The duties that the records state over these moves.
 fn read_over(alloc: Global, moves: &Items<Event>, rows: &Vec<Row>) -> Result<Vec<Duty>, ReadError>
-    ensures stated { Gives (λ v. v.items) result (reading (roster_format moves.now) rows.now.items) }
+    ensures stated { Gives (λ v. v.items) result
+        (reading (roster_format moves.now) rows.now.items) }
     ensures formed { IfOk result (λ v. IsRoster moves.now v.items) }
 {
     Ok(read::<Duties>(moves, alloc, rows)?.into_vec())
@@ -193,7 +198,8 @@ pub fn read_roster(
     rows: &Vec<Row>,
 ) -> Result<Vec<Duty>, ReadError>
     requires { IsPlanInRange instance.now plan.now }
-    ensures stated { Gives (λ v. v.items) result (reading (roster_format (moves_of instance.now plan.now.blocks)) rows.now.items) }
+    ensures stated { Gives (λ v. v.items) result
+        (reading (roster_format (moves_of instance.now plan.now.blocks)) rows.now.items) }
     ensures formed { IfOk result (λ v. IsRoster (moves_of instance.now plan.now.blocks) v.items) }
 {
     let events = moves_of(alloc, instance, plan)?;

@@ -6,7 +6,7 @@ ghost use Rattle.shunt_drivers.specs.defs.Spans.{is_between, minutes_of, span_of
 
 use crate::crew::is_same_side;
 use crate::records::{Crew, Takes};
-use crate::sharing::Span;
+use crate::shares::MoveSpan;
 use shunt_base::{ArrId, DepId, EventKey, Side, TrackId};
 use shunt_instance::{Instance, Origin, Train};
 use shunt_tracks::Event;
@@ -51,13 +51,13 @@ fn minutes_of(instance: &Instance, crew: &Crew, event: Event) -> u16
 }
 
 /// When a move runs.
-pub(crate) fn span_of(instance: &Instance, crew: &Crew, event: Event) -> Span
+pub(crate) fn span_of(instance: &Instance, crew: &Crew, event: Event) -> MoveSpan
     requires of_night { IsMoveOf instance.now event }
     requires crew { IsCrew instance.now.station crew.now }
     ensures { result ≡ span_of instance.now crew.now event }
 {
     let minutes = minutes_of(instance, crew, event);
-    Span {
+    MoveSpan {
         start: event.key.minute,
         end: event.key.minute + minutes,
     }
@@ -69,7 +69,7 @@ pub(crate) fn spans_of(
     instance: &Instance,
     crew: &Crew,
     moves: &[Event],
-) -> Result<Vec<Span>, AllocError>
+) -> Result<Vec<MoveSpan>, AllocError>
     requires of_night { All (IsMoveOf instance.now) moves.now }
     requires crew { IsCrew instance.now.station crew.now }
     ensures { IfOk result (λ v. v.items ≡ spans_of instance.now crew.now moves.now) }

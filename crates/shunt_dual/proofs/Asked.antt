@@ -9,7 +9,7 @@ use Rattle.std.proofs.lemmas.List.{length-set, get_or-set_same, get_or-set_other
 use Rattle.shunt_prices.specs.defs.Sums.{sum_z_below, IsWithin}
 use Rattle.shunt_prices.specs.defs.Limits.{IsValue}
 use Rattle.shunt_dual.specs.defs.Refits.{run_of, IsMet, IsGreatestUnder, IsUnitRefit, AreUnitsRefit}
-use Rattle.shunt_dual.specs.declared.refitting.Ask.{Ask}
+use Rattle.shunt_dual.specs.declared.unit_values.Ask.{Ask}
 
 -- ---- sums of a run
 

@@ -1,37 +1,26 @@
 -- What shapes ask of their units is met where duals hold, and there alone.
-use Rattle.std.specs.Prelude.{All, Option, Some, None}
-use Rattle.std.proofs.Common.{◌≡◌, inl, inr, ℕ, suc, ◌+◌, ◌<◌, List, [], ◌∷◌, length, get_or, ℤ, pos, refl, sym, ap, subst, ◌∙◌, arith}
+use Rattle.std.specs.Prelude.{All}
+use Rattle.std.proofs.Common.{◌≡◌, ℕ, ◌+◌, ◌<◌, List, [], length, get_or, ℤ, pos, ap, subst, ◌∙◌, arith}
 use Rattle.std.proofs.lemmas.Int.{ints}
-use Rattle.shunt_lists.specs.defs.Members.{In}
-use Rattle.shunt_lists.proofs.Members.{in_place}
+use Rattle.shunt_lists.proofs.Members.{in_place, place as at_place}
 use Rattle.shunt_base.specs.declared.duals.Price.{Price}
 use Rattle.shunt_base.specs.declared.duals.Case.{Case}
 use Rattle.shunt_instance.specs.defs.Instance.{Night}
 use Rattle.shunt_blocks.specs.declared.records.Shape.{Shape}
-use Rattle.shunt_blocks.specs.declared.records.Park.{Park}
 use Rattle.shunt_blocks.specs.defs.Shapes.{unit_from}
 use Rattle.shunt_choices.specs.defs.Paths.{Masks}
 use Rattle.shunt_prices.specs.defs.Sums.{sum_z_below}
-use Rattle.shunt_prices.specs.defs.Cases.{surcharge, HoldsInCase}
-use Rattle.shunt_dual.specs.declared.refitting.Ask.{Ask}
-use Rattle.shunt_dual.specs.declared.holding.Asked.TheVariants.{Every}
+use Rattle.shunt_prices.specs.defs.Cases.{HoldsInCase}
+use Rattle.shunt_dual.specs.declared.unit_values.Ask.{Ask}
+use Rattle.shunt_dual.specs.declared.feasibility.Asked.TheVariants.{Every}
 use Rattle.shunt_dual.specs.defs.Weighed.{case_of, ShapeHolds}
 use Rattle.shunt_dual.specs.defs.Refits.{run_of, IsMet}
 use Rattle.shunt_dual.specs.defs.Asks.{IsAskOf, AreAsksOf, AreFreeShapes}
+use Rattle.shunt_prices.proofs.Counts.{no_surcharge as nothing_more}
 
 -- a shape that is not there, for places past a list's end
 abbrev pub no_shape : Shape
 no_shape = record { arr = record { 0 = 0 }; p = 0; n = 0; dep = record { 0 = 0 }; q = 0 }
-
--- where a member stands
-at_place : {X : Type 0} (xs : List X) (x : X) → In x xs → (i : ℕ) × (i < length xs) × ((d : X) → get_or xs i d ≡ x)
-at_place [] x none = absurd none
-at_place (y ∷ ys) x (inl e) = (0, omega arith, λ d. sym e)
-at_place (y ∷ ys) x (inr i) = let r = at_place ys x i in (suc r.0, omega (arith, r.1), r.2)
-
-nothing_more : (park : Option Park) → surcharge (pos 0) park ≡ pos 0
-nothing_more None = refl
-nothing_more (Some k) = refl
 
 module _ (night : Night) (alpha beta : List ℤ) (prices : List Price) where
   abbrev here : Case

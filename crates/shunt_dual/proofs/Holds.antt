@@ -4,8 +4,6 @@ use Rattle.std.specs.List.{AllByRecursion}
 use Rattle.std.proofs.Common.{◌≡◌, ⊎_elim, ℕ, ◌+◌, ◌*◌, ◌<◌, ◌≤◌, Bool, List, [], ◌∷◌, length, get_or, ℤ, pos, ◌+ℤ◌, refl, sym, ap, subst, ◌∙◌, arith}
 use Rattle.std.proofs.lemmas.Int.{ints}
 use Rattle.std.proofs.lemmas.Bool.{cases_lt, true≢false}
-use Rattle.std.proofs.lemmas.Option.{get_or_from_slice_get}
-use Rattle.std.proofs.lemmas.List.Sums.{sum_by-cons}
 use Rattle.std.proofs.lemmas.List.Elements.{All-cons, All-nil, All-head}
 use Rattle.shunt_lists.specs.defs.Members.{In}
 use Rattle.shunt_lists.proofs.Members.{all_in, all_from}
@@ -21,36 +19,19 @@ use Rattle.shunt_blocks.specs.declared.records.Shape.{Shape}
 use Rattle.shunt_blocks.specs.declared.records.Park.{Park}
 use Rattle.shunt_blocks.specs.defs.Blocks.{IsOption}
 use Rattle.shunt_blocks.specs.defs.Costs.{cost_with}
-use Rattle.shunt_choices.specs.defs.Free.{AreMasksOf}
-use Rattle.shunt_choices.specs.defs.Paths.{Masks, Trail, IsTrailOf}
-use Rattle.shunt_choices.proofs.Trails.{length_units, length_places}
+use Rattle.shunt_choices.specs.defs.Paths.{Masks}
 use Rattle.shunt_choices.specs.defs.Choices.{IsFreeShape}
-use Rattle.shunt_blocks.specs.defs.Shapes.{unit_from, position_from}
-use Rattle.shunt_blocks.specs.defs.Standing.{shape_length}
-use Rattle.shunt_prices.specs.defs.Sums.{sum_z_below}
-use Rattle.shunt_prices.specs.defs.Limits.{case_at, IsCase, AreCases}
-use Rattle.shunt_prices.specs.defs.Prices.{track_length, counted_with, price_part_with}
+use Rattle.shunt_blocks.specs.defs.Shapes.{unit_from}
+use Rattle.shunt_blocks.specs.defs.Stays.{shape_length}
+use Rattle.shunt_prices.specs.defs.Limits.{case_at}
+use Rattle.shunt_prices.specs.defs.Prices.{track_length, price_part_with}
 use Rattle.shunt_prices.specs.defs.Cases.{IsFreeBlock, duals_over, weight_with, HasRoom}
-use Rattle.shunt_dual.specs.declared.holding.Asked.{Asked}
-use Rattle.shunt_dual.specs.declared.holding.Asked.TheVariants.{Every, BesideStacks}
+use Rattle.shunt_dual.specs.declared.feasibility.Asked.{Asked}
+use Rattle.shunt_dual.specs.declared.feasibility.Asked.TheVariants.{Every, BesideStacks}
 use Rattle.shunt_dual.specs.defs.Weighed.{case_of, IsAsked, ParkHolds, SideHolds, TrackHolds, TracksHold, ShapeHolds, UnitHolds, CaseHolds}
-
-pub over_is : (night : Night) (d : Duals) (s : Shape) (u v n : ℕ) (alpha beta : List ℤ) (a b : ℤ) → u ≡ unit_from night s → v ≡ position_from night s → alpha ≡ d.alpha
-    → beta ≡ d.beta → n ≡ s.n
-    → a ≡ sum_z_below n (λ k. get_or alpha (u + k) (pos 0)) → b ≡ sum_z_below n (λ k. get_or beta (v + k) (pos 0)) → a +ℤ b ≡ duals_over night d s
-over_is night d s u v n alpha beta a b eu ev ea eb en ha hb =
-    let A : ℕ → List ℤ → ℕ → Type 0 = λ w zs m. a ≡ sum_z_below m (λ k. get_or zs (w + k) (pos 0)) in
-    let B : ℕ → List ℤ → ℕ → Type 0 = λ w zs m. b ≡ sum_z_below m (λ k. get_or zs (w + k) (pos 0)) in
-    let a_is : a ≡ sum_z_below s.n (λ k. get_or d.alpha (unit_from night s + k) (pos 0)) = subst (λ (w : ℕ). A w d.alpha s.n) eu
-    (subst (λ (zs : List ℤ). A u zs s.n) ea (subst (λ (m : ℕ). A u alpha m) en ha)) in
-    let b_is : b ≡ sum_z_below s.n (λ k. get_or d.beta (position_from night s + k) (pos 0)) = subst (λ (w : ℕ). B w d.beta s.n) ev
-    (subst (λ (zs : List ℤ). B v zs s.n) eb (subst (λ (m : ℕ). B v beta m) en hb)) in
-    ap (λ (x : ℤ). x +ℤ b) a_is ∙ ap (λ (x : ℤ). sum_z_below s.n (λ k. get_or d.alpha (unit_from night s + k) (pos 0)) +ℤ x) b_is
+use Rattle.shunt_prices.proofs.Counts.{got, no_part}
 
 -- ---- tests
-
-pub failed : (P Q : Type 0) (b : Bool) → IsTrue b ↔ P → b ≡ false → (Q → P) → IsTrue false ↔ Q
-failed P Q b is e to = (λ (t : false ≡ true). cc, λ (q : Q). let h : b ≡ true = is.1 (to q) in cc)
 
 module _ (asked : Asked) (night : Night) (s : Shape) (sum : ℤ) (part : ℕ) (track : TrackId) where
   pub side_is : (side_in : Side) (a b : Bool) → IsTrue a ↔ ParkHolds asked night s sum part (record { track = track; side_in = side_in; side_out = A }) → a ≡ true
@@ -112,10 +93,6 @@ pub no_tracks : (asked : Asked) (night : Night) (prices : List Price) (s : Shape
 no_tracks asked night prices s sum = record { holds = λ k lt. absurd (omega arith) }
 
 -- ---- shapes
-
-pub no_part : (night : Night) (prices : List Price) (s : Shape) → price_part_with night prices s None ≡ 0
-no_part night [] s = refl
-no_part night (p ∷ ps) s = omega (arith, sum_by-cons (λ (q : Price). q.value * counted_with night q s None) p ps, no_part night ps s)
 
 pub shape_is : (asked : Asked) (night : Night) (c : Case) (s : Shape) (sum : ℤ) (tracks : ℕ) (b : Bool) → tracks ≡ length night.station.tracks → sum ≡ duals_over night c.duals s
     → sum ≤ℤ (pos (1000 * cost_with night s None) +ℤ c.multiplier) → IsTrue b ↔ TracksHold asked night c.duals.prices s sum tracks → IsTrue b ↔ ShapeHolds asked night c s
@@ -200,18 +177,8 @@ module _ (night : Night) (covered : Masks) (c d : Case) (me : c.multiplier ≡ d
   retold Every h = record { holds = λ s park free room. weighs s park (h.holds s park free room) }
   retold BesideStacks h = record { holds = λ s park free own room. weighs s park (h.holds s park free own room) }
 
-pub masks_fit : (night : Night) (path : Trail) (covered : Masks) → covered ≡ path.covered → IsTrailOf night path → AreMasksOf night covered
-masks_fit night path covered e of = subst (AreMasksOf night) (sym (e ∙ of.covered)) (record { units = length_units night path.blocks; places = length_places night path.blocks })
-
 pub only_case : (P : Case → Type 0) (c : Case) (b : Bool) → IsTrue b ↔ P c → IsTrue b ↔ All P (c ∷ [])
 only_case P c b is = (λ t. All-cons P c [] (is.0 t) (All-nil P), λ h. is.1 (All-head P c [] h))
-
--- the case that was got is the one with its number
-pub got : (cases : List Case) (k : ℕ) (c : Case) → slice_get cases k ≡ Some c → case_at cases k ≡ c
-got cases k c e = get_or_from_slice_get cases k c _ e
-
-pub got_is : (night : Night) (cases : List Case) (k : ℕ) (c : Case) → slice_get cases k ≡ Some c → k < length cases → AreCases night cases → IsCase night c
-got_is night cases k c e lt are = subst (IsCase night) (got cases k c e) (are.each k _ lt)
 
 -- a case that was got, with its multiplier as it was passed on
 pub case_back : (asked : Asked) (night : Night) (covered : Masks) (cases : List Case) (k : ℕ) (c : Case) (m : ℤ) → slice_get cases k ≡ Some c → m ≡ c.multiplier

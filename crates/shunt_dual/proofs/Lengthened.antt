@@ -19,7 +19,7 @@ use Rattle.shunt_prices.specs.defs.Bounds.{sum_at, case_sum, unparked_in}
 use Rattle.shunt_dual.specs.declared.longer.PathSums.{PathSums}
 use Rattle.shunt_dual.specs.defs.Longer.{AreSums, AreSumsAt, one_unparked}
 use Rattle.shunt_dual.specs.defs.Weighed.{case_of}
-use Rattle.shunt_dual.proofs.Holds.{got}
+use Rattle.shunt_prices.proofs.Counts.{got}
 
 -- ---- one sum more
 

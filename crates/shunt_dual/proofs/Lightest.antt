@@ -16,7 +16,7 @@ use Rattle.shunt_choices.specs.defs.Choices.{options_of}
 use Rattle.shunt_prices.specs.defs.Prices.{price_part_with}
 use Rattle.shunt_prices.specs.defs.Cases.{HasRoom}
 use Rattle.shunt_dual.specs.defs.Asks.{weight_at, weight_of, IsGiven, IsLeastWeight, IsCostOn, AreCosts, AreCostsWith}
-use Rattle.shunt_dual.proofs.Holds.{no_part}
+use Rattle.shunt_prices.proofs.Counts.{no_part}
 
 -- an option that isn't parked, or has no room, or costs at least the number of its track
 abbrev pub CostsAtLeast : Night → Shape → (ℕ → ℕ) → Option Park → Type 0

@@ -7,7 +7,7 @@ use Rattle.std.proofs.lemmas.Nat.{mul-add-lt}
 use Rattle.shunt_lists.specs.defs.Below.{count_below, sum_below}
 use Rattle.shunt_lists.proofs.CountsBelow.{count_below-same}
 use Rattle.shunt_lists.proofs.SumsBelow.{sum_below-same, count_of_places}
-use Rattle.shunt_instance.specs.defs.Instance.{Night, IsInstance, units_of, positions_of, unit_total, position_total}
+use Rattle.shunt_instance.specs.defs.Instance.{Night, IsInstance, unit_total, position_total}
 use Rattle.shunt_instance.specs.defs.Matching.{entry_at, is_in_rest, IsMatchable, place_of, unit_entries, position_entries}
 use Rattle.shunt_instance.proofs.Facts.{unit_entry_is, position_entry_is}
 use Rattle.shunt_instance.proofs.Looked.{units_few}
@@ -18,7 +18,8 @@ use Rattle.shunt_dual.specs.defs.Shares.{Table, share_at, IsEntry, AreShares}
 use Rattle.shunt_dual.specs.defs.Assignments.{share_total}
 use Rattle.shunt_dual.specs.defs.Tables.{at, cost_at, top, times, total, IsTable, IsPlace, or_top}
 use Rattle.shunt_dual.proofs.Sums.{total_none, total_more}
-use Rattle.shunt_dual.proofs.Paying.{small}
+use Rattle.shunt_dual.proofs.PaidShares.{small}
+use Rattle.shunt_matching.proofs.Nights.{length-unit_entries as units, length-position_entries as positions}
 
 -- ---- counts by places
 
@@ -55,12 +56,6 @@ given_count : (n v : ℕ) (xs : List ℕ) → count_below n (λ u. is_in_rest []
 given_count n v xs = count_below-same n _ _ (λ u lt. ap (λ (b : Bool). b && (place_of xs u == v)) (in_rest u))
 
 -- ---- a matching is a list of places
-
-units : (night : Night) → length (unit_entries night) ≡ unit_total night
-units night = length-map (units_of night.arrive) _
-
-positions : (night : Night) → length (position_entries night) ≡ position_total night
-positions night = length-map (positions_of night.depart) _
 
 module _ (night : Night) (place : List ℕ) (m : Matches night place) where
   pub place_length : length place ≡ unit_total night

@@ -16,13 +16,9 @@ use Rattle.shunt_blocks.specs.defs.Costs.{cost_with}
 use Rattle.shunt_prices.specs.defs.Prices.{price_part_with}
 use Rattle.shunt_prices.specs.defs.Cases.{duals_over, weight_with}
 use Rattle.shunt_stacks.specs.defs.Fillings.{gain}
-use Rattle.shunt_dual.specs.declared.offering.Offer.{Offer}
+use Rattle.shunt_dual.specs.declared.case_offers.Offer.{Offer}
 use Rattle.shunt_dual.specs.defs.Asks.{weight_of}
 use Rattle.shunt_dual.specs.defs.Offers.{IsOffer, IsSmallOffer, AreOffers, offered}
-
-pub nothing_more : {X : Type 0} (xs : List X) → xs ≡ xs ++ []
-nothing_more [] = refl
-nothing_more (x ∷ xs) = ap (λ l. x ∷ l) (nothing_more xs)
 
 module _ (night : Night) (d : Duals) where
   pub no_offers : AreOffers night d [] []

@@ -16,7 +16,7 @@ use Rattle.shunt_prices.specs.defs.Limits.{IsValue, AreDuals, case_at, plain}
 use Rattle.shunt_prices.specs.defs.Cases.{alpha_at, HoldsInCase, DualsHold}
 use Rattle.shunt_prices.specs.defs.Bounds.{duals_sum}
 use Rattle.shunt_prices.specs.defs.Steps.{with_alpha, IsGreatest, IsRefit, AreRefitted}
-use Rattle.shunt_dual.specs.declared.refitting.Ask.{Ask}
+use Rattle.shunt_dual.specs.declared.unit_values.Ask.{Ask}
 use Rattle.shunt_dual.specs.defs.Refits.{IsMet, IsGreatestUnder, IsUnitRefit, AreUnitsRefit}
 use Rattle.shunt_dual.specs.defs.Asks.{AreAsksOf, AreFreeShapes}
 use Rattle.shunt_dual.specs.defs.Raises.{AreRefit}

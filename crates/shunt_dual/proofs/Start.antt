@@ -15,10 +15,7 @@ use Rattle.shunt_prices.specs.defs.Limits.{AreDuals}
 use Rattle.shunt_prices.specs.defs.Cases.{alpha_at, beta_at}
 use Rattle.shunt_prices.specs.defs.Bounds.{uncovered_alphas, uncovered_betas, duals_sum}
 use Rattle.shunt_dual.specs.defs.Tables.{at_z}
-
-same_below : (n : ℕ) (f g : ℕ → ℤ) → ((i : ℕ) → i < n → f i ≡ g i) → sum_z_below n f ≡ sum_z_below n g
-same_below zero f g h = refl
-same_below (suc n) f g h = omega (arith, ints, same_below n f g (λ i lt. h i (omega arith)), h n (omega arith))
+use Rattle.shunt_prices.proofs.Signed.{sum_z_below-same as same_below}
 
 first_apart : (n : ℕ) (f : ℕ → ℤ) → sum_z_below (suc n) f ≡ f 0 +ℤ sum_z_below n (λ i. f (suc i))
 first_apart zero f = omega (arith, ints)

@@ -3,7 +3,7 @@ pub mod Shares
 pub mod Assignments
 pub mod Around
 pub mod Tables
-pub mod Pairing
+pub mod Pairs
 pub mod Tree
 pub mod Weighed
 pub mod Ways

@@ -1,16 +1,19 @@
 // The bound of a path by duals and by cases.
-ghost use Rattle.std.specs.Prelude.{◌≡◌, ◌<◌, ◌≤◌, ◌+◌, ◌*◌, ◌+ℤ◌, ◌-ℤ◌, All, pos, length, true, if◌then◌else◌, slice_index_or};
+ghost use Rattle.std.specs.Prelude.{◌≡◌, ◌<◌, ◌≤◌, ◌+◌, ◌*◌, ◌+ℤ◌, ◌-ℤ◌, All, pos, length, true};
+ghost use Rattle.std.specs.Prelude.{if◌then◌else◌, slice_index_or};
 ghost use Rattle.shunt_blocks.specs.defs.Shapes.{IsWithinTrains};
 ghost use Rattle.shunt_choices.specs.defs.Paths.{IsTrailOf};
 ghost use Rattle.shunt_prices.specs.defs.Sums.{sum_z, sum_z_below, IsWithin};
 ghost use Rattle.shunt_prices.specs.defs.Prices.{price_part, most, most_of, paid_at_most};
-ghost use Rattle.shunt_prices.specs.defs.Limits.{IsKind, IsPrice, ArePrices, AreDuals, AreCases, IsValue, from_of};
+ghost use Rattle.shunt_prices.specs.defs.Limits.{IsKind, IsPrice, ArePrices, AreDuals, AreCases};
+ghost use Rattle.shunt_prices.specs.defs.Limits.{IsValue, from_of};
 ghost use Rattle.shunt_prices.specs.defs.Cases.{weight};
-ghost use Rattle.shunt_prices.specs.defs.Bounds.{most_surcharge, sum_at, case_sum, unparked_in, is_open, IsBoundOf, IsCasesBound, IsDualsBound};
+ghost use Rattle.shunt_prices.specs.defs.Bounds.{most_surcharge, sum_at, case_sum, unparked_in};
+ghost use Rattle.shunt_prices.specs.defs.Bounds.{is_open, IsBoundOf, IsCasesBound, IsDualsBound};
 ghost use Rattle.shunt_dual.specs.defs.Opened.{IsLeastBelow};
 ghost use Rattle.shunt_dual.specs.defs.Weighed.{case_of};
 
-use crate::weighing::{parked_part, room};
+use crate::shape_costs::{parked_part, room};
 use shunt_base::{Cases, Duals, Price, PriceKind};
 use shunt_blocks::laws::few_blocks;
 use shunt_blocks::{Block, block_cost, block_length, shape_of};
@@ -75,7 +78,8 @@ fn uncovered_sum(values: &[i64], covered: &[bool]) -> i64
     requires values { All IsValue values.now }
     requires covered { length covered.now ≡ length values.now }
     requires few { length values.now ≤ 160 }
-    ensures exact { result ≡ sum_z_below (length values.now) (λ u. if slice_index_or covered.now u true then pos 0 else slice_index_or values.now u (pos 0)) }
+    ensures exact { result ≡ sum_z_below (length values.now) (λ u. if slice_index_or covered.now u
+        true then pos 0 else slice_index_or values.now u (pos 0)) }
     ensures small { IsWithin 159999999999840 result }
 {
     let mut total = 0;
@@ -154,7 +158,8 @@ fn sum_at(instance: &Instance, path: &Path, from: u8, to: u8, multiplier: i64, d
     requires to { to ≤ 160 }
     requires multiplier { IsValue multiplier }
     requires duals { AreDuals instance.now duals.now }
-    ensures exact { result ≡ sum_at instance.now path.now.blocks from (record { to = to; multiplier = multiplier; duals = duals.now }) }
+    ensures exact { result ≡ sum_at instance.now path.now.blocks from
+        (record { to = to; multiplier = multiplier; duals = duals.now }) }
     ensures small { IsWithin 4010000000000000000 result }
 {
     // The calls tell that there are at most 160 units, positions and blocks.

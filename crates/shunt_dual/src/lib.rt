@@ -2,30 +2,30 @@
 //! path and what they bound there.
 #![tactic(auto)]
 
-mod asking;
-mod assigning;
+mod assignment;
 mod bounds;
-mod gaining;
-mod holding;
+mod case_offers;
+mod feasibility;
+mod gains;
 pub mod laws;
 mod longer;
-mod offering;
-mod raising;
-mod refitting;
-mod sharing;
+mod pair_shares;
+mod price_raises;
+mod shape_costs;
+mod shape_demands;
 mod steps;
 mod table;
 mod tree;
 pub mod types;
+mod unit_values;
 mod ways;
-mod weighing;
 
-pub use asking::all_shapes;
-pub use assigning::{Assigned, assign};
+pub use assignment::{Assigned, assign};
 pub use bounds::{bound, bound_of, case_sum, cases_bound, unparked_in};
-pub use gaining::gain;
-pub use holding::{cases_hold, duals_hold, stack_cases_hold};
+pub use case_offers::{Offer, offers};
+pub use feasibility::{cases_hold, duals_hold, stack_cases_hold};
+pub use gains::gain;
 pub use longer::{PathSums, longer_bound, path_sums};
-pub use offering::{Offer, offers};
-pub use raising::raise_prices;
-pub use sharing::shares;
+pub use pair_shares::shares;
+pub use price_raises::raise_prices;
+pub use shape_demands::all_shapes;

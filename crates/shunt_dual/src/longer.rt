@@ -11,7 +11,7 @@ ghost use Rattle.shunt_dual.specs.defs.Longer.{AreSums, AreSumsAt, AtLonger, one
 ghost use Rattle.shunt_dual.specs.defs.Weighed.{case_of};
 
 use crate::bounds::{bound_of, case_sum, unparked_in, weight};
-use crate::holding::duals_over;
+use crate::feasibility::duals_over;
 use shunt_base::{Cases, Duals};
 use shunt_blocks::{Block, shape_of};
 use shunt_choices::Path;
@@ -52,7 +52,8 @@ fn gain(instance: &Instance, multiplier: i64, duals: &Duals, block: &Block) -> i
     requires multiplier { IsValue multiplier }
     requires duals { AreDuals instance.now duals.now }
     requires within { IsWithinTrains instance.now block.now }
-    ensures exact { result ≡ weight instance.now (case_of multiplier duals.now) block.now -ℤ duals_over instance.now duals.now (shape_of block.now) }
+    ensures exact { result ≡ weight instance.now (case_of multiplier duals.now) block.now
+        -ℤ duals_over instance.now duals.now (shape_of block.now) }
     ensures small { IsWithin 23056939999999983 result }
 {
     weight(instance, multiplier, duals, block) - duals_over(instance, duals, shape_of(block))
@@ -64,7 +65,8 @@ fn bound_with(instance: &Instance, cases: &Cases, sums: &PathSums, block: &Block
     requires sums { AreSums cases.now sums.now }
     requires within { IsWithinTrains instance.now block.now }
     requires there { k < length cases.now }
-    ensures { AtLonger instance.now cases.now sums.now block.now (λ path. IsBoundOf (case_sum instance.now path cases.now k) result) }
+    ensures { AtLonger instance.now cases.now sums.now block.now
+        (λ path. IsBoundOf (case_sum instance.now path cases.now k) result) }
 {
     // The call tells that the sum grows by what the block weighs more than its duals.
     longer_paths();
@@ -95,8 +97,10 @@ fn improved(
     requires sums { AreSums cases.now sums.now }
     requires within { IsWithinTrains instance.now block.now }
     requires there { k < length cases.now }
-    requires least { AtLonger instance.now cases.now sums.now block.now (λ path. IsLeastBelow instance.now path cases.now k least) }
-    ensures { AtLonger instance.now cases.now sums.now block.now (λ path. IsLeastBelow instance.now path cases.now (k + 1) result) }
+    requires least { AtLonger instance.now cases.now sums.now block.now
+        (λ path. IsLeastBelow instance.now path cases.now k least) }
+    ensures { AtLonger instance.now cases.now sums.now block.now
+        (λ path. IsLeastBelow instance.now path cases.now (k + 1) result) }
 {
     if !are_at_most(sums.unparked, block, cases.get(k).to) {
         return least;
@@ -111,7 +115,8 @@ pub fn longer_bound(instance: &Instance, cases: &Cases, sums: &PathSums, block: 
     requires cases { AreCases instance.now cases.now }
     requires sums { AreSums cases.now sums.now }
     requires within { IsWithinTrains instance.now block.now }
-    ensures { AtLonger instance.now cases.now sums.now block.now (λ path. IsCasesBound instance.now path cases.now result) }
+    ensures { AtLonger instance.now cases.now sums.now block.now
+        (λ path. IsCasesBound instance.now path cases.now result) }
 {
     let last = cases.len() - 1;
     let mut least = bound_with(instance, cases, sums, block, last);

@@ -1,7 +1,7 @@
 // Changes of the duals and of the pairing.
 ghost use Rattle.std.specs.Prelude.{◌≡◌, ◌≢◌, ◌⊎◌, ◌+◌, ◌-◌, ◌*◌, ◌<◌, ◌≤◌, ℕ, length};
 ghost use Rattle.shunt_dual.specs.defs.Tables.{at, top, times};
-ghost use Rattle.shunt_dual.specs.defs.Pairing.{IsPaired};
+ghost use Rattle.shunt_dual.specs.defs.Pairs.{IsPaired};
 
 /// Raises the alphas of the first rows by what their places are nearer than `far`.
 pub(crate) fn raise(rows: usize, far: u64, place: &[usize], distance: &[u64], alpha: &mut [u64])
@@ -10,7 +10,8 @@ pub(crate) fn raise(rows: usize, far: u64, place: &[usize], distance: &[u64], al
     requires placed { (r : ℕ) → r < rows → at place.now r < length distance.now }
     requires far { far ≤ 2 * top }
     requires low { (r : ℕ) → r < length alpha.old → at alpha.old r ≤ top }
-    ensures raised { (r : ℕ) → r < rows → at alpha.new r ≡ at alpha.old r + (far - at distance.now (at place.now r)) }
+    ensures raised { (r : ℕ) → r < rows
+        → at alpha.new r ≡ at alpha.old r + (far - at distance.now (at place.now r)) }
     ensures rest { (r : ℕ) → rows ≤ r → at alpha.new r ≡ at alpha.old r }
 {
     for r in 0..rows {
@@ -23,7 +24,8 @@ pub(crate) fn lower(far: u64, distance: &[u64], debt: &mut [u64])
     requires len { length debt.old < length distance.now }
     requires far { far ≤ 2 * top }
     requires small { (c : ℕ) → c < length debt.old → at debt.old c ≤ top }
-    ensures { (c : ℕ) → c < length debt.old → at debt.new c ≡ at debt.old c + (far - at distance.now c) }
+    ensures { (c : ℕ) → c < length debt.old
+        → at debt.new c ≡ at debt.old c + (far - at distance.now c) }
 {
     for c in 0..debt.len() {
         debt[c] += far.saturating_sub(distance[c]);
@@ -48,12 +50,14 @@ pub(crate) fn walk(
     requires paired { IsPaired n rows end place.old owner.old }
     requires free { at owner.old end ≡ n + 1 }
     requires root { at owner.old n ≢ n + 1 }
-    requires links { (c : ℕ) → c < n → (at way.now c < rows) × (at when.now (at place.old (at way.now c)) < at when.now c) }
+    requires links { (c : ℕ) → c < n
+        → (at way.now c < rows) × (at when.now (at place.old (at way.now c)) < at when.now c) }
     ensures paired { IsPaired n rows n place.new owner.new }
     ensures count { times (n + 1) owner.new + 1 ≡ times (n + 1) owner.old }
     ensures kept { (c : ℕ) → c ≤ n → at owner.new c ≡ n + 1 → at owner.old c ≡ n + 1 }
-    ensures moved { (r : ℕ) → r < rows → (at place.new r ≡ at place.old r)
-        ⊎ ((at way.now (at place.new r) ≡ r) × ((at place.new r ≡ end) ⊎ (at when.now (at place.new r) < at when.now end))) }
+    ensures moved { (r : ℕ) → r < rows
+        → (at place.new r ≡ at place.old r) ⊎ ((at way.now (at place.new r) ≡ r)
+        × ((at place.new r ≡ end) ⊎ (at when.now (at place.new r) < at when.now end))) }
 {
     let mut c = end;
     'back: while c < n {

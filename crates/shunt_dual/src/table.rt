@@ -1,8 +1,10 @@
 // The least choice of a column for each row of a full table, with dual values that show it.
-ghost use Rattle.std.specs.Prelude.{◌≡◌, ◌≢◌, ◌+◌, ◌*◌, ◌<◌, ◌≤◌, ℕ, List, length, map, pos, replicate, slice_set, IfOk, IsTrue, EachIndex, ◌↔◌};
-ghost use Rattle.shunt_dual.specs.defs.Tables.{at, cost_at, top, IsTable, IsPlace, IsAssigned, total, times, minus};
-ghost use Rattle.shunt_dual.specs.defs.Pairing.{IsPaired, AreDuals};
-ghost use Rattle.shunt_dual.specs.defs.Tree.{IsGrown, IsEnd, IsTried};
+ghost use Rattle.std.specs.Prelude.{◌≡◌, ◌≢◌, ◌+◌, ◌*◌, ◌<◌, ◌≤◌, ℕ, List, length, map, pos};
+ghost use Rattle.std.specs.Prelude.{replicate, slice_set, IfOk, IsTrue, EachIndex, ◌↔◌};
+ghost use Rattle.shunt_dual.specs.defs.Tables.{at, cost_at, top, IsTable, IsPlace, IsAssigned};
+ghost use Rattle.shunt_dual.specs.defs.Tables.{total, times, minus};
+ghost use Rattle.shunt_dual.specs.defs.Pairs.{IsPaired, AreDuals};
+ghost use Rattle.shunt_dual.specs.defs.Tree.{IsGrown, IsEnd, IsTriedRow};
 
 use crate::steps::{lower, raise, walk};
 use crate::tree::{choose, cost_row, relax, start};
@@ -30,11 +32,14 @@ fn grow(
     requires way_len { length way.old ≡ n + 1 }
     requires when_len { length when.old ≡ n + 1 }
     requires paired { IsPaired n rows (n + 1) place.now owner.now }
-    requires duals { AreDuals n rows top (cost_at table.now n) alpha.now debt.now place.now owner.now }
+    requires duals { AreDuals n rows top
+        (cost_at table.now n) alpha.now debt.now place.now owner.now }
     requires free { 0 < times (n + 1) owner.now }
     requires root { at owner.now n ≢ n + 1 }
-    requires grown { IsGrown n rows top 1 (cost_at table.now n) alpha.now debt.now place.now owner.now distance.old way.old when.old }
-    ensures grown { (t : ℕ) × IsGrown n rows top t (cost_at table.now n) alpha.now debt.now place.now owner.now distance.new way.new when.new }
+    requires grown { IsGrown n rows top 1
+        (cost_at table.now n) alpha.now debt.now place.now owner.now distance.old way.old when.old }
+    ensures grown { (t : ℕ) × IsGrown n rows top t
+        (cost_at table.now n) alpha.now debt.now place.now owner.now distance.new way.new when.new }
     ensures end { IsEnd n result owner.now distance.new when.new }
 {
     let mut joined = 1;
@@ -86,7 +91,8 @@ fn insert(
     requires free { times (n + 1) owner.old + k ≡ n }
     requires root { at owner.old n ≢ n + 1 }
     ensures paired { IsPaired n (k + 1) n place.new owner.new }
-    ensures duals { AreDuals n (k + 1) top (cost_at table.now n) alpha.new debt.new place.new owner.new }
+    ensures duals { AreDuals n (k + 1) top
+        (cost_at table.now n) alpha.new debt.new place.new owner.new }
     ensures free { times (n + 1) owner.new + (k + 1) ≡ n }
     ensures root { at owner.new n ≢ n + 1 }
 {
@@ -166,7 +172,7 @@ fn negated(alloc: Global, numbers: &[u64]) -> Result<Vec<i64>, AllocError>
 
 /// A column for each row, its cost, and dual values that show that no other choice costs less.
 #[derive(Drop)]
-pub(crate) struct Placed {
+pub(crate) struct PlacedRows {
     pub place: Vec<usize>,
     pub alpha: Vec<i64>,
     pub beta: Vec<i64>,
@@ -197,25 +203,30 @@ fn answer(
     owner: &[usize],
     alpha: &[u64],
     debt: &[u64],
-) -> Result<Placed, AllocError>
+) -> Result<PlacedRows, AllocError>
     requires table { IsTable n table.now }
     requires alpha_len { length alpha.now ≡ n }
     requires debt_len { length debt.now ≡ n }
     requires place_len { length place.items ≡ n }
     requires owner_len { length owner.now ≡ n + 1 }
     requires paired { IsPaired n n n place.items owner.now }
-    requires duals { AreDuals n n top (cost_at table.now n) alpha.now debt.now place.items owner.now }
+    requires duals { AreDuals n n top
+        (cost_at table.now n) alpha.now debt.now place.items owner.now }
     requires free { times (n + 1) owner.now ≡ 0 }
-    ensures duals { IfOk result (λ a. IsAssigned n (cost_at table.now n) a.place.items a.alpha.items a.beta.items) }
+    ensures duals { IfOk result
+        (λ a. IsAssigned n (cost_at table.now n) a.place.items a.alpha.items a.beta.items) }
     ensures total { IfOk result (λ a. a.total ≡ total (cost_at table.now n) a.place.items) }
     ensures small { IfOk result (λ a. a.total ≤ 160 * top) }
-    ensures least { IfOk result (λ a. (other : List ℕ) → IsPlace n other → a.total ≤ total (cost_at table.now n) other) }
-    ensures unfilled { IfOk result (λ a. (other : List ℕ) → IsPlace n other → ((r : ℕ) → r < n → cost_at table.now n r (at other r) ≤ 3000000000) → (r : ℕ) → r < n → cost_at table.now n r (at a.place.items r) < top) }
+    ensures least { IfOk result
+        (λ a. (other : List ℕ) → IsPlace n other → a.total ≤ total (cost_at table.now n) other) }
+    ensures unfilled { IfOk result (λ a. (other : List ℕ) → IsPlace n other
+        → ((r : ℕ) → r < n → cost_at table.now n r (at other r) ≤ 3000000000) → (r : ℕ) → r < n
+        → cost_at table.now n r (at a.place.items r) < top) }
 {
     let alpha = signed(alloc, alpha)?;
     let beta = negated(alloc, debt)?;
     let total = cost_of(table, n, &place);
-    Ok(Placed {
+    Ok(PlacedRows {
         place,
         alpha,
         beta,
@@ -224,13 +235,17 @@ fn answer(
 }
 
 /// The assignment of least cost in a table of `n` rows and columns, row by row.
-pub(crate) fn least_places(alloc: Global, table: &[u64], n: usize) -> Result<Placed, AllocError>
+pub(crate) fn least_places(alloc: Global, table: &[u64], n: usize) -> Result<PlacedRows, AllocError>
     requires { IsTable n table.now }
-    ensures duals { IfOk result (λ a. IsAssigned n (cost_at table.now n) a.place.items a.alpha.items a.beta.items) }
+    ensures duals { IfOk result
+        (λ a. IsAssigned n (cost_at table.now n) a.place.items a.alpha.items a.beta.items) }
     ensures total { IfOk result (λ a. a.total ≡ total (cost_at table.now n) a.place.items) }
     ensures small { IfOk result (λ a. a.total ≤ 160 * top) }
-    ensures least { IfOk result (λ a. (other : List ℕ) → IsPlace n other → a.total ≤ total (cost_at table.now n) other) }
-    ensures unfilled { IfOk result (λ a. (other : List ℕ) → IsPlace n other → ((r : ℕ) → r < n → cost_at table.now n r (at other r) ≤ 3000000000) → (r : ℕ) → r < n → cost_at table.now n r (at a.place.items r) < top) }
+    ensures least { IfOk result
+        (λ a. (other : List ℕ) → IsPlace n other → a.total ≤ total (cost_at table.now n) other) }
+    ensures unfilled { IfOk result (λ a. (other : List ℕ) → IsPlace n other
+        → ((r : ℕ) → r < n → cost_at table.now n r (at other r) ≤ 3000000000) → (r : ℕ) → r < n
+        → cost_at table.now n r (at a.place.items r) < top) }
 {
     let mut alpha = vec![in alloc; 0u64; n]?;
     let mut debt = vec![in alloc; 0u64; n]?;

@@ -1,8 +1,8 @@
 // The steps of one row's tree.
 ghost use Rattle.std.specs.Prelude.{◌≡◌, ◌≢◌, ◌+◌, ◌-◌, ◌*◌, ◌^◌, ◌<◌, ◌≤◌, ℕ, length};
 ghost use Rattle.shunt_dual.specs.defs.Tables.{at, cost_at, top, IsTable, times};
-ghost use Rattle.shunt_dual.specs.defs.Pairing.{IsPaired, AreDuals};
-ghost use Rattle.shunt_dual.specs.defs.Tree.{IsGrown, IsEnd, IsTried};
+ghost use Rattle.shunt_dual.specs.defs.Pairs.{IsPaired, AreDuals};
+ghost use Rattle.shunt_dual.specs.defs.Tree.{IsGrown, IsEnd, IsTriedRow};
 
 /// The costs of a row.
 #[tactic(auto, unfolding(crate::specs::defs::Tables::cost_at))]
@@ -22,7 +22,8 @@ pub(crate) fn choose(mark: usize, when: &[usize], distance: &[u64]) -> usize
     requires some { (c : ℕ) × (c < length when.now) × (at when.now c ≡ mark) }
     ensures within { result < length when.now }
     ensures outside { at when.now result ≡ mark }
-    ensures least { (c : ℕ) → c < length when.now → at when.now c ≡ mark → at distance.now result ≤ at distance.now c }
+    ensures least { (c : ℕ) → c < length when.now → at when.now c ≡ mark
+        → at distance.now result ≤ at distance.now c }
 {
     let mut best = when.len();
     let mut least = u64::MAX;
@@ -52,7 +53,8 @@ pub(crate) fn relax(
     requires slack { (c : ℕ) → c < length debt.now → own ≤ at row.now c + at debt.now c }
     requires low { (c : ℕ) → c < length debt.now → at row.now c ≤ top }
     requires small { (c : ℕ) → c < length debt.now → at debt.now c ≤ top }
-    ensures each { (c : ℕ) → c < length debt.now → IsTried r own base (at row.now c) (at debt.now c) (at distance.old c) (at way.old c) (at distance.new c) (at way.new c) }
+    ensures each { (c : ℕ) → c < length debt.now → IsTriedRow r own base (at row.now c)
+        (at debt.now c) (at distance.old c) (at way.old c) (at distance.new c) (at way.new c) }
     ensures rest { at distance.new (length debt.now) ≡ at distance.old (length debt.now) }
 {
     for c in 0..debt.len() {
@@ -80,7 +82,8 @@ pub(crate) fn start(
     requires few { length debt.now ≤ 160 }
     requires low { (c : ℕ) → c < length debt.now → at row.now c ≤ top }
     requires small { (c : ℕ) → c < length debt.now → at debt.now c ≤ top }
-    ensures distance { (c : ℕ) → c < length debt.now → at distance.new c ≡ at row.now c + at debt.now c }
+    ensures distance { (c : ℕ) → c < length debt.now
+        → at distance.new c ≡ at row.now c + at debt.now c }
     ensures way { (c : ℕ) → c < length debt.now → at way.new c ≡ r }
     ensures root { at distance.new (length debt.now) ≡ 0 }
     ensures when { (c : ℕ) → c < length debt.now → at when.new c ≡ length debt.now + 1 }

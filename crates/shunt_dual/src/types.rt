@@ -20,9 +20,11 @@ impl Model for Shares {
 
     ghost Value = { Table };
 
-    ghost view = { λ s. record { units = s.units; positions = s.positions; entries = s.entries.items } };
+    ghost view = { λ s.
+        record { units = s.units; positions = s.positions; entries = s.entries.items } };
 
-    ghost invariant = { λ s. (s.units ≤ 160) × (s.positions ≤ 160) × (length s.entries.items ≡ s.units * s.positions) };
+    ghost invariant = { λ s. (s.units ≤ 160) × (s.positions ≤ 160)
+        × (length s.entries.items ≡ s.units * s.positions) };
 }
 
 impl Shares {
@@ -31,7 +33,8 @@ impl Shares {
         requires units { units ≤ 160 }
         requires positions { positions ≤ 160 }
         requires size { length entries.items ≡ units * positions }
-        ensures { result ≡ record { units = units; positions = positions; entries = entries.items } }
+        ensures { result
+            ≡ record { units = units; positions = positions; entries = entries.items } }
     {
         Shares {
             units,

@@ -1,5 +1,6 @@
 // What the ways of trains to and from tracks cost at least.
-ghost use Rattle.std.specs.Prelude.{◌≡◌, ◌<◌, ◌≤◌, ◌*◌, ◌+◌, ℕ, Some, unwrap_or, length, slice_index_or};
+ghost use Rattle.std.specs.Prelude.{◌≡◌, ◌<◌, ◌≤◌, ◌*◌, ◌+◌, ℕ, Some, unwrap_or, length};
+ghost use Rattle.std.specs.Prelude.{slice_index_or};
 ghost use Rattle.shunt_base.specs.declared.ids.ArrId.{ArrId as AnArrival};
 ghost use Rattle.shunt_base.specs.declared.ids.DepId.{DepId as ADeparture};
 ghost use Rattle.shunt_instance.specs.defs.Words.{train_at};
@@ -10,7 +11,7 @@ ghost use Rattle.shunt_blocks.specs.defs.Blocks.{IsParkable};
 ghost use Rattle.shunt_blocks.specs.defs.Costs.{shape_cost, cost_with};
 ghost use Rattle.shunt_dual.specs.defs.Ways.{IsUnderIn, IsUnderOut, AreLeastWays};
 
-use crate::weighing::{block_with, cost_with};
+use crate::shape_costs::{block_with, cost_with};
 use shunt_base::{ArrId, DepId, Side, TrackId};
 use shunt_blocks::{Park, Shape, way_in, way_out};
 use shunt_instance::Instance;
@@ -35,7 +36,8 @@ fn smaller(one: u32, other: u32) -> u32
 fn cost_in(instance: &Instance, shape: Shape, track: TrackId, side: Side) -> u32
     requires within { AreRunsWithin instance.now shape }
     requires track { track.0 < length instance.now.station.tracks }
-    ensures exact { result ≡ unwrap_or (way_from instance.now.station (train_at instance.now.arrive shape.arr.0).origin track side) 1000000 }
+    ensures exact { result ≡ unwrap_or (way_from instance.now.station
+        (train_at instance.now.arrive shape.arr.0).origin track side) 1000000 }
     ensures small { result ≤ 1000000 }
 {
     let park = Park {
@@ -50,7 +52,8 @@ fn cost_in(instance: &Instance, shape: Shape, track: TrackId, side: Side) -> u32
 fn cost_out(instance: &Instance, shape: Shape, track: TrackId, side: Side) -> u32
     requires within { AreRunsWithin instance.now shape }
     requires track { track.0 < length instance.now.station.tracks }
-    ensures exact { result ≡ unwrap_or (way_to instance.now.station (train_at instance.now.depart shape.dep.0).origin track side) 1000000 }
+    ensures exact { result ≡ unwrap_or (way_to instance.now.station
+        (train_at instance.now.depart shape.dep.0).origin track side) 1000000 }
     ensures small { result ≤ 1000000 }
 {
     let park = Park {
@@ -88,7 +91,8 @@ fn least_out(instance: &Instance, shape: Shape, track: TrackId) -> u32
 /// What no way in of a shape costs less than, whatever the track.
 fn least_in_anywhere(instance: &Instance, shape: Shape) -> u32
     requires within { AreRunsWithin instance.now shape }
-    ensures least { (k : APark) → k.track.0 < length instance.now.station.tracks → IsUnderIn instance.now shape.arr k result }
+    ensures least { (k : APark) → k.track.0 < length instance.now.station.tracks
+        → IsUnderIn instance.now shape.arr k result }
     ensures small { result ≤ 1000000 }
 {
     let mut least = 1_000_000;
@@ -101,7 +105,8 @@ fn least_in_anywhere(instance: &Instance, shape: Shape) -> u32
 /// What no way out of a shape costs less than, whatever the track.
 fn least_out_anywhere(instance: &Instance, shape: Shape) -> u32
     requires within { AreRunsWithin instance.now shape }
-    ensures least { (k : APark) → k.track.0 < length instance.now.station.tracks → IsUnderOut instance.now shape.dep k result }
+    ensures least { (k : APark) → k.track.0 < length instance.now.station.tracks
+        → IsUnderOut instance.now shape.dep k result }
     ensures small { result ≤ 1000000 }
 {
     let mut least = 1_000_000;
@@ -140,7 +145,9 @@ fn no_costs() -> [u32; 100]
 
 /// What no way in of each arriving train costs less than. Without departing trains there are no shapes, and so no ways.
 fn least_ins(instance: &Instance) -> [u32; 100]
-    ensures least { (a : AnArrival) (k : APark) → a.0 < length instance.now.arrive → k.track.0 < length instance.now.station.tracks → IsUnderIn instance.now a k (slice_index_or result a.0 0) }
+    ensures least { (a : AnArrival) (k : APark) → a.0 < length instance.now.arrive
+        → k.track.0 < length instance.now.station.tracks
+        → IsUnderIn instance.now a k (slice_index_or result a.0 0) }
     ensures small { (a : ℕ) → slice_index_or result a 0 ≤ 1000000 }
 {
     let mut least = no_costs();
@@ -156,7 +163,9 @@ fn least_ins(instance: &Instance) -> [u32; 100]
 
 /// What no way out to each departing train costs less than. Without arriving trains there are no shapes, and so no ways.
 fn least_outs(instance: &Instance) -> [u32; 100]
-    ensures least { (d : ADeparture) (k : APark) → d.0 < length instance.now.depart → k.track.0 < length instance.now.station.tracks → IsUnderOut instance.now d k (slice_index_or result d.0 0) }
+    ensures least { (d : ADeparture) (k : APark) → d.0 < length instance.now.depart
+        → k.track.0 < length instance.now.station.tracks
+        → IsUnderOut instance.now d k (slice_index_or result d.0 0) }
     ensures small { (d : ℕ) → slice_index_or result d 0 ≤ 1000000 }
 {
     let mut least = no_costs();
@@ -193,7 +202,8 @@ fn ends(instance: &Instance, shape: Shape) -> u64
 pub(crate) fn least_parked(instance: &Instance, ways: &LeastWays, shape: Shape) -> u64
     requires ways { AreLeastWays instance.now ways.now }
     requires within { AreRunsWithin instance.now shape }
-    ensures least { (k : APark) → IsParkable instance.now shape k → result ≤ 1000 * cost_with instance.now shape (Some k) }
+    ensures least { (k : APark) → IsParkable instance.now shape k
+        → result ≤ 1000 * cost_with instance.now shape (Some k) }
     ensures small { result ≤ 4000000000 }
 {
     // The calls tell that there are at most 100 trains on either side.

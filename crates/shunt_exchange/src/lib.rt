@@ -1,8 +1,8 @@
 //! The commands for other programs and other versions: `report` and `upgrade`.
 #![tactic(auto)]
 
-mod reporting;
-mod upgrading;
+mod report;
+mod upgrade;
 
-pub use reporting::Report;
-pub use upgrading::{TrainFiles, Upgrade};
+pub use report::ReportCommand;
+pub use upgrade::{TrainFiles, UpgradeCommand};

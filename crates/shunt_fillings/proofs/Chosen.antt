@@ -4,13 +4,12 @@ use Rattle.std.proofs.Common.{◌≡◌, ℕ, ◌<◌, true, false, List, [], �
 use Rattle.std.proofs.lemmas.Int.{ints}
 use Rattle.std.proofs.lemmas.Bool.{false≢true}
 use Rattle.shunt_lists.specs.defs.Members.{In}
-use Rattle.shunt_lists.proofs.Members.{of_map}
+use Rattle.shunt_lists.proofs.Members.{of_map, place}
 use Rattle.shunt_base.specs.declared.ids.Side.TheVariants.{A}
 use Rattle.shunt_base.specs.declared.duals.Case.{Case}
 use Rattle.shunt_instance.specs.defs.Instance.{Night}
 use Rattle.shunt_blocks.specs.declared.records.Block.{Block}
 use Rattle.shunt_blocks.specs.declared.records.Park.{Park}
-use Rattle.shunt_choices.proofs.Given.{place}
 use Rattle.shunt_prices.specs.defs.Limits.{case_at}
 use Rattle.shunt_stacks.specs.defs.Stacks.{Stack, is_of, stack_of}
 use Rattle.shunt_stacks.specs.defs.Fillings.{gain, IsStackGain}

@@ -24,10 +24,6 @@ use Rattle.shunt_fillings.specs.defs.Pieces.{seen, all_seen, ends_of, span_with,
 one_on : (i : ℕ) → suc i ≡ i + 1
 one_on i = omega arith
 
-pub none_more : {X : Type 0} (xs : List X) → xs ≡ xs ++ []
-none_more [] = refl
-none_more (x ∷ xs) = ap (λ l. x ∷ l) (none_more xs)
-
 -- ---- stacks
 
 abbrev pub open_below : Station → ℕ → List Stack

@@ -1,7 +1,7 @@
 -- What a scene tells of its path.
 use Rattle.std.specs.Prelude.{All}
 use Rattle.std.proofs.Common.{◌≡◌, ℕ, ◌<◌, ◌≤◌, List, length, get_or, sym, subst, arith}
-use Rattle.shunt_lists.proofs.Members.{in_place}
+use Rattle.shunt_lists.proofs.Members.{in_place, to_all as from_members}
 use Rattle.shunt_base.specs.declared.duals.Case.{Case}
 use Rattle.shunt_instance.specs.declared.records.Station.{Station}
 use Rattle.shunt_instance.specs.defs.Wellformed.{IsStation}
@@ -9,7 +9,7 @@ use Rattle.shunt_instance.specs.defs.Instance.{Night}
 use Rattle.shunt_blocks.specs.declared.records.Block.{Block}
 use Rattle.shunt_blocks.specs.defs.Shapes.{AreRunsWithin, IsWithinTrains}
 use Rattle.shunt_choices.specs.defs.Paths.{Masks, masks_of}
-use Rattle.shunt_dual.specs.declared.offering.Offer.{Offer}
+use Rattle.shunt_dual.specs.declared.case_offers.Offer.{Offer}
 use Rattle.shunt_dual.specs.defs.Asks.{AreFreeShapes}
 use Rattle.shunt_dual.specs.defs.Offers.{IsSmallOffer, AreOffers}
 use Rattle.shunt_stacks.specs.defs.Stacks.{Stack}
@@ -17,7 +17,7 @@ use Rattle.shunt_fillings.specs.declared.candidates.Candidate.{Candidate}
 use Rattle.shunt_fillings.specs.declared.scenes.Scene.{Scene}
 use Rattle.shunt_fillings.specs.defs.Pieces.{AreTaken, AreCandidates}
 use Rattle.shunt_fillings.specs.defs.Scenes.{IsScene}
-use Rattle.shunt_fillings.proofs.Offered.{from_members, candidates_are}
+use Rattle.shunt_fillings.proofs.Offered.{candidates_are}
 
 pub few_tracks : (s t : Station) (k : ℕ) → s ≡ t → IsStation s → k < length t.tracks → k < 60
 few_tracks s t k e is lt = let few : length t.tracks ≤ 60 = subst (λ (r : Station). length r.tracks ≤ 60) e is.few_tracks in omega (arith, few, lt)

@@ -1,10 +1,10 @@
 -- What is taken of the offers of all free shapes are the candidates of a stack.
 use Rattle.std.specs.Prelude.{◌&&◌, ◌==◌, All, ◌<ℤ◌, ◌-ℤ◌, Option, Some, None}
-use Rattle.std.proofs.Common.{◌≡◌, ℕ, ◌<◌, ◌≤◌, true, List, get_or, ℤ, pos, refl, sym, subst, ap, ◌∙◌, arith}
+use Rattle.std.proofs.Common.{◌≡◌, ℕ, ◌<◌, ◌≤◌, true, List, ℤ, pos, refl, sym, subst, ap, ◌∙◌, arith}
 use Rattle.std.proofs.lemmas.Int.{ints}
 use Rattle.std.proofs.lemmas.Bool.{eqb-true, eq-eqb, and_parts, and_from, false≢true}
 use Rattle.shunt_lists.specs.defs.Members.{In}
-use Rattle.shunt_lists.proofs.Members.{in_place, in_map, of_map}
+use Rattle.shunt_lists.proofs.Members.{in_map, of_map, to_all as from_members}
 use Rattle.shunt_base.specs.declared.ids.Side.{Side}
 use Rattle.shunt_base.specs.declared.duals.Case.{Case}
 use Rattle.shunt_base.specs.defs.Sides.{same_side}
@@ -20,7 +20,7 @@ use Rattle.shunt_choices.specs.defs.Paths.{masks_of}
 use Rattle.shunt_prices.specs.defs.Sums.{IsWithin}
 use Rattle.shunt_prices.specs.defs.Prices.{track_length}
 use Rattle.shunt_prices.specs.defs.Cases.{IsFreeBlock, HasRoom, duals_over, weight_with}
-use Rattle.shunt_dual.specs.declared.offering.Offer.{Offer}
+use Rattle.shunt_dual.specs.declared.case_offers.Offer.{Offer}
 use Rattle.shunt_dual.specs.defs.Asks.{AreFreeShapes, weight_of, weight_at}
 use Rattle.shunt_dual.specs.defs.Offers.{IsOffer, IsSmallOffer, AreOffers, offered}
 use Rattle.shunt_dual.proofs.Offered.{offered_is}
@@ -29,9 +29,6 @@ use Rattle.shunt_stacks.specs.defs.Fillings.{gain}
 use Rattle.shunt_stacks.specs.defs.Numbers.{AreFreeOf}
 use Rattle.shunt_fillings.specs.declared.candidates.Candidate.{Candidate}
 use Rattle.shunt_fillings.specs.defs.Pieces.{park_on, block_on, candidate_on, blocks_in, Brings, AreTaken, AreCandidates}
-
-pub from_members : {X : Type 0} (P : X → Type 0) (xs : List X) → ((x : X) → In x xs → P x) → All P xs
-from_members P xs h k d lt = h (get_or xs k d) (in_place xs k d lt)
 
 -- ---- an option of a stack is parked there by its side
 

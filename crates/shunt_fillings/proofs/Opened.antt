@@ -1,29 +1,16 @@
 -- The least bound of sums, from those before a number to one more.
-use Rattle.std.specs.Prelude.{true, ◌==◌, ◌||◌, nat_le, ◌≤ℤ◌}
+use Rattle.std.specs.Prelude.{◌≤ℤ◌}
 use Rattle.std.proofs.Common.{◌≡◌, ◌⊎◌, inl, inr, ⊎_elim, ℕ, ◌+◌, ◌<◌, ◌≤◌, List, length, get_or, ℤ, pos, subst, arith}
 use Rattle.std.proofs.lemmas.Int.{ints}
-use Rattle.std.proofs.lemmas.Bool.{cases_lt, cases_eq}
-use Rattle.std.proofs.lemmas.Bool.Decides.{nat_tests}
+use Rattle.std.proofs.lemmas.Bool.{cases_lt}
 use Rattle.shunt_base.specs.declared.duals.Case.{Case}
 use Rattle.shunt_blocks.specs.declared.records.Block.{Block}
 use Rattle.shunt_prices.specs.defs.Limits.{case_at}
 use Rattle.shunt_prices.specs.defs.Bounds.{IsBoundOf, IsOpenAt, unparked_in}
-use Rattle.shunt_prices.proofs.Signed.{bound_rises}
 use Rattle.shunt_stacks.specs.defs.Bounds.{IsLeastBound}
 use Rattle.shunt_fillings.specs.defs.Least.{IsLeastBelow}
-
--- two bounds of one sum
-one_bound : (sum bound other : ℤ) → IsBoundOf sum bound → IsBoundOf sum other → bound ≤ℤ other
-one_bound sum bound other h k = bound_rises sum sum bound other (omega (arith, ints)) h k
-
-either_test : (a b p q : ℕ) → ((a == b) || nat_le p q) ≡ true → (a ≡ b) ⊎ (p ≤ q)
-either_test a b p q e = ⊎_elim (λ (h : a ≡ b). inl h) (λ (ne : a ≡ b → ⊥). inr (grind (arith, nat_tests))) (cases_eq a b)
-
-last_test : (a b p q : ℕ) → a ≡ b → ((a == b) || nat_le p q) ≡ true
-last_test a b p q e = grind (arith, nat_tests)
-
-few_test : (a b p q : ℕ) → p ≤ q → ((a == b) || nat_le p q) ≡ true
-few_test a b p q le = grind (arith, nat_tests)
+use Rattle.shunt_lists.proofs.Tests.{either_test, last_test, few_test}
+use Rattle.shunt_prices.proofs.Counts.{one_bound}
 
 module _ (path : List Block) (cases : List Case) (sums : List ℤ) (k : ℕ) (least : ℤ) where
   pub closed : (case_at cases k).to < unparked_in path → IsLeastBelow cases path sums k least → IsLeastBelow cases path sums (k + 1) least

@@ -1,33 +1,26 @@
 -- The spans of a stack's pieces: their events are their own, and they gain little; and what the recursion over them tells.
-use Rattle.std.specs.Prelude.{◌↔◌, Option, Some, None, Result, Ok, Err, IfOk, map, All}
-use Rattle.std.proofs.Common.{◌≡◌, inl, inr, ℕ, List, [], ◌∷◌, get_or, ℤ, pos, refl, sym, subst, ap, ◌∙◌, arith}
+use Rattle.std.specs.Prelude.{◌↔◌, Option, Some, Result, Ok, IfOk, map, All}
+use Rattle.std.proofs.Common.{◌≡◌, inl, inr, ℕ, List, [], ◌∷◌, ℤ, pos, refl, sym, subst, ap, ◌∙◌, arith}
 use Rattle.std.proofs.lemmas.Int.{ints}
 use Rattle.shunt_lists.specs.defs.Members.{In}
-use Rattle.shunt_lists.proofs.Members.{of_map, in_map}
+use Rattle.shunt_lists.proofs.Members.{of_map, in_map, each_one, to_all as from_members}
 use Rattle.shunt_base.specs.declared.duals.Case.{Case}
 use Rattle.shunt_instance.specs.defs.Instance.{Night}
 use Rattle.shunt_blocks.specs.declared.records.Block.{Block}
-use Rattle.shunt_blocks.specs.declared.records.Shape.{Shape}
-use Rattle.shunt_blocks.specs.declared.records.Park.{Park}
-use Rattle.shunt_blocks.specs.defs.Shapes.{shape_of, IsOnTrack, IsWithinTrains}
-use Rattle.shunt_blocks.specs.defs.Blocks.{IsOption, IsBlockButId}
+use Rattle.shunt_blocks.specs.defs.Shapes.{shape_of, IsWithinTrains}
 use Rattle.shunt_choices.specs.defs.Paths.{masks_of}
-use Rattle.shunt_choices.proofs.Given.{each_one}
 use Rattle.shunt_prices.specs.defs.Cases.{IsFreeBlock}
 use Rattle.shunt_prices.specs.defs.Sums.{IsWithin}
 use Rattle.shunt_stacks.specs.defs.Stacks.{Stack, blocks_of}
 use Rattle.shunt_stacks.specs.defs.Fillings.{gain}
-use Rattle.shunt_stacks.specs.defs.Spans.{Span, AreOwn, best}
+use Rattle.shunt_stacks.specs.defs.Spans.{Span, best}
 use Rattle.shunt_stacks.specs.defs.Numbers.{span_of, free_spans}
 use Rattle.shunt_gains.specs.declared.numbers.Events.{Events}
 use Rattle.shunt_gains.specs.defs.Events.{entry_of, leave_of}
 use Rattle.shunt_gains.specs.defs.Tables.{AreSmall, IsGain}
 use Rattle.shunt_fillings.specs.declared.candidates.Candidate.{Candidate}
-use Rattle.shunt_fillings.proofs.Offered.{from_members}
 use Rattle.shunt_fillings.specs.defs.Pieces.{blocks_in, AreCandidates, fixed_of_stack, span_with, spans_with}
-
-pub own_lists : (fixed free xs ys : List Span) → xs ≡ fixed → ys ≡ free → AreOwn fixed free → AreOwn xs ys
-own_lists fixed free xs ys e f own = subst (λ (zs : List Span). AreOwn zs ys) (sym e) (subst (AreOwn fixed) (sym f) own)
+use Rattle.shunt_blocks.proofs.Shapes.{on_track}
 
 pub small_lists : (fixed free xs ys : List Span) → xs ≡ fixed → ys ≡ free → AreSmall fixed free → AreSmall xs ys
 small_lists fixed free xs ys e f small = subst (λ (zs : List Span). AreSmall zs ys) (sym e) (subst (AreSmall fixed) (sym f) small)
@@ -37,17 +30,6 @@ nothing = record { low = omega (arith, ints); high = omega (arith, ints) }
 
 same_head : (s t : Span) (xs ys : List Span) → s ≡ t → xs ≡ ys → s ∷ xs ≡ t ∷ ys
 same_head s t xs ys e f = ap (λ (r : Span). r ∷ xs) e ∙ ap (λ (zs : List Span). t ∷ zs) f
-
-on_track : (night : Night) (s : Shape) (park : Option Park) → IsOption night s park → IsOnTrack night.station park
-on_track night s None o = tt
-on_track night s (Some k) o = o.track
-
-pub blocks_within : (night : Night) (path : List Block) → All (IsBlockButId night) path → All (IsWithinTrains night) path
-blocks_within night path each k d lt = let is = each k d lt in record {
-  runs = is.shape.within;
-  track = on_track night (shape_of (get_or path k d))
-      (get_or path k d).park is.option;
-}
 
 module _ (night : Night) (e : Events) (c : Case) where
   pub spans_same : (ks : List Candidate) → ((k : Candidate) → In k ks → k.gain ≡ gain night c k.block)
@@ -87,10 +69,6 @@ gain_tells P n r events room fixed free xs ys g a b e f is law most =
     let moved : IsGain fixed free 0 events room g = subst (λ (m : ℕ). IsGain fixed free 0 events m g) b (subst (λ (m : ℕ). IsGain fixed free 0 m r g) a first) in
     let same : g ≡ best events fixed free 0 events room = moved events (omega arith) in
     (λ h. (law most).0 (sym same ∙ h), λ p. same ∙ (law most).1 p)
-
-pub if_ok : {X E : Type 0} (P Q : X → Type 0) (r : Result X E) → ((x : X) → P x → Q x) → IfOk r P → IfOk r Q
-if_ok P Q (Ok x) h p = h x p
-if_ok P Q (Err e) h p = tt
 
 pub ok_is : {X E : Type 0} (P : X → Type 0) (r : Result X E) (x : X) → r ≡ Ok x → IfOk r P → P x
 ok_is P r x e h = subst (λ s. IfOk s P) e h

@@ -6,7 +6,7 @@ use Rattle.std.proofs.lemmas.Int.{ints}
 use Rattle.shunt_lists.specs.defs.Members.{In}
 use Rattle.shunt_lists.proofs.Members.{in_left, in_right, in_cases}
 use Rattle.shunt_instance.specs.defs.Instance.{Night}
-use Rattle.shunt_dual.specs.declared.offering.Offer.{Offer}
+use Rattle.shunt_dual.specs.declared.case_offers.Offer.{Offer}
 use Rattle.shunt_stacks.specs.defs.Stacks.{Stack}
 use Rattle.shunt_fillings.specs.declared.candidates.Candidate.{Candidate}
 use Rattle.shunt_fillings.specs.defs.Pieces.{candidate_on, Brings, AreTaken}

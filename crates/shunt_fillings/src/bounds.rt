@@ -14,7 +14,9 @@ fn improved(cases: &Cases, unparked: usize, sums: &[i64], k: usize, least: i64) 
     requires there { k < length cases.now }
     requires long { length sums.now ≡ length cases.now }
     requires small { All (IsWithin 4100000000000000000) sums.now }
-    ensures { (path : List Block) → unparked ≡ unparked_in path → IsLeastBelow cases.now path sums.now k least → IsLeastBelow cases.now path sums.now (k + 1) result }
+    ensures { (path : List Block) → unparked ≡ unparked_in path
+        → IsLeastBelow cases.now path sums.now k least
+        → IsLeastBelow cases.now path sums.now (k + 1) result }
 {
     if unparked > cases.get(k).to as usize {
         return least;
@@ -28,7 +30,8 @@ fn improved(cases: &Cases, unparked: usize, sums: &[i64], k: usize, least: i64) 
 pub fn least_bound(cases: &Cases, unparked: usize, sums: &[i64]) -> i64
     requires long { length sums.now ≡ length cases.now }
     requires small { All (IsWithin 4100000000000000000) sums.now }
-    ensures { (path : List Block) → unparked ≡ unparked_in path → IsLeastBound cases.now path sums.now result }
+    ensures { (path : List Block) → unparked ≡ unparked_in path
+        → IsLeastBound cases.now path sums.now result }
 {
     let last = cases.len() - 1;
     let mut least = bound_of(sums[last]);

@@ -1,5 +1,6 @@
 // Candidates: the free blocks of a stack that gain something in a case.
-ghost use Rattle.std.specs.Prelude.{◌≡◌, ◌<◌, ◌≤◌, ◌++◌, ◌∷◌, [], List, All, length, filter, not, IsTrue, ◌↔◌, IfOk, OnOk};
+ghost use Rattle.std.specs.Prelude.{◌≡◌, ◌<◌, ◌≤◌, ◌++◌, ◌∷◌, [], List, All, length, filter, not};
+ghost use Rattle.std.specs.Prelude.{IsTrue, ◌↔◌, IfOk, OnOk};
 ghost use Rattle.shunt_blocks.specs.defs.Shapes.{AreRunsWithin, IsWithinTrains, shape_of};
 ghost use Rattle.shunt_blocks.specs.defs.Blocks.{IsOption};
 ghost use Rattle.shunt_prices.specs.defs.Prices.{track_length};
@@ -60,7 +61,9 @@ pub(crate) fn track_length(instance: &Instance, track: TrackId) -> u32
 fn can_stand(instance: &Instance, stack: Stack, offer: &Offer) -> bool
     requires offer { IsSmallOffer instance.now offer.now }
     requires track { stack.track.0 < length instance.now.station.tracks }
-    ensures { IsTrue result ↔ IsOption instance.now offer.now.shape (block_on (seen stack) offer.now.shape).park × (offer.now.long ≤ track_length instance.now stack.track.0) }
+    ensures { IsTrue result
+        ↔ IsOption instance.now offer.now.shape (block_on (seen stack) offer.now.shape).park
+        × (offer.now.long ≤ track_length instance.now stack.track.0) }
 {
     if offer.length() > track_length(instance, stack.track) {
         return false;
@@ -77,7 +80,8 @@ fn add_candidate(
 ) -> Result<(), AllocError>
     requires offer { IsSmallOffer instance.now offer.now }
     requires track { stack.track.0 < length instance.now.station.tracks }
-    ensures { OnOk result ((added : List OneCandidate) × AreTaken instance.now (seen stack) (offer.now ∷ []) added × (candidates.new.items ≡ candidates.old.items ++ added)) }
+    ensures { OnOk result ((added : List OneCandidate) × AreTaken instance.now (seen stack)
+        (offer.now ∷ []) added × (candidates.new.items ≡ candidates.old.items ++ added)) }
 {
     if !can_stand(instance, stack, offer) {
         return Ok(());
@@ -143,7 +147,8 @@ pub(crate) fn apart_of(
 ) -> Result<Vec<Candidate>, AllocError>
     requires block { IsWithinTrains instance.now block.now }
     requires each { All (λ k. IsWithinTrains instance.now k.block) candidates.now }
-    ensures { IfOk result (λ v. v.items ≡ filter (λ k. not (shares instance.now block.now k.block)) candidates.now) }
+    ensures { IfOk result
+        (λ v. v.items ≡ filter (λ k. not (shares instance.now block.now k.block)) candidates.now) }
 {
     let mut apart = Vec::new(alloc);
     'candidates: for candidate in candidates {

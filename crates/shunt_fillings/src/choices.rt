@@ -1,5 +1,6 @@
 // The bounds of choices at a path, by what its stacks may gain.
-ghost use Rattle.std.specs.Prelude.{◌≡◌, ◌<◌, ◌+ℤ◌, ◌-ℤ◌, ◌++◌, ◌∷◌, [], ℕ, length, false, true, IfOk, IfSome, IfNone, slice_index_or};
+ghost use Rattle.std.specs.Prelude.{◌≡◌, ◌<◌, ◌+ℤ◌, ◌-ℤ◌, ◌++◌, ◌∷◌, [], ℕ, length, false, true};
+ghost use Rattle.std.specs.Prelude.{IfOk, IfSome, IfNone, slice_index_or};
 ghost use Rattle.shunt_base.specs.declared.duals.Case.{Case as OneCase};
 ghost use Rattle.shunt_prices.specs.defs.Sums.{IsWithin};
 ghost use Rattle.shunt_prices.specs.defs.Limits.{AreCases};
@@ -46,9 +47,11 @@ fn gain_with(
     requires scene { IsScene scene.now }
     requires track { stack.track.0 < length scene.now.instance.now.station.tracks }
     requires block { MayCome scene.now.instance.now scene.now.path.now.blocks block.now }
-    requires candidates { AreOfSomeCase scene.now.instance.now scene.now.path.now.blocks (seen stack) prospect.now.candidates.items }
-    ensures exact { (c : OneCase) → AreCandidates scene.now.instance.now scene.now.path.now.blocks c (seen stack) prospect.now.candidates.items →
-        IfOk result (IsStackGain scene.now.instance.now (scene.now.path.now.blocks ++ block.now ∷ []) c (seen stack)) }
+    requires candidates { AreOfSomeCase scene.now.instance.now scene.now.path.now.blocks
+        (seen stack) prospect.now.candidates.items }
+    ensures exact { (c : OneCase) → AreCandidates scene.now.instance.now scene.now.path.now.blocks c
+        (seen stack) prospect.now.candidates.items → IfOk result (IsStackGain scene.now.instance.now
+        (scene.now.path.now.blocks ++ block.now ∷ []) c (seen stack)) }
     ensures small { IfOk result (IsWithin 319999999999680) }
 {
     // The first call tells that the night is well formed.
@@ -63,8 +66,10 @@ fn gain_with(
 /// The number of the stack that an option is of.
 fn stack_number(stacks: &[Stack], park: Option<Park>) -> Option<usize>
     ensures there { IfSome result (λ k. k < length stacks.now) }
-    ensures of { IfSome result (λ k. (d : OurStack) → is_of (seen (slice_index_or stacks.now k d)) park ≡ true) }
-    ensures none { IfNone result ((k : ℕ) (d : OurStack) → k < length stacks.now → is_of (seen (slice_index_or stacks.now k d)) park ≡ false) }
+    ensures of { IfSome result
+        (λ k. (d : OurStack) → is_of (seen (slice_index_or stacks.now k d)) park ≡ true) }
+    ensures none { IfNone result ((k : ℕ) (d : OurStack) → k < length stacks.now
+        → is_of (seen (slice_index_or stacks.now k d)) park ≡ false) }
 {
     for k in 0..stacks.len() {
         if is_of(stacks[k], park) {
@@ -99,9 +104,11 @@ fn choice_sum(
     requires scene { IsScene scene.now }
     requires cases { AreCases scene.now.instance.now cases.now }
     requires there { k < length cases.now }
-    requires outlook { IsOutlook scene.now.instance.now scene.now.path.now.blocks cases.now k outlook.now }
+    requires outlook { IsOutlook scene.now.instance.now scene.now.path.now.blocks cases.now k
+        outlook.now }
     requires block { MayCome scene.now.instance.now scene.now.path.now.blocks block.now }
-    ensures exact { IfOk result (IsChoiceSum scene.now.instance.now scene.now.path.now.blocks block.now cases.now k) }
+    ensures exact { IfOk result
+        (IsChoiceSum scene.now.instance.now scene.now.path.now.blocks block.now cases.now k) }
     ensures small { IfOk result (IsWithin 4100000000000000000) }
 {
     // The first call tells that the night is well formed.
@@ -127,9 +134,11 @@ fn choice_sums(
 ) -> Result<Vec<i64>, AllocError>
     requires scene { IsScene scene.now }
     requires cases { AreCases scene.now.instance.now cases.now }
-    requires outlooks { AreOutlooks scene.now.instance.now scene.now.path.now.blocks cases.now (length cases.now) outlooks.now }
+    requires outlooks { AreOutlooks scene.now.instance.now scene.now.path.now.blocks cases.now
+        (length cases.now) outlooks.now }
     requires block { MayCome scene.now.instance.now scene.now.path.now.blocks block.now }
-    ensures { IfOk result (λ v. AreSums (IsChoiceSum scene.now.instance.now scene.now.path.now.blocks block.now cases.now) (length cases.now) v.items) }
+    ensures { IfOk result (λ v. AreSums (IsChoiceSum scene.now.instance.now
+        scene.now.path.now.blocks block.now cases.now) (length cases.now) v.items) }
 {
     let mut sums = Vec::with_capacity(alloc, cases.len())?;
     for k in 0..cases.len() {
@@ -161,9 +170,11 @@ pub fn choice_bound(
 ) -> Result<i64, AllocError>
     requires scene { IsScene scene.now }
     requires cases { AreCases scene.now.instance.now cases.now }
-    requires outlooks { AreOutlooks scene.now.instance.now scene.now.path.now.blocks cases.now (length cases.now) outlooks.now }
+    requires outlooks { AreOutlooks scene.now.instance.now scene.now.path.now.blocks cases.now
+        (length cases.now) outlooks.now }
     requires block { MayCome scene.now.instance.now scene.now.path.now.blocks block.now }
-    ensures { IfOk result (IsChoiceBound scene.now.instance.now scene.now.path.now.blocks block.now cases.now) }
+    ensures { IfOk result
+        (IsChoiceBound scene.now.instance.now scene.now.path.now.blocks block.now cases.now) }
 {
     let sums = choice_sums(alloc, scene, cases, outlooks, block)?;
     let unparked = unparked_with(scene.path.blocks(), block);

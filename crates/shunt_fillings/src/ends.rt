@@ -54,7 +54,8 @@ fn is_open(instance: &Instance, track: TrackId, side: Side) -> bool
 /// Adds a track with a side where it is open there.
 fn add_end(instance: &Instance, stack: Stack, stacks: &mut Vec<Stack>) -> Result<(), AllocError>
     requires { stack.track.0 < length instance.now.station.tracks }
-    ensures { OnOk result (all_seen stacks.new.items ≡ all_seen stacks.old.items ++ one_where (is_open_at instance.now.station stack.track stack.side) (seen stack)) }
+    ensures { OnOk result (all_seen stacks.new.items ≡ all_seen stacks.old.items
+        ++ one_where (is_open_at instance.now.station stack.track stack.side) (seen stack)) }
 {
     if is_open(instance, stack.track, stack.side) {
         stacks.push(stack)?;
@@ -65,7 +66,8 @@ fn add_end(instance: &Instance, stack: Stack, stacks: &mut Vec<Stack>) -> Result
 /// Adds the stacks of a track.
 fn add_ends(instance: &Instance, track: TrackId, stacks: &mut Vec<Stack>) -> Result<(), AllocError>
     requires { track.0 < length instance.now.station.tracks }
-    ensures { OnOk result (all_seen stacks.new.items ≡ all_seen stacks.old.items ++ ends_of instance.now.station track.0) }
+    ensures { OnOk result (all_seen stacks.new.items ≡ all_seen stacks.old.items
+        ++ ends_of instance.now.station track.0) }
 {
     let one = Stack {
         track,

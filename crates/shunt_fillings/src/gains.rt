@@ -30,7 +30,8 @@ fn greatest_gain(
     requires few { events_in events.now ≤ 320 }
     requires own { AreOwn (spans_of fixed.items) (spans_of free.items) }
     requires small { AreSmall (spans_of fixed.items) (spans_of free.items) }
-    ensures { IfOk result (IsGain (spans_of fixed.items) (spans_of free.items) 0 (events_in events.now) room) }
+    ensures { IfOk result
+        (IsGain (spans_of fixed.items) (spans_of free.items) 0 (events_in events.now) room) }
 {
     let mut table = Table::new(alloc, fixed, free, events.len())?;
     table.best(0, events.len(), room)
@@ -50,8 +51,9 @@ fn gain_if_there(
     requires each { All (IsBlockButId instance.now) path.now }
     requires apart { ShareNothing instance.now path.now }
     requires candidates { AreOfSomeCase instance.now path.now (seen stack) candidates.now }
-    ensures { (c : OneCase) → AreCandidates instance.now path.now c (seen stack) candidates.now →
-        IfOk result (λ g. (most : ℤ) → g ≡ Some most ↔ IsStackGain instance.now path.now c (seen stack) most) }
+    ensures { (c : OneCase) → AreCandidates instance.now path.now c (seen stack) candidates.now
+        → IfOk result
+        (λ g. (most : ℤ) → g ≡ Some most ↔ IsStackGain instance.now path.now c (seen stack) most) }
 {
     // The first call tells that the night is well formed.
     instance.units();
@@ -77,7 +79,9 @@ pub(crate) fn stack_gain(
     requires apart { ShareNothing instance.now path.now }
     requires through { RunsThrough instance.now (placed path.now) }
     requires candidates { AreOfSomeCase instance.now path.now (seen stack) candidates.now }
-    ensures exact { (c : OneCase) → AreCandidates instance.now path.now c (seen stack) candidates.now → IfOk result (IsStackGain instance.now path.now c (seen stack)) }
+    ensures exact { (c : OneCase)
+        → AreCandidates instance.now path.now c (seen stack) candidates.now
+        → IfOk result (IsStackGain instance.now path.now c (seen stack)) }
     ensures small { IfOk result (IsWithin 319999999999680) }
 {
     // The first call tells that the night is well formed.

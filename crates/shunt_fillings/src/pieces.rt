@@ -18,7 +18,8 @@ use std::alloc::{AllocError, Global};
 fn piece_of(instance: &Instance, events: &Events, block: &Block, gain: i64) -> Piece
     requires events { AreEvents instance.now events.now }
     requires within { IsWithinTrains instance.now block.now }
-    ensures { piece_span result ≡ span_of instance.now (entry_of events.now) (leave_of events.now) (λ b. gain) block.now }
+    ensures { piece_span result
+        ≡ span_of instance.now (entry_of events.now) (leave_of events.now) (λ b. gain) block.now }
 {
     let shape = shape_of(block);
     let last = usize::from(block.n) - 1;
@@ -44,7 +45,8 @@ pub(crate) fn free_pieces(
     requires events { AreEvents instance.now events.now }
     requires within { All (λ k. IsWithinTrains instance.now k.block) candidates.now }
     requires small { All (λ k. IsWithin 1000000000000000 k.gain) candidates.now }
-    ensures { IfOk result (λ v. spans_of v.items ≡ spans_with instance.now events.now candidates.now) }
+    ensures { IfOk result
+        (λ v. spans_of v.items ≡ spans_with instance.now events.now candidates.now) }
 {
     let mut pieces = Vec::with_capacity(alloc, candidates.len())?;
     'candidates: for candidate in candidates {
@@ -63,7 +65,8 @@ pub(crate) fn fixed_pieces(
 ) -> Result<Vec<Piece>, AllocError>
     requires events { AreEvents instance.now events.now }
     requires within { All (IsWithinTrains instance.now) path.now }
-    ensures { IfOk result (λ v. spans_of v.items ≡ fixed_of_stack instance.now events.now path.now (seen stack)) }
+    ensures { IfOk result
+        (λ v. spans_of v.items ≡ fixed_of_stack instance.now events.now path.now (seen stack)) }
 {
     let mut pieces = Vec::new(alloc);
     'blocks: for block in path {

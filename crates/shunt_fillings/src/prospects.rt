@@ -43,9 +43,11 @@ fn prospect_of(
 ) -> Result<Prospect, AllocError>
     requires scene { IsScene scene.now }
     requires track { stack.track.0 < length scene.now.instance.now.station.tracks }
-    requires offers { (c : OneCase) × IsCase scene.now.instance.now c × AreOffers scene.now.instance.now c.duals scene.now.shapes.now offers.now }
-    ensures { (c : OneCase) → IsCase scene.now.instance.now c → AreOffers scene.now.instance.now c.duals scene.now.shapes.now offers.now →
-        IfOk result (IsProspect scene.now.instance.now scene.now.path.now.blocks c (seen stack)) }
+    requires offers { (c : OneCase) × IsCase scene.now.instance.now c
+        × AreOffers scene.now.instance.now c.duals scene.now.shapes.now offers.now }
+    ensures { (c : OneCase) → IsCase scene.now.instance.now c
+        → AreOffers scene.now.instance.now c.duals scene.now.shapes.now offers.now
+        → IfOk result (IsProspect scene.now.instance.now scene.now.path.now.blocks c (seen stack)) }
 {
     // The call tells that there are at most 60 tracks.
     scene.instance.station();
@@ -66,7 +68,8 @@ fn prospect_of(
 fn prospects_in(alloc: Global, scene: &Scene<'_>, case: &Case) -> Result<Vec<Prospect>, AllocError>
     requires scene { IsScene scene.now }
     requires case { IsCase scene.now.instance.now case.now }
-    ensures { IfOk result (λ v. AllZip (IsProspect scene.now.instance.now scene.now.path.now.blocks case.now) (stacks_of scene.now.instance.now.station) v.items) }
+    ensures { IfOk result (λ v. AllZip (IsProspect scene.now.instance.now scene.now.path.now.blocks
+        case.now) (stacks_of scene.now.instance.now.station) v.items) }
 {
     stacks_of_stations();
     let offers = offers(alloc, scene.instance, &case.duals, scene.shapes)?;
@@ -117,7 +120,8 @@ pub(crate) fn outlook_of(
 pub fn outlooks(alloc: Global, scene: &Scene<'_>, cases: &Cases) -> Result<Vec<Outlook>, AllocError>
     requires scene { IsScene scene.now }
     requires cases { AreCases scene.now.instance.now cases.now }
-    ensures { IfOk result (λ v. AreOutlooks scene.now.instance.now scene.now.path.now.blocks cases.now (length cases.now) v.items) }
+    ensures { IfOk result (λ v. AreOutlooks scene.now.instance.now scene.now.path.now.blocks
+        cases.now (length cases.now) v.items) }
 {
     let mut all = Vec::with_capacity(alloc, cases.len())?;
     for k in 0..cases.len() {

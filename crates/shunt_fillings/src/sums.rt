@@ -24,7 +24,8 @@ pub fn stack_sum(
     requires scene { IsScene scene.now }
     requires cases { AreCases scene.now.instance.now cases.now }
     requires there { k < length cases.now }
-    ensures exact { IfOk result (IsStackSum scene.now.instance.now scene.now.path.now.blocks cases.now k) }
+    ensures exact { IfOk result
+        (IsStackSum scene.now.instance.now scene.now.path.now.blocks cases.now k) }
     ensures small { IfOk result (IsWithin 4100000000000000000) }
 {
     let outlook = outlook_of(alloc, scene, cases, k)?;
@@ -35,7 +36,8 @@ pub fn stack_sum(
 fn stack_sums(alloc: Global, scene: &Scene<'_>, cases: &Cases) -> Result<Vec<i64>, AllocError>
     requires scene { IsScene scene.now }
     requires cases { AreCases scene.now.instance.now cases.now }
-    ensures { IfOk result (λ v. AreSums (IsStackSum scene.now.instance.now scene.now.path.now.blocks cases.now) (length cases.now) v.items) }
+    ensures { IfOk result (λ v. AreSums (IsStackSum scene.now.instance.now scene.now.path.now.blocks
+        cases.now) (length cases.now) v.items) }
 {
     let mut sums = Vec::with_capacity(alloc, cases.len())?;
     for k in 0..cases.len() {
@@ -50,7 +52,8 @@ fn stack_sums(alloc: Global, scene: &Scene<'_>, cases: &Cases) -> Result<Vec<i64
 pub fn stack_bound(alloc: Global, scene: &Scene<'_>, cases: &Cases) -> Result<i64, AllocError>
     requires scene { IsScene scene.now }
     requires cases { AreCases scene.now.instance.now cases.now }
-    ensures { IfOk result (IsStackBound scene.now.instance.now scene.now.path.now.blocks cases.now) }
+    ensures { IfOk result
+        (IsStackBound scene.now.instance.now scene.now.path.now.blocks cases.now) }
 {
     let sums = stack_sums(alloc, scene, cases)?;
     let unparked = unparked_in(scene.path.blocks());

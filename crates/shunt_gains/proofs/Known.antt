@@ -1,18 +1,15 @@
 -- Rows that are known stay right when one comes to them, and a row grows by the gain at the event before.
-use Rattle.std.specs.Prelude.{cond, Option, Some, None, IfSome, Vec, Bool, true, false, ℤ, List}
+use Rattle.std.specs.Prelude.{Option, Some, None, IfSome, Vec, true, ℤ, List}
 use Rattle.std.specs.BTreeMap.{BTreeMap, get, is_at, Updates}
 use Rattle.std.specs.Option.{option_copied}
 use Rattle.std.specs.Map.{lookup}
-use Rattle.std.proofs.Common.{Bor, ◌≡◌, ℕ, ◌+◌, ◌<◌, ◌≤◌, length, slice_index_or, refl, sym, subst, arith}
+use Rattle.std.proofs.Common.{Bor, ◌≡◌, ℕ, ◌+◌, ◌<◌, ◌≤◌, length, slice_index_or, sym, subst, arith}
 use Rattle.std.proofs.lemmas.List.{get_or_default}
 use Rattle.std.proofs.lemmas.Bool.Decides.{nat_tests}
 use Rattle.shunt_stacks.specs.defs.Spans.{Span}
 use Rattle.shunt_gains.specs.declared.rows.RowKey.{RowKey}
-use Rattle.shunt_gains.specs.defs.Tables.{IsGain, AreBefore, IsRow, AreRows, row_cmp}
-
-pick : {A : Type 0} (P : A → Type 0) (t : Bool) (g : A) (o : Option A) → (t ≡ true → P g) → IfSome o P → IfSome (cond t (Some g) o) P
-pick P true g o sure other = sure refl
-pick P false g o sure other = other
+use Rattle.shunt_gains.specs.defs.Tables.{IsGain, AreGainsBefore, IsRow, AreRows, row_cmp}
+use Rattle.shunt_lists.proofs.Options.{some_either as pick}
 
 same_parts : (k q : RowKey) → is_at (row_cmp k) q ≡ true → (k.end ≡ q.end) × (k.room ≡ q.room)
 same_parts k q e = grind (arith, nat_tests)
@@ -32,7 +29,7 @@ module _ (fixed free : List Span) where
       subst (λ (es : List (RowKey × Vec (Option ℤ) A)). IfSome (lookup (is_at (row_cmp q)) es) (λ v. IsRow fixed free q.end q.room v.items)) (sym e) (known q)
 
   -- in a row that goes down to an event, or behind it, stands the gain from there on
-  pub in_row : (x y room : ℕ) (row : List (Option ℤ)) (back : ℕ) → AreBefore fixed free y room row → back + x ≡ y → x ≤ y → back < length row →
+  pub in_row : (x y room : ℕ) (row : List (Option ℤ)) (back : ℕ) → AreGainsBefore fixed free y room row → back + x ≡ y → x ≤ y → back < length row →
       (d : Option ℤ) → IsGain fixed free x y room (slice_index_or row back d)
   in_row x y room row back each e le lt d = subst (IsGain fixed free x y room) (get_or_default row back None d lt)
       (subst (λ (w : ℕ). IsGain fixed free w y room (slice_index_or row back None)) (omega (arith, e)) (each back lt (omega (arith, e))))

@@ -7,9 +7,7 @@ use Rattle.shunt_lists.proofs.Members.{in_place, in_map, filter_from}
 use Rattle.shunt_stacks.specs.defs.Spans.{Span, coming_at}
 use Rattle.shunt_gains.specs.declared.pieces.Piece.{Piece}
 use Rattle.shunt_gains.specs.defs.Tables.{span_of, spans_of, spans_at, AreByEvent}
-
-same_from : (m n : ℕ) → m == n ≡ true → m ≡ n
-same_from m n e = grind (arith, nat_tests)
+use Rattle.shunt_lists.proofs.Tests.{equal_of as same_from}
 
 same_length : (ps : List Piece) → length (spans_of ps) ≡ length ps
 same_length [] = refl

@@ -2,7 +2,9 @@
 ghost use Rattle.std.specs.Prelude.{◌≡◌, ◌<◌, ◌≤◌, length, IfOk};
 ghost use Rattle.shunt_instance.specs.defs.Instance.{unit_total, position_total};
 ghost use Rattle.shunt_stacks.specs.defs.Numbers.{arrives, departs};
-ghost use Rattle.shunt_gains.specs.defs.Events.{IsGoneBy, IsComeBefore, IsEntryNumber, IsLeaveNumber, AreEntries, AreLeaves, AreEvents, entry_of, leave_of, events_in};
+ghost use Rattle.shunt_gains.specs.defs.Events.{IsGoneBy, IsComeBefore, IsEntryNumber};
+ghost use Rattle.shunt_gains.specs.defs.Events.{IsLeaveNumber, AreEntries, AreLeaves, AreEvents};
+ghost use Rattle.shunt_gains.specs.defs.Events.{entry_of, leave_of, events_in};
 
 use shunt_instance::Instance;
 use shunt_instance::laws::{instances, rooms_of_trains, unit_numbers};

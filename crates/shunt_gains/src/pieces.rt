@@ -1,7 +1,8 @@
 // Pieces: what blocks of a stack take of the events, listed by the event at which they come.
 ghost use Rattle.std.specs.Prelude.{◌≡◌, ◌<◌, ◌≤◌, length, IfOk};
 ghost use Rattle.shunt_stacks.specs.defs.Spans.{AreOwn, coming_at};
-ghost use Rattle.shunt_gains.specs.defs.Tables.{spans_of, spans_at, AreByEvent, AreSmall, ArePieces, fixed_in, free_in, events_in};
+ghost use Rattle.shunt_gains.specs.defs.Tables.{spans_of, spans_at, AreByEvent, AreSmall};
+ghost use Rattle.shunt_gains.specs.defs.Tables.{ArePieces, fixed_in, free_in, events_in};
 
 use std::alloc::{AllocError, Global};
 

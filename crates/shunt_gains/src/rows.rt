@@ -22,7 +22,8 @@ pub(crate) type Rows = BTreeMap<RowKey, Row>;
 /// The gain over the events from x on with an end and a room, where their row is known.
 pub(crate) fn found(rows: &Rows, x: u16, key: RowKey) -> Option<Option<i64>>
     requires { x ≤ key.end }
-    ensures { (fixed free : List Span) → AreRows fixed free rows.now → IfSome result (IsGain fixed free x key.end key.room) }
+    ensures { (fixed free : List Span) → AreRows fixed free rows.now
+        → IfSome result (IsGain fixed free x key.end key.room) }
 {
     let row = rows.get(&key)?;
     row.get(usize::from(key.end - x)).copied()
@@ -30,7 +31,8 @@ pub(crate) fn found(rows: &Rows, x: u16, key: RowKey) -> Option<Option<i64>>
 
 /// Keeps the row of an end and a room.
 pub(crate) fn remember(rows: &mut Rows, key: RowKey, row: Row) -> Result<(), AllocError>
-    ensures { (fixed free : List Span) → AreRows fixed free rows.old → IsRow fixed free key.end key.room row.items → AreRows fixed free rows.new }
+    ensures { (fixed free : List Span) → AreRows fixed free rows.old
+        → IsRow fixed free key.end key.room row.items → AreRows fixed free rows.new }
 {
     rows.insert(key, row)?;
     Ok(())

@@ -1,7 +1,8 @@
 // The table of a stack's gains.
 ghost use Rattle.std.specs.Prelude.{◌≡◌, ◌≤◌, IfOk};
 ghost use Rattle.shunt_stacks.specs.defs.Spans.{AreOwn};
-ghost use Rattle.shunt_gains.specs.defs.Tables.{spans_of, AreSmall, IsTable, IsTableOf, IsGain, fixed_of, free_of, events_of};
+ghost use Rattle.shunt_gains.specs.defs.Tables.{spans_of, AreSmall, IsTable, IsTableOf, IsGain};
+ghost use Rattle.shunt_gains.specs.defs.Tables.{fixed_of, free_of, events_of};
 
 use crate::pieces::{Piece, Pieces};
 use crate::rows::{RowKey, Rows};
@@ -45,7 +46,8 @@ impl Table {
     pub fn best(&mut self, x: u16, y: u16, room: u32) -> Result<Option<i64>, AllocError>
         requires table { IsTable self.old }
         requires end { y ≤ events_of self.old }
-        ensures table { IsTableOf (fixed_of self.old) (free_of self.old) (events_of self.old) self.new }
+        ensures table { IsTableOf (fixed_of self.old) (free_of self.old)
+            (events_of self.old) self.new }
         ensures best { IfOk result (IsGain (fixed_of self.old) (free_of self.old) x y room) }
     {
         value(&self.pieces, &mut self.rows, x, RowKey { end: y, room })

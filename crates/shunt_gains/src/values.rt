@@ -3,7 +3,9 @@ ghost use Rattle.std.specs.Prelude.{◌≡◌, ◌⊎◌, ℕ, ◌+◌, ◌<◌,
 ghost use Rattle.shunt_lists.specs.defs.Members.{In};
 ghost use Rattle.shunt_prices.specs.defs.Sums.{IsWithin};
 ghost use Rattle.shunt_stacks.specs.defs.Spans.{Span, greater, plus, greatest_of, best, best_with};
-ghost use Rattle.shunt_gains.specs.defs.Tables.{span_of, spans_of, spans_at, ArePieces, IsGain, AreBefore, IsRow, AreRows, fixed_in, free_in, events_in};
+ghost use Rattle.shunt_gains.specs.defs.Tables.{span_of, spans_of, spans_at, ArePieces, IsGain};
+ghost use Rattle.shunt_gains.specs.defs.Tables.{AreGainsBefore, IsRow, AreRows, fixed_in, free_in};
+ghost use Rattle.shunt_gains.specs.defs.Tables.{events_in};
 
 use crate::pieces::{Piece, Pieces, list_at};
 use crate::rows::{Row, RowKey, Rows, found, remember};
@@ -46,11 +48,14 @@ fn with_piece(
     requires pieces { ArePieces pieces.now }
     requires rows { AreRows (fixed_in pieces.now) (free_in pieces.now) rows.old }
     requires end { key.end ≤ events_in pieces.now }
-    requires piece { In (span_of piece) (fixed_in pieces.now) ⊎ In (span_of piece) (free_in pieces.now) }
-    requires row { AreBefore (fixed_in pieces.now) (free_in pieces.now) key.end key.room row.now }
+    requires piece { In (span_of piece) (fixed_in pieces.now)
+        ⊎ In (span_of piece) (free_in pieces.now) }
+    requires row { AreGainsBefore (fixed_in pieces.now)
+        (free_in pieces.now) key.end key.room row.now }
     requires long { key.end ≤ piece.from + length row.now }
     ensures rows { AreRows (fixed_in pieces.now) (free_in pieces.now) rows.new }
-    ensures is { IfOk result (λ g. (n : ℕ) → key.end ≤ piece.from + n → g ≡ best_with (best n (fixed_in pieces.now) (free_in pieces.now)) key.end key.room (span_of piece)) }
+    ensures is { IfOk result (λ g. (n : ℕ) → key.end ≤ piece.from + n → g ≡ best_with
+        (best n (fixed_in pieces.now) (free_in pieces.now)) key.end key.room (span_of piece)) }
 {
     if piece.past > key.end || piece.length > key.room {
         return Ok(None);
@@ -79,12 +84,15 @@ fn greatest(
     requires rows { AreRows (fixed_in pieces.now) (free_in pieces.now) rows.old }
     requires end { key.end ≤ events_in pieces.now }
     requires listed { x < length lists.now }
-    requires ours { (s : Span) → In s (spans_at lists.now x) → (In s (fixed_in pieces.now) ⊎ In s (free_in pieces.now)) × (s.from ≡ x) }
-    requires row { AreBefore (fixed_in pieces.now) (free_in pieces.now) key.end key.room row.now }
+    requires ours { (s : Span) → In s (spans_at lists.now x)
+        → (In s (fixed_in pieces.now) ⊎ In s (free_in pieces.now)) × (s.from ≡ x) }
+    requires row { AreGainsBefore (fixed_in pieces.now)
+        (free_in pieces.now) key.end key.room row.now }
     requires long { key.end ≤ x + length row.now }
     ensures rows { AreRows (fixed_in pieces.now) (free_in pieces.now) rows.new }
-    ensures is { IfOk result (λ g. (n : ℕ) → key.end ≤ x + n →
-        g ≡ greater without (greatest_of (map (best_with (best n (fixed_in pieces.now) (free_in pieces.now)) key.end key.room) (spans_at lists.now x)))) }
+    ensures is { IfOk result (λ g. (n : ℕ) → key.end ≤ x + n → g ≡ greater without (greatest_of
+        (map (best_with (best n (fixed_in pieces.now) (free_in pieces.now)) key.end key.room)
+        (spans_at lists.now x)))) }
 {
     let mut gain = without;
     'pieces: for piece in list_at(lists, x) {
@@ -106,10 +114,12 @@ fn step(
     requires rows { AreRows (fixed_in pieces.now) (free_in pieces.now) rows.old }
     requires start { x < key.end }
     requires end { key.end ≤ events_in pieces.now }
-    requires row { AreBefore (fixed_in pieces.now) (free_in pieces.now) key.end key.room row.now }
+    requires row { AreGainsBefore (fixed_in pieces.now)
+        (free_in pieces.now) key.end key.room row.now }
     requires long { key.end ≤ x + length row.now }
     ensures rows { AreRows (fixed_in pieces.now) (free_in pieces.now) rows.new }
-    ensures is { IfOk result (IsGain (fixed_in pieces.now) (free_in pieces.now) x key.end key.room) }
+    ensures is { IfOk result
+        (IsGain (fixed_in pieces.now) (free_in pieces.now) x key.end key.room) }
 {
     nests();
     if !list_at(&pieces.fixed_at, x).is_empty() {
@@ -126,7 +136,8 @@ fn filled(pieces: &Pieces, rows: &mut Rows, key: RowKey) -> Result<Row, AllocErr
     requires rows { AreRows (fixed_in pieces.now) (free_in pieces.now) rows.old }
     requires end { key.end ≤ events_in pieces.now }
     ensures rows { AreRows (fixed_in pieces.now) (free_in pieces.now) rows.new }
-    ensures is { IfOk result (λ v. IsRow (fixed_in pieces.now) (free_in pieces.now) key.end key.room v.items) }
+    ensures is { IfOk result
+        (λ v. IsRow (fixed_in pieces.now) (free_in pieces.now) key.end key.room v.items) }
 {
     let mut row = Vec::with_capacity(pieces.alloc, usize::from(key.end) + 1)?;
     row.push(Some(0))?;
@@ -149,7 +160,8 @@ pub(crate) fn value(
     requires rows { AreRows (fixed_in pieces.now) (free_in pieces.now) rows.old }
     requires end { key.end ≤ events_in pieces.now }
     ensures rows { AreRows (fixed_in pieces.now) (free_in pieces.now) rows.new }
-    ensures is { IfOk result (IsGain (fixed_in pieces.now) (free_in pieces.now) x key.end key.room) }
+    ensures is { IfOk result
+        (IsGain (fixed_in pieces.now) (free_in pieces.now) x key.end key.room) }
 {
     if key.end <= x {
         return Ok(Some(0));

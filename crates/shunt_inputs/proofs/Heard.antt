@@ -2,25 +2,25 @@
 use Rattle.std.proofs.Common.{◌≡◌, ◌∙◌, ℕ, List, [], ◌∷◌, ◌++◌, Option, None, Some, append_assoc, append-nil, Result, Ok, Err, refl, sym, ap, subst}
 use Rattle.std.proofs.lemmas.List.{map-append}
 use Rattle.shunt_store.specs.defs.Files.{BothTold}
-use Rattle.shunt_store.specs.defs.Noting.{Entries, Adds}
+use Rattle.shunt_store.specs.defs.Notes.{Entries, AddsBytes}
 use Rattle.shunt_store.proofs.Texts.{both_same}
 use Rattle.shunt_rows.specs.declared.fault.RowFault.{RowFault}
 use Rattle.shunt_report.specs.declared.words.FileWord.{FileWord}
 use Rattle.shunt_report.specs.defs.Texts.{input_of}
-use Rattle.shunt_inputs.specs.declared.loading.Halt.{Halt}
-use Rattle.shunt_inputs.specs.declared.loading.Halt.TheVariants as halt
+use Rattle.shunt_inputs.specs.declared.file_loader.Halt.{Halt}
+use Rattle.shunt_inputs.specs.declared.file_loader.Halt.TheVariants as halt
 use Rattle.shunt_inputs.specs.defs.Halts.{IfInput}
-use Rattle.shunt_inputs.specs.defs.Reading.{HearsFor, IfRefused, Input, TellsOf, names_in}
+use Rattle.shunt_inputs.specs.defs.ReadFiles.{HearsFor, IfRefused, Input, TellsOf, names_in}
 use Rattle.shunt_inputs.specs.defs.Views.{Hears, HearsFirst}
-use Rattle.shunt_inputs.proofs.Seeing.{FailsWith, fails}
-use Rattle.shunt_inputs.proofs.Viewing.{hears_all, hears_both, hears_more, hears_on}
+use Rattle.shunt_inputs.proofs.SeenFiles.{FailsWith, fails}
+use Rattle.shunt_inputs.proofs.HeardSteps.{hears_all, hears_both, hears_more, hears_on}
 
 names_of_both : (xs ys : List Input) → names_in (xs ++ ys) ≡ names_in xs ++ names_in ys
 names_of_both xs ys = map-append (λ (i : Input). i.1) xs ys
 
 -- ---- one file
 
-pub hears_long : (name : List ℕ) (P : List ℕ → Type 0) (h0 h1 : Option Entries) → BothTold h0 h1 (Adds name P) → Hears (name ∷ []) h0 h1
+pub hears_long : (name : List ℕ) (P : List ℕ → Type 0) (h0 h1 : Option Entries) → BothTold h0 h1 (AddsBytes name P) → Hears (name ∷ []) h0 h1
 hears_long name P None None h = tt
 hears_long name P None (Some b) h = absurd h
 hears_long name P (Some a) None h = absurd h

@@ -5,12 +5,12 @@ use Rattle.std.proofs.lemmas.List.{length-append, map-append}
 use Rattle.std.specs.Prelude.{IfSome}
 use Rattle.shunt_store.specs.defs.Files.{Files, content}
 use Rattle.shunt_report.specs.declared.words.FileWord.{FileWord}
-use Rattle.shunt_inputs.specs.declared.loading.Halt.{Halt}
+use Rattle.shunt_inputs.specs.declared.file_loader.Halt.{Halt}
 use Rattle.shunt_inputs.specs.defs.Halts.{Loads}
 use Rattle.shunt_inputs.specs.defs.Inputs.{Holding, then_stated}
-use Rattle.shunt_inputs.specs.defs.Reading.{AreHeld, HoldingTexts, Input, names_in, stated_over}
+use Rattle.shunt_inputs.specs.defs.ReadFiles.{AreHeld, HoldingTexts, Input, names_in, stated_over}
 use Rattle.shunt_inputs.specs.defs.Replies.{Reply, Decided}
-use Rattle.shunt_inputs.proofs.Seeing.{FailsWith, first_refused, loads_failed, some_bytes, then_next}
+use Rattle.shunt_inputs.proofs.SeenFiles.{FailsWith, first_refused, loads_failed, some_bytes, then_next}
 
 -- ---- one text more
 

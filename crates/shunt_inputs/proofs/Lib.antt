@@ -1,7 +1,7 @@
-pub mod Seeing
-pub mod Viewing
+pub mod SeenFiles
+pub mod HeardSteps
 pub mod Stated
 pub mod Held
 pub mod NightTexts
 pub mod Heard
-pub mod Leading
+pub mod FirstFiles

@@ -4,13 +4,13 @@ use Rattle.shunt_instance.specs.declared.records.Station.{Station}
 use Rattle.shunt_instance.specs.declared.records.Timetable.{Timetable}
 use Rattle.shunt_instance.specs.defs.Instance.{Night, night_of}
 use Rattle.shunt_blocks.specs.declared.records.Block.{Block}
-use Rattle.shunt_inputs.specs.declared.loading.Halt.{Halt}
+use Rattle.shunt_inputs.specs.declared.file_loader.Halt.{Halt}
 use Rattle.shunt_inputs.specs.declared.pins.Pinned.{Pinned}
 use Rattle.shunt_inputs.specs.defs.Halts.{Loads}
 use Rattle.shunt_inputs.specs.defs.Inputs.{then_stated, stated_night, stated_pinned, stated_pins, stated_station, stated_timetable}
-use Rattle.shunt_inputs.specs.defs.Reading.{stated_over}
+use Rattle.shunt_inputs.specs.defs.ReadFiles.{stated_over}
 use Rattle.shunt_inputs.proofs.Held.{regrouped}
-use Rattle.shunt_inputs.proofs.Seeing.{FailsWith, first_refused, loads_failed}
+use Rattle.shunt_inputs.proofs.SeenFiles.{FailsWith, first_refused, loads_failed}
 use Rattle.shunt_inputs.proofs.Stated.{pinned_of}
 
 -- ---- the night

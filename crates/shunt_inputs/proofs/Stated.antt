@@ -18,14 +18,14 @@ use Rattle.shunt_plan.specs.defs.PlanFormat.{plan_format}
 use Rattle.shunt_plan.specs.defs.Plans.{IsPlanInRange}
 use Rattle.shunt_plan.specs.defs.PinsFormat.{pins_format}
 use Rattle.shunt_plan.proofs.Formed.{plan_formed, pins_formed}
-use Rattle.shunt_station.specs.defs.Stating.{station_format}
+use Rattle.shunt_station.specs.defs.StatedStations.{station_format}
 use Rattle.shunt_station.proofs.Formed.{station_formed}
 use Rattle.shunt_timetable.specs.defs.TimetableFormat.{timetable_format}
 use Rattle.shunt_timetable.proofs.Formed.{timetable_formed}
-use Rattle.shunt_inputs.specs.declared.loading.Halt.{Halt}
+use Rattle.shunt_inputs.specs.declared.file_loader.Halt.{Halt}
 use Rattle.shunt_inputs.specs.declared.pins.Pinned.{Pinned}
 use Rattle.shunt_store.specs.defs.Causes.{HasCause}
-use Rattle.shunt_inputs.specs.declared.loading.Halt.TheVariants as halt
+use Rattle.shunt_inputs.specs.declared.file_loader.Halt.TheVariants as halt
 
 ok_value : {X : Type 0} (file : FileWord) (x : Result X RowFault) (v : X) → value_or file x ≡ Ok v → x ≡ Ok v
 ok_value file (Ok y) v e = cc

@@ -5,5 +5,5 @@ pub mod Views
 pub mod Replies
 pub mod Halts
 pub mod Writes
-pub mod Reading
+pub mod ReadFiles
 pub mod Pins

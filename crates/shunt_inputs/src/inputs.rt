@@ -7,10 +7,10 @@ ghost use Rattle.shunt_report.specs.declared.words.FileWord.{FileWord};
 ghost use Rattle.shunt_rows.specs.declared.fault.RowFault.{RowFault};
 ghost use Rattle.shunt_rows.specs.defs.Given.{Gives};
 ghost use Rattle.shunt_inputs.specs.defs.Halts.{Loads};
-ghost use Rattle.shunt_inputs.specs.defs.Reading.{HearsFor, HoldingTexts, Input, names_in};
+ghost use Rattle.shunt_inputs.specs.defs.ReadFiles.{HearsFor, HoldingTexts, Input, names_in};
 ghost use Rattle.shunt_inputs.specs.defs.Views.{IsView};
 
-use crate::loading::Halt;
+use crate::file_loader::Halt;
 use shunt_instance::Instance;
 use shunt_report::FileWord;
 use shunt_rows::{ReadError, Row};
@@ -33,7 +33,9 @@ pub trait Inputs {
     /// Reads them in their order, up to the first that isn't accepted.
     fn load<S: Store>(&self, alloc: Global, store: &mut S) -> Result<Self::Value, Halt>
         requires { S.stage store.old ≡ Closed }
-        ensures told { (view : Option Files) → IsView (S.told store.old) (S.heard store.old) (S.heard store.new) view → HoldingTexts view (names_in (inputs self.now)) (λ texts. Loads result (states self.now texts)) }
+        ensures told { (view : Option Files)
+            → IsView (S.told store.old) (S.heard store.old) (S.heard store.new) view → HoldingTexts
+            view (names_in (inputs self.now)) (λ texts. Loads result (states self.now texts)) }
         ensures heard { HearsFor (inputs self.now) (S.heard store.old) (S.heard store.new) result }
         ensures formed { IfOk result formed }
         ensures files { S.told store.new ≡ S.told store.old }

@@ -3,10 +3,10 @@
 
 mod answers;
 mod chains;
+mod file_loader;
 mod files;
+mod input_loader;
 mod inputs;
-mod judging;
-mod loading;
 mod nights;
 mod pins;
 mod questions;
@@ -14,9 +14,9 @@ mod stations;
 
 pub use answers::{Answer, FileText, Outcome, one_file};
 pub use chains::Then;
+pub use file_loader::Halt;
 pub use files::{CertificateFile, CrewFile, EditsFile, OtherFile, PinsFile, PlanFile, ZonesFile};
 pub use inputs::{HasNight, InputFile, Inputs, NoFiles};
-pub use loading::Halt;
 pub use nights::{CrewFiles, NightFiles, PlanFiles, RosterFile};
 pub use pins::{Pinned, PinnedFiles, pins_answer};
 pub use questions::{Question, reply};

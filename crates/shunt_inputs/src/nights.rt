@@ -7,9 +7,9 @@ ghost use Rattle.shunt_zones.specs.defs.Moves.{moves_of};
 ghost use Rattle.shunt_inputs.specs.defs.Inputs.{stated_night};
 
 use crate::chains::Then;
+use crate::file_loader::Halt;
 use crate::files::{CrewFile, PlanFile};
 use crate::inputs::{InputFile, Inputs};
-use crate::loading::Halt;
 use crate::stations::{StationFile, TimetableFile};
 use shunt_drivers::{Crew, Duty, read_roster};
 use shunt_instance::Instance;

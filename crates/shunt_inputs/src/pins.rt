@@ -9,9 +9,9 @@ ghost use Rattle.shunt_inputs.specs.defs.Pins.{PinFaults};
 
 use crate::answers::{Answer, Outcome};
 use crate::chains::Then;
+use crate::file_loader::Halt;
 use crate::files::PinsFile;
 use crate::inputs::{HasNight, Inputs};
-use crate::loading::Halt;
 use crate::nights::NightFiles;
 use shunt_audit::findings_of;
 use shunt_audit::laws::pins as usable_pins;
@@ -46,9 +46,11 @@ pub struct PinnedFiles<'n>(pub &'n str, pub &'n str, pub &'n str);
 impl Inputs for PinnedFiles<'_> {
     type Value = Pinned;
 
-    ghost inputs = { λ f. (words.Station, f.0.now) ∷ (words.Timetable, f.1.now) ∷ (words.Pins, f.2.now) ∷ [] };
+    ghost inputs = { λ f. (words.Station, f.0.now) ∷ (words.Timetable, f.1.now)
+        ∷ (words.Pins, f.2.now) ∷ [] };
 
-    ghost states = { λ _ texts. stated_pinned (get_or texts 0 []) (get_or texts 1 []) (get_or texts 2 []) };
+    ghost states = { λ _ texts. stated_pinned (get_or texts 0 []) (get_or texts 1 [])
+        (get_or texts 2 []) };
 
     ghost formed = { λ x. AreInRange x.instance x.pins };
 

@@ -4,13 +4,13 @@ ghost use Rattle.shunt_instance.specs.defs.Wellformed.{IsStation, IsTimetable};
 ghost use Rattle.shunt_report.specs.declared.words.FileWord.TheVariants as words;
 ghost use Rattle.shunt_rows.specs.defs.Formats.{reading};
 ghost use Rattle.shunt_sheet.specs.defs.SheetFormat.{sheet_format, AreOrders};
-ghost use Rattle.shunt_station.specs.defs.Stating.{station_format};
+ghost use Rattle.shunt_station.specs.defs.StatedStations.{station_format};
 ghost use Rattle.shunt_timetable.specs.defs.TimetableFormat.{timetable_format};
 ghost use Rattle.shunt_inputs.specs.defs.Inputs.{stated_station};
 
+use crate::file_loader::Halt;
+use crate::input_loader::load_input;
 use crate::inputs::{InputFile, Inputs, NoFiles};
-use crate::judging::load_input;
-use crate::loading::Halt;
 use shunt_instance::{Station, Timetable};
 use shunt_lists::Items;
 use shunt_report::FileWord;

@@ -6,14 +6,12 @@ use Rattle.std.specs.Ordering.{nat_cmp, is_lt}
 use Rattle.std.proofs.Common.{◌≡◌, ℕ, zero, suc, ◌<◌, ◌≤◌, Bool, true, false, not, ◌&&◌, ◌==◌, cond, List, [], ◌∷◌, ◌++◌, length, get_or, sym, ap, ◌∙◌, subst, arith, inl, inr, refl, IsTrue, Ordering}
 use Rattle.std.proofs.lemmas.List.{append-nil}
 use Rattle.std.proofs.lemmas.Bool.{cases_Bool, cases_order, cond-true, cond-false, eqb-true, eq-eqb, ne_eqb, leb-true, leb-false, le-leb, not-true, not_from_true}
-use Rattle.std.proofs.lemmas.Bool.Decides.{nat_tests}
 use Rattle.std.proofs.lemmas.Cmp.{nat_list_eq_equiv}
 use Rattle.std.proofs.lemmas.List.Elements.{All-from_recursion, recursion_from_All, filter_agree, All-filter, filter-append, filter_passes}
 use Rattle.std.proofs.lemmas.List.Sorted.{All-permutation, IsPermutation-refl, IsPermutation-cons, IsPermutation-sym, IsPermutation-trans, IsPermutation-middle, IsPermutation-map, length_permutation, sum_by-IsPermutation}
 use Rattle.std.proofs.lemmas.Map.Keys.{IsDistinct-IsPermutation}
 use Rattle.std.proofs.lemmas.Map.Made.{AllPairs-from_IsDistinct, IsDistinct-from_AllPairs}
 use Rattle.std.proofs.lemmas.Slice.Eq.{bytes_eq-Decides}
-use Rattle.std.specs.declared.cmp.Ordering.TheVariants.{Less, Equal, Greater}
 use Rattle.shunt_lists.specs.defs.Members.{AreDistinct}
 use Rattle.shunt_instance.specs.declared.records.Origin.TheVariants as origin
 use Rattle.shunt_instance.specs.declared.records.Station.{Station}
@@ -22,6 +20,7 @@ use Rattle.shunt_instance.specs.declared.records.Timetable.{Timetable}
 use Rattle.shunt_instance.specs.defs.Words.{is_standing, names_of}
 use Rattle.shunt_instance.specs.defs.Wellformed.{IsStation, IsTrain, AreTrains, StandingFirst, IsTimetable}
 use Rattle.shunt_instance.specs.defs.Instance.{insert_by_minute, sort_by_minute, Night, night_of, IsOrderedNight, IsInstance}
+use Rattle.shunt_lists.proofs.Orders.{nat_less as less, nat_greater as greater, nat_equal as even}
 
 abbrev at_minute : ℕ → Train → Bool
 at_minute m t = t.minute == m
@@ -145,16 +144,6 @@ insert_rises t (u ∷ us) h = elim (cases_Bool (nat_le t.minute u.minute)) [
 pub sort_rises : (ts : List Train) → Rises (sort_by_minute ts)
 sort_rises [] = tt
 sort_rises (t ∷ ts) = insert_rises t (sort_by_minute ts) (sort_rises ts)
-
--- a stable sort says of each minute what is told here
-less : (a b : ℕ) → a < b → nat_cmp a b ≡ Less
-less a b lt = grind (arith, nat_tests)
-
-greater : (a b : ℕ) → b < a → nat_cmp a b ≡ Greater
-greater a b lt = grind (arith, nat_tests)
-
-even : (a b : ℕ) → a ≡ b → nat_cmp a b ≡ Equal
-even a b e = grind (arith, nat_tests)
 
 abbrev ordered : Ordering → Ordering → Bool
 ordered a b = not (is_lt a) && not (is_lt b)

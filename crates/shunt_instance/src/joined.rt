@@ -1,16 +1,23 @@
 // A night: the station joined with the timetable.
-ghost use Rattle.std.specs.Prelude.{◌≡◌, ◌+◌, ◌<◌, ◌≤◌, ℕ, false, IsTrue, Some, IfOk, IfSome, length, slice_get, position, bytes_eq};
+ghost use Rattle.std.specs.Prelude.{◌≡◌, ◌+◌, ◌<◌, ◌≤◌, ℕ, false, IsTrue, Some, IfOk, IfSome};
+ghost use Rattle.std.specs.Prelude.{length, slice_get, position, bytes_eq};
 ghost use Rattle.shunt_lists.specs.defs.Members.{AreDistinct};
-ghost use Rattle.shunt_instance.specs.defs.Words.{route_cost, permits, is_standing, is_open_at, names_of, train_at, train_of_name, track_names, track_of_name};
+ghost use Rattle.shunt_instance.specs.defs.Words.{route_cost, permits, is_standing, is_open_at};
+ghost use Rattle.shunt_instance.specs.defs.Words.{names_of, train_at, train_of_name, track_names};
+ghost use Rattle.shunt_instance.specs.defs.Words.{track_of_name};
 ghost use Rattle.shunt_instance.specs.defs.Wellformed.{IsStation, IsTimetable, IsTrain};
-ghost use Rattle.shunt_instance.specs.defs.Instance.{night_of, IsInstance, unit_total, position_total, unit_at, position_at, ready, leaves, first_unit, first_position, arr_of_name, dep_of_name, IsUnitAt, IsPositionAt};
+ghost use Rattle.shunt_instance.specs.defs.Instance.{night_of, IsInstance, unit_total};
+ghost use Rattle.shunt_instance.specs.defs.Instance.{position_total, unit_at, position_at, ready};
+ghost use Rattle.shunt_instance.specs.defs.Instance.{leaves, first_unit, first_position};
+ghost use Rattle.shunt_instance.specs.defs.Instance.{arr_of_name, dep_of_name, IsUnitAt};
+ghost use Rattle.shunt_instance.specs.defs.Instance.{IsPositionAt};
 
 use crate::lookups::{cost_table, named_table, pair_table, permit_cell, route_cell};
-use crate::names::{Names, names_of};
-use crate::numbering::{
+use crate::names::{NameIndex, names_of};
+use crate::records::{Position, Station, Timetable, Train, Unit};
+use crate::train_numbers::{
     first_numbers, leave_minutes, number_positions, number_units, ready_minutes, sorted,
 };
-use crate::records::{Position, Station, Timetable, Train, Unit};
 use shunt_base::{ArrId, DepId, Minute, PlatformId, Side, TrackId, TypeId};
 use std::alloc::{AllocError, Global};
 use std::marker::Model;
@@ -34,9 +41,9 @@ pub struct Instance {
     costs: Vec<Option<u32>>,
     named: Vec<bool>,
     pairs: Vec<bool>,
-    arr_names: Names,
-    dep_names: Names,
-    track_names: Names,
+    arr_names: NameIndex,
+    dep_names: NameIndex,
+    track_names: NameIndex,
 }
 
 impl Model for Instance {
@@ -46,9 +53,14 @@ impl Model for Instance {
 
     ghost use Rattle.shunt_instance.specs.defs.Tables.{AreTables};
 
-    ghost view = { λ a. record { station = a.station; arrive = a.arrive.items; depart = a.depart.items } };
+    ghost view = { λ a.
+        record { station = a.station; arrive = a.arrive.items; depart = a.depart.items } };
 
-    ghost invariant = { λ a. AreTables (record { station = a.station; arrive = a.arrive.items; depart = a.depart.items }) a.units.items a.positions.items a.ready.items a.leaves.items a.first_units.items a.first_positions.items a.costs.items a.named.items a.pairs.items a.arr_names a.dep_names a.track_names };
+    ghost invariant = { λ a. AreTables
+        (record { station = a.station; arrive = a.arrive.items; depart = a.depart.items })
+        a.units.items a.positions.items a.ready.items a.leaves.items a.first_units.items
+        a.first_positions.items a.costs.items a.named.items a.pairs.items a.arr_names a.dep_names
+        a.track_names };
 }
 
 impl Instance {
@@ -205,7 +217,8 @@ impl Instance {
     pub fn first_unit(&self, train: ArrId) -> usize
         requires { train.0 < length self.now.arrive }
         ensures exact { result ≡ first_unit self.now train.0 }
-        ensures within { result + length (train_at self.now.arrive train.0).units ≤ unit_total self.now }
+        ensures within { result + length (train_at self.now.arrive train.0).units
+            ≤ unit_total self.now }
         ensures few { unit_total self.now ≤ 160 }
     {
         self.first_units[train.0 as usize]
@@ -215,7 +228,8 @@ impl Instance {
     pub fn first_position(&self, train: DepId) -> usize
         requires { train.0 < length self.now.depart }
         ensures exact { result ≡ first_position self.now train.0 }
-        ensures within { result + length (train_at self.now.depart train.0).units ≤ position_total self.now }
+        ensures within { result + length (train_at self.now.depart train.0).units
+            ≤ position_total self.now }
         ensures few { position_total self.now ≤ 160 }
     {
         self.first_positions[train.0 as usize]
@@ -244,8 +258,10 @@ impl Instance {
     /// The arriving train with a name. None exactly when no arriving train has it.
     pub fn arr_named(&self, name: &[u8]) -> Option<ArrId>
         ensures exact { result ≡ arr_of_name self.now name.now }
-        ensures some { IfSome result (λ a. slice_get (names_of self.now.arrive) a.0 ≡ Some name.now) }
-        ensures only { (k : ℕ) → slice_get (names_of self.now.arrive) k ≡ Some name.now → result ≡ Some (record { 0 = k }) }
+        ensures some { IfSome result
+            (λ a. slice_get (names_of self.now.arrive) a.0 ≡ Some name.now) }
+        ensures only { (k : ℕ) → slice_get (names_of self.now.arrive) k ≡ Some name.now
+            → result ≡ Some (record { 0 = k }) }
     {
         match self.arr_place(name) {
             Some(k) => Some(ArrId(k as u8)),
@@ -256,8 +272,10 @@ impl Instance {
     /// The departing train with a name. None exactly when no departing train has it.
     pub fn dep_named(&self, name: &[u8]) -> Option<DepId>
         ensures exact { result ≡ dep_of_name self.now name.now }
-        ensures some { IfSome result (λ d. slice_get (names_of self.now.depart) d.0 ≡ Some name.now) }
-        ensures only { (k : ℕ) → slice_get (names_of self.now.depart) k ≡ Some name.now → result ≡ Some (record { 0 = k }) }
+        ensures some { IfSome result
+            (λ d. slice_get (names_of self.now.depart) d.0 ≡ Some name.now) }
+        ensures only { (k : ℕ) → slice_get (names_of self.now.depart) k ≡ Some name.now
+            → result ≡ Some (record { 0 = k }) }
     {
         match self.dep_place(name) {
             Some(k) => Some(DepId(k as u8)),
@@ -268,8 +286,10 @@ impl Instance {
     /// The track with a name. None exactly when no track has it.
     pub fn track_named(&self, name: &[u8]) -> Option<TrackId>
         ensures exact { result ≡ track_of_name self.now.station name.now }
-        ensures some { IfSome result (λ t. slice_get (track_names self.now.station) t.0 ≡ Some name.now) }
-        ensures only { (k : ℕ) → slice_get (track_names self.now.station) k ≡ Some name.now → result ≡ Some (record { 0 = k }) }
+        ensures some { IfSome result
+            (λ t. slice_get (track_names self.now.station) t.0 ≡ Some name.now) }
+        ensures only { (k : ℕ) → slice_get (track_names self.now.station) k ≡ Some name.now
+            → result ≡ Some (record { 0 = k }) }
     {
         match self.track_place(name) {
             Some(k) => Some(TrackId(k as u8)),

@@ -5,8 +5,8 @@ mod joined;
 pub mod laws;
 mod lookups;
 mod names;
-mod numbering;
 mod records;
+mod train_numbers;
 
 pub use joined::Instance;
 pub use records::{

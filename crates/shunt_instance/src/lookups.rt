@@ -1,7 +1,8 @@
 // Tables in which routes and permits are looked up.
 ghost use Rattle.std.specs.Prelude.{◌≡◌, ◌<◌, length, All, IfOk};
 ghost use Rattle.shunt_instance.specs.defs.Wellformed.{IsStation};
-ghost use Rattle.shunt_instance.specs.defs.Tables.{route_cell, permit_cell, AreCosts, AreNamed, ArePairs};
+ghost use Rattle.shunt_instance.specs.defs.Tables.{route_cell, permit_cell, AreCosts, AreNamed};
+ghost use Rattle.shunt_instance.specs.defs.Tables.{ArePairs};
 
 use crate::records::{Permit, Route};
 use shunt_base::{PlatformId, Side, TrackId, TypeId};

@@ -1,5 +1,6 @@
 // Names in their order, looked up by their bytes.
-ghost use Rattle.std.specs.Prelude.{◌≡◌, ◌++◌, ◌∷◌, [], ◌<◌, List, ℕ, length, map, position, bytes_eq, false, IfOk, OnOk, IfSome};
+ghost use Rattle.std.specs.Prelude.{◌≡◌, ◌++◌, ◌∷◌, [], ◌<◌, List, ℕ, length, map, position};
+ghost use Rattle.std.specs.Prelude.{bytes_eq, false, IfOk, OnOk, IfSome};
 ghost use Rattle.std.specs.List.{list_any};
 ghost use Rattle.shunt_lists.specs.defs.Members.{AreDistinct};
 
@@ -10,11 +11,11 @@ use std::marker::Model;
 
 /// Names in their order, seen as the list of their bytes. A look-up hashes the name and takes no memory.
 #[derive(Drop)]
-pub(crate) struct Names {
+pub(crate) struct NameIndex {
     set: IndexSet<Vec<u8>>,
 }
 
-impl Model for Names {
+impl Model for NameIndex {
     ghost use Rattle.std.specs.Prelude.{List, ℕ, map};
 
     ghost Value = { List (List ℕ) };
@@ -22,12 +23,12 @@ impl Model for Names {
     ghost view = { λ n. map (λ v. v.items) n.set.keys };
 }
 
-impl Names {
+impl NameIndex {
     /// No names.
-    pub(crate) fn new(alloc: Global) -> Names
+    pub(crate) fn new(alloc: Global) -> NameIndex
         ensures { result ≡ [] }
     {
-        Names {
+        NameIndex {
             set: IndexSet::new(alloc),
         }
     }
@@ -76,11 +77,11 @@ impl Named for Track {
 }
 
 /// The names of these, which are distinct, in their order.
-pub(crate) fn names_of<T: Named>(alloc: Global, items: &[T]) -> Result<Names, AllocError>
+pub(crate) fn names_of<T: Named>(alloc: Global, items: &[T]) -> Result<NameIndex, AllocError>
     requires { AreDistinct (map T.name_of items.now) }
     ensures { IfOk result (λ n. n ≡ map T.name_of items.now) }
 {
-    let mut names = Names::new(alloc);
+    let mut names = NameIndex::new(alloc);
     for item in items {
         names.push(alloc, item.name())?;
     }

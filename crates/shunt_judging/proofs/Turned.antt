@@ -25,7 +25,7 @@ use Rattle.shunt_moves.specs.defs.Kept.{Standing}
 use Rattle.shunt_moves.proofs.Edited.{edit_kept}
 use Rattle.shunt_moves.proofs.Filled.{start_stands}
 use Rattle.shunt_moves.proofs.Places.{ids_distinct}
-use Rattle.shunt_report.specs.declared.turns.Outcome.{Outcome}
+use Rattle.shunt_report.specs.declared.turns.TurnOutcome.{TurnOutcome}
 use Rattle.shunt_report.specs.defs.TurnTexts.{turn_line}
 use Rattle.shunt_judging.specs.defs.Replayed.{Replayable, after_turn, after_turns, line_with, bench_of, last_of}
 
@@ -66,7 +66,7 @@ pub tally_total : (night : Night) (blocks : List Block) → sum_of (tally_of nig
 unfolding tally_of
 tally_total night blocks = all_kinds night blocks (findings_in night blocks) (λ f. (exactly night blocks f).0)
 
-pub line_is : {A E : Type 0} (r : Result (Vec ℕ A) E) (number : ℕ) (ended : Outcome) (total : ℕ) (tally : Tally) (night : Night) (blocks : List Block)
+pub line_is : {A E : Type 0} (r : Result (Vec ℕ A) E) (number : ℕ) (ended : TurnOutcome) (total : ℕ) (tally : Tally) (night : Night) (blocks : List Block)
     → tally ≡ tally_of night blocks → total ≡ sum_of tally → IfOk r (λ v. v.items ≡ turn_line number ended total tally.cost)
     → IfOk r (λ v. v.items ≡ line_with number ended night blocks)
 unfolding tally_of

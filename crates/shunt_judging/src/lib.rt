@@ -1,13 +1,13 @@
 //! The commands that judge a plan: `audit`, `check`, and `replay` with a planner's edits.
 #![tactic(auto)]
 
-mod auditing;
-mod checking;
-mod pinning;
-mod replaying;
-mod turning;
+mod audit;
+mod check;
+mod pinned_check;
+mod replay;
+mod turns;
 
-pub use auditing::{Audit, fault_answer, outcome_of};
-pub use checking::Check;
-pub use pinning::CheckPinned;
-pub use replaying::Replay;
+pub use audit::{AuditCommand, fault_answer, outcome_of};
+pub use check::CheckCommand;
+pub use pinned_check::CheckPinnedCommand;
+pub use replay::ReplayCommand;

@@ -5,3 +5,6 @@ pub mod SumsBelow
 pub mod CountsBelow
 pub mod Numbers
 pub mod Lists
+pub mod Tests
+pub mod Options
+pub mod Orders

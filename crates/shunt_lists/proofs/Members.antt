@@ -1,9 +1,12 @@
 -- Members of lists.
-use Rattle.std.proofs.Common.{◌≡◌, ◌⊎◌, inl, inr, ⊎_elim, ℕ, zero, suc, ◌<◌, Bool, true, false, cond, List, [], ◌∷◌, ◌++◌, length, get_or, map, refl, sym, subst, ap, ◌∙◌, arith}
-use Rattle.std.specs.List.{AllByRecursion, Contains, filter, flat_map}
-use Rattle.std.proofs.lemmas.Bool.{cases_Bool}
+use Rattle.std.proofs.Common.{◌≡◌, ◌⊎◌, inl, inr, ⊎_elim, ℕ, zero, suc, ◌<◌, Bool, true, false, cond, List, [], ◌∷◌, ◌++◌, length, get_or, map, refl, sym, subst, ap, ◌∙◌, arith, take, drop, ◌≤◌}
+use Rattle.std.specs.List.{AllByRecursion, Contains, filter, flat_map, range_with_len}
+use Rattle.std.proofs.lemmas.Bool.{cases_Bool, cases_lt}
 use Rattle.std.proofs.lemmas.List.Concat.{flat_map-cons}
-use Rattle.shunt_lists.specs.defs.Members.{In}
+use Rattle.shunt_lists.specs.defs.Members.{In, AreDistinct}
+use Rattle.std.specs.Prelude.{All, AllPairs}
+use Rattle.std.proofs.lemmas.List.{length-append, get_or_append_left, get_or_push}
+use Rattle.std.proofs.lemmas.List.FromFn.{get_or-range_with_len, length-range_with_len}
 
 pub all_in : {X : Type 0} (P : X → Type 0) (xs : List X) (x : X) → AllByRecursion P xs → In x xs → P x
 all_in P [] x all here = absurd here
@@ -110,3 +113,64 @@ distinct_filter p (x ∷ xs) d =
 pub of_one : {X : Type 0} (x y : X) → In y (x ∷ []) → y ≡ x
 of_one x y (inl e) = e
 of_one x y (inr h) = absurd h
+
+pub each_one : {X : Type 0} (P : X → Type 0) (xs : List X) (x : X) → All P xs → In x xs → P x
+each_one P xs x all i = let c = in_to xs x i in subst P c.2 (all c.0 x c.1)
+
+pub to_all : {X : Type 0} (P : X → Type 0) (xs : List X) → ((x : X) → In x xs → P x) → All P xs
+to_all P xs h k d lt = h (get_or xs k d) (in_place xs k d lt)
+
+pub place : {X : Type 0} (xs : List X) (x : X) → In x xs → (k : ℕ) × (k < length xs) × ((d : X) → get_or xs k d ≡ x)
+place [] x there = absurd there
+place (y ∷ xs) x there = ⊎_elim (λ same. (0, omega arith, λ d. sym same)) (λ later. let at = place xs x later in (suc at.0, omega (arith, at.1), λ d. at.2 d)) there
+
+pub no_member : {X : Type 0} (xs : List X) → ((x : X) → In x xs → ⊥) → xs ≡ []
+no_member [] none = refl
+no_member (x ∷ xs) none = absurd (none x (inl refl))
+
+pub pairs_more : {X : Type 0} (R : X → X → Type 0) (xs : List X) (x : X) → AllPairs R xs → ((y : X) → In y xs → R y x) → AllPairs R (xs ++ x ∷ [])
+pairs_more R xs x rise last i j d before lt = ⊎_elim
+    (λ inside.
+    subst (λ z. R z (get_or (xs ++ x ∷ []) j d)) (sym (get_or_append_left xs (x ∷ []) d i (omega (arith, before, inside))))
+    (subst (λ z. R (get_or xs i d) z) (sym (get_or_append_left xs (x ∷ []) d j inside)) (rise i j d before inside)))
+    (λ ge.
+    let at : j ≡ length xs = omega (arith, ge, lt, length-append xs (x ∷ [])) in
+    let is : get_or (xs ++ x ∷ []) j d ≡ x = get_or_push xs x d j (sym at) in
+    subst (λ z. R z (get_or (xs ++ x ∷ []) j d)) (sym (get_or_append_left xs (x ∷ []) d i (omega (arith, before, at))))
+    (subst (λ z. R (get_or xs i d) z) (sym is) (last (get_or xs i d) (in_place xs i d (omega (arith, before, at))))))
+    (cases_lt j (length xs))
+
+pub place_of : {X : Type 0} (xs : List X) (x d : X) → In x xs → (k : ℕ) × (k < length xs) × (get_or xs k d ≡ x)
+place_of [] x d h = absurd h
+place_of (y ∷ xs) x d (inl e) = (0, omega arith, sym e)
+place_of (y ∷ xs) x d (inr h) = let r = place_of xs x d h in (suc r.0, let lt = r.1 in omega arith, r.2)
+
+pub range_distinct : (k n : ℕ) → AreDistinct (range_with_len k n)
+range_distinct k n i j d before lt same = omega (
+  arith,
+  before,
+  same,
+  get_or-range_with_len k n i d (omega (arith, before, lt, size)),
+  get_or-range_with_len k n j d (omega (arith, lt, size)),
+)
+  where
+    size : length (range_with_len k n) ≡ n
+    size = length-range_with_len k n
+
+pub in_take : {X : Type 0} (n : ℕ) (xs : List X) (x : X) → In x (take n xs) → (k : ℕ) × (k < n) × (k < length xs) × (get_or xs k x ≡ x)
+in_take zero xs x h = absurd h
+in_take (suc n) [] x h = absurd h
+in_take (suc n) (y ∷ xs) x (inl e) = (0, omega arith, omega arith, sym e)
+in_take (suc n) (y ∷ xs) x (inr h) = let r = in_take n xs x h in (suc r.0, let p = r.1 in omega arith, let p = r.2 in omega arith, r.3)
+
+pub in_drop : {X : Type 0} (n : ℕ) (xs : List X) (x : X) → In x (drop n xs) → (k : ℕ) × (n ≤ k) × (k < length xs) × (get_or xs k x ≡ x)
+in_drop zero [] x h = absurd h
+in_drop zero (y ∷ xs) x (inl e) = (0, omega arith, omega arith, sym e)
+in_drop zero (y ∷ xs) x (inr h) = let r = in_drop zero xs x h in (suc r.0, omega arith, let p = r.2 in omega arith, r.3)
+in_drop (suc n) [] x h = absurd h
+in_drop (suc n) (y ∷ xs) x h = let r = in_drop n xs x h in (suc r.0, let p = r.1 in omega arith, let p = r.2 in omega arith, r.3)
+
+pub split_at_member : {X : Type 0} (ys : List X) (x : X) → In x ys → (a : List X) × (b : List X) × (ys ≡ a ++ x ∷ b)
+split_at_member [] x i = absurd i
+split_at_member {X} (y ∷ ys) x (inl e) = ([], ys, ap (λ (z : X). z ∷ ys) (sym e))
+split_at_member {X} (y ∷ ys) x (inr i) = let k = split_at_member ys x i in (y ∷ k.0, k.1, ap (λ (zs : List X). y ∷ zs) k.2)

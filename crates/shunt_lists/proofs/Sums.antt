@@ -1,10 +1,11 @@
 -- Sums over lists without doubles.
-use Rattle.std.proofs.Common.{◌≡◌, ◌⊎◌, inl, inr, ⊎_elim, ◌↔◌, ℕ, ◌+◌, ◌≤◌, Bool, true, false, cond, List, [], ◌∷◌, ◌++◌, refl, sym, subst, ap, ◌∙◌, arith, sum_by}
+use Rattle.std.proofs.Common.{◌≡◌, ◌⊎◌, inl, inr, ⊎_elim, ◌↔◌, ℕ, ◌+◌, ◌≤◌, Bool, true, false, cond, List, [], ◌∷◌, ◌++◌, refl, sym, subst, ap, ◌∙◌, arith, sum_by, length, ◌<◌, ◌*◌}
 use Rattle.std.proofs.lemmas.Bool.{false≢true, cases_Bool}
-use Rattle.std.proofs.lemmas.List.Sums.{sum_by-append, sum_by-cons}
-use Rattle.std.specs.List.{filter}
+use Rattle.std.proofs.lemmas.List.Sums.{sum_by-append, sum_by-cons, count_by-le-length}
+use Rattle.std.specs.List.{filter, count_by}
 use Rattle.shunt_lists.specs.defs.Members.{In}
 use Rattle.shunt_lists.proofs.Members.{in_left, in_right, in_cases, filter_yes, filter_no, Distinct}
+use Rattle.shunt_lists.proofs.Tests.{flag_small as one, flag_zero as zero_of}
 
 -- where a member stands
 record Parts {X : Type 0} (x : X) (xs : List X) : Type 0 where
@@ -113,3 +114,29 @@ filter_least f p (x ∷ xs) =
     ⊎_elim (λ t. let g = ap (sum_by f) (filter_yes p x xs t) in let r = filter_least f p xs in omega (arith, sum_by-cons f x (filter p xs), sum_by-cons f x xs))
     (λ t. let g = ap (sum_by f) (filter_no p x xs t) in let r = filter_least f p xs in omega (arith, sum_by-cons f x xs))
     (cases_Bool (p x))
+
+pub sum_by-same : {X : Type 0} (f g : X → ℕ) (xs : List X) → ((x : X) → f x ≡ g x) → sum_by f xs ≡ sum_by g xs
+sum_by-same f g [] h = refl
+sum_by-same f g (x ∷ xs) h = omega (arith, sum_by-cons f x xs, sum_by-cons g x xs, h x, sum_by-same f g xs h)
+
+pub sum_by-members : {X : Type 0} (xs : List X) (f g : X → ℕ) → ((x : X) → In x xs → f x ≡ g x) → sum_by f xs ≡ sum_by g xs
+sum_by-members [] f g h = refl
+sum_by-members (x ∷ xs) f g h = omega (arith, sum_by-cons f x xs, sum_by-cons g x xs, h x (inl refl), sum_by-members xs f g (λ y there. h y (inr there)))
+
+-- one isn't counted
+pub count_below : {X : Type 0} (p : X → Bool) (xs : List X) (x : X) → In x xs → p x ≡ false → count_by p xs < length xs
+count_below p [] x h e = absurd h
+count_below p (y ∷ xs) x (inl s) e =
+    let r = count_by-le-length p xs in
+    let none = zero_of (p y) (ap p (sym s) ∙ e) in
+    omega (arith, sum_by-cons (λ z. cond (p z) 1 0) y xs)
+count_below p (y ∷ xs) x (inr h) e = let r = count_below p xs x h e in let o = one (p y) in omega (arith, sum_by-cons (λ z. cond (p z) 1 0) y xs)
+
+pub sum_at_most : {X : Type 0} (f : X → ℕ) (n : ℕ) (xs : List X) → ((x : X) → In x xs → f x ≤ n) → sum_by f xs ≤ length xs * n
+sum_at_most f n [] h = omega arith
+sum_at_most f n (x ∷ xs) h = let r = sum_at_most f n xs (λ y i. h y (inr i)) in let o = h x (inl refl) in omega (arith, sum_by-cons f x xs)
+
+-- loads
+pub sum_alike : {X : Type 0} (f g : X → ℕ) (xs : List X) → ((x : X) → In x xs → f x ≡ g x) → sum_by f xs ≡ sum_by g xs
+sum_alike f g [] e = refl
+sum_alike f g (x ∷ xs) e = let first = e x (inl refl) in let rest = sum_alike f g xs (λ y h. e y (inr h)) in omega (arith, sum_by-cons f x xs, sum_by-cons g x xs)

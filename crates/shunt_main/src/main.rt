@@ -68,12 +68,13 @@ fn run_here(
     out: &mut ConsoleSink<'_, HostRuntime>,
 ) -> u8
     requires { ⟦<DiskStore<'static, HostRuntime> as Store>⟧.stage store.old ≡ Closed }
-    ensures words { (result ≡ number_of Status.Words) ↔ ((c : Call) → Spells (texts words.now.items) c → ⊥) }
-    ensures ends { (c : Call) → Spells (texts words.now.items) c → (before after : Option KnownFiles) →
-        let D = ⟦<DiskStore<'static, HostRuntime> as Store>⟧ in
-        let O = ⟦<ConsoleSink<'static, HostRuntime> as Sink>⟧ in
-        AreKnown (telling D.told D.heard D.stored store.old) (telling D.told D.heard D.stored store.new) before after → EndsAs c
-        (seen before D.stored D.faults O.told O.faults store.old out.old)
+    ensures words { (result ≡ number_of Status.Words)
+        ↔ ((c : Call) → Spells (texts words.now.items) c → ⊥) }
+    ensures ends { (c : Call) → Spells (texts words.now.items) c
+        → (before after : Option KnownFiles) → let D = ⟦<DiskStore<'static, HostRuntime> as Store>⟧
+        in let O = ⟦<ConsoleSink<'static, HostRuntime> as Sink>⟧ in AreKnown
+        (telling D.told D.heard D.stored store.old) (telling D.told D.heard D.stored store.new)
+        before after → EndsAs c (seen before D.stored D.faults O.told O.faults store.old out.old)
         (seen after D.stored D.faults O.told O.faults store.new out.new) result }
 {
     to_number(run(alloc, words, store, out))

@@ -14,8 +14,8 @@ use Rattle.shunt_instance.specs.defs.Words.{unit_count}
 use Rattle.shunt_instance.specs.defs.Wellformed.{IsStation, IsTimetable}
 use Rattle.shunt_instance.specs.defs.Instance.{night_of}
 use Rattle.shunt_matching.specs.defs.Nights.{HasMatching}
-use Rattle.shunt_make.specs.declared.stations.Way.{Way}
-use Rattle.shunt_make.specs.defs.Drawing.{next, after, drawn, drawn_for}
+use Rattle.shunt_make.specs.declared.stations.OpenWay.{OpenWay}
+use Rattle.shunt_make.specs.defs.Draws.{next, after, drawn, drawn_for}
 use Rattle.shunt_make.specs.defs.Made.{unit_types, platform_names, track_count, tracks_of, ways_of, route_of, station_of, after_station, train_count, size_of, arriving_of, arriving, departing_of, departing, timetable_of}
 use Rattle.shunt_make.proofs.Chain.{after_both}
 use Rattle.shunt_make.proofs.Formed.{tracks_few, station_formed}
@@ -57,7 +57,7 @@ same_station : (name name' : List ℕ) (types types' : List UnitType) (platforms
     s ≡ t)
 same_station name name' types types' platforms platforms' tracks tracks' routes routes' permits permits' split couple unparked a b c d e f = cc
 
-pub station_is : (x units y : ℕ) (name : List ℕ) (types : List UnitType) (platforms : List (List ℕ)) (tracks seen : List Track) (ways : List Way) (routes : List Route)
+pub station_is : (x units y : ℕ) (name : List ℕ) (types : List UnitType) (platforms : List (List ℕ)) (tracks seen : List Track) (ways : List OpenWay) (routes : List Route)
     (permits : List Permit)
     → name ≡ codes "G" → types ≡ unit_types → platforms ≡ platform_names → tracks ≡ tracks_of x units → seen ≡ tracks_of x units → y ≡ after x (track_count units)
     → ways ≡ ways_of seen → routes ≡ drawn_for route_of y ways → permits ≡ []
@@ -69,11 +69,11 @@ station_is x units y name types platforms tracks seen ways routes permits named 
     (drawn_for route_of (after x (track_count units)) (ways_of (tracks_of x units))) permits [] 10 10 500 named typed stand long
     (routed ∙ ap (λ (z : ℕ). drawn_for route_of z ways) state ∙ ap (drawn_for route_of (after x (track_count units))) (go ∙ ap ways_of see)) none
 
-pub station_state : (x units y z : ℕ) (seen : List Track) (ways : List Way) → seen ≡ tracks_of x units → y ≡ after x (track_count units) → ways ≡ ways_of seen
+pub station_state : (x units y z : ℕ) (seen : List Track) (ways : List OpenWay) → seen ≡ tracks_of x units → y ≡ after x (track_count units) → ways ≡ ways_of seen
     → z ≡ after y (length ways) → z ≡ after_station x units
 unfolding after_station
 station_state x units y z seen ways see state go now =
-    now ∙ ap (λ (w : ℕ). after w (length ways)) state ∙ ap (λ (l : List Way). after (after x (track_count units)) (length l)) (go ∙ ap ways_of see)
+    now ∙ ap (λ (w : ℕ). after w (length ways)) state ∙ ap (λ (l : List OpenWay). after (after x (track_count units)) (length l)) (go ∙ ap ways_of see)
 
 -- ---- the trains
 

@@ -5,7 +5,8 @@ use Rattle.std.specs.List.{range_with_len}
 use Rattle.std.proofs.lemmas.List.{take_more, length-take-le}
 use Rattle.std.proofs.lemmas.List.Elements.{All-nil, All-cons, All-head, All-tail}
 use Rattle.std.proofs.lemmas.List.FromFn.{length-range_with_len, get_or-range_with_len}
-use Rattle.shunt_make.specs.defs.Drawing.{next, after, drawn_for}
+use Rattle.shunt_make.specs.defs.Draws.{next, after, drawn_for}
+use Rattle.shunt_lists.proofs.Numbers.{range_more as range_suc}
 
 -- one draw more, as a loop counts
 pub after_more : (x n : ℕ) → after x (n + 1) ≡ next (after x n)
@@ -34,10 +35,6 @@ drawn_more make x these i d lt =
     ap (drawn_for make x) (take_more these i d lt)
     ∙ drawn_push make x (take i these) (get_or these i d)
     ∙ ap (λ (n : ℕ). drawn_for make x (take i these) ++ make (get_or these i d) (next (after x n)) ∷ []) (length-take-le i these (omega arith))
-
-range_suc : (a n : ℕ) → range_with_len a (suc n) ≡ range_with_len a n ++ (a + n) ∷ []
-range_suc a zero = let e : a ≡ a + 0 = omega arith in ap (λ k. k ∷ []) e
-range_suc a (suc n) = let e : a + 1 + n ≡ a + suc n = omega arith in ap (λ ks. a ∷ ks) (range_suc (a + 1) n ∙ ap (λ k. range_with_len (a + 1) n ++ k ∷ []) e)
 
 -- one number more
 pub range_more : (a n : ℕ) → range_with_len a (n + 1) ≡ range_with_len a n ++ (a + n) ∷ []

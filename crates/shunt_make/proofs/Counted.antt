@@ -13,7 +13,7 @@ use Rattle.shunt_instance.specs.defs.Words.{train_at}
 use Rattle.shunt_instance.specs.defs.Instance.{numbered_from, numbered_through}
 use Rattle.shunt_instance.specs.defs.Matching.{Entry}
 use Rattle.shunt_matching.specs.defs.Counts.{is_of_kind, count_of_kind}
-use Rattle.shunt_make.specs.defs.Drawing.{next, after, drawn, drawn_for}
+use Rattle.shunt_make.specs.defs.Draws.{next, after, drawn, drawn_for}
 use Rattle.shunt_make.specs.defs.Made.{turned, departing_of, departing}
 use Rattle.shunt_make.proofs.Chain.{numbered_more}
 use Rattle.shunt_make.proofs.Timed.{departing_is}

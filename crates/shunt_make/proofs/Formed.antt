@@ -15,8 +15,8 @@ use Rattle.shunt_instance.specs.declared.records.Permit.{Permit}
 use Rattle.shunt_instance.specs.declared.records.Station.{Station}
 use Rattle.shunt_instance.specs.defs.Words.{way_of}
 use Rattle.shunt_instance.specs.defs.Wellformed.{IsUnitType, IsTrack, IsRoute, IsPermit, IsStation}
-use Rattle.shunt_make.specs.declared.stations.Way.{Way}
-use Rattle.shunt_make.specs.defs.Drawing.{after, drawn, drawn_for}
+use Rattle.shunt_make.specs.declared.stations.OpenWay.{OpenWay}
+use Rattle.shunt_make.specs.defs.Draws.{after, drawn, drawn_for}
 use Rattle.shunt_make.specs.defs.Made.{numbered, unit_types, platform_names, track_count, track_of, tracks_of, ways_of, route_of, station_of}
 use Rattle.shunt_make.proofs.Chain.{drawn_length, drawn_all, drawn_map, range_in}
 use Rattle.shunt_make.proofs.Spelled.{named, apart, distinct_over}
@@ -77,7 +77,7 @@ tracks_differ x units few =
 
 -- ---- routes
 
-a_route : (s : Station) (w : Way) (x : ℕ) → length s.platforms ≡ 2 → IsWayOf s.tracks w → IsRoute s (route_of w x)
+a_route : (s : Station) (w : OpenWay) (x : ℕ) → length s.platforms ≡ 2 → IsWayOf s.tracks w → IsRoute s (route_of w x)
 a_route s w x two way = let below = drawn_below x 20 (omega arith) in record {
   platform = omega (arith, way.platform);
   track = way.track;

@@ -20,7 +20,7 @@ use Rattle.shunt_matching.specs.defs.Counts.{is_of_kind, is_by_minute, count_of_
 use Rattle.shunt_matching.specs.defs.Nights.{HasMatching}
 use Rattle.shunt_matching.proofs.ByCounts.{matched}
 use Rattle.shunt_matching.proofs.Nights.{length-unit_entries, length-position_entries}
-use Rattle.shunt_make.specs.defs.Drawing.{after}
+use Rattle.shunt_make.specs.defs.Draws.{after}
 use Rattle.shunt_make.specs.defs.Made.{unit_types, arriving, departing, timetable_of, station_of}
 use Rattle.shunt_make.proofs.Formed.{station_formed}
 use Rattle.shunt_make.proofs.Timed.{IsMade, arriving_all, arriving_length, departing_all, timetable_formed}

@@ -7,7 +7,7 @@ use Rattle.std.proofs.lemmas.List.FromFn.{length-range_with_len, map-range_with_
 use Rattle.std.proofs.lemmas.List.Sums.{sum_by_push}
 use Rattle.shunt_instance.specs.declared.records.Train.{Train}
 use Rattle.shunt_instance.specs.defs.Words.{unit_count}
-use Rattle.shunt_make.specs.defs.Drawing.{after}
+use Rattle.shunt_make.specs.defs.Draws.{after}
 use Rattle.shunt_make.specs.defs.Made.{track_count, station_of, train_count, size_of, kind_of, arriving_of, arriving, departing, timetable_of}
 use Rattle.shunt_make.proofs.Chain.{drawn_length}
 use Rattle.shunt_make.proofs.Formed.{tracks_long}

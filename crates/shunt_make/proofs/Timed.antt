@@ -17,7 +17,7 @@ use Rattle.shunt_instance.specs.declared.records.Station.{Station}
 use Rattle.shunt_instance.specs.declared.records.Train.{Train}
 use Rattle.shunt_instance.specs.defs.Words.{is_standing, unit_count, names_of, train_at}
 use Rattle.shunt_instance.specs.defs.Wellformed.{IsOrigin, IsTrain, AreTrains, StandingFirst, IsTimetable}
-use Rattle.shunt_make.specs.defs.Drawing.{next, after, drawn, drawn_for}
+use Rattle.shunt_make.specs.defs.Draws.{next, after, drawn, drawn_for}
 use Rattle.shunt_make.specs.defs.Made.{numbered, train_count, train_of, size_of, kind_of, arriving_of, arriving, turned, departing_of, departing, timetable_of}
 use Rattle.shunt_make.proofs.Chain.{drawn_length, drawn_all, drawn_map, range_in}
 use Rattle.shunt_make.proofs.Spelled.{named, apart, distinct_over}

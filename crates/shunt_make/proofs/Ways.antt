@@ -11,7 +11,7 @@ use Rattle.shunt_base.specs.declared.ids.PlatformId.{PlatformId}
 use Rattle.shunt_base.specs.declared.ids.TrackId.{TrackId}
 use Rattle.shunt_instance.specs.declared.records.Track.{Track}
 use Rattle.shunt_instance.specs.defs.Words.{is_open}
-use Rattle.shunt_make.specs.declared.stations.Way.{Way}
+use Rattle.shunt_make.specs.declared.stations.OpenWay.{OpenWay}
 use Rattle.shunt_make.specs.defs.Made.{open_ways, ways_from, ways_of}
 
 -- ---- each leads to an open side
@@ -21,7 +21,7 @@ abbrev pub open_in : List Track → ℕ → Side → Bool
 open_in tracks k side = unwrap_or (option_map (λ t. is_open t side) (slice_get tracks k)) false
 
 -- a way from one of two platforms to an open side of one of these tracks
-pub record IsWayOf (tracks : List Track) (w : Way) : Type 0 where
+pub record IsWayOf (tracks : List Track) (w : OpenWay) : Type 0 where
   pub platform : w.platform.0 < 2
   pub track : w.track.0 < length tracks
   pub open_at : open_in tracks w.track.0 w.side ≡ true
@@ -30,7 +30,7 @@ pub record IsWayOf (tracks : List Track) (w : Way) : Type 0 where
 abbrev StandFrom : List Track → ℕ → List Track → Type 0
 StandFrom all k tracks = (i : ℕ) → slice_get all (k + i) ≡ slice_get tracks i
 
-one_way : (P : Way → Type 0) (b : Bool) (w : Way) → (b ≡ true → P w) → All P (cond b (w ∷ []) [])
+one_way : (P : OpenWay → Type 0) (b : Bool) (w : OpenWay) → (b ≡ true → P w) → All P (cond b (w ∷ []) [])
 one_way P true w h = All-cons P w [] (h refl) (All-nil P)
 one_way P false w h = All-nil P
 
@@ -67,7 +67,7 @@ ways_open tracks = All-append (IsWayOf tracks) (ways_from (record { 0 = 0 }) 0 t
 -- ---- no two are alike
 
 -- what a way joins
-abbrev pub joined : Way → PlatformId × (TrackId × Side)
+abbrev pub joined : OpenWay → PlatformId × (TrackId × Side)
 joined w = (w.platform, (w.track, w.side))
 
 abbrev mark : Side → ℕ
@@ -77,27 +77,27 @@ mark B = 1
 abbrev rank_of : PlatformId × (TrackId × Side) → ℕ
 rank_of j = 1000 * j.0.0 + (2 * j.1.0.0 + mark j.1.1)
 
-abbrev rank : Way → ℕ
+abbrev rank : OpenWay → ℕ
 rank w = rank_of (joined w)
 
 -- the ranks rise, from m on and below n
-abbrev Rise : ℕ → List Way → ℕ → Type 0
+abbrev Rise : ℕ → List OpenWay → ℕ → Type 0
 Rise m [] n = m ≤ n
 Rise m (w ∷ ways) n = (m ≤ rank w) × Rise (rank w + 1) ways n
 
-rise_lower : (l m n : ℕ) (ways : List Way) → l ≤ m → Rise m ways n → Rise l ways n
+rise_lower : (l m n : ℕ) (ways : List OpenWay) → l ≤ m → Rise m ways n → Rise l ways n
 rise_lower l m n [] le h = omega arith
 rise_lower l m n (w ∷ ways) le h = (omega (arith, h.0), h.1)
 
-rise_more : (m n o : ℕ) (ways : List Way) → n ≤ o → Rise m ways n → Rise m ways o
+rise_more : (m n o : ℕ) (ways : List OpenWay) → n ≤ o → Rise m ways n → Rise m ways o
 rise_more m n o [] le h = omega arith
 rise_more m n o (w ∷ ways) le h = (h.0, rise_more (rank w + 1) n o ways le h.1)
 
-rise_append : (m n o : ℕ) (xs ys : List Way) → Rise m xs n → Rise n ys o → Rise m (xs ++ ys) o
+rise_append : (m n o : ℕ) (xs ys : List OpenWay) → Rise m xs n → Rise n ys o → Rise m (xs ++ ys) o
 rise_append m n o [] ys h g = rise_lower m n o ys h g
 rise_append m n o (w ∷ xs) ys h g = (h.0, rise_append (rank w + 1) n o xs ys h.1 g)
 
-rise_one : (m n : ℕ) (b : Bool) (w : Way) → m ≤ rank w → rank w < n → Rise m (cond b (w ∷ []) []) n
+rise_one : (m n : ℕ) (b : Bool) (w : OpenWay) → m ≤ rank w → rank w < n → Rise m (cond b (w ∷ []) []) n
 rise_one m n true w le lt = (le, omega arith)
 rise_one m n false w le lt = omega arith
 
@@ -111,12 +111,12 @@ rise_from p k (t ∷ tracks) =
     (rise_one (1000 * p.0 + 2 * k + 1) (1000 * p.0 + 2 * (k + 1)) t.side_b (record { platform = p; track = record { 0 = k }; side = B }) (omega arith) (omega arith)))
     (subst (λ (n : ℕ). Rise (1000 * p.0 + 2 * (k + 1)) (ways_from p (k + 1) tracks) n) last (rise_from p (k + 1) tracks))
 
-rise_all : (m n : ℕ) (ways : List Way) → Rise m ways n → All (λ w. m ≤ rank w) ways
+rise_all : (m n : ℕ) (ways : List OpenWay) → Rise m ways n → All (λ w. m ≤ rank w) ways
 rise_all m n [] h = All-nil (λ w. m ≤ rank w)
 rise_all m n (w ∷ ways) h = All-cons (λ v. m ≤ rank v) w ways h.0 (All-weaker (λ v. rank w + 1 ≤ rank v) (λ v. m ≤ rank v) (λ v le. omega (arith, h.0, le)) ways
     (rise_all (rank w + 1) n ways h.1))
 
-rise_distinct : (m n : ℕ) (ways : List Way) → Rise m ways n → AreDistinct (map joined ways)
+rise_distinct : (m n : ℕ) (ways : List OpenWay) → Rise m ways n → AreDistinct (map joined ways)
 rise_distinct m n [] h = no_pairs (λ x y. x ≡ y → ⊥)
 rise_distinct m n (w ∷ ways) h =
     AllPairs-cons (λ x y. x ≡ y → ⊥) (joined w) (map joined ways)

@@ -1,3 +1,3 @@
 -- The definitions of this crate.
-pub mod Drawing
+pub mod Draws
 pub mod Made

@@ -1,6 +1,6 @@
 // Draws, one after the other.
 ghost use Rattle.std.specs.Prelude.{◌≡◌, ◌<◌};
-ghost use Rattle.shunt_make.specs.defs.Drawing.{next, drawn};
+ghost use Rattle.shunt_make.specs.defs.Draws.{next, drawn};
 
 /// If the generator stands between two draws.
 #[derive(Debug, Drop)]
@@ -10,7 +10,7 @@ pub struct Draws {
 
 impl Draws {
     /// One draw: a number below `n`.
-    #[tactic(auto, unfolding(crate::specs::defs::Drawing::next, crate::specs::defs::Drawing::drawn))]
+    #[tactic(auto, unfolding(crate::specs::defs::Draws::next, crate::specs::defs::Draws::drawn))]
     pub fn below(&mut self, n: u32) -> u32
         requires { 0 < n }
         ensures state { self.new.state ≡ next self.old.state }

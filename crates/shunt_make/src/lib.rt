@@ -3,8 +3,8 @@
 
 mod draws;
 pub mod laws;
-mod making;
+mod night;
 mod stations;
 mod trains;
 
-pub use making::make;
+pub use night::make;

@@ -2,8 +2,10 @@
 ghost use Rattle.std.specs.Prelude.{◌≡◌, ◌≤◌, [], ◌∷◌, ◌++◌, cond, IsTrue, length, IfOk, OnOk};
 ghost use Rattle.std.specs.List.{range_with_len};
 ghost use Rattle.shunt_base.specs.defs.Spelling.{IsName, is_name_byte};
-ghost use Rattle.shunt_make.specs.defs.Drawing.{next, after, drawn_for};
-ghost use Rattle.shunt_make.specs.defs.Made.{numbered, unit_types, platform_names, track_of, open_ways, ways_from, ways_of, route_of, station_of, after_station};
+ghost use Rattle.shunt_make.specs.defs.Draws.{next, after, drawn_for};
+ghost use Rattle.shunt_make.specs.defs.Made.{numbered, unit_types, platform_names, track_of};
+ghost use Rattle.shunt_make.specs.defs.Made.{open_ways, ways_from, ways_of, route_of, station_of};
+ghost use Rattle.shunt_make.specs.defs.Made.{after_station};
 
 use crate::draws::Draws;
 use itoa::Buffer;
@@ -14,7 +16,7 @@ use std::alloc::{AllocError, Global};
 
 /// A way from a platform to a side at which a track is open.
 #[derive(Clone, Copy, Debug, Drop)]
-pub struct Way {
+pub struct OpenWay {
     pub platform: PlatformId,
     pub track: TrackId,
     pub side: Side,
@@ -74,7 +76,8 @@ fn made_track(alloc: Global, draws: &mut Draws, k: u32) -> Result<Track, AllocEr
 }
 
 fn made_tracks(alloc: Global, draws: &mut Draws, count: u32) -> Result<Vec<Track>, AllocError>
-    ensures made { IfOk result (λ v. v.items ≡ drawn_for track_of draws.old.state (range_with_len 1 count)) }
+    ensures made { IfOk result
+        (λ v. v.items ≡ drawn_for track_of draws.old.state (range_with_len 1 count)) }
     ensures state { OnOk result (draws.new.state ≡ after draws.old.state count) }
 {
     let mut tracks = Vec::new(alloc);
@@ -84,7 +87,7 @@ fn made_tracks(alloc: Global, draws: &mut Draws, count: u32) -> Result<Vec<Track
     Ok(tracks)
 }
 
-fn push_if(ways: &mut Vec<Way>, wanted: bool, way: Way) -> Result<(), AllocError>
+fn push_if(ways: &mut Vec<OpenWay>, wanted: bool, way: OpenWay) -> Result<(), AllocError>
     ensures { OnOk result (ways.new.items ≡ ways.old.items ++ cond wanted (way ∷ []) []) }
 {
     if !wanted {
@@ -95,19 +98,19 @@ fn push_if(ways: &mut Vec<Way>, wanted: bool, way: Way) -> Result<(), AllocError
 }
 
 fn push_open(
-    ways: &mut Vec<Way>,
+    ways: &mut Vec<OpenWay>,
     platform: PlatformId,
     id: TrackId,
     track: &Track,
 ) -> Result<(), AllocError>
     ensures { OnOk result (ways.new.items ≡ ways.old.items ++ open_ways platform id track.now) }
 {
-    let first = Way {
+    let first = OpenWay {
         platform,
         track: id,
         side: Side::A,
     };
-    let second = Way {
+    let second = OpenWay {
         platform,
         track: id,
         side: Side::B,
@@ -116,7 +119,11 @@ fn push_open(
     push_if(ways, track.side_b, second)
 }
 
-fn push_ways(ways: &mut Vec<Way>, platform: PlatformId, tracks: &[Track]) -> Result<(), AllocError>
+fn push_ways(
+    ways: &mut Vec<OpenWay>,
+    platform: PlatformId,
+    tracks: &[Track],
+) -> Result<(), AllocError>
     requires { length tracks.now ≤ 60 }
     ensures { OnOk result (ways.new.items ≡ ways.old.items ++ ways_from platform 0 tracks.now) }
 {
@@ -126,7 +133,7 @@ fn push_ways(ways: &mut Vec<Way>, platform: PlatformId, tracks: &[Track]) -> Res
     Ok(())
 }
 
-fn made_ways(alloc: Global, tracks: &[Track]) -> Result<Vec<Way>, AllocError>
+fn made_ways(alloc: Global, tracks: &[Track]) -> Result<Vec<OpenWay>, AllocError>
     requires { length tracks.now ≤ 60 }
     ensures { IfOk result (λ v. v.items ≡ ways_of tracks.now) }
 {
@@ -136,7 +143,7 @@ fn made_ways(alloc: Global, tracks: &[Track]) -> Result<Vec<Way>, AllocError>
     Ok(ways)
 }
 
-fn made_route(draws: &mut Draws, way: Way) -> Route
+fn made_route(draws: &mut Draws, way: OpenWay) -> Route
     ensures made { result ≡ route_of way (next draws.old.state) }
     ensures state { draws.new.state ≡ next draws.old.state }
 {
@@ -148,7 +155,7 @@ fn made_route(draws: &mut Draws, way: Way) -> Route
     }
 }
 
-fn made_routes(alloc: Global, draws: &mut Draws, ways: &[Way]) -> Result<Vec<Route>, AllocError>
+fn made_routes(alloc: Global, draws: &mut Draws, ways: &[OpenWay]) -> Result<Vec<Route>, AllocError>
     ensures made { IfOk result (λ v. v.items ≡ drawn_for route_of draws.old.state ways.now) }
     ensures state { OnOk result (draws.new.state ≡ after draws.old.state (length ways.now)) }
 {

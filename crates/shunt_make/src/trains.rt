@@ -1,9 +1,12 @@
 // The trains of a made night.
-ghost use Rattle.std.specs.Prelude.{◌≡◌, ℕ, ◌+◌, ◌*◌, ◌%◌, ◌<◌, ◌≤◌, ◌==◌, if◌then◌else◌, IsTrue, length, reverse, IfOk, OnOk};
+ghost use Rattle.std.specs.Prelude.{◌≡◌, ℕ, ◌+◌, ◌*◌, ◌%◌, ◌<◌, ◌≤◌, ◌==◌, if◌then◌else◌, IsTrue};
+ghost use Rattle.std.specs.Prelude.{length, reverse, IfOk, OnOk};
 ghost use Rattle.std.specs.List.{range_with_len};
 ghost use Rattle.shunt_base.specs.defs.Spelling.{is_name_byte};
-ghost use Rattle.shunt_make.specs.defs.Drawing.{next, after, drawn, drawn_for};
-ghost use Rattle.shunt_make.specs.defs.Made.{train_count, train_of, size_of, kind_of, arriving_of, arriving, turned, departing_of, departing, timetable_of};
+ghost use Rattle.shunt_make.specs.defs.Draws.{next, after, drawn, drawn_for};
+ghost use Rattle.shunt_make.specs.defs.Made.{train_count, train_of, size_of, kind_of, arriving_of};
+ghost use Rattle.shunt_make.specs.defs.Made.{arriving, turned, departing_of, departing};
+ghost use Rattle.shunt_make.specs.defs.Made.{timetable_of};
 
 use crate::draws::Draws;
 use crate::stations::numbered_name;
@@ -51,7 +54,8 @@ fn made_kind(draws: &mut Draws) -> TypeId
 }
 
 fn made_kinds(alloc: Global, draws: &mut Draws, count: u32) -> Result<Vec<TypeId>, AllocError>
-    ensures made { IfOk result (λ v. v.items ≡ drawn_for kind_of draws.old.state (range_with_len 0 count)) }
+    ensures made { IfOk result
+        (λ v. v.items ≡ drawn_for kind_of draws.old.state (range_with_len 0 count)) }
     ensures state { OnOk result (draws.new.state ≡ after draws.old.state count) }
 {
     let mut kinds = Vec::new(alloc);
@@ -84,7 +88,8 @@ fn size(units: u32, i: u32) -> u32
 fn arriving_train(alloc: Global, draws: &mut Draws, units: u32, i: u32) -> Result<Train, AllocError>
     requires units { units ≤ 160 }
     requires few { i < 80 }
-    ensures made { IfOk result (λ t. (x : ℕ) → draws.old.state ≡ after x (2 * i) → t ≡ arriving_of x units i) }
+    ensures made { IfOk result
+        (λ t. (x : ℕ) → draws.old.state ≡ after x (2 * i) → t ≡ arriving_of x units i) }
     ensures state { OnOk result (draws.new.state ≡ after draws.old.state (size_of units i)) }
 {
     let kinds = made_kinds(alloc, draws, size(units, i))?;
@@ -146,7 +151,8 @@ fn shifted_trains(
 ) -> Result<Vec<Train>, AllocError>
     requires few { length arrive.now ≤ 80 }
     requires shift { shift < length arrive.now }
-    ensures { IfOk result (λ v. v.items ≡ drawn_for (departing_of arrive.now shift) draws.old.state (range_with_len 0 (length arrive.now))) }
+    ensures { IfOk result (λ v. v.items ≡ drawn_for (departing_of arrive.now shift) draws.old.state
+        (range_with_len 0 (length arrive.now))) }
 {
     let mut trains = Vec::new(alloc);
     for i in 0..arrive.len() {

@@ -1,15 +1,11 @@
 -- The types of a night's units and positions are the station's.
 use Rattle.std.proofs.Common.{◌≡◌, ◌<◌, length, ap, arith}
 use Rattle.std.proofs.lemmas.List.{length-map}
-use Rattle.shunt_instance.specs.defs.Instance.{Night, IsInstance, IsOrderedNight, unit_total, position_total}
+use Rattle.shunt_instance.specs.defs.Instance.{Night, IsInstance, unit_total, position_total}
 use Rattle.shunt_instance.specs.defs.Matching.{Entry, unit_entries, position_entries}
 use Rattle.shunt_instance.proofs.Facts.{unit_at_is, position_at_is, unit_entry_is, position_entry_is}
 use Rattle.shunt_matching.specs.defs.Counts.{HasKindsBelow}
-
--- an instance is a night whose trains are well formed and in their order
-pub opened : (night : Night) → IsInstance night → IsOrderedNight night
-unfolding IsInstance
-opened night is = is
+use Rattle.shunt_instance.proofs.Orders.{opened}
 
 pub length-unit_entries : (night : Night) → length (unit_entries night) ≡ unit_total night
 length-unit_entries night = length-map _ _

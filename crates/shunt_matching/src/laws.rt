@@ -17,8 +17,9 @@ pub fn matching_by_counts()
 
 /// There is no first shortage where a matching of the rest exists, and never more than one.
 pub fn one_shortage()
-    ensures never { (us vs : List Entry) (um vm : List Bool) (s : Shortage) → IsFirstShortage us vs um vm s →
-        (place : List ℕ) → IsMatchingOfRest us vs um vm place → ⊥ }
+    ensures never { (us vs : List Entry) (um vm : List Bool) (s : Shortage)
+        → IsFirstShortage us vs um vm s → (place : List ℕ) → IsMatchingOfRest us vs um vm place
+        → ⊥ }
     ensures one { (us vs : List Entry) (um vm : List Bool) (s t : Shortage) →
         IsFirstShortage us vs um vm s → IsFirstShortage us vs um vm t → s ≡ t }
 {}

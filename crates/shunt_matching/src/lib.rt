@@ -2,13 +2,13 @@
 #![tactic(auto)]
 
 mod entries;
-mod fitting;
-mod judging;
+mod first_shortage;
 pub mod laws;
 mod night;
-mod pairing;
+mod pairs;
+mod ranks;
 mod shortages;
 pub mod types;
 
-pub use pairing::{MatchError, Matching, first_fit, first_fit_rest};
+pub use pairs::{MatchError, Matching, first_fit, first_fit_rest};
 pub use shortages::{shortage, shortage_rest};

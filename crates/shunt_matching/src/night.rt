@@ -3,11 +3,12 @@ ghost use Rattle.std.specs.Prelude.{◌≡◌, ◌<◌, ◌≤◌, List, ℕ, le
 ghost use Rattle.shunt_instance.specs.defs.Matching.{entry_at, unit_entries, position_entries};
 ghost use Rattle.shunt_matching.specs.declared.types.Shortage.{Shortage};
 ghost use Rattle.shunt_matching.specs.defs.Counts.{IsBalanced};
-ghost use Rattle.shunt_matching.specs.defs.Nights.{HasItsType, MatchesRest, HasMatching, HasNoMatching, IsShortageOf};
+ghost use Rattle.shunt_matching.specs.defs.Nights.{HasItsType, MatchesRest, HasMatching};
+ghost use Rattle.shunt_matching.specs.defs.Nights.{HasNoMatching, IsShortageOf};
 ghost use Rattle.shunt_matching.specs.defs.Nights.{first_fit_of_rest};
 
 use crate::entries::{Entries, count_by};
-use crate::judging::{first_late, first_uneven};
+use crate::first_shortage::{first_late, first_uneven};
 use crate::types::Shortage;
 use shunt_base::TypeId;
 use shunt_instance::Instance;

@@ -1,7 +1,8 @@
 ghost use Rattle.std.specs.Prelude.{◌≡◌, List, ℕ, [], length, Some, IfNone, IfSome};
 ghost use Rattle.shunt_instance.specs.defs.Instance.{unit_total, position_total};
 ghost use Rattle.shunt_matching.specs.declared.types.Shortage.{Shortage};
-ghost use Rattle.shunt_matching.specs.defs.Nights.{HasItsType, Matches, HasMatching, HasNoMatching, IsShortageOf};
+ghost use Rattle.shunt_matching.specs.defs.Nights.{HasItsType, Matches, HasMatching, HasNoMatching};
+ghost use Rattle.shunt_matching.specs.defs.Nights.{IsShortageOf};
 
 use crate::night::first_shortage;
 use crate::types::Shortage;
@@ -18,7 +19,8 @@ pub fn shortage_rest(instance: &Instance, units: &[bool], places: &[bool]) -> Op
     ensures some { IfSome result (λ _. HasNoMatching instance.now units.now places.now) }
     ensures exact { IfSome result (IsShortageOf instance.now units.now places.now) }
     ensures known { IfSome result (HasItsType instance.now) }
-    ensures only { (s : Shortage) → IsShortageOf instance.now units.now places.now s → result ≡ Some s }
+    ensures only { (s : Shortage) → IsShortageOf instance.now units.now places.now s
+        → result ≡ Some s }
 {
     first_shortage(instance, units, places)
 }

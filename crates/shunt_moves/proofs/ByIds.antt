@@ -9,22 +9,15 @@ use Rattle.shunt_lists.specs.defs.Members.{In}
 use Rattle.shunt_blocks.specs.declared.records.Block.{Block}
 use Rattle.shunt_audit.specs.defs.Listed.{insert_by_id}
 use Rattle.shunt_moves.specs.defs.States.{Ascend, block_with, without_block, changed}
+use Rattle.shunt_lists.proofs.Tests.{equal_of as is_same, equal_to as same_id, unequal_from as is_other}
+use Rattle.shunt_audit.proofs.ById.{put_first as insert_below}
 
 -- all of these have other ids
 abbrev pub IsNew : ℕ → List Block → Type 0
 IsNew id blocks = AllByRecursion (λ c. c.id ≢ id) blocks
 
-same_id : (x y : ℕ) → x ≡ y → (x == y) ≡ true
-same_id x y e = grind (arith, nat_tests)
-
 pub other_id : (x y : ℕ) → x ≢ y → (x == y) ≡ false
 other_id x y e = grind (arith, nat_tests)
-
-pub is_same : (x y : ℕ) → (x == y) ≡ true → x ≡ y
-is_same x y e = grind (arith, nat_tests)
-
-is_other : (x y : ℕ) → (x == y) ≡ false → x ≢ y
-is_other x y e = grind (arith, nat_tests)
 
 -- ---- inserting by cases on the first
 
@@ -33,11 +26,6 @@ insert_first b c blocks le = cond-true (nat_le b.id c.id) (b ∷ c ∷ blocks) (
 
 pub insert_later : (b c : Block) (blocks : List Block) → c.id < b.id → insert_by_id b (c ∷ blocks) ≡ c ∷ insert_by_id b blocks
 insert_later b c blocks lt = cond-false (nat_le b.id c.id) (b ∷ c ∷ blocks) (c ∷ insert_by_id b blocks) (grind (arith, nat_tests))
-
--- before all of these it comes first
-pub insert_below : (b : Block) (blocks : List Block) → AllByRecursion (λ c. b.id < c.id) blocks → insert_by_id b blocks ≡ b ∷ blocks
-insert_below b [] h = refl
-insert_below b (c ∷ blocks) h = let lt = h.0 in insert_first b c blocks (omega arith)
 
 -- above all of them it comes last
 pub insert_last : (b : Block) (blocks : List Block) → AllByRecursion (λ c. c.id < b.id) blocks → insert_by_id b blocks ≡ blocks ++ b ∷ []

@@ -7,10 +7,10 @@ use Rattle.shunt_blocks.specs.declared.records.Block.{Block}
 use Rattle.shunt_blocks.specs.defs.Shapes.{IsInRange}
 use Rattle.shunt_moves.specs.declared.exchange.Exchange.{Exchange}
 use Rattle.shunt_moves.specs.defs.States.{State}
-use Rattle.shunt_moves.specs.defs.Exchanges.{taken, put, Extends, Leads}
-use Rattle.shunt_moves.proofs.Made.{of_all, to_all}
-use Rattle.shunt_moves.proofs.Keeping.{to_insert, inserted, length_insert}
-use Rattle.shunt_moves.proofs.Exchanging.{taken_is, put_is}
+use Rattle.shunt_moves.specs.defs.Exchanges.{taken, put, Extends, LeadsOn}
+use Rattle.shunt_moves.proofs.KeptBeside.{to_insert, inserted, length_insert}
+use Rattle.shunt_moves.proofs.Exchanges.{taken_is, put_is}
+use Rattle.shunt_lists.proofs.Members.{each_one as of_all, to_all}
 
 -- a list with a block more has all others
 pub extends_in : (o : Option Block) (less more : List Block) → Extends o less more → (c : Block) → In c less → In c more
@@ -28,7 +28,7 @@ MayCome night o blocks = (more : List Block) × Extends o blocks more × All (Is
 abbrev pub MayGo : Option Block → List Block → Type 0
 MayGo o blocks = (less : List Block) × Extends o less blocks
 
-module _ (night : Night) (x : Exchange) (s t : State) (h : Leads night x s t) where
+module _ (night : Night) (x : Exchange) (s t : State) (h : LeadsOn night x s t) where
   pub goes_first : MayGo x.gone.first s.blocks
   goes_first = (h.one, h.first_gone)
 

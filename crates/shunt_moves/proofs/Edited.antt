@@ -5,7 +5,7 @@ use Rattle.std.specs.List.{AllByRecursion}
 use Rattle.std.proofs.lemmas.Bool.{leb-true, ltb-true}
 use Rattle.std.proofs.lemmas.Bool.Decides.{nat_tests}
 use Rattle.std.proofs.lemmas.List.{length-map}
-use Rattle.shunt_lists.proofs.Members.{all_in, all_from, filter_to}
+use Rattle.shunt_lists.proofs.Members.{all_in, all_from, filter_to, each_one as of_all, to_all}
 use Rattle.shunt_lists.specs.defs.Members.{In}
 use Rattle.shunt_instance.specs.declared.records.Station.{Station}
 use Rattle.shunt_instance.specs.defs.Words.{train_at}
@@ -21,9 +21,10 @@ use Rattle.shunt_moves.specs.declared.types.MoveError.TheVariants as errors
 use Rattle.shunt_moves.specs.declared.exchange.Exchange.{Exchange}
 use Rattle.shunt_moves.specs.defs.States.{State, IsState, Ascend, block_with, without_block, changed}
 use Rattle.shunt_moves.specs.defs.Edits.{edit, edited, continues, are_runs_within, is_on_track, front_of, rest_of, cuts_nothing, are_apart, refusal, cut, join, made, names_no_block, has_bad_count, is_not_adjacent, is_out_of_range, makes_block}
-use Rattle.shunt_moves.specs.defs.Exchanges.{Extends, Leads, Agrees, none, one, two, must, found, room_in, adding, dropping, parking, cutting, joining, planned, ◌>>=◌}
-use Rattle.shunt_moves.proofs.ByIds.{IsNew, gone, put_again, changed_is, insert_last, with_in, is_same, other_id}
-use Rattle.shunt_moves.proofs.Made.{of_all, to_all, same_block, of_without, ascend_without, few_without, ascend_last, each_last, few_last, each_changed, ascend_changed}
+use Rattle.shunt_moves.specs.defs.Exchanges.{Extends, LeadsOn, Agrees, none, one, two, must, found, room_in, adding, dropping, parking, cutting, joining, planned, ◌>>=◌}
+use Rattle.shunt_moves.proofs.ByIds.{IsNew, gone, put_again, changed_is, insert_last, with_in, other_id}
+use Rattle.shunt_moves.proofs.Made.{same_block, of_without, ascend_without, few_without, ascend_last, each_last, few_last, each_changed, ascend_changed}
+use Rattle.shunt_lists.proofs.Tests.{equal_of as is_same, both_true as both}
 
 -- ---- one block more
 
@@ -38,11 +39,6 @@ came_last : (b : Block) (blocks : List Block) → AllByRecursion (λ c. c.id < b
 came_last b blocks h = (sym (insert_last b blocks h), all_from (λ c. c.id ≢ b.id) blocks (λ c i e. let lt : c.id < b.id = all_in (λ c. c.id < b.id) blocks c h i in omega arith))
 
 -- ---- the tests
-
-both : (s t : Bool) → (s && t) ≡ true → (s ≡ true) × (t ≡ true)
-both true true e = (refl, refl)
-both true false e = absurd (cc)
-both false t e = absurd (cc)
 
 pub runs_true : (night : Night) (s : Shape) → are_runs_within night s ≡ true → AreRunsWithin night s
 runs_true night s e =
@@ -85,7 +81,7 @@ module _ (night : Night) (s : State) (h : IsState night s) where
 
   -- ---- drop
 
-  dropped : (b : Block) → In b s.blocks → Leads night (record { gone = one b; come = none; next = s.next }) s (record s { blocks = without_block b.id s.blocks })
+  dropped : (b : Block) → In b s.blocks → LeadsOn night (record { gone = one b; come = none; next = s.next }) s (record s { blocks = without_block b.id s.blocks })
   dropped b i = record {
     one = without_block b.id s.blocks;
     both = without_block b.id s.blocks;
@@ -109,7 +105,7 @@ module _ (night : Night) (s : State) (h : IsState night s) where
   drop_found : (id : ℕ) (o : Option Block) → block_with s.blocks id ≡ o → Agrees night s (record s { blocks = without_block id s.blocks })
       (if not (is_some o) then Some errors.NoBlock else None) (found o >>= λ b. Ok (record { gone = one b; come = none; next = s.next }))
   drop_found id None e = refl
-  drop_found id (Some b) e = let r = with_in s.blocks id b e in subst (λ (n : ℕ). Leads night (record { gone = one b; come = none; next = s.next }) s
+  drop_found id (Some b) e = let r = with_in s.blocks id b e in subst (λ (n : ℕ). LeadsOn night (record { gone = one b; come = none; next = s.next }) s
       (record s { blocks = without_block n s.blocks })) r.1 (dropped b r.0)
 
   -- ---- a block that is changed
@@ -130,7 +126,7 @@ module _ (night : Night) (s : State) (h : IsState night s) where
       next = h.next;
     }
 
-    changes : (b : Block) → In b s.blocks → IsInRange night (change b) → Leads night (record { gone = one b; come = one (change b); next = s.next }) s
+    changes : (b : Block) → In b s.blocks → IsInRange night (change b) → LeadsOn night (record { gone = one b; come = one (change b); next = s.next }) s
         (record s { blocks = changed b.id change s.blocks })
     changes b i good = record {
       one = without_block b.id s.blocks;
@@ -154,7 +150,7 @@ module _ (night : Night) (s : State) (h : IsState night s) where
       → Agrees night s (record s { blocks = changed id (λ c. record c { park = park }) s.blocks })
       (if not t then Some errors.BadRange else None) (must t errors.BadRange >>= λ _. Ok (record { gone = one b; come = one (record b { park = park }); next = s.next }))
   park_tested id b park e true t = let r = with_in s.blocks id b e in
-      subst (λ (n : ℕ). Leads night (record { gone = one b; come = one (record b { park = park }); next = s.next }) s
+      subst (λ (n : ℕ). LeadsOn night (record { gone = one b; come = one (record b { park = park }); next = s.next }) s
       (record s { blocks = changed n (λ c. record c { park = park }) s.blocks })) r.1
       (changes (λ c. record c { park = park }) (λ c. refl) b r.0 (parked_range b park (in_range b r.0) t))
   park_tested id b park e false t = refl
@@ -191,7 +187,7 @@ module _ (night : Night) (s : State) (h : IsState night s) where
   -- ---- add
 
   added : (b : Block) → b.id ≡ s.next → IsWithinTrains night b → length s.blocks ≢ 400 → s.next ≢ 1000001
-      → Leads night (record { gone = none; come = one b; next = s.next + 1 }) s (record { blocks = s.blocks ++ b ∷ []; next = s.next + 1 })
+      → LeadsOn night (record { gone = none; come = one b; next = s.next + 1 }) s (record { blocks = s.blocks ++ b ∷ []; next = s.next + 1 })
   added b e within full spent = record {
     one = s.blocks;
     both = s.blocks;
@@ -241,7 +237,7 @@ module _ (night : Night) (s : State) (h : IsState night s) where
       )
 
   cuts : (b : Block) (k : ℕ) → In b s.blocks → (k == 0 || nat_le b.n k) ≡ false → length s.blocks ≢ 400 → s.next ≢ 1000001 →
-      Leads night (record { gone = one b; come = two (front_of k b) (rest_of k s.next b); next = s.next + 1 }) s
+      LeadsOn night (record { gone = one b; come = two (front_of k b) (rest_of k s.next b); next = s.next + 1 }) s
       (record { blocks = changed b.id (front_of k) s.blocks ++ rest_of k s.next b ∷ []; next = s.next + 1 })
   cuts b k i e full spent =
       let parts = parts_within b k (in_range b i) e in
@@ -317,7 +313,7 @@ module _ (night : Night) (s : State) (h : IsState night s) where
   stays_in b c i ne = filter_to (λ x. not (x.id == c.id)) s.blocks b i (ap not (other_id b.id c.id ne))
 
   joins : (b c : Block) → In b s.blocks → In c s.blocks → continues b c ≡ true →
-      Leads night (record { gone = two c b; come = one (record b { n = b.n + c.n }); next = s.next }) s
+      LeadsOn night (record { gone = two c b; come = one (record b { n = b.n + c.n }); next = s.next }) s
       (record s { blocks = changed b.id (λ x. record x { n = x.n + c.n }) (without_block c.id s.blocks) })
   joins b c i j e =
       let ascend = ascend_without c.id s.blocks h.ascend in let k = stays_in b c i (apart_ids b c i j e) in
@@ -351,7 +347,7 @@ module _ (night : Night) (s : State) (h : IsState night s) where
       Agrees night s (join s first (Some c)) (if not t then Some errors.NotAdjacent else None)
       (must t errors.NotAdjacent >>= λ _. Ok (record { gone = two c b; come = one (record b { n = b.n + c.n }); next = s.next }))
   join_tested first b c e j true t = let r = with_in s.blocks first b e in
-      subst (λ (n : ℕ). Leads night (record { gone = two c b; come = one (record b { n = b.n + c.n }); next = s.next }) s
+      subst (λ (n : ℕ). LeadsOn night (record { gone = two c b; come = one (record b { n = b.n + c.n }); next = s.next }) s
       (record s { blocks = changed n (λ x. record x { n = x.n + c.n }) (without_block c.id s.blocks) })) r.1 (joins b c r.0 j t)
   join_tested first b c e j false t = refl
 

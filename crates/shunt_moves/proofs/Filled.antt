@@ -1,19 +1,18 @@
 -- Blocks that are put in from the last to the first.
 use Rattle.std.proofs.Common.{◌≡◌, ◌≢◌, inl, inr, ℕ, zero, suc, ◌+◌, ◌-◌, ◌<◌, ◌≤◌, max, reverse, List, [], ◌∷◌, length, get_or, take, drop, map, refl, sym, subst, ap, ◌∙◌, arith}
 use Rattle.std.proofs.lemmas.List.Sorted.{length_permutation}
-use Rattle.shunt_lists.proofs.Members.{all_in, all_from}
+use Rattle.shunt_lists.proofs.Members.{all_in, all_from, each_one as of_all}
 use Rattle.shunt_lists.specs.defs.Members.{In, AreDistinct}
 use Rattle.shunt_blocks.specs.declared.records.Block.{Block}
 use Rattle.shunt_audit.specs.defs.Listed.{insert_by_id, by_id}
 use Rattle.shunt_audit.proofs.ById.{id_of, Apart, apart, there, moves, ascends, sorted_range}
-use Rattle.shunt_stays.proofs.Ascending.{Ascends}
+use Rattle.shunt_stays.proofs.AscendingLists.{Ascends}
 use Rattle.shunt_instance.specs.defs.Instance.{Night}
 use Rattle.shunt_blocks.specs.defs.Shapes.{IsInRange}
 use Rattle.shunt_blocks.specs.defs.Lists.{AreInRange}
 use Rattle.shunt_moves.specs.declared.exchange.Exchange.{Exchange}
 use Rattle.shunt_moves.specs.defs.Exchanges.{AllLead, IsBench}
 use Rattle.shunt_moves.specs.defs.Kept.{Standing}
-use Rattle.shunt_moves.proofs.Made.{of_all}
 use Rattle.shunt_moves.specs.defs.States.{State, IsState, Ascend, greatest_id}
 use Rattle.shunt_moves.proofs.ByIds.{IsNew}
 

@@ -1,22 +1,16 @@
 -- States stay states: lists that lose a block, get one at the end, or have one changed.
-use Rattle.std.proofs.Common.{◌≡◌, inl, inr, ⊎_elim, ℕ, suc, ◌+◌, ◌<◌, ◌≤◌, List, [], ◌∷◌, ◌++◌, length, get_or, refl, sym, subst, ap, ◌∙◌, arith}
-use Rattle.std.specs.Prelude.{◌==◌, not, All, if◌then◌else◌, Some}
+use Rattle.std.proofs.Common.{◌≡◌, inl, inr, ⊎_elim, ℕ, suc, ◌+◌, ◌<◌, ◌≤◌, List, [], ◌∷◌, ◌++◌, length, refl, sym, subst, ap, ◌∙◌, arith}
+use Rattle.std.specs.Prelude.{◌==◌, not, if◌then◌else◌, Some}
 use Rattle.std.specs.List.{AllByRecursion}
 use Rattle.std.proofs.lemmas.Bool.{cases_Bool, cond-true, cond-false}
-use Rattle.shunt_lists.proofs.Members.{all_in, all_from, in_cases, in_place, of_map, filter_from, filter_yes, filter_no}
+use Rattle.shunt_lists.proofs.Members.{all_in, all_from, in_cases, of_map, filter_from, filter_yes, filter_no}
 use Rattle.shunt_lists.specs.defs.Members.{In}
 use Rattle.shunt_blocks.specs.declared.records.Block.{Block}
-use Rattle.shunt_audit.proofs.ById.{place_of}
 use Rattle.shunt_moves.specs.defs.States.{Ascend, block_with, without_block, changed}
-use Rattle.shunt_moves.proofs.ByIds.{is_same, with_is}
+use Rattle.shunt_moves.proofs.ByIds.{with_is}
+use Rattle.shunt_lists.proofs.Tests.{equal_of as is_same}
 
 -- ---- facts of each member
-
-pub of_all : {X : Type 0} (P : X → Type 0) (xs : List X) (x : X) → All P xs → In x xs → P x
-of_all P xs x h i = let r = place_of xs x x i in subst P r.2 (h r.0 x r.1)
-
-pub to_all : {X : Type 0} (P : X → Type 0) (xs : List X) → ((x : X) → In x xs → P x) → All P xs
-to_all P xs h k d lt = h (get_or xs k d) (in_place xs k d lt)
 
 -- two members with one id are one
 pub same_block : (blocks : List Block) (b c : Block) → Ascend blocks → In b blocks → In c blocks → c.id ≡ b.id → c ≡ b

@@ -1,10 +1,10 @@
 -- The places of blocks by ascending id.
-use Rattle.std.proofs.Common.{◌≡◌, ◌≢◌, inl, inr, ⊎_elim, ℕ, zero, suc, ◌<◌, ◌≤◌, ltb, true, false, List, [], ◌∷◌, length, get_or, take, drop, map, refl, sym, subst, ap, ◌∙◌, arith}
+use Rattle.std.proofs.Common.{◌≡◌, ◌≢◌, inl, inr, ℕ, zero, suc, ◌<◌, ◌≤◌, ltb, true, false, List, [], ◌∷◌, length, get_or, take, drop, map, refl, sym, subst, ap, ◌∙◌, arith}
 use Rattle.std.specs.Prelude.{◌==◌, Some, None}
 use Rattle.std.specs.List.{AllByRecursion, insert, remove}
 use Rattle.std.specs.List.Sorted.{IsPartitionedBy, IsPartitionPoint}
-use Rattle.std.proofs.lemmas.Bool.{ltb-true, ltb-false, lt-ltb, cond-false, cases_lt}
-use Rattle.shunt_lists.proofs.Members.{all_in, all_from, in_place, of_map}
+use Rattle.std.proofs.lemmas.Bool.{ltb-true, ltb-false, lt-ltb, cond-false}
+use Rattle.shunt_lists.proofs.Members.{all_in, all_from, in_place, of_map, in_take, in_drop}
 use Rattle.shunt_lists.specs.defs.Members.{In, AreDistinct}
 use Rattle.shunt_blocks.specs.declared.records.Block.{Block}
 use Rattle.shunt_audit.specs.defs.Listed.{insert_by_id}
@@ -17,19 +17,6 @@ ascends_at (x ∷ xs) zero zero d a le lt = omega arith
 ascends_at (x ∷ xs) zero (suc j) d a le lt = let gt : x.id < (get_or xs j d).id = all_in (λ y. x.id < y.id) xs (get_or xs j d) a.0 (in_place xs j d (omega arith)) in omega arith
 ascends_at (x ∷ xs) (suc i) zero d a le lt = absurd (omega arith)
 ascends_at (x ∷ xs) (suc i) (suc j) d a le lt = ascends_at xs i j d a.1 (omega arith) (omega arith)
-
-in_take : {X : Type 0} (n : ℕ) (xs : List X) (x : X) → In x (take n xs) → (k : ℕ) × (k < n) × (k < length xs) × (get_or xs k x ≡ x)
-in_take zero xs x h = absurd h
-in_take (suc n) [] x h = absurd h
-in_take (suc n) (y ∷ xs) x (inl e) = (0, omega arith, omega arith, sym e)
-in_take (suc n) (y ∷ xs) x (inr h) = let r = in_take n xs x h in (suc r.0, let p = r.1 in omega arith, let p = r.2 in omega arith, r.3)
-
-in_drop : {X : Type 0} (n : ℕ) (xs : List X) (x : X) → In x (drop n xs) → (k : ℕ) × (n ≤ k) × (k < length xs) × (get_or xs k x ≡ x)
-in_drop zero [] x h = absurd h
-in_drop zero (y ∷ xs) x (inl e) = (0, omega arith, omega arith, sym e)
-in_drop zero (y ∷ xs) x (inr h) = let r = in_drop zero xs x h in (suc r.0, omega arith, let p = r.2 in omega arith, r.3)
-in_drop (suc n) [] x h = absurd h
-in_drop (suc n) (y ∷ xs) x h = let r = in_drop n xs x h in (suc r.0, let p = r.1 in omega arith, let p = r.2 in omega arith, r.3)
 
 module _ (xs : List Block) (id : ℕ) where
   pub parted_ids : Ascend xs → IsPartitionedBy (λ b. ltb b.id id) xs
@@ -103,6 +90,3 @@ ids_distinct (x ∷ xs) a zero (suc j) d before within = λ e.
     let lt : x.id < r.0.id = all_in (λ d. x.id < d.id) xs r.0 a.0 r.1 in omega (arith, r.2)
 ids_distinct (x ∷ xs) a (suc i) zero d before within = absurd (omega arith)
 ids_distinct (x ∷ xs) a (suc i) (suc j) d before within = ids_distinct xs a.1 i j d (omega arith) (omega arith)
-
-pub within_or : (n m : ℕ) → n ≤ m → n ≢ m → n < m
-within_or n m le ne = ⊎_elim (λ lt. lt) (λ ge. absurd (ne (omega arith))) (cases_lt n m)

@@ -6,13 +6,10 @@ use Rattle.std.proofs.lemmas.Bool.{cases_lt, cases_eq}
 use Rattle.std.proofs.lemmas.Bool.Decides.{nat_tests}
 use Rattle.shunt_lists.specs.defs.Below.{count_below}
 use Rattle.shunt_moves.specs.defs.Kept.{at, is_within, IsCounted}
+use Rattle.shunt_lists.proofs.CountsBelow.{count_below-same as same_count}
 
 abbrev flag : Bool → ℕ
 flag b = cond b 1 0
-
-pub same_count : (n : ℕ) (p q : ℕ → Bool) → ((v : ℕ) → v < n → p v ≡ q v) → count_below n p ≡ count_below n q
-same_count zero p q e = refl
-same_count (suc n) p q e = let rest = same_count n p q (λ v lt. e v (omega arith)) in let last : flag (p n) ≡ flag (q n) = ap flag (e n (omega arith)) in omega arith
 
 -- two tests that differ at one number only
 changed_at : (n u : ℕ) (p q : ℕ → Bool) → u < n → ((v : ℕ) → v ≢ u → p v ≡ q v) → count_below n q + flag (p u) ≡ count_below n p + flag (q u)

@@ -11,17 +11,17 @@ use Rattle.shunt_instance.specs.defs.Instance.{Night, unit_total, position_total
 use Rattle.shunt_blocks.specs.declared.records.Block.{Block}
 use Rattle.shunt_blocks.specs.declared.records.Park.{Park}
 use Rattle.shunt_blocks.specs.defs.Shapes.{shape_of, unit_from, position_from, IsOnTrack, IsInRange}
-use Rattle.shunt_blocks.specs.defs.Standing.{is_too_soon, parked_stay, stay_with, stay_of}
+use Rattle.shunt_blocks.specs.defs.Stays.{is_too_soon, parked_stay, stay_with, stay_of}
 use Rattle.shunt_blocks.specs.defs.Lists.{AreInRange, has_unit, has_position}
 use Rattle.shunt_timeline.specs.defs.Holdings.{Holding}
 use Rattle.shunt_audit.specs.defs.Listed.{insert_by_id}
-use Rattle.shunt_audit.proofs.Standing.{stay_id}
 use Rattle.shunt_moves.specs.declared.faults.Faults.{Faults}
-use Rattle.shunt_moves.specs.defs.Kept.{Times, at, is_within, IsKept}
+use Rattle.shunt_moves.specs.defs.Kept.{Times, at, is_within, IsKeptState}
 use Rattle.shunt_moves.specs.defs.States.{without_block}
 use Rattle.shunt_moves.proofs.ByIds.{IsNew, put_again}
 use Rattle.shunt_moves.proofs.Places.{ids_distinct}
-use Rattle.shunt_moves.proofs.Keeping.{flag, new_held, few_held, count_insert}
+use Rattle.shunt_moves.proofs.KeptBeside.{flag, new_held, few_held, count_insert}
+use Rattle.shunt_blocks.proofs.StaysOf.{stay_id}
 
 if_some : {X : Type 0} (P : X → Type 0) (o : Option X) → ((x : X) → o ≡ Some x → P x) → IfSome o P
 if_some P None h = tt
@@ -35,7 +35,7 @@ track_with : (night : Night) (b : Block) (o : Option Park) (s : Stay) → IsOnTr
 track_with night b None s on e = absurd (none-some _ e)
 track_with night b (Some k) s on e = track_where (is_too_soon night (shape_of b)) (parked_stay night b k) s (length night.station.tracks) on e
 
-module _ (night : Night) (blocks : List Block) (held : Holding) (units places : Times) (f : Faults) (k : IsKept night blocks held units places f) where
+module _ (night : Night) (blocks : List Block) (held : Holding) (units places : Times) (f : Faults) (k : IsKeptState night blocks held units places f) where
   pub all_in_range : AreInRange night blocks
   all_in_range = record { few = k.few; each = k.each; ids = ids_distinct blocks k.ascend }
 

@@ -8,9 +8,9 @@ use Rattle.shunt_moves.specs.declared.exchange.Exchange.{Exchange}
 use Rattle.shunt_moves.specs.defs.States.{State, IsState}
 use Rattle.shunt_moves.specs.defs.Edits.{refusal, made, edited, edit}
 use Rattle.shunt_moves.specs.defs.Benches.{Bench, applied, after_edit, gone_back, after_undo, gone_on, after_redo}
-use Rattle.shunt_moves.specs.defs.Exchanges.{exchanged, flipped, Leads, trail, AllLead, Agrees, planned}
+use Rattle.shunt_moves.specs.defs.Exchanges.{exchanged, flipped, LeadsOn, trail, AllLead, Agrees, planned}
 use Rattle.shunt_moves.specs.defs.Kept.{Standing}
-use Rattle.shunt_moves.proofs.Exchanging.{leads_to, back_lead, back_trail, reverse_last}
+use Rattle.shunt_moves.proofs.Exchanges.{leads_to, back_lead, back_trail, reverse_last}
 use Rattle.shunt_moves.proofs.Edited.{agrees}
 
 abbrev pub bench_at : Standing → List Exchange → List Exchange → Bench
@@ -28,7 +28,7 @@ last_length (y ∷ xs) x = let rest = last_length xs x in omega arith
 
 -- ---- a step by an exchange that leads somewhere
 
-module _ (night : Night) (s : State) (x : Exchange) (to : List Exchange) (h : Leads night x s (exchanged x s)) where
+module _ (night : Night) (s : State) (x : Exchange) (to : List Exchange) (h : LeadsOn night x s (exchanged x s)) where
   pub put_lead : AllLead night s (reverse to) → AllLead night (exchanged x s) (reverse (to ++ flipped x s.next ∷ []))
   put_lead all = subst (AllLead night (exchanged x s)) (sym (reverse_last to (flipped x s.next))) (back_lead night x s (exchanged x s) (reverse to) h all)
 
@@ -37,7 +37,7 @@ module _ (night : Night) (s : State) (x : Exchange) (to : List Exchange) (h : Le
 
 -- the last one of a list
 pub last_lead : (night : Night) (s : State) (from rest : List Exchange) (x : Exchange) → from ≡ rest ++ x ∷ [] → AllLead night s (reverse from)
-    → Leads night x s (exchanged x s) × AllLead night (exchanged x s) (reverse rest)
+    → LeadsOn night x s (exchanged x s) × AllLead night (exchanged x s) (reverse rest)
 last_lead night s from rest x e all = subst (AllLead night s) (ap reverse e ∙ reverse_last rest x) all
 
 pub last_trail : (s : State) (from rest : List Exchange) (x : Exchange) → from ≡ rest ++ x ∷ [] → trail s (reverse from) ≡ exchanged x s ∷ trail (exchanged x s) (reverse rest)
@@ -92,16 +92,16 @@ module _ (p q : Standing) (from rest to more : List Exchange) (x y : Exchange) (
 
 -- where the exchange of an edit is there, it leads to what the edit makes, and the edit isn't refused
 pub planned_leads : (night : Night) (s : State) (e : Edit) (x : Exchange) → IsState night s → planned night s e ≡ Ok x
-    → Leads night x s (exchanged x s) × (edit night s e ≡ Ok (exchanged x s))
+    → LeadsOn night x s (exchanged x s) × (edit night s e ≡ Ok (exchanged x s))
 planned_leads night s e x h is = go (refusal night s e) (planned night s e) (agrees night s h e) refl is
   where
-    to_leads : (r : Option MoveError) → Agrees night s (made s e) r (Ok x) → refusal night s e ≡ r → Leads night x s (exchanged x s) × (edit night s e ≡ Ok (exchanged x s))
+    to_leads : (r : Option MoveError) → Agrees night s (made s e) r (Ok x) → refusal night s e ≡ r → LeadsOn night x s (exchanged x s) × (edit night s e ≡ Ok (exchanged x s))
     to_leads None a f = let to = leads_to night x s (made s e) a in
-        (subst (Leads night x s) (sym to) a, ap (λ (o : Option MoveError). edited o (made s e)) f ∙ ap (λ (u : State). edited None u) (sym to))
+        (subst (LeadsOn night x s) (sym to) a, ap (λ (o : Option MoveError). edited o (made s e)) f ∙ ap (λ (u : State). edited None u) (sym to))
     to_leads (Some error) a f = absurd a
 
     go : (r : Option MoveError) (o : Result Exchange MoveError) → Agrees night s (made s e) r o → refusal night s e ≡ r → o ≡ Ok x
-        → Leads night x s (exchanged x s) × (edit night s e ≡ Ok (exchanged x s))
+        → LeadsOn night x s (exchanged x s) × (edit night s e ≡ Ok (exchanged x s))
     go r o a f g = to_leads r (subst (Agrees night s (made s e) r) g a) f
 
 -- where there is none, the edit is refused for its reason

@@ -1,6 +1,9 @@
 // The workbench.
-ghost use Rattle.std.specs.Prelude.{◌≡◌, ◌⊎◌, ◌↔◌, ◌+◌, ◌^◌, ◌<◌, ◌≤◌, [], ℕ, max, length, vec_capacity, ◌++◌, ◌∷◌, All, Ok, Err, IsErr, IfOk, OnOk, OnErr, IsPermutation};
-ghost use Rattle.shunt_blocks.specs.defs.Lists.{track_lengths, stays_of, total_cost, IsFeasible, AreInRange};
+ghost use Rattle.std.specs.Prelude.{◌≡◌, ◌⊎◌, ◌↔◌, ◌+◌, ◌^◌, ◌<◌, ◌≤◌, [], ℕ, max, length};
+ghost use Rattle.std.specs.Prelude.{vec_capacity, ◌++◌, ◌∷◌, All, Ok, Err, IsErr, IfOk, OnOk};
+ghost use Rattle.std.specs.Prelude.{OnErr, IsPermutation};
+ghost use Rattle.shunt_blocks.specs.defs.Lists.{track_lengths, stays_of, total_cost, IsFeasible};
+ghost use Rattle.shunt_blocks.specs.defs.Lists.{AreInRange};
 ghost use Rattle.shunt_plan.specs.defs.Plans.{IsPlanInRange};
 ghost use Rattle.shunt_audit.specs.defs.Findings.{IsOfNight, AreFindings};
 ghost use Rattle.shunt_audit.specs.defs.Listed.{by_id, findings_in};
@@ -46,9 +49,15 @@ impl<'i> Model for Workbench<'i> {
 
     ghost use Rattle.shunt_moves.specs.defs.Exchanges.{IsBench, trail};
 
-    ghost view = { λ w. record { night = w.present.night; present = w.present.state; past = trail w.present.state (reverse w.past.items); undone = trail w.present.state (reverse w.undone.items) } };
+    ghost view = { λ w. record {
+      night = w.present.night;
+      present = w.present.state;
+      past = trail w.present.state (reverse w.past.items);
+      undone = trail w.present.state (reverse w.undone.items);
+    } };
 
-    ghost invariant = { λ w. IsBench w.present.night w.present.state w.past.items w.undone.items (vec_capacity w.past) (vec_capacity w.undone) };
+    ghost invariant = { λ w. IsBench w.present.night w.present.state w.past.items w.undone.items
+        (vec_capacity w.past) (vec_capacity w.undone) };
 }
 
 /// The greater of two numbers.
@@ -136,8 +145,10 @@ impl<'i> Workbench<'i> {
     /// An accepted edit puts the old state on the past list and empties the undone list. After any refusal, want of memory
     /// included, all is as it was. Memory is taken only if no other reason holds.
     pub fn apply(&mut self, edit: &Edit) -> Result<(), MoveError>
-        ensures refused { (error : AnError) → step self.old.night self.old.present edit.now ≡ Err error → result ≡ Err error }
-        ensures accepted { (next : State) → step self.old.night self.old.present edit.now ≡ Ok next → (result ≡ Ok tt) ⊎ (result ≡ Err errors.Memory) }
+        ensures refused { (error : AnError)
+            → step self.old.night self.old.present edit.now ≡ Err error → result ≡ Err error }
+        ensures accepted { (next : State) → step self.old.night self.old.present edit.now ≡ Ok next
+            → (result ≡ Ok tt) ⊎ (result ≡ Err errors.Memory) }
         ensures made { OnOk result (self.new ≡ after_edit self.old edit.now) }
         ensures unchanged { OnErr result (self.new ≡ self.old) }
     {
@@ -194,7 +205,8 @@ impl<'i> Workbench<'i> {
     /// The present blocks by ascending id, with their cost.
     pub fn plan(&self) -> Result<Plan, AllocError>
         ensures blocks { IfOk result (λ p. p.blocks ≡ self.now.present.blocks) }
-        ensures cost { IfOk result (λ p. p.cost ≡ total_cost self.now.night self.now.present.blocks) }
+        ensures cost { IfOk result
+            (λ p. p.cost ≡ total_cost self.now.night self.now.present.blocks) }
         ensures in_range { IfOk result (IsPlanInRange self.now.night) }
     {
         let blocks = Vec::from_slice(self.alloc, self.present.blocks())?;
@@ -208,10 +220,13 @@ impl<'i> Workbench<'i> {
 
     /// The findings of the present blocks, by kind and then by the numbers that they carry.
     pub fn findings(&self) -> Result<Vec<Finding>, AllocError>
-        ensures exact { IfOk result (λ v. v.items ≡ findings_in self.now.night self.now.present.blocks) }
-        ensures told { IfOk result (λ v. AreFindings self.now.night self.now.present.blocks v.items) }
+        ensures exact { IfOk result
+            (λ v. v.items ≡ findings_in self.now.night self.now.present.blocks) }
+        ensures told { IfOk result
+            (λ v. AreFindings self.now.night self.now.present.blocks v.items) }
         ensures of_night { IfOk result (λ v. All (IsOfNight self.now.night) v.items) }
-        ensures none { IfOk result (λ v. (v.items ≡ []) ↔ IsFeasible self.now.night self.now.present.blocks) }
+        ensures none { IfOk result
+            (λ v. (v.items ≡ []) ↔ IsFeasible self.now.night self.now.present.blocks) }
     {
         findings_of(self.alloc, self.present.instance, self.present.blocks())
     }
@@ -220,7 +235,8 @@ impl<'i> Workbench<'i> {
     /// each once, and room for 400 in all. It takes no memory.
     pub fn timelines(&self) -> &Timelines
         ensures lengths { result.now.lengths ≡ track_lengths self.now.night.station }
-        ensures stays { IsPermutation (stays_of self.now.night self.now.present.blocks) result.now.stays }
+        ensures stays { IsPermutation
+            (stays_of self.now.night self.now.present.blocks) result.now.stays }
         ensures room { 400 ≤ result.now.spare + length result.now.stays }
     {
         self.present.timelines()

@@ -85,7 +85,8 @@ impl Cover {
         requires within { from + n ≤ self.old.total }
         requires small { from + n ≤ 160 }
         requires few { (u : ℕ) → u < self.old.total → at self.old.times u ≤ 400 }
-        ensures each { (u : ℕ) → u < self.old.total → at self.new.times u ≡ at self.old.times u + cond (is_within from n u) 1 0 }
+        ensures each { (u : ℕ) → u < self.old.total
+            → at self.new.times u ≡ at self.old.times u + cond (is_within from n u) 1 0 }
         ensures total { self.new.total ≡ self.old.total }
     {
         for k in 0..n {
@@ -99,7 +100,8 @@ impl Cover {
         requires within { from + n ≤ self.old.total }
         requires small { from + n ≤ 160 }
         requires some { (u : ℕ) → IsTrue (is_within from n u) → 1 ≤ at self.old.times u }
-        ensures each { (u : ℕ) → u < self.old.total → at self.new.times u + cond (is_within from n u) 1 0 ≡ at self.old.times u }
+        ensures each { (u : ℕ) → u < self.old.total
+            → at self.new.times u + cond (is_within from n u) 1 0 ≡ at self.old.times u }
         ensures total { self.new.total ≡ self.old.total }
     {
         for k in 0..n {

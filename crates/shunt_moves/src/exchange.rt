@@ -6,7 +6,7 @@ use shunt_blocks::Block;
 
 /// At most two blocks.
 #[derive(Clone, Copy, Debug)]
-pub struct Pair {
+pub struct BlockPair {
     pub first: Option<Block>,
     pub second: Option<Block>,
 }
@@ -14,43 +14,43 @@ pub struct Pair {
 /// Some blocks go, then others come, each the first before the second, and the next new block gets another id.
 #[derive(Clone, Copy, Debug)]
 pub struct Exchange {
-    pub gone: Pair,
-    pub come: Pair,
+    pub gone: BlockPair,
+    pub come: BlockPair,
     pub next: u32,
 }
 
-impl Pair {
-    pub fn none() -> Pair
+impl BlockPair {
+    pub fn none() -> BlockPair
         ensures { result ≡ none }
     {
-        Pair {
+        BlockPair {
             first: None,
             second: None,
         }
     }
 
-    pub fn one(block: Block) -> Pair
+    pub fn one(block: Block) -> BlockPair
         ensures { result ≡ one block }
     {
-        Pair {
+        BlockPair {
             first: Some(block),
             second: None,
         }
     }
 
-    pub fn two(first: Block, second: Block) -> Pair
+    pub fn two(first: Block, second: Block) -> BlockPair
         ensures { result ≡ two first second }
     {
-        Pair {
+        BlockPair {
             first: Some(first),
             second: Some(second),
         }
     }
 
-    fn turned(self) -> Pair
+    fn turned(self) -> BlockPair
         ensures { result ≡ record { first = self.second; second = self.first } }
     {
-        Pair {
+        BlockPair {
             first: self.second,
             second: self.first,
         }

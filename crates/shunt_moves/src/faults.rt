@@ -34,7 +34,8 @@ fn lacks_way_out(instance: &Instance, block: &Block) -> bool
 
 impl Faults {
     pub fn none() -> Faults
-        ensures { result ≡ record { wrong_type = 0; too_soon = 0; no_route_in = 0; no_route_out = 0; cost = 0 } }
+        ensures { result
+            ≡ record { wrong_type = 0; too_soon = 0; no_route_in = 0; no_route_out = 0; cost = 0 } }
     {
         Faults {
             wrong_type: 0,

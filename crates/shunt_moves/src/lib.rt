@@ -3,11 +3,11 @@
 
 mod bench;
 mod cover;
+mod edit_effects;
 mod exchange;
 mod faults;
 pub mod laws;
-mod moving;
-mod planning;
+mod moves;
 mod present;
 mod types;
 

@@ -1,5 +1,6 @@
 // The present blocks, and what is kept beside them.
-ghost use Rattle.std.specs.Prelude.{◌≡◌, ◌≢◌, ◌+◌, ◌^◌, ◌<◌, ◌≤◌, [], length, take, drop, vec_capacity, All, IfOk, IfSome, IsPermutation};
+ghost use Rattle.std.specs.Prelude.{◌≡◌, ◌≢◌, ◌+◌, ◌^◌, ◌<◌, ◌≤◌, [], length, take, drop};
+ghost use Rattle.std.specs.Prelude.{vec_capacity, All, IfOk, IfSome, IsPermutation};
 ghost use Rattle.std.specs.List.{AllByRecursion};
 ghost use Rattle.shunt_lists.specs.defs.Members.{In};
 ghost use Rattle.shunt_base.specs.defs.Keys.{IsWellFormed};
@@ -15,7 +16,7 @@ use crate::cover::Cover;
 use crate::faults::Faults;
 use crate::types::Tally;
 use shunt_base::Stay;
-use shunt_blocks::{Block, laws, position_from, shape_of, stay, unit_from};
+use shunt_blocks::{Block, laws, position_from, shape_of, stay, track_lengths, unit_from};
 use shunt_instance::Instance;
 use shunt_timeline::Timelines;
 use std::alloc::{AllocError, Global};
@@ -43,22 +44,15 @@ impl<'i> Model for Present<'i> {
 
     ghost Value = { Standing };
 
-    ghost use Rattle.shunt_moves.specs.defs.Kept.{IsKept};
+    ghost use Rattle.shunt_moves.specs.defs.Kept.{IsKeptState};
 
-    ghost view = { λ p. record { night = p.instance.now; state = record { blocks = p.blocks.items; next = p.next } } };
+    ghost view = { λ p. record {
+      night = p.instance.now;
+      state = record { blocks = p.blocks.items; next = p.next };
+    } };
 
-    ghost invariant = { λ p. IsKept p.instance.now p.blocks.items p.timelines p.units p.places p.faults × (400 ≤ vec_capacity p.blocks) };
-}
-
-/// The lengths of the tracks in dm.
-fn track_lengths(alloc: Global, instance: &Instance) -> Result<Vec<u32>, AllocError>
-    ensures { IfOk result (λ v. v.items ≡ track_lengths instance.now.station) }
-{
-    let mut lengths = Vec::new(alloc);
-    for track in instance.station().tracks.as_slice() {
-        lengths.push(track.length)?;
-    }
-    Ok(lengths)
+    ghost invariant = { λ p. IsKeptState p.instance.now p.blocks.items p.timelines p.units p.places
+        p.faults × (400 ≤ vec_capacity p.blocks) };
 }
 
 /// How many blocks have lower ids, by binary search.
@@ -180,7 +174,8 @@ impl<'i> Present<'i> {
     /// The timelines with the blocks' stays.
     pub fn timelines(&self) -> &Timelines
         ensures lengths { result.now.lengths ≡ track_lengths self.now.night.station }
-        ensures stays { IsPermutation (stays_of self.now.night self.now.state.blocks) result.now.stays }
+        ensures stays { IsPermutation
+            (stays_of self.now.night self.now.state.blocks) result.now.stays }
         ensures room { 400 ≤ result.now.spare + length result.now.stays }
     {
         &self.timelines
@@ -219,7 +214,10 @@ impl<'i> Present<'i> {
         requires in_range { IsInRange self.old.night block.now }
         requires new { AllByRecursion (λ c. c.id ≢ block.now.id) self.old.state.blocks }
         requires few { length self.old.state.blocks < 400 }
-        ensures { self.new ≡ record self.old { state = record self.old.state { blocks = insert_by_id block.now self.old.state.blocks } } }
+        ensures { self.new ≡ record self.old {
+          state = record
+              self.old.state { blocks = insert_by_id block.now self.old.state.blocks };
+        } }
     {
         let instance = self.instance;
         insert_stay(&mut self.timelines, stay(instance, block));
@@ -234,7 +232,10 @@ impl<'i> Present<'i> {
     /// A block goes that is there. It takes no memory.
     pub fn go(&mut self, block: &Block)
         requires { In block.now self.old.state.blocks }
-        ensures { self.new ≡ record self.old { state = record self.old.state { blocks = without_block block.now.id self.old.state.blocks } } }
+        ensures { self.new ≡ record self.old {
+          state = record
+              self.old.state { blocks = without_block block.now.id self.old.state.blocks };
+        } }
     {
         // The first call says how the stays of blocks stand, the other that the night is well formed.
         laws::stays_of_blocks();

@@ -1,6 +1,5 @@
 -- Each order is that of a block, so each has its row.
 use Rattle.std.specs.Prelude.{Option, Some, None, cond, find, map, All}
-use Rattle.std.specs.List.{cons_option}
 use Rattle.std.proofs.Common.{inl, inr, ◌≡◌, ◌⊎◌, ⊎_elim, ℕ, ◌==◌, Bool, true, false, List, [], ◌∷◌, ◌++◌, if◌then◌else◌, refl, sym, ap, subst, ◌∙◌, arith}
 use Rattle.std.proofs.lemmas.Option.{none-some}
 use Rattle.std.proofs.lemmas.Bool.Decides.{nat_tests}
@@ -9,31 +8,21 @@ use Rattle.shunt_lists.specs.defs.Members.{In}
 use Rattle.shunt_lists.proofs.Members.{all_in, of_map}
 use Rattle.shunt_lists.proofs.Lists.{by_places}
 use Rattle.shunt_base.specs.declared.keys.Stay.{Stay}
-use Rattle.shunt_stays.specs.defs.Events.{Move, entry_of, leave_of, key_before, insert_by_key, in_order}
+use Rattle.shunt_stays.specs.defs.Events.{Move, entry_of, leave_of, insert_by_key, in_order}
 use Rattle.shunt_instance.specs.defs.Instance.{Night}
 use Rattle.shunt_blocks.specs.declared.records.Block.{Block}
 use Rattle.shunt_blocks.specs.declared.records.Park.{Park}
 use Rattle.shunt_blocks.specs.defs.Shapes.{shape_of, IsInRange, IsWithinTrains}
-use Rattle.shunt_blocks.specs.defs.Standing.{is_too_soon, parked_stay, stay_with, stay_of}
+use Rattle.shunt_blocks.specs.defs.Stays.{is_too_soon, parked_stay, stay_with, stay_of}
 use Rattle.shunt_blocks.specs.defs.Lists.{stays_of}
 use Rattle.shunt_sheet.specs.declared.records.Order.{Order}
 use Rattle.shunt_sheet.specs.defs.Orders.{order_of, orders_in}
-use Rattle.shunt_page.specs.declared.standing.Stood.{Stood}
+use Rattle.shunt_page.specs.declared.occupancy.Stood.{Stood}
 use Rattle.shunt_page.specs.declared.records.OrderRow.{OrderRow}
-use Rattle.shunt_page.specs.defs.Standing.{after}
+use Rattle.shunt_page.specs.defs.Occupancy.{after}
 use Rattle.shunt_page.specs.defs.Orders.{row_with, row_at, rows_from, rows_of}
-
--- an event that is put among others is in the list with them
-inserted : (m n : Move) (moves : List Move) → In n (insert_by_key m moves) → (n ≡ m) ⊎ In n moves
-inserted m n [] (inl e) = inl e
-inserted m n [] (inr h) = absurd h
-inserted m n (o ∷ moves) h = at (key_before m.key o.key) (inserted m n moves) h
-  where
-    at : (t : Bool) → (In n (insert_by_key m moves) → (n ≡ m) ⊎ In n moves) → In n (if t then m ∷ o ∷ moves else o ∷ insert_by_key m moves) → (n ≡ m) ⊎ In n (o ∷ moves)
-    at true later (inl e) = inl e
-    at true later (inr i) = inr i
-    at false later (inl e) = inr (inl e)
-    at false later (inr i) = ⊎_elim (λ e. inl e) (λ j. inr (inr j)) (later i)
+use Rattle.shunt_blocks.proofs.StaysOf.{cons_stay}
+use Rattle.shunt_stays.proofs.SortedEvents.{inserted}
 
 -- an event of some stays is the entry or the leave of one of them
 abbrev IsEventOf : Move → Stay → Type 0
@@ -60,11 +49,6 @@ parked_id night b k false s e = subst (HasId b.id) (some_same e) (refl, refl)
 stay_id : (night : Night) (b : Block) (o : Option Park) (s : Stay) → stay_with night b o ≡ Some s → HasId b.id s
 stay_id night b None s e = absurd (none-some _ e)
 stay_id night b (Some k) s e = parked_id night b k (is_too_soon night (shape_of b)) s e
-
--- a stay of some blocks is that of one of them
-cons_stay : (P : List Stay → Type 0) (o : Option Stay) (stays : List Stay) → (o ≡ None → P stays) → ((s : Stay) → o ≡ Some s → P (s ∷ stays)) → P (cons_option o stays)
-cons_stay P None stays none some = none refl
-cons_stay P (Some s) stays none some = some s refl
 
 stood : (night : Night) (blocks : List Block) (s : Stay) → In s (stays_of night blocks) → (b : Block) × In b blocks × HasId b.id s
 stood night [] s there = absurd there

@@ -6,9 +6,9 @@ use Rattle.shunt_instance.specs.defs.Instance.{Night}
 use Rattle.shunt_blocks.specs.declared.records.Block.{Block}
 use Rattle.shunt_sheet.specs.declared.records.Order.{Order}
 use Rattle.shunt_sheet.specs.defs.SheetFormat.{AreOrders}
-use Rattle.shunt_page.specs.declared.standing.Stood.{Stood}
+use Rattle.shunt_page.specs.declared.occupancy.Stood.{Stood}
 use Rattle.shunt_page.specs.declared.records.OrderRow.{OrderRow}
-use Rattle.shunt_page.specs.defs.Standing.{after}
+use Rattle.shunt_page.specs.defs.Occupancy.{after}
 use Rattle.shunt_page.specs.defs.Orders.{row_at, rows_from}
 
 -- one more order

@@ -1,6 +1,6 @@
 -- The definitions of this crate.
 pub mod Told
-pub mod Standing
+pub mod Occupancy
 pub mod Orders
 pub mod Parts
 pub mod Findings

@@ -1,6 +1,9 @@
 // Cells of tables.
 ghost use Rattle.std.specs.Prelude.{◌≡◌, ◌++◌, OnOk};
-ghost use Rattle.shunt_page.specs.defs.Cells.{cell, number_cell, time_cell, link_open, link_end, link_cell, unit_text, comma, unit_item, units_text, units_cell, side_letter, beside_none, beside_some, beside_words, beside_cell};
+ghost use Rattle.shunt_page.specs.defs.Cells.{cell, number_cell, time_cell, link_open, link_end};
+ghost use Rattle.shunt_page.specs.defs.Cells.{link_cell, unit_text, comma, unit_item, units_text};
+ghost use Rattle.shunt_page.specs.defs.Cells.{units_cell, side_letter, beside_none, beside_some};
+ghost use Rattle.shunt_page.specs.defs.Cells.{beside_words, beside_cell};
 
 use crate::records::UnitTold;
 use shunt_base::{Minute, Side, minute_bytes};

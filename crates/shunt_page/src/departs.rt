@@ -1,10 +1,13 @@
 // The departing trains with what fills their positions.
-ghost use Rattle.std.specs.Prelude.{◌≡◌, ◌<◌, ◌≤◌, ◌+◌, ◌++◌, ◌∷◌, [], map, length, All, IfOk, OnOk};
+ghost use Rattle.std.specs.Prelude.{◌≡◌, ◌<◌, ◌≤◌, ◌+◌, ◌++◌, ◌∷◌, [], map, length, All, IfOk};
+ghost use Rattle.std.specs.Prelude.{OnOk};
 ghost use Rattle.std.specs.List.{range_with_len};
 ghost use Rattle.shunt_instance.specs.defs.Words.{train_at};
 ghost use Rattle.shunt_instance.specs.defs.Instance.{position_total};
-ghost use Rattle.shunt_blocks.specs.defs.Shapes.{IsWithinTrains, IsInRange, shape_of, position_from};
-ghost use Rattle.shunt_page.specs.defs.Departs.{filling_of, filling_at, seat_of, depart_of, departs_of};
+ghost use Rattle.shunt_blocks.specs.defs.Shapes.{IsWithinTrains, IsInRange, shape_of};
+ghost use Rattle.shunt_blocks.specs.defs.Shapes.{position_from};
+ghost use Rattle.shunt_page.specs.defs.Departs.{filling_of, filling_at, seat_of, depart_of};
+ghost use Rattle.shunt_page.specs.defs.Departs.{departs_of};
 
 use crate::records::{DepartRow, Filling, Seat};
 use crate::told::{parked_on, train_told, unit_told};
@@ -44,7 +47,8 @@ fn note_filling(
     position: usize,
 ) -> Result<(), AllocError>
     requires { IsWithinTrains instance.now block.now }
-    ensures { OnOk result (fillings.new.items ≡ fillings.old.items ++ filling_at instance.now position block.now) }
+    ensures { OnOk result
+        (fillings.new.items ≡ fillings.old.items ++ filling_at instance.now position block.now) }
 {
     let from = position_from(instance, shape_of(block));
     if from <= position && position < from + usize::from(block.n) {
@@ -84,7 +88,8 @@ fn seats_of(
     requires blocks { All (IsInRange instance.now) blocks.now }
     requires first { first ≤ 160 }
     requires count { count ≤ 8 }
-    ensures { IfOk result (λ v. v.items ≡ map (λ k. seat_of instance.now blocks.now (first + k)) (range_with_len 0 count)) }
+    ensures { IfOk result (λ v. v.items
+        ≡ map (λ k. seat_of instance.now blocks.now (first + k)) (range_with_len 0 count)) }
 {
     let mut seats = Vec::new(alloc);
     for k in 0..count {

@@ -2,7 +2,9 @@
 ghost use Rattle.std.specs.Prelude.{◌≡◌, ◌<◌, ◌++◌, map, All, OnOk, IfOk};
 ghost use Rattle.shunt_instance.specs.defs.Instance.{unit_total, position_total};
 ghost use Rattle.shunt_audit.specs.defs.Findings.{IsOfNight};
-ghost use Rattle.shunt_page.specs.defs.Findings.{unit_words, position_words, block_words, two_words, load_words, cost_words, finding_of, finding_says, finding_words, finding_line};
+ghost use Rattle.shunt_page.specs.defs.Findings.{unit_words, position_words, block_words};
+ghost use Rattle.shunt_page.specs.defs.Findings.{two_words, load_words, cost_words, finding_of};
+ghost use Rattle.shunt_page.specs.defs.Findings.{finding_says, finding_words, finding_line};
 
 use crate::records::FindingLine;
 use shunt_audit::types::Finding;

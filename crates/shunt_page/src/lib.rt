@@ -5,17 +5,17 @@
 mod cells;
 mod departs;
 mod findings;
-mod making;
+mod occupancy;
 mod orders;
 mod page_texts;
 mod parts;
+mod plan_page;
 mod records;
 mod row_texts;
-mod standing;
 mod told;
 
-pub use making::page;
 pub use page_texts::page_text;
+pub use plan_page::page;
 pub use records::{
     DepartRow, Filling, FindingLine, LooseRow, OrderRow, Page, Parts, Seat, TrainTold, UnitTold,
 };

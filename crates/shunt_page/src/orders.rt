@@ -1,15 +1,17 @@
 // The orders of a plan with all that whoever drives wants to know.
-ghost use Rattle.std.specs.Prelude.{◌≡◌, ◌==◌, ◌<◌, ◌≤◌, ◌++◌, [], length, find, map, option_map, All, IfOk, OnOk};
+ghost use Rattle.std.specs.Prelude.{◌≡◌, ◌==◌, ◌<◌, ◌≤◌, ◌++◌, [], length, find, map, option_map};
+ghost use Rattle.std.specs.Prelude.{All, IfOk, OnOk};
 ghost use Rattle.shunt_blocks.specs.defs.Shapes.{IsWithinTrains, IsInRange};
 ghost use Rattle.shunt_plan.specs.defs.Plans.{IsPlanInRange};
 ghost use Rattle.shunt_page.specs.defs.Orders.{train_of, row_of, row_at, rows_from, rows_of};
-ghost use Rattle.shunt_page.specs.defs.Standing.{after};
+ghost use Rattle.shunt_page.specs.defs.Occupancy.{after};
 ghost use Rattle.shunt_sheet.specs.defs.Orders.{orders_in};
 ghost use Rattle.shunt_sheet.specs.defs.SheetFormat.{AreOrders};
 
+use crate::occupancy::{Stood, after, beside, load_on};
 use crate::records::{OrderRow, TrainTold};
-use crate::standing::{Stood, after, beside, load_on};
-use crate::told::{arrive_told, copied, depart_told, units_told};
+use crate::told::{arrive_told, depart_told, units_told};
+use shunt_base::copy_name;
 use shunt_blocks::Block;
 use shunt_instance::Instance;
 use shunt_lists::Items;
@@ -52,7 +54,7 @@ fn row_of(
     let units = units_told(alloc, instance, block)?;
     let train = train_of(alloc, instance, order, block)?;
     let track = &instance.station().tracks.as_slice()[usize::from(order.track.0)];
-    let name = copied(alloc, &track.name)?;
+    let name = copy_name(alloc, &track.name)?;
     Ok(OrderRow {
         order: *order,
         units: Items::from_vec(units),
@@ -85,7 +87,8 @@ fn note_row(
     requires track { order.now.track.0 < length instance.now.station.tracks }
     requires later { later.now ≡ after stood.now order.now }
     requires few { length later.now ≤ 65536 }
-    ensures { OnOk result (rows.new.items ≡ rows.old.items ++ row_at instance.now blocks.now stood.now order.now) }
+    ensures { OnOk result
+        (rows.new.items ≡ rows.old.items ++ row_at instance.now blocks.now stood.now order.now) }
 {
     let Some(block) = block_with(blocks, order.id) else {
         return Ok(());
@@ -125,7 +128,8 @@ pub(crate) fn rows_of(
 ) -> Result<Vec<OrderRow>, AllocError>
     requires { IsPlanInRange instance.now plan.now }
     ensures exact { IfOk result (λ v. v.items ≡ rows_of instance.now plan.now.blocks) }
-    ensures orders { IfOk result (λ v. map (λ r. r.order) v.items ≡ orders_in instance.now plan.now.blocks) }
+    ensures orders { IfOk result
+        (λ v. map (λ r. r.order) v.items ≡ orders_in instance.now plan.now.blocks) }
 {
     let orders = orders_of(alloc, instance, plan)?;
     rows_from(alloc, instance, plan.blocks.as_slice(), &orders)

@@ -1,6 +1,16 @@
 // The whole text of a page.
 ghost use Rattle.std.specs.Prelude.{◌≡◌, ◌++◌, OnOk, IfOk};
-ghost use Rattle.shunt_page.specs.defs.PageTexts.{style, script, style_a, style_b, style_c, style_d, script_a, script_b, script_c, script_d, page_start, named, table_end, counts_start, costs_start, facts_end, findings_start, no_findings, links, picture_start, stands_start, orders_start, loose_start, trains_start, page_end, title_part, heading_part, head_part, counts_part, parts_part, costs_part, finding_items, findings_list, findings_part, picture_part, orders_part, trains_part, summary_part, html_of};
+ghost use Rattle.shunt_page.specs.defs.PageTexts.{style, script, style_a, style_b, style_c};
+ghost use Rattle.shunt_page.specs.defs.PageTexts.{style_d, script_a, script_b, script_c, script_d};
+ghost use Rattle.shunt_page.specs.defs.PageTexts.{page_start, named, table_end, counts_start};
+ghost use Rattle.shunt_page.specs.defs.PageTexts.{costs_start, facts_end, findings_start};
+ghost use Rattle.shunt_page.specs.defs.PageTexts.{no_findings, links, picture_start, stands_start};
+ghost use Rattle.shunt_page.specs.defs.PageTexts.{orders_start, loose_start, trains_start};
+ghost use Rattle.shunt_page.specs.defs.PageTexts.{page_end, title_part, heading_part, head_part};
+ghost use Rattle.shunt_page.specs.defs.PageTexts.{counts_part, parts_part, costs_part};
+ghost use Rattle.shunt_page.specs.defs.PageTexts.{finding_items, findings_list, findings_part};
+ghost use Rattle.shunt_page.specs.defs.PageTexts.{picture_part, orders_part, trains_part};
+ghost use Rattle.shunt_page.specs.defs.PageTexts.{summary_part, html_of};
 
 use crate::records::{FindingLine, Page};
 use crate::row_texts::{

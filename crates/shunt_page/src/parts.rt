@@ -2,7 +2,8 @@
 ghost use Rattle.std.specs.Prelude.{◌≡◌, ◌≤◌, ◌<◌, ◌*◌, length, All};
 ghost use Rattle.shunt_blocks.specs.defs.Shapes.{IsWithinTrains, IsInRange};
 ghost use Rattle.shunt_blocks.specs.defs.Lists.{total_cost};
-ghost use Rattle.shunt_page.specs.defs.Parts.{unparked_cost, block_parts, added, with_block, nothing, parts_of, parts_sum};
+ghost use Rattle.shunt_page.specs.defs.Parts.{unparked_cost, block_parts, added, with_block};
+ghost use Rattle.shunt_page.specs.defs.Parts.{nothing, parts_of, parts_sum};
 
 use crate::records::Parts;
 use shunt_blocks::{Block, Park, way_in, way_out};

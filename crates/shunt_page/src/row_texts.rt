@@ -1,6 +1,15 @@
 // Rows of tables.
 ghost use Rattle.std.specs.Prelude.{◌≡◌, ◌++◌, OnOk};
-ghost use Rattle.shunt_page.specs.defs.RowTexts.{fact_row, finding_item, order_class, order_train, order_open, order_word, order_end, order_what, order_where, order_text, already_text, is_already, already_row, order_row, already_rows, order_rows, parked_words, parked_cell, loose_with, loose_open, train_cells, loose_row, loose_rows, from_words, block_end, block_link, filling_item, fillings_text, seat_words, seat_item, seat_items, depart_open, name_cell, seats_cell, depart_row, depart_rows};
+ghost use Rattle.shunt_page.specs.defs.RowTexts.{fact_row, finding_item, order_class, order_train};
+ghost use Rattle.shunt_page.specs.defs.RowTexts.{order_open, order_word, order_end, order_what};
+ghost use Rattle.shunt_page.specs.defs.RowTexts.{order_where, order_text, already_text, is_already};
+ghost use Rattle.shunt_page.specs.defs.RowTexts.{already_row, order_row, already_rows, order_rows};
+ghost use Rattle.shunt_page.specs.defs.RowTexts.{parked_words, parked_cell, loose_with, loose_open};
+ghost use Rattle.shunt_page.specs.defs.RowTexts.{train_cells, loose_row, loose_rows, from_words};
+ghost use Rattle.shunt_page.specs.defs.RowTexts.{block_end, block_link, filling_item};
+ghost use Rattle.shunt_page.specs.defs.RowTexts.{fillings_text, seat_words, seat_item, seat_items};
+ghost use Rattle.shunt_page.specs.defs.RowTexts.{depart_open, name_cell, seats_cell, depart_row};
+ghost use Rattle.shunt_page.specs.defs.RowTexts.{depart_rows};
 
 use crate::cells::{
     comma, open_link, push_beside_cell, push_cell, push_link_cell, push_number_cell,

@@ -5,21 +5,15 @@ ghost use Rattle.shunt_instance.specs.defs.Wellformed.{IsTrain, IsOrigin};
 ghost use Rattle.shunt_instance.specs.defs.Words.{is_standing};
 ghost use Rattle.shunt_blocks.specs.defs.Shapes.{IsWithinTrains, IsOnTrack, IsInRange};
 ghost use Rattle.shunt_picture.specs.defs.Marks.{origin_name};
-ghost use Rattle.shunt_page.specs.defs.Told.{unit_told, units_told, train_told, arrive_told, depart_told, parked_on, loose_of, loose_at, looses_of};
+ghost use Rattle.shunt_page.specs.defs.Told.{unit_told, units_told, train_told, arrive_told};
+ghost use Rattle.shunt_page.specs.defs.Told.{depart_told, parked_on, loose_of, loose_at, looses_of};
 
 use crate::records::{LooseRow, TrainTold, UnitTold};
-use shunt_base::Name;
+use shunt_base::{Name, copy_name};
 use shunt_blocks::{Block, Park, shape_of, stay, unit_from};
 use shunt_instance::{Instance, Origin, Train};
 use shunt_lists::Items;
 use std::alloc::{AllocError, Global};
-
-// The same name once more.
-pub(crate) fn copied(alloc: Global, name: &Name) -> Result<Name, AllocError>
-    ensures { IfOk result (λ n. n ≡ name.now) }
-{
-    Name::new(alloc, name.bytes())
-}
 
 // The unit with a number, by its train, its place there and its type.
 pub(crate) fn unit_told(
@@ -32,8 +26,8 @@ pub(crate) fn unit_told(
 {
     let unit = instance.unit(unit);
     let types = instance.station().types.as_slice();
-    let train = copied(alloc, &instance.arrive(unit.train).name)?;
-    let kind = copied(alloc, &types[usize::from(unit.kind.0)].name)?;
+    let train = copy_name(alloc, &instance.arrive(unit.train).name)?;
+    let kind = copy_name(alloc, &types[usize::from(unit.kind.0)].name)?;
     Ok(UnitTold {
         train,
         place: unit.place,
@@ -89,8 +83,8 @@ pub(crate) fn train_told(
     requires { IsTrain instance.now.station train.now }
     ensures { IfOk result (λ t. t ≡ train_told instance.now.station train.now) }
 {
-    let name = copied(alloc, &train.name)?;
-    let place = copied(alloc, origin_name(instance, train.origin))?;
+    let name = copy_name(alloc, &train.name)?;
+    let place = copy_name(alloc, origin_name(instance, train.origin))?;
     Ok(TrainTold {
         name,
         place,
@@ -134,7 +128,7 @@ pub(crate) fn parked_on(
         None => Ok(None),
         Some(park) => {
             let tracks = instance.station().tracks.as_slice();
-            let name = copied(alloc, &tracks[usize::from(park.track.0)].name)?;
+            let name = copy_name(alloc, &tracks[usize::from(park.track.0)].name)?;
             Ok(Some(name))
         }
     }

@@ -2,16 +2,8 @@
 use Rattle.std.proofs.Common.{◌≡◌, ℕ, ◌+◌, ◌<◌, List, ◌++◌, length, get_or, drop, refl, sym, ap, ◌∙◌}
 use Rattle.std.specs.List.{flat_map}
 use Rattle.std.proofs.lemmas.List.{append_assoc, drop_more}
-use Rattle.std.proofs.lemmas.List.Concat.{flat_map-cons}
 use Rattle.shunt_picture.specs.defs.Words.{each_from}
-
--- the text of one more of these
-pub one_more : {X : Type 0} (line : X → List ℕ) (xs : List X) (i : ℕ) (d : X) (text more : List ℕ) → i < length xs → more ≡ text ++ line (get_or xs i d)
-    → more ++ flat_map line (drop (i + 1) xs) ≡ text ++ flat_map line (drop i xs)
-one_more line xs i d text more lt push =
-    let rest = flat_map line (drop (i + 1) xs) in
-    ap (λ t. t ++ rest) push ∙ append_assoc text (line (get_or xs i d)) rest
-    ∙ ap (λ t. text ++ t) (sym (ap (flat_map line) (drop_more xs i d lt) ∙ flat_map-cons line (get_or xs i d) (drop (i + 1) xs)))
+use Rattle.shunt_lists.proofs.Lists.{lines_more as one_more}
 
 -- the same, where it is told which one it is
 pub one_item : {X : Type 0} (line : X → List ℕ) (xs : List X) (i : ℕ) (x : X) (text more : List ℕ) → i < length xs → x ≡ get_or xs i x → more ≡ text ++ line x

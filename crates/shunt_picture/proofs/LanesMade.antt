@@ -12,67 +12,71 @@ use Rattle.shunt_instance.specs.declared.records.Track.{Track}
 use Rattle.shunt_instance.specs.defs.Instance.{Night}
 use Rattle.shunt_blocks.specs.declared.records.Block.{Block}
 use Rattle.shunt_audit.specs.declared.types.Finding.{Finding}
-use Rattle.shunt_picture.specs.declared.standing.Standing.{Standing}
-use Rattle.shunt_picture.specs.declared.rows.Seat.{Seat}
+use Rattle.shunt_picture.specs.declared.track_stays.Standing.{Standing}
+use Rattle.shunt_picture.specs.declared.rows.StaySeat.{StaySeat}
 use Rattle.shunt_picture.specs.declared.records.Bar.{Bar}
-use Rattle.shunt_picture.specs.declared.records.Level.{Level}
+use Rattle.shunt_picture.specs.declared.records.LoadLevel.{LoadLevel}
 use Rattle.shunt_picture.specs.defs.Told.{told_of}
 use Rattle.shunt_picture.specs.defs.Levels.{levels_of}
-use Rattle.shunt_picture.specs.defs.Rows.{standings_on, AreApart, HaveRoom, ShowsOrder, IsRowAmong}
+use Rattle.shunt_picture.specs.defs.Rows.{standings_on, AreRowsApart, HaveRoom, ShowsOrder, IsRowAmong}
 use Rattle.shunt_picture.specs.defs.Lanes.{bar_of, standing_of, AreBarsApart, AreMarksApart, ShowOrder, first_of, last_of, rows_of, IsLaneOf}
 use Rattle.shunt_picture.proofs.Seated.{pairs_mapped, sorted_mapped, sorted_back}
 use Rattle.shunt_picture.proofs.Marked.{marks_of}
 
 -- the uppermost and the lowest row with one more seat
-pub first_noted : (seats : List Seat) (i : ℕ) (d : Seat) (first more : ℕ) → i < length seats → first ≡ first_of (map (λ s. s.row) (take i seats))
+pub first_noted : (seats : List StaySeat) (i : ℕ) (d : StaySeat) (first more : ℕ) → i < length seats → first ≡ first_of (map (λ s. s.row) (take i seats))
     → more ≡ min first (get_or seats i d).row → more ≡ first_of (map (λ s. s.row) (take (i + 1) seats))
 first_noted seats i d first more lt done is =
     is ∙ ap (λ n. min n (get_or seats i d).row) done
-    ∙ sym (ap first_of (map_more (λ (s : Seat). s.row) seats i d lt) ∙ fold_push min 900 (map (λ (s : Seat). s.row) (take i seats)) (get_or seats i d).row)
+    ∙ sym (ap first_of (map_more (λ (s : StaySeat). s.row) seats i d lt) ∙ fold_push min 900 (map (λ (s : StaySeat). s.row) (take i seats)) (get_or seats i d).row)
 
-pub last_noted : (seats : List Seat) (i : ℕ) (d : Seat) (last more : ℕ) → i < length seats → last ≡ last_of (map (λ s. s.row) (take i seats))
+pub last_noted : (seats : List StaySeat) (i : ℕ) (d : StaySeat) (last more : ℕ) → i < length seats → last ≡ last_of (map (λ s. s.row) (take i seats))
     → more ≡ max last (get_or seats i d).row → more ≡ last_of (map (λ s. s.row) (take (i + 1) seats))
 last_noted seats i d last more lt done is =
     is ∙ ap (λ n. max n (get_or seats i d).row) done
-    ∙ sym (ap last_of (map_more (λ (s : Seat). s.row) seats i d lt) ∙ fold_push max 0 (map (λ (s : Seat). s.row) (take i seats)) (get_or seats i d).row)
+    ∙ sym (ap last_of (map_more (λ (s : StaySeat). s.row) seats i d lt) ∙ fold_push max 0 (map (λ (s : StaySeat). s.row) (take i seats)) (get_or seats i d).row)
 
-pub least_noted : (seats : List Seat) (i : ℕ) (d : Seat) (first more : ℕ) → i < length seats → All (λ s. first ≤ s.row) (take i seats) → more ≡ min first (get_or seats i d).row
+pub least_noted : (seats : List StaySeat) (i : ℕ) (d : StaySeat) (first more : ℕ) → i < length seats → All (λ s. first ≤ s.row) (take i seats)
+    → more ≡ min first (get_or seats i d).row
     → All (λ s. more ≤ s.row) (take (i + 1) seats)
 least_noted seats i d first more lt all is =
-    All-more (λ (s : Seat). more ≤ s.row) seats i d lt (All-weaker (λ (s : Seat). first ≤ s.row) (λ (s : Seat). more ≤ s.row) (λ s le. omega (arith, le, is)) (take i seats) all)
+    All-more (λ (s : StaySeat). more ≤ s.row) seats i d lt (All-weaker (λ (s : StaySeat). first ≤ s.row) (λ (s : StaySeat). more ≤ s.row) (λ s le. omega (arith, le, is))
+    (take i seats) all)
     (omega (arith, is))
 
-pub greatest_noted : (seats : List Seat) (i : ℕ) (d : Seat) (last more : ℕ) → i < length seats → All (λ s. s.row ≤ last) (take i seats) → more ≡ max last (get_or seats i d).row
+pub greatest_noted : (seats : List StaySeat) (i : ℕ) (d : StaySeat) (last more : ℕ) → i < length seats → All (λ s. s.row ≤ last) (take i seats)
+    → more ≡ max last (get_or seats i d).row
     → All (λ s. s.row ≤ more) (take (i + 1) seats)
 greatest_noted seats i d last more lt all is =
-    All-more (λ (s : Seat). s.row ≤ more) seats i d lt (All-weaker (λ (s : Seat). s.row ≤ last) (λ (s : Seat). s.row ≤ more) (λ s le. omega (arith, le, is)) (take i seats) all)
+    All-more (λ (s : StaySeat). s.row ≤ more) seats i d lt (All-weaker (λ (s : StaySeat). s.row ≤ last) (λ (s : StaySeat). s.row ≤ more) (λ s le. omega (arith, le, is))
+    (take i seats) all)
     (omega (arith, is))
 
-pub last_small : (seats : List Seat) (i : ℕ) (d : Seat) (last more : ℕ) → i < length seats → All (λ s. IsRowAmong (length seats) s.row) seats → last < 400 + length seats
+pub last_small : (seats : List StaySeat) (i : ℕ) (d : StaySeat) (last more : ℕ) → i < length seats → All (λ s. IsRowAmong (length seats) s.row) seats → last < 400 + length seats
     → more ≡ max last (get_or seats i d).row → more < 400 + length seats
 last_small seats i d last more lt among small is = let to = (among i d lt).to in omega (arith, small, is, to)
 
 module _ (night : Night) (findings : List Finding) where
   -- the stays behind the bars
-  standings_back : (seats : List Seat) → map standing_of (map (bar_of night findings) seats) ≡ map (λ s. s.standing) seats
+  standings_back : (seats : List StaySeat) → map standing_of (map (bar_of night findings) seats) ≡ map (λ s. s.standing) seats
   standings_back [] = refl
   standings_back (s ∷ seats) = ap (λ (l : List Standing). s.standing ∷ l) (standings_back seats)
 
-  stays_back : (seats : List Seat) → map (λ b. b.stay) (map (bar_of night findings) seats) ≡ map (λ s. s.stay) (map (λ s. s.standing) seats)
+  stays_back : (seats : List StaySeat) → map (λ b. b.stay) (map (bar_of night findings) seats) ≡ map (λ s. s.stay) (map (λ s. s.standing) seats)
   stays_back [] = refl
   stays_back (s ∷ seats) = ap (λ (l : List Stay). s.standing.stay ∷ l) (stays_back seats)
 
-  rows_back : (seats : List Seat) → rows_of (map (bar_of night findings) seats) ≡ map (λ s. s.row) seats
+  rows_back : (seats : List StaySeat) → rows_of (map (bar_of night findings) seats) ≡ map (λ s. s.row) seats
   rows_back [] = refl
   rows_back (s ∷ seats) = ap (λ (l : List ℕ). s.row ∷ l) (rows_back seats)
 
-  pub lane_is : (blocks : List Block) (from to first last top : ℕ) (is_ordered : Bool) (track : TrackId) (head : Track) (standings : List Standing) (seats : List Seat)
-      (stays : List Stay) (bars : List Bar) (levels : List Level)
+  pub lane_is : (blocks : List Block) (from to first last top : ℕ) (is_ordered : Bool) (track : TrackId) (head : Track) (standings : List Standing) (seats : List StaySeat)
+      (stays : List Stay) (bars : List Bar) (levels : List LoadLevel)
       → slice_get night.station.tracks track.0 ≡ Some head
       → IsPermutation (standings_on night track blocks) standings
       → IsSortedByKey (λ s. s.stay.enter) key_cmp standings
       → map (λ s. s.standing) seats ≡ standings
-      → AllPairs AreApart seats
+      → AllPairs AreRowsApart seats
       → is_ordered ≡ (length findings == 0)
       → AllPairs (HaveRoom from is_ordered) seats
       → (findings ≡ [] → AllPairs ShowsOrder seats)
@@ -88,7 +92,8 @@ module _ (night : Night) (findings : List Finding) where
   lane_is blocks from to first last top is_ordered track head standings seats stays bars levels is_head permuted sorted same apart empty room order least greatest among is_first
       is_last are made loads =
       let f = bar_of night findings in
-      let of_seats : IsSortedByKey (λ (s : Seat). s.standing.stay.enter) key_cmp seats = sorted_back (λ (s : Standing). s.stay.enter) key_cmp (λ (s : Seat). s.standing) seats
+      let of_seats : IsSortedByKey (λ (s : StaySeat). s.standing.stay.enter) key_cmp seats = sorted_back (λ (s : Standing). s.stay.enter) key_cmp
+      (λ (s : StaySeat). s.standing) seats
       (subst (IsSortedByKey (λ (s : Standing). s.stay.enter) key_cmp) (sym same) sorted) in
       subst (λ (bs : List Bar). IsLaneOf night findings blocks from to (record { track = track; head = head; first = first; last = last; bars = bs; levels = levels; top = top }))
       (sym made) (record {

@@ -6,7 +6,7 @@ use Rattle.std.proofs.lemmas.Fmt.{length-decimal-le}
 use Rattle.std.proofs.lemmas.List.Concat.{flat_map-cons}
 use Rattle.shunt_instance.specs.defs.Instance.{Night}
 use Rattle.shunt_audit.specs.declared.types.Finding.{Finding}
-use Rattle.shunt_picture.specs.declared.rows.Seat.{Seat}
+use Rattle.shunt_picture.specs.declared.rows.StaySeat.{StaySeat}
 use Rattle.shunt_picture.specs.defs.Words.{fault_text, faults_words}
 use Rattle.shunt_picture.specs.defs.Told.{is_marked, faults_of}
 use Rattle.shunt_picture.specs.defs.Rows.{HaveRoom}
@@ -62,7 +62,7 @@ some_findings n = grind (arith, nat_tests)
 marks_none : (id : ℕ) → marks_end (faults_of [] id) ≡ 0
 marks_none id = refl
 
-pub marks_of : (night : Night) (from : ℕ) (findings : List Finding) (s t : Seat) (o : Bool) → o ≡ (length findings == 0) → HaveRoom from o s t
+pub marks_of : (night : Night) (from : ℕ) (findings : List Finding) (s t : StaySeat) (o : Bool) → o ≡ (length findings == 0) → HaveRoom from o s t
     → AreMarksApart from (bar_of night findings s) (bar_of night findings t)
 marks_of night from [] s t o is room = λ same.
     let first = room.first same in

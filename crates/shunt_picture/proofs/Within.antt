@@ -8,9 +8,9 @@ use Rattle.shunt_base.specs.declared.keys.Stay.{Stay}
 use Rattle.shunt_instance.specs.defs.Instance.{Night}
 use Rattle.shunt_blocks.specs.declared.records.Block.{Block}
 use Rattle.shunt_blocks.specs.defs.Shapes.{IsWithinTrains, IsInRange}
-use Rattle.shunt_blocks.specs.defs.Standing.{stay_of}
-use Rattle.shunt_picture.specs.declared.standing.Standing.{Standing}
-use Rattle.shunt_picture.specs.declared.rows.Seat.{Seat}
+use Rattle.shunt_blocks.specs.defs.Stays.{stay_of}
+use Rattle.shunt_picture.specs.declared.track_stays.Standing.{Standing}
+use Rattle.shunt_picture.specs.declared.rows.StaySeat.{StaySeat}
 use Rattle.shunt_picture.specs.defs.Rows.{standing_with, standings_on}
 use Rattle.shunt_picture.proofs.Seated.{all_back}
 
@@ -34,8 +34,8 @@ standings_within night track (b ∷ blocks) h =
     (standings_within night track blocks (All-tail (IsInRange night) b blocks h))
 
 -- and so are the seats that are made of them
-pub seats_within : (night : Night) (standings seen : List Standing) (seats given : List Seat) → All (IsOfTrains night) standings → seen ≡ standings
+pub seats_within : (night : Night) (standings seen : List Standing) (seats given : List StaySeat) → All (IsOfTrains night) standings → seen ≡ standings
     → map (λ s. s.standing) seats ≡ seen → given ≡ seats → All (λ s. IsWithinTrains night s.standing.block) given
 seats_within night standings seen seats given all is same of =
-    subst (λ (l : List Seat). All (λ s. IsWithinTrains night s.standing.block) l) (sym of)
-    (all_back (IsOfTrains night) (λ (s : Seat). s.standing) seats (subst (All (IsOfTrains night)) (sym (same ∙ is)) all))
+    subst (λ (l : List StaySeat). All (λ s. IsWithinTrains night s.standing.block) l) (sym of)
+    (all_back (IsOfTrains night) (λ (s : StaySeat). s.standing) seats (subst (All (IsOfTrains night)) (sym (same ∙ is)) all))

@@ -1,8 +1,10 @@
 // How bars are drawn.
 ghost use Rattle.std.specs.Prelude.{◌≡◌, ◌<◌, ◌++◌, OnOk};
-ghost use Rattle.shunt_picture.specs.defs.BarTexts.{area_of, bar_class, corner_in, corner_out, room_of, words_in, bar_words, stay_words, title_of, shape_of, bar_in, bar_text};
+ghost use Rattle.shunt_picture.specs.defs.BarTexts.{area_of, bar_class, corner_in, corner_out};
+ghost use Rattle.shunt_picture.specs.defs.BarTexts.{room_of, words_in, bar_words, stay_words};
+ghost use Rattle.shunt_picture.specs.defs.BarTexts.{title_of, shape_of, bar_in, bar_text};
 
-use crate::records::{Bar, Kind, Lane, Told};
+use crate::records::{Bar, Lane, LegendType, Told};
 use crate::svg::{Area, push_corner, push_rectangle, push_words, wide};
 use crate::words::{
     colour, faults_words, fitting, id_of, label_of, push_group, push_time, push_told, side_word,
@@ -131,7 +133,7 @@ fn push_stay(text: &mut Text, track: &Name, stay: &Stay) -> Result<(), AllocErro
 #[tactic(auto, unfolding(crate::specs::defs::BarTexts::title_of))]
 fn push_title(
     text: &mut Text,
-    kinds: &[Kind],
+    kinds: &[LegendType],
     track: &Name,
     told: &Told,
     stay: &Stay,
@@ -157,7 +159,7 @@ fn push_shape(text: &mut Text, area: Area, told: &Told) -> Result<(), AllocError
 fn push_bar_in(
     text: &mut Text,
     alloc: Global,
-    kinds: &[Kind],
+    kinds: &[LegendType],
     track: &Name,
     area: Area,
     bar: &Bar,
@@ -180,7 +182,7 @@ pub(crate) fn push_bar(
     text: &mut Text,
     alloc: Global,
     from: u16,
-    kinds: &[Kind],
+    kinds: &[LegendType],
     lane: &Lane,
     bar: &Bar,
 ) -> Result<(), AllocError>

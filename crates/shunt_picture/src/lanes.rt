@@ -1,5 +1,6 @@
 // The lanes of the tracks.
-ghost use Rattle.std.specs.Prelude.{◌≡◌, ◌≤◌, ◌<◌, ◌+◌, min, max, All, map, length, IfOk, slice_get, Some};
+ghost use Rattle.std.specs.Prelude.{◌≡◌, ◌≤◌, ◌<◌, ◌+◌, min, max, All, map, length, IfOk};
+ghost use Rattle.std.specs.Prelude.{slice_get, Some};
 ghost use Rattle.shunt_blocks.specs.defs.Shapes.{IsWithinTrains};
 ghost use Rattle.shunt_blocks.specs.defs.Lists.{AreInRange};
 ghost use Rattle.shunt_picture.specs.defs.Rows.{IsRowAmong};
@@ -7,11 +8,11 @@ ghost use Rattle.shunt_picture.specs.defs.Lanes.{bar_of, first_of, last_of, IsLa
 
 use crate::levels::levels_of;
 use crate::records::{Bar, Lane};
-use crate::rows::{Seat, seats_of};
-use crate::standing::{Standing, sorted_on};
-use crate::told::{copied, told_of};
+use crate::rows::{StaySeat, seats_of};
+use crate::told::told_of;
+use crate::track_stays::{Standing, sorted_on};
 use shunt_audit::types::Finding;
-use shunt_base::{Stay, TrackId};
+use shunt_base::{Stay, TrackId, copy_name};
 use shunt_blocks::Block;
 use shunt_instance::{Instance, Track};
 use shunt_lists::Items;
@@ -21,7 +22,7 @@ fn bar_of(
     alloc: Global,
     instance: &Instance,
     findings: &[Finding],
-    seat: &Seat,
+    seat: &StaySeat,
 ) -> Result<Bar, AllocError>
     requires { IsWithinTrains instance.now seat.now.standing.block }
     ensures { IfOk result (λ b. b ≡ bar_of instance.now findings.now seat.now) }
@@ -39,7 +40,7 @@ fn bars_of(
     alloc: Global,
     instance: &Instance,
     findings: &[Finding],
-    seats: &[Seat],
+    seats: &[StaySeat],
 ) -> Result<Vec<Bar>, AllocError>
     requires { All (λ s. IsWithinTrains instance.now s.standing.block) seats.now }
     ensures { IfOk result (λ v. v.items ≡ map (bar_of instance.now findings.now) seats.now) }
@@ -63,21 +64,21 @@ fn stays_in(alloc: Global, standings: &[Standing]) -> Result<Vec<Stay>, AllocErr
 }
 
 // The upper one of a row and that of a seat.
-fn upper(row: u16, seat: &Seat) -> u16
+fn upper(row: u16, seat: &StaySeat) -> u16
     ensures { result ≡ min row seat.now.row }
 {
     row.min(seat.row)
 }
 
 // The lower one of them.
-fn lower(row: u16, seat: &Seat) -> u16
+fn lower(row: u16, seat: &StaySeat) -> u16
     ensures { result ≡ max row seat.now.row }
 {
     row.max(seat.row)
 }
 
 // The uppermost row of these, or 900.
-fn first_row(seats: &[Seat]) -> u16
+fn first_row(seats: &[StaySeat]) -> u16
     ensures exact { result ≡ first_of (map (λ s. s.row) seats.now) }
     ensures least { All (λ s. result ≤ s.row) seats.now }
 {
@@ -89,7 +90,7 @@ fn first_row(seats: &[Seat]) -> u16
 }
 
 // The lowest row, or 0.
-fn last_row(seats: &[Seat]) -> u16
+fn last_row(seats: &[StaySeat]) -> u16
     requires { All (λ s. IsRowAmong (length seats.now) s.row) seats.now }
     ensures exact { result ≡ last_of (map (λ s. s.row) seats.now) }
     ensures greatest { All (λ s. s.row ≤ result) seats.now }
@@ -108,7 +109,7 @@ fn head_of(alloc: Global, instance: &Instance, track: TrackId) -> Result<Track, 
 {
     let track = &instance.station().tracks.as_slice()[usize::from(track.0)];
     Ok(Track {
-        name: copied(alloc, &track.name)?,
+        name: copy_name(alloc, &track.name)?,
         length: track.length,
         side_a: track.side_a,
         side_b: track.side_b,

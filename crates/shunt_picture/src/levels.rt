@@ -1,8 +1,10 @@
 // How much stands on a track.
-ghost use Rattle.std.specs.Prelude.{◌≡◌, ◌≤◌, ◌-◌, ◌++◌, ◌∷◌, [], length, IfOk, OnOk, if◌then◌else◌};
-ghost use Rattle.shunt_picture.specs.defs.Levels.{load_of, load_at, comes_or_goes, is_event, is_shown, level_at, levels_of};
+ghost use Rattle.std.specs.Prelude.{◌≡◌, ◌≤◌, ◌-◌, ◌++◌, ◌∷◌, [], length, IfOk, OnOk};
+ghost use Rattle.std.specs.Prelude.{if◌then◌else◌};
+ghost use Rattle.shunt_picture.specs.defs.Levels.{load_of, load_at, comes_or_goes, is_event};
+ghost use Rattle.shunt_picture.specs.defs.Levels.{is_shown, level_at, levels_of};
 
-use crate::records::Level;
+use crate::records::LoadLevel;
 use shunt_base::Stay;
 use std::alloc::{AllocError, Global};
 
@@ -52,17 +54,18 @@ fn is_shown(stays: &[Stay], first: u16, minute: u16) -> bool
 
 // Adds the load at a minute where it is told.
 fn note_level(
-    levels: &mut Vec<Level>,
+    levels: &mut Vec<LoadLevel>,
     stays: &[Stay],
     first: u16,
     minute: u16,
 ) -> Result<(), AllocError>
     requires { length stays.now ≤ 400 }
-    ensures { OnOk result (levels.new.items ≡ levels.old.items ++ (if is_shown stays.now first minute then level_at stays.now minute ∷ [] else [])) }
+    ensures { OnOk result (levels.new.items ≡ levels.old.items
+        ++ (if is_shown stays.now first minute then level_at stays.now minute ∷ [] else [])) }
 {
     if is_shown(stays, first, minute) {
         let load = load_at(stays, minute);
-        levels.push(Level { minute, load })?;
+        levels.push(LoadLevel { minute, load })?;
     }
     Ok(())
 }
@@ -73,7 +76,7 @@ pub(crate) fn levels_of(
     stays: &[Stay],
     from: u16,
     to: u16,
-) -> Result<Vec<Level>, AllocError>
+) -> Result<Vec<LoadLevel>, AllocError>
     requires { length stays.now ≤ 400 }
     ensures { IfOk result (λ v. v.items ≡ levels_of stays.now from (to - from)) }
 {

@@ -2,21 +2,21 @@
 #![tactic(auto)]
 
 mod bars;
-mod drawing;
 mod lanes;
 pub mod laws;
 mod levels;
-mod making;
 mod marks;
+mod picture_texts;
+mod plan_picture;
 mod records;
 mod rows;
-mod standing;
 mod strips;
 mod svg;
 mod told;
+mod track_stays;
 mod train_texts;
 mod words;
 
-pub use drawing::picture_text;
-pub use making::picture;
-pub use records::{Bar, Kind, Lane, Level, Loose, Picture, Told, TrainMark};
+pub use picture_texts::picture_text;
+pub use plan_picture::picture;
+pub use records::{Bar, Lane, LegendType, LoadLevel, Loose, Picture, Told, TrainMark};

@@ -1,17 +1,20 @@
 // The trains above the lanes.
-ghost use Rattle.std.specs.Prelude.{◌≡◌, ◌≢◌, ℕ, ◌<◌, ◌≤◌, ◌+◌, ◌++◌, ◌∷◌, [], max, All, IfOk, OnOk, map, length, slice_index, if◌then◌else◌};
+ghost use Rattle.std.specs.Prelude.{◌≡◌, ◌≢◌, ℕ, ◌<◌, ◌≤◌, ◌+◌, ◌++◌, ◌∷◌, [], max, All, IfOk};
+ghost use Rattle.std.specs.Prelude.{OnOk, map, length, slice_index, if◌then◌else◌};
 ghost use Rattle.std.specs.List.{flat_map, range_with_len};
 ghost use Rattle.shunt_instance.specs.defs.Wellformed.{IsTrain, IsOrigin};
-ghost use Rattle.shunt_picture.specs.defs.Marks.{tells, is_told, places_of, origin_name, train_words, place_text, places_text, fault_places, mark_of, train_mark, arrive_mark, depart_mark};
+ghost use Rattle.shunt_picture.specs.defs.Marks.{tells, is_told, places_of, origin_name};
+ghost use Rattle.shunt_picture.specs.defs.Marks.{train_words, place_text, places_text};
+ghost use Rattle.shunt_picture.specs.defs.Marks.{fault_places, mark_of, train_mark, arrive_mark};
+ghost use Rattle.shunt_picture.specs.defs.Marks.{depart_mark};
 ghost use Rattle.shunt_picture.specs.defs.Layouts.{trains_high, width_of, end_of, AreTrainRows};
 ghost use Rattle.shunt_instance.specs.defs.Words.{is_standing};
 
 use crate::records::TrainMark;
 use crate::svg::wide;
-use crate::told::copied;
 use crate::words::{push_letters, x_of};
 use shunt_audit::types::Finding;
-use shunt_base::{ArrId, DepId, Name, TypeId};
+use shunt_base::{ArrId, DepId, Name, TypeId, copy_name};
 use shunt_instance::{Instance, Origin, Train};
 use shunt_lists::Items;
 use shunt_text::Text;
@@ -45,7 +48,8 @@ fn note_place(
     place: u8,
 ) -> Result<(), AllocError>
     requires { first ≤ 160 }
-    ensures { OnOk result (places.new.items ≡ places.old.items ++ (if is_told findings.now kind (first + place) then place ∷ [] else [])) }
+    ensures { OnOk result (places.new.items ≡ places.old.items
+        ++ (if is_told findings.now kind (first + place) then place ∷ [] else [])) }
 {
     if is_told(findings, kind, first + usize::from(place)) {
         places.push(place)?;
@@ -157,7 +161,7 @@ fn mark_of(
     requires { kind ≤ 3 }
     ensures { IfOk result (λ m. m ≡ mark_of train.now place kind bare.items twice.items) }
 {
-    let name = copied(alloc, &train.name)?;
+    let name = copy_name(alloc, &train.name)?;
     let kinds = Vec::from_slice(alloc, train.units.as_slice())?;
     let words = train_words(alloc, &train.name, &place, train.units.as_slice())?;
     let marks = fault_places(alloc, kind, &bare, &twice)?;
@@ -187,10 +191,11 @@ fn train_mark(
     requires train { IsTrain instance.now.station train.now }
     requires kind { kind ≤ 3 }
     requires first { first ≤ 160 }
-    ensures { IfOk result (λ m. m ≡ train_mark instance.now.station findings.now train.now kind first) }
+    ensures { IfOk result
+        (λ m. m ≡ train_mark instance.now.station findings.now train.now kind first) }
 {
     let count = train.units.len();
-    let place = copied(alloc, origin_name(instance, train.origin))?;
+    let place = copy_name(alloc, origin_name(instance, train.origin))?;
     let bare = places_of(alloc, findings, kind, first, count)?;
     let twice = places_of(alloc, findings, kind + 1, first, count)?;
     mark_of(alloc, train, place, kind, bare, twice)
@@ -229,7 +234,8 @@ pub(crate) fn arrive_marks(
     instance: &Instance,
     findings: &[Finding],
 ) -> Result<Vec<TrainMark>, AllocError>
-    ensures exact { IfOk result (λ v. v.items ≡ map (arrive_mark instance.now findings.now) (range_with_len 0 (length instance.now.arrive))) }
+    ensures exact { IfOk result (λ v. v.items ≡ map (arrive_mark instance.now findings.now)
+        (range_with_len 0 (length instance.now.arrive))) }
     ensures few { IfOk result (λ v. length v.items ≤ 100) }
 {
     let mut marks = Vec::new(alloc);
@@ -245,7 +251,8 @@ pub(crate) fn depart_marks(
     instance: &Instance,
     findings: &[Finding],
 ) -> Result<Vec<TrainMark>, AllocError>
-    ensures exact { IfOk result (λ v. v.items ≡ map (depart_mark instance.now findings.now) (range_with_len 0 (length instance.now.depart))) }
+    ensures exact { IfOk result (λ v. v.items ≡ map (depart_mark instance.now findings.now)
+        (range_with_len 0 (length instance.now.depart))) }
     ensures few { IfOk result (λ v. length v.items ≤ 100) }
 {
     let mut marks = Vec::new(alloc);
@@ -311,7 +318,8 @@ fn note_end(ends: &mut Vec<u64>, row: usize, end: u64) -> Result<(), AllocError>
     ensures longer { OnOk result (length ends.old.items ≤ length ends.new.items) }
     ensures few { OnOk result (length ends.new.items ≤ length ends.old.items + 1) }
     ensures here { OnOk result (slice_index ends.new.items row ≡ end) }
-    ensures others { OnOk result ((k : ℕ) → k < length ends.old.items → k ≢ row → slice_index ends.new.items k ≡ slice_index ends.old.items k) }
+    ensures others { OnOk result ((k : ℕ) → k < length ends.old.items → k ≢ row
+        → slice_index ends.new.items k ≡ slice_index ends.old.items k) }
 {
     if row < ends.len() {
         ends[row] = end;

@@ -6,7 +6,7 @@ use shunt_lists::Items;
 
 /// A type of units in the legend. Its colour and its letter are those of its place there.
 #[derive(Debug, Drop)]
-pub struct Kind {
+pub struct LegendType {
     pub name: Name,
     /// The length of a unit in dm.
     pub length: u32,
@@ -70,7 +70,7 @@ pub struct Bar {
 
 /// How much stands on a track from a minute on.
 #[derive(Clone, Copy, Debug, Drop)]
-pub struct Level {
+pub struct LoadLevel {
     pub minute: u16,
     /// In dm.
     pub load: u64,
@@ -88,7 +88,7 @@ pub struct Lane {
     /// By the keys of their entries.
     pub bars: Items<Bar>,
     /// At each minute at which a block comes or goes.
-    pub levels: Items<Level>,
+    pub levels: Items<LoadLevel>,
     /// Where it begins, in pixels from the top.
     pub top: u32,
 }
@@ -113,7 +113,7 @@ pub struct Loose {
 #[derive(Debug, Drop)]
 pub struct Picture {
     pub station: Name,
-    pub kinds: Items<Kind>,
+    pub kinds: Items<LegendType>,
     /// The hour at which it begins.
     pub from: u16,
     /// The hour at which it ends.

@@ -2,10 +2,13 @@
 ghost use Rattle.std.specs.Prelude.{◌≡◌, ◌++◌, OnOk, IfOk};
 ghost use Rattle.std.specs.List.{flat_map};
 ghost use Rattle.shunt_picture.specs.defs.BarTexts.{bar_text};
-ghost use Rattle.shunt_picture.specs.defs.LaneTexts.{rows_high, level_height, level_text, base_of, length_words, head_text, end_text, ends_text, full_text, levels_text, load_end, load_over, load_text, ground_text, lane_text};
+ghost use Rattle.shunt_picture.specs.defs.LaneTexts.{rows_high, level_height, level_text, base_of};
+ghost use Rattle.shunt_picture.specs.defs.LaneTexts.{length_words, head_text, end_text, ends_text};
+ghost use Rattle.shunt_picture.specs.defs.LaneTexts.{full_text, levels_text, load_end, load_over};
+ghost use Rattle.shunt_picture.specs.defs.LaneTexts.{load_text, ground_text, lane_text};
 
 use crate::bars::push_bar;
-use crate::records::{Bar, Kind, Lane, Level};
+use crate::records::{Bar, Lane, LegendType, LoadLevel};
 use crate::svg::{Area, push_rectangle, push_stroke, push_words};
 use crate::words::x_of;
 use shunt_text::Text;
@@ -33,7 +36,7 @@ fn level_height(length: u32, load: u64) -> u64
     load.min(2 * length) * 14 / length.max(1)
 }
 
-fn push_level(text: &mut Text, from: u16, lane: &Lane, level: Level) -> Result<(), AllocError>
+fn push_level(text: &mut Text, from: u16, lane: &Lane, level: LoadLevel) -> Result<(), AllocError>
     ensures { OnOk result (text.new ≡ text.old ++ level_text from lane.now level) }
 {
     let height = level_height(lane.head.length, level.load);
@@ -43,7 +46,12 @@ fn push_level(text: &mut Text, from: u16, lane: &Lane, level: Level) -> Result<(
     text.push_number(base_of(lane).saturating_sub(height))
 }
 
-fn push_levels(text: &mut Text, from: u16, lane: &Lane, levels: &[Level]) -> Result<(), AllocError>
+fn push_levels(
+    text: &mut Text,
+    from: u16,
+    lane: &Lane,
+    levels: &[LoadLevel],
+) -> Result<(), AllocError>
     ensures { OnOk result (text.new ≡ text.old ++ flat_map (level_text from lane.now) levels.now) }
 {
     for level in levels {
@@ -159,11 +167,12 @@ fn push_bars(
     text: &mut Text,
     alloc: Global,
     from: u16,
-    kinds: &[Kind],
+    kinds: &[LegendType],
     lane: &Lane,
     bars: &[Bar],
 ) -> Result<(), AllocError>
-    ensures { OnOk result (text.new ≡ text.old ++ flat_map (bar_text from kinds.now lane.now) bars.now) }
+    ensures { OnOk result
+        (text.new ≡ text.old ++ flat_map (bar_text from kinds.now lane.now) bars.now) }
 {
     for bar in bars {
         push_bar(text, alloc, from, kinds, lane, bar)?;
@@ -194,7 +203,7 @@ pub(crate) fn push_lane(
     alloc: Global,
     from: u16,
     right: u64,
-    kinds: &[Kind],
+    kinds: &[LegendType],
     lane: &Lane,
 ) -> Result<(), AllocError>
     ensures { OnOk result (text.new ≡ text.old ++ lane_text from right kinds.now lane.now) }

@@ -1,6 +1,7 @@
 // Pieces of SVG.
 ghost use Rattle.std.specs.Prelude.{◌≡◌, ◌≤◌, ◌++◌, OnOk};
-ghost use Rattle.shunt_picture.specs.defs.Svg.{attribute, rectangle, stroke, wide, opened, element, words_at, corner};
+ghost use Rattle.shunt_picture.specs.defs.Svg.{attribute, rectangle, stroke, wide, opened, element};
+ghost use Rattle.shunt_picture.specs.defs.Svg.{words_at, corner};
 
 use shunt_text::Text;
 use std::alloc::AllocError;

@@ -1,24 +1,19 @@
 // What is told of blocks.
 ghost use Rattle.std.specs.Prelude.{◌≡◌, ◌++◌, ◌∷◌, [], IfOk, OnOk, All, if◌then◌else◌};
 ghost use Rattle.shunt_blocks.specs.defs.Shapes.{IsWithinTrains, IsOnTrack, IsInRange};
-ghost use Rattle.shunt_picture.specs.defs.Told.{kinds_of, names, is_marked, faults_of, told_of, track_name, track_words, loose_words, loose_of, loose_with, loose_at, looses_of};
+ghost use Rattle.shunt_picture.specs.defs.Told.{kinds_of, names, is_marked, faults_of, told_of};
+ghost use Rattle.shunt_picture.specs.defs.Told.{track_name, track_words, loose_words, loose_of};
+ghost use Rattle.shunt_picture.specs.defs.Told.{loose_with, loose_at, looses_of};
 
 use crate::records::{Loose, Told};
 use crate::words::{faults_words, push_label, push_time};
 use shunt_audit::types::Finding;
-use shunt_base::{Minute, Name, TypeId};
+use shunt_base::{Minute, Name, TypeId, copy_name};
 use shunt_blocks::{Block, Park, block_cost, block_length, stay};
 use shunt_instance::Instance;
 use shunt_lists::Items;
 use shunt_text::Text;
 use std::alloc::{AllocError, Global};
-
-// The same name once more.
-pub(crate) fn copied(alloc: Global, name: &Name) -> Result<Name, AllocError>
-    ensures { IfOk result (λ n. n ≡ name.now) }
-{
-    Name::new(alloc, name.bytes())
-}
 
 // The types of the units.
 fn kinds_of(alloc: Global, instance: &Instance, block: &Block) -> Result<Vec<TypeId>, AllocError>
@@ -59,7 +54,8 @@ fn note_fault(
     id: u32,
     kind: u8,
 ) -> Result<(), AllocError>
-    ensures { OnOk result (faults.new.items ≡ faults.old.items ++ (if is_marked findings.now id kind then kind ∷ [] else [])) }
+    ensures { OnOk result (faults.new.items ≡ faults.old.items
+        ++ (if is_marked findings.now id kind then kind ∷ [] else [])) }
 {
     if is_marked(findings, id, kind) {
         faults.push(kind)?;
@@ -87,8 +83,8 @@ pub(crate) fn told_of(
     requires { IsWithinTrains instance.now block.now }
     ensures { IfOk result (λ t. t ≡ told_of instance.now findings.now block.now) }
 {
-    let arr = copied(alloc, &instance.arrive(block.arr).name)?;
-    let dep = copied(alloc, &instance.depart(block.dep).name)?;
+    let arr = copy_name(alloc, &instance.arrive(block.arr).name)?;
+    let dep = copy_name(alloc, &instance.depart(block.dep).name)?;
     let kinds = kinds_of(alloc, instance, block)?;
     let faults = faults_of(alloc, findings, block.id)?;
     Ok(Told {
@@ -117,7 +113,7 @@ fn track_name(
         None => Ok(None),
         Some(park) => {
             let tracks = instance.station().tracks.as_slice();
-            let name = copied(alloc, &tracks[usize::from(park.track.0)].name)?;
+            let name = copy_name(alloc, &tracks[usize::from(park.track.0)].name)?;
             Ok(Some(name))
         }
     }
@@ -203,7 +199,8 @@ fn note_loose(
     block: &Block,
 ) -> Result<(), AllocError>
     requires { IsWithinTrains instance.now block.now }
-    ensures { OnOk result (looses.new.items ≡ looses.old.items ++ loose_at instance.now findings.now block.now) }
+    ensures { OnOk result
+        (looses.new.items ≡ looses.old.items ++ loose_at instance.now findings.now block.now) }
 {
     if stay(instance, block).is_some() {
         return Ok(());

@@ -1,8 +1,12 @@
 // How trains are drawn above the lanes.
 ghost use Rattle.std.specs.Prelude.{◌≡◌, ◌<◌, ◌+◌, ◌*◌, ◌++◌, slice_index_or, OnOk};
-ghost use Rattle.shunt_picture.specs.defs.PictureTexts.{tick_text, group_word, train_group, when_word, train_when, seat_line, seat_lines, number_text, numbers_text, wrong_line, train_wrong, train_title, train_in, train_text, trains_text};
+ghost use Rattle.shunt_picture.specs.defs.PictureTexts.{tick_text, group_word, train_group};
+ghost use Rattle.shunt_picture.specs.defs.PictureTexts.{when_word, train_when, seat_line};
+ghost use Rattle.shunt_picture.specs.defs.PictureTexts.{seat_lines, number_text, numbers_text};
+ghost use Rattle.shunt_picture.specs.defs.PictureTexts.{wrong_line, train_wrong, train_title};
+ghost use Rattle.shunt_picture.specs.defs.PictureTexts.{train_in, train_text, trains_text};
 
-use crate::records::{Kind, TrainMark};
+use crate::records::{LegendType, TrainMark};
 use crate::svg::{Area, push_stroke, push_words, wide};
 use crate::words::{push_kind_name, push_time, x_of};
 use shunt_base::{Name, TypeId};
@@ -71,7 +75,12 @@ fn push_train_when(text: &mut Text, arrives: bool, train: &TrainMark) -> Result<
 
 // A unit or position with its type.
 #[tactic(auto, unfolding(crate::specs::defs::PictureTexts::seat_line))]
-fn push_seat_line(text: &mut Text, kinds: &[Kind], k: u64, kind: TypeId) -> Result<(), AllocError>
+fn push_seat_line(
+    text: &mut Text,
+    kinds: &[LegendType],
+    k: u64,
+    kind: TypeId,
+) -> Result<(), AllocError>
     requires { k < 18446744073709551000 }
     ensures { OnOk result (text.new ≡ text.old ++ seat_line kinds.now k kind) }
 {
@@ -81,7 +90,11 @@ fn push_seat_line(text: &mut Text, kinds: &[Kind], k: u64, kind: TypeId) -> Resu
     push_kind_name(text, kinds, kind)
 }
 
-fn push_seat_lines(text: &mut Text, kinds: &[Kind], seats: &[TypeId]) -> Result<(), AllocError>
+fn push_seat_lines(
+    text: &mut Text,
+    kinds: &[LegendType],
+    seats: &[TypeId],
+) -> Result<(), AllocError>
     ensures { OnOk result (text.new ≡ text.old ++ seat_lines kinds.now seats.now) }
 {
     for i in 0..seats.len() {
@@ -132,7 +145,7 @@ fn push_train_wrong(text: &mut Text, bare: &[u8], twice: &[u8]) -> Result<(), Al
 #[tactic(auto, unfolding(crate::specs::defs::PictureTexts::train_title))]
 fn push_train_title(
     text: &mut Text,
-    kinds: &[Kind],
+    kinds: &[LegendType],
     arrives: bool,
     train: &TrainMark,
 ) -> Result<(), AllocError>
@@ -148,7 +161,7 @@ fn push_train_title(
 #[tactic(auto, unfolding(crate::specs::defs::PictureTexts::train_in))]
 fn push_train_in(
     text: &mut Text,
-    kinds: &[Kind],
+    kinds: &[LegendType],
     x: u64,
     y: u64,
     arrives: bool,
@@ -171,7 +184,7 @@ fn push_train_in(
 #[tactic(auto, unfolding(crate::specs::defs::PictureTexts::train_text))]
 fn push_train(
     text: &mut Text,
-    kinds: &[Kind],
+    kinds: &[LegendType],
     from: u16,
     y: u64,
     arrives: bool,
@@ -194,7 +207,7 @@ fn row_at(rows: &[u16], entry: usize) -> u16
 // The train with a number in its row.
 fn push_in_row(
     text: &mut Text,
-    kinds: &[Kind],
+    kinds: &[LegendType],
     from: u16,
     top: u32,
     arrives: bool,
@@ -202,7 +215,8 @@ fn push_in_row(
     entry: usize,
     train: &TrainMark,
 ) -> Result<(), AllocError>
-    ensures { OnOk result (text.new ≡ text.old ++ train_text kinds.now from (top + 12 * slice_index_or rows.now entry 0) arrives train.now) }
+    ensures { OnOk result (text.new ≡ text.old ++ train_text kinds.now from
+        (top + 12 * slice_index_or rows.now entry 0) arrives train.now) }
 {
     let y = u64::from(top) + 12 * u64::from(row_at(rows, entry));
     push_train(text, kinds, from, y, arrives, train)
@@ -211,14 +225,15 @@ fn push_in_row(
 // Trains one after the other in their rows.
 pub(crate) fn push_trains(
     text: &mut Text,
-    kinds: &[Kind],
+    kinds: &[LegendType],
     from: u16,
     top: u32,
     arrives: bool,
     rows: &[u16],
     trains: &[TrainMark],
 ) -> Result<(), AllocError>
-    ensures { OnOk result (text.new ≡ text.old ++ trains_text kinds.now from top arrives rows.now trains.now) }
+    ensures { OnOk result
+        (text.new ≡ text.old ++ trains_text kinds.now from top arrives rows.now trains.now) }
 {
     for i in 0..trains.len() {
         push_in_row(text, kinds, from, top, arrives, rows, i, &trains[i])?;

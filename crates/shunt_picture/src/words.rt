@@ -1,9 +1,14 @@
 // The words at bars and trains, and where minutes stand.
 ghost use Rattle.std.specs.Prelude.{◌≡◌, ◌<◌, ◌+◌, ◌++◌, [], ◌∷◌, decimal, OnOk, IfOk};
 ghost use Rattle.std.specs.List.{flat_map};
-ghost use Rattle.shunt_picture.specs.defs.Words.{x_of, colour, letter, time_text, kind_letters, label_of, fault_text, faults_words, fault_word, fault_line, fault_lines, side_word, kind_words, kind_name, unit_line, unit_lines, each_from, group_id, group_block, group_trains, group_text, told_words, fitting};
+ghost use Rattle.shunt_picture.specs.defs.Words.{x_of, colour, letter, time_text, kind_letters};
+ghost use Rattle.shunt_picture.specs.defs.Words.{label_of, fault_text, faults_words, fault_word};
+ghost use Rattle.shunt_picture.specs.defs.Words.{fault_line, fault_lines, side_word, kind_words};
+ghost use Rattle.shunt_picture.specs.defs.Words.{kind_name, unit_line, unit_lines, each_from};
+ghost use Rattle.shunt_picture.specs.defs.Words.{group_id, group_block, group_trains, group_text};
+ghost use Rattle.shunt_picture.specs.defs.Words.{told_words, fitting};
 
-use crate::records::{Kind, Told};
+use crate::records::{LegendType, Told};
 use shunt_base::{Name, Side, TypeId};
 use shunt_text::Text;
 use std::alloc::{AllocError, Global};
@@ -186,7 +191,7 @@ pub(crate) fn kind_words(alloc: Global, name: &Name, length: u32) -> Result<Vec<
 // The name of a type in the legend.
 pub(crate) fn push_kind_name(
     text: &mut Text,
-    kinds: &[Kind],
+    kinds: &[LegendType],
     kind: TypeId,
 ) -> Result<(), AllocError>
     ensures { OnOk result (text.new ≡ text.old ++ kind_name kinds.now kind) }
@@ -202,7 +207,7 @@ pub(crate) fn push_kind_name(
 #[tactic(auto, unfolding(crate::specs::defs::Words::unit_line))]
 fn push_unit_line(
     text: &mut Text,
-    kinds: &[Kind],
+    kinds: &[LegendType],
     told: &Told,
     k: u64,
     kind: TypeId,
@@ -225,11 +230,12 @@ fn push_unit_line(
 // These units of a block.
 fn push_unit_lines(
     text: &mut Text,
-    kinds: &[Kind],
+    kinds: &[LegendType],
     told: &Told,
     units: &[TypeId],
 ) -> Result<(), AllocError>
-    ensures { OnOk result (text.new ≡ text.old ++ each_from (unit_line kinds.now told.now) 0 units.now) }
+    ensures { OnOk result
+        (text.new ≡ text.old ++ each_from (unit_line kinds.now told.now) 0 units.now) }
 {
     for i in 0..units.len() {
         push_unit_line(text, kinds, told, i as u64, units[i])?;
@@ -276,7 +282,11 @@ pub(crate) fn push_group(text: &mut Text, told: &Told) -> Result<(), AllocError>
 
 // A block's length and cost, its units and its findings.
 #[tactic(auto, unfolding(crate::specs::defs::Words::told_words))]
-pub(crate) fn push_told(text: &mut Text, kinds: &[Kind], told: &Told) -> Result<(), AllocError>
+pub(crate) fn push_told(
+    text: &mut Text,
+    kinds: &[LegendType],
+    told: &Told,
+) -> Result<(), AllocError>
     ensures { OnOk result (text.new ≡ text.old ++ told_words kinds.now told.now) }
 {
     text.push(b"block ")?;

@@ -12,8 +12,8 @@ use Rattle.shunt_rows.specs.defs.Records.{at}
 use Rattle.shunt_rows.specs.defs.Checks.{AllHold, Judged, answer}
 use Rattle.shunt_rows.specs.defs.Fields.{is_word}
 use Rattle.shunt_rows.specs.defs.Formats.{in_state, reading}
-use Rattle.shunt_rows.proofs.Holding.{says, hold_first, in_either, hold_rest}
-use Rattle.shunt_rows.proofs.Keeping.{formed}
+use Rattle.shunt_rows.proofs.Answered.{says, hold_first, in_either, hold_rest}
+use Rattle.shunt_rows.proofs.KeptStates.{formed}
 use Rattle.shunt_rows.proofs.Named.{distinct_push, number_found}
 use Rattle.shunt_rows.proofs.Spelled.{there, within}
 use Rattle.shunt_instance.specs.declared.records.Station.{Station}
@@ -25,7 +25,7 @@ use Rattle.shunt_blocks.specs.defs.Shapes.{IsOnTrack, IsInRange}
 use Rattle.shunt_blocks.specs.defs.Lists.{AreInRange}
 use Rattle.shunt_plan.specs.declared.records.Plan.{Plan}
 use Rattle.shunt_plan.specs.defs.BlockRecords.{arr_number, dep_number, track_number, arr_units, dep_units, track_in, unparked_in, parked_in, option_in, has_id, runs_of, block_of, blocks_of, arr_in, dep_in}
-use Rattle.shunt_plan.specs.defs.PlanFormat.{Draft, plan_format}
+use Rattle.shunt_plan.specs.defs.PlanFormat.{PlanDraft, plan_format}
 use Rattle.shunt_plan.specs.defs.PinsFormat.{pins_first, pins_later, pins_format}
 use Rattle.shunt_plan.specs.defs.Plans.{IsPlanInRange}
 use Rattle.shunt_blocks.specs.declared.records.Shape.{Shape}
@@ -151,27 +151,27 @@ none_in_range : (night : Night) → AreInRange night []
 none_in_range night = record { few = omega arith; each = All-nil (IsInRange night); ids = no_pairs (λ x y. x ≢ y) }
 
 -- what is stated of a plan so far
-record IsDraft (night : Night) (d : Draft) : Type 0 where
+record IsDraft (night : Night) (d : PlanDraft) : Type 0 where
   blocks : AreInRange night d.blocks
   cost : unwrap_or d.cost 0 ≤ 1000000000000
 
-draft_first : (night : Night) (d : Draft) (row : List (List ℕ)) → answer 1 (plan.first_of row) ≡ Ok d → IsDraft night d
+draft_first : (night : Night) (d : PlanDraft) (row : List (List ℕ)) → answer 1 (plan.first_of row) ≡ Ok d → IsDraft night d
 unfolding plan.first_of
 draft_first night d row e = subst (IsDraft night) (says 1 (plan.first_of row) d e).1 (record { blocks = none_in_range night; cost = omega arith })
 
-draft_more : (n : ℕ) (night : Night) (d t : Draft) (row : List (List ℕ)) → IsDraft night d → answer n (plan.more_of night d row) ≡ Ok t → IsDraft night t
+draft_more : (n : ℕ) (night : Night) (d t : PlanDraft) (row : List (List ℕ)) → IsDraft night d → answer n (plan.more_of night d row) ≡ Ok t → IsDraft night t
 unfolding plan.more_of
 draft_more n night d t row is e =
     let s = says n (plan.more_of night d row) t e in
     subst (IsDraft night) s.1 (record { blocks = blocks_hold night d.blocks row is.blocks (hold_first (blocks_of night d.blocks row).checks [] s.0); cost = is.cost })
 
-draft_cost : (n : ℕ) (night : Night) (d t : Draft) (row : List (List ℕ)) → IsDraft night d → answer n (plan.cost_of d row) ≡ Ok t → IsDraft night t
+draft_cost : (n : ℕ) (night : Night) (d t : PlanDraft) (row : List (List ℕ)) → IsDraft night d → answer n (plan.cost_of d row) ≡ Ok t → IsDraft night t
 unfolding plan.cost_of
 draft_cost n night d t row is e =
     let s = says n (plan.cost_of d row) t e in
     subst (IsDraft night) s.1 (record { blocks = is.blocks; cost = (within 0 1000000000000 _ s.0.1.1.0).1 })
 
-draft_later : (n : ℕ) (night : Night) (d t : Draft) (row : List (List ℕ)) → IsDraft night d → answer n (in_state (plan_format night) d row) ≡ Ok t → IsDraft night t
+draft_later : (n : ℕ) (night : Night) (d t : PlanDraft) (row : List (List ℕ)) → IsDraft night d → answer n (in_state (plan_format night) d row) ≡ Ok t → IsDraft night t
 unfolding plan.later_of
 draft_later n night d t row is =
     in_either n (is_some d.cost) _ _ t (IsDraft night t) (λ ends e. absurd cc)

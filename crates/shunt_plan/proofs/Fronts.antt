@@ -1,6 +1,6 @@
 -- Fronts of lists of blocks, as loops go through them.
 use Rattle.std.proofs.Common.{◌≡◌, ◌⊎◌, ℕ, zero, suc, ◌+◌, ◌<◌, ◌≤◌, true, false, List, [], ◌∷◌, ◌++◌, length, map, get_or, take, drop, refl, sym, ap, subst, ◌∙◌, arith, inl, inr, ⊎_elim, IsTrue}
-use Rattle.std.specs.Prelude.{All, ◌==◌}
+use Rattle.std.specs.Prelude.{◌==◌}
 use Rattle.std.specs.List.{list_any}
 use Rattle.std.proofs.lemmas.Bool.{true≢false, eqb-true, eq-eqb, or_cases}
 use Rattle.std.proofs.lemmas.List.{take_all, take_more, drop_more, take-append-drop, length-map}
@@ -12,11 +12,6 @@ use Rattle.shunt_blocks.specs.declared.records.Block.{Block}
 use Rattle.shunt_blocks.specs.defs.Pins.{IsKept, Keeps, without_id}
 use Rattle.shunt_plan.specs.defs.BlockRecords.{has_id}
 use Rattle.shunt_plan.specs.defs.Plans.{IsFirstLost}
-
--- ---- what holds of each
-
-pub each_whole : {X : Type 0} (P : X → Type 0) (xs : List X) (i : ℕ) → length xs ≤ i → All P (take i xs) → All P xs
-each_whole P xs i le all = subst (All P) (take_all i xs le) all
 
 -- ---- ids
 

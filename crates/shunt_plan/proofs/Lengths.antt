@@ -4,10 +4,10 @@ use Rattle.std.specs.Prelude.{Option, Some, None, codes}
 use Rattle.std.specs.Fmt.{decimal}
 use Rattle.std.proofs.lemmas.Fmt.{length-decimal-le}
 use Rattle.std.proofs.lemmas.List.Concat.{flat_map-cons, flat_map-append}
-use Rattle.std.proofs.lemmas.List.{append_assoc, append-nil}
+use Rattle.std.proofs.lemmas.List.{append_assoc}
 use Rattle.shunt_rows.specs.defs.Records.{text_of_row, text_of_rows, width}
 use Rattle.shunt_rows.proofs.Plain.{side_short}
-use Rattle.shunt_rows.proofs.Widths.{row_width, rows_width}
+use Rattle.shunt_rows.proofs.Widths.{row_width, rows_width, one_text}
 use Rattle.shunt_instance.specs.declared.records.Station.{Station}
 use Rattle.shunt_instance.specs.defs.Wellformed.{IsStation}
 use Rattle.shunt_instance.specs.defs.Instance.{Night, IsInstance, IsOrderedNight}
@@ -26,9 +26,6 @@ use Rattle.shunt_plan.specs.defs.WrittenEdits.{number_row, numbers_row, turn_row
 use Rattle.shunt_rows.specs.defs.Written.{Written}
 use Rattle.shunt_plan.specs.declared.edits.Edit.TheVariants as edits
 use Rattle.shunt_plan.specs.declared.edits.Turn.TheVariants as turns
-
-one_text : (row : List (List ℕ)) → text_of_rows (row ∷ []) ≡ text_of_row row
-one_text row = flat_map-cons text_of_row row [] ∙ append-nil (text_of_row row)
 
 pub whole_text : (night : Night) (plan : Plan) → text_of_rows (rows_of night plan) ≡ text_of_row head_row
     ++ (text_of_rows (map (block_row night) plan.blocks) ++ text_of_row (cost_row plan.cost))

@@ -11,18 +11,13 @@ use Rattle.shunt_instance.specs.defs.Instance.{Night}
 use Rattle.shunt_blocks.specs.declared.records.Park.{Park}
 use Rattle.shunt_blocks.specs.declared.records.Block.{Block}
 use Rattle.shunt_plan.specs.defs.BlockRecords.{option_in, runs_of, block_of, blocks_of}
-use Rattle.shunt_plan.specs.defs.PlanFormat.{Draft, more_of}
+use Rattle.shunt_plan.specs.defs.PlanFormat.{PlanDraft, more_of}
 use Rattle.shunt_blocks.specs.declared.records.Shape.{Shape}
 use Rattle.shunt_plan.specs.declared.edits.Turn.{Turn}
 use Rattle.shunt_plan.specs.defs.Edits.{runs_in, add_of, turn_of, edits_later}
 use Rattle.shunt_rows.specs.defs.Checks as judging
 use Rattle.shunt_plan.specs.declared.edits.Edit.TheVariants as edits
 use Rattle.shunt_plan.specs.declared.edits.Turn.TheVariants as turns
-
--- an error is handed on by `?`
-pub err_is : {X : Type 0} (r : Result X RowFault) (e : RowFault) (stated : Result X RowFault) → IsErrAnd r (λ f. f ≡ e) → stated ≡ Err e → r ≡ stated
-err_is (Ok x) e stated same is = absurd same
-err_is {X = X} (Err f) e stated same is = ap (λ (g : RowFault). let s : Result X RowFault = Err g in s) same ∙ sym is
 
 -- the block with the option that its record says
 with_option : Night → List (List ℕ) → Block → Judged Block
@@ -61,7 +56,7 @@ unfolding blocks_of
 none_more n night blocks row e is = part_err n (block_of night blocks row) (λ b. says (blocks ++ b ∷ [])) e is
 
 -- one more block of a plan
-pub plan_more : (n : ℕ) (night : Night) (d e : Draft) (blocks : List Block) (row : List (List ℕ)) (r : Result (Unit {0}) ReadError) → e ≡ d
+pub plan_more : (n : ℕ) (night : Night) (d e : PlanDraft) (blocks : List Block) (row : List (List ℕ)) (r : Result (Unit {0}) ReadError) → e ≡ d
     → Gives (λ x. blocks) r (answer n (blocks_of night d.blocks row)) → Gives (λ x. record d { blocks = blocks }) r (answer n (more_of night e row))
 unfolding more_of
 plan_more n night d e blocks row (Ok x) same is = ap (λ x. answer n (more_of night x row)) same

@@ -19,7 +19,7 @@ use Rattle.shunt_rows.specs.defs.Fields.{is_within, side_of}
 use Rattle.shunt_rows.specs.defs.Formats.{in_state, IsReadByEach, reads, reading}
 use Rattle.shunt_rows.specs.defs.Written.{side_text}
 use Rattle.shunt_rows.proofs.Again.{again}
-use Rattle.shunt_rows.proofs.Holding.{holding}
+use Rattle.shunt_rows.proofs.Answered.{holding}
 use Rattle.shunt_rows.proofs.Joins.{part_ok}
 use Rattle.shunt_rows.proofs.Named.{not_before, of_middle}
 use Rattle.shunt_rows.proofs.Plain.{side_read}
@@ -38,7 +38,7 @@ use Rattle.shunt_blocks.specs.defs.Shapes.{IsOnTrack, IsInRange}
 use Rattle.shunt_blocks.specs.defs.Lists.{AreInRange}
 use Rattle.shunt_plan.specs.declared.records.Plan.{Plan}
 use Rattle.shunt_plan.specs.defs.BlockRecords.{arr_number, dep_number, track_number, arr_units, dep_units, unparked_in, parked_in, option_in, has_id, runs_of, block_of, blocks_of}
-use Rattle.shunt_plan.specs.defs.PlanFormat.{Draft, first_of, more_of, cost_of, later_of, plan_format}
+use Rattle.shunt_plan.specs.defs.PlanFormat.{PlanDraft, first_of, more_of, cost_of, later_of, plan_format}
 use Rattle.shunt_plan.specs.defs.Plans.{IsPlanInRange}
 use Rattle.shunt_plan.specs.defs.PlanRows.{arr_name, dep_name, track_name, option_fields, head_row, block_row, cost_row, rows_of, ReadsAsPlan}
 use Rattle.shunt_plan.proofs.Parts.{block_is, one_more, add_is, one_turn}
@@ -109,7 +109,7 @@ option_read n s a b c d e f g (Some k) is on =
     ∙ ap (λ o. answer n (parked_by 8 (Some k.track) (Some k.side_in) o)) (side_read k.side_out)
 
 -- a record of a block has 8 or 11 fields
-fields_fit : (s : Station) (a b c d e f g : List ℕ) (park : Option Park) → (length (a ∷ b ∷ c ∷ d ∷ e ∷ f ∷ g ∷ option_fields s park) == 8 || length
+pub fields_fit : (s : Station) (a b c d e f g : List ℕ) (park : Option Park) → (length (a ∷ b ∷ c ∷ d ∷ e ∷ f ∷ g ∷ option_fields s park) == 8 || length
     (a ∷ b ∷ c ∷ d ∷ e ∷ f ∷ g ∷ option_fields s park) == 11) ≡ true
 fields_fit s a b c d e f g None = refl
 fields_fit s a b c d e f g (Some k) = refl
@@ -209,7 +209,7 @@ unfolding has_id
 id_new xs zs y all = not_before (λ (b : Block). b.id) (λ b. b.id == y.id) xs zs y (λ b. eqb-true b.id y.id) all
 
 -- a plan of which that many blocks were read
-abbrev partial : List Block → Draft
+abbrev partial : List Block → PlanDraft
 partial blocks = record { blocks = blocks; cost = None }
 
 more_read : (night : Night) (all : List Block) → IsOrderedNight night → AreInRange night all → IsReadByEach (plan_format night) (block_row night) partial all
@@ -221,11 +221,11 @@ more_read night all h are n xs y zs e =
     let block = block_read n night xs y h room (id_new xs zs y inside.ids) (of_middle (IsInRange night) all xs zs y are.each e) in
     part_ok n (blocks_of night xs (block_row night y)) (λ blocks. says (partial blocks)) (xs ++ y ∷ []) (one_more n night xs (xs ++ y ∷ []) (block_row night y) y block refl)
 
-abbrev whole : Plan → Draft
+abbrev whole : Plan → PlanDraft
 whole plan = record { blocks = plan.blocks; cost = Some plan.cost }
 
 -- what a stated cost says, by what is found of it
-abbrev cost_by : Draft → Option ℕ → Judged Draft
+abbrev cost_by : PlanDraft → Option ℕ → Judged PlanDraft
 cost_by d cost = do
   _ ← must true 1 kinds.Fields
   x ← found 0 cost 2 kinds.Number
@@ -240,7 +240,7 @@ cost_read night plan n le =
     ∙ holding n m.checks m.value (refl, (refl, (in_range 0 1000000000000 plan.cost (omega arith) le, tt)))
 
 -- what the first record says, by what is found of its version
-abbrev head_by : Option ℕ → Judged Draft
+abbrev head_by : Option ℕ → Judged PlanDraft
 head_by version = do
   _ ← must true 1 kinds.Kind
   _ ← must true 1 kinds.Fields

@@ -2,16 +2,15 @@
 use Rattle.std.proofs.Common.{ℕ, Bool, true, false, List, [], ◌++◌, length, refl, sym, subst}
 use Rattle.std.specs.Prelude.{codes, ◌==◌, if◌then◌else◌}
 use Rattle.std.proofs.lemmas.List.{append-nil}
-use Rattle.shunt_rows.specs.defs.Checks.{Check}
 use Rattle.shunt_rows.specs.defs.Fields.{is_word}
 use Rattle.shunt_rows.specs.defs.FirstFault.{HasChecksInOrder, Tells}
-use Rattle.shunt_rows.proofs.InOrder.{in_if, no_word_up, Ascends}
+use Rattle.shunt_rows.proofs.InOrder.{in_if, no_word_up, Ascends, whole_up}
 use Rattle.shunt_rows.proofs.Readings.{tells}
 use Rattle.shunt_instance.specs.declared.records.Station.{Station}
 use Rattle.shunt_instance.specs.defs.Instance.{Night}
 use Rattle.shunt_blocks.specs.declared.records.Block.{Block}
 use Rattle.shunt_plan.specs.defs.BlockRecords.{unparked_in, parked_in, option_in, runs_of, block_of, blocks_of}
-use Rattle.shunt_plan.specs.defs.PlanFormat.{Draft, plan_format}
+use Rattle.shunt_plan.specs.defs.PlanFormat.{PlanDraft, plan_format}
 use Rattle.shunt_plan.specs.defs.PinsFormat.{pins_first, pins_later, pins_format}
 use Rattle.shunt_plan.specs.declared.edits.Turn.{Turn}
 use Rattle.shunt_plan.specs.defs.Edits.{runs_in, add_of, drop_of, park_of, unpark_of, cut_of, join_of, undo_of, redo_of, turn_of, edits_first, edits_later, edits_format}
@@ -30,15 +29,11 @@ block_up : (night : Night) (blocks : List Block) (row : List (List ℕ)) → Asc
 unfolding block_of runs_of
 block_up night blocks row = record { up = (option_up night.station row).up }
 
--- behind a block's checks there are no more
-whole_up : (least : ℕ) (checks : List Check) → Ascends least checks → Ascends least (checks ++ [])
-whole_up least checks up = subst (Ascends least) (sym (append-nil checks)) up
-
 blocks_up : (night : Night) (blocks : List Block) (row : List (List ℕ)) → HasChecksInOrder (blocks_of night blocks row)
 unfolding blocks_of
 blocks_up night blocks row = record { up = (whole_up 13 (block_of night blocks row).checks (block_up night blocks row)).up }
 
-more_up : (night : Night) (d : Draft) (row : List (List ℕ)) → HasChecksInOrder (plan.more_of night d row)
+more_up : (night : Night) (d : PlanDraft) (row : List (List ℕ)) → HasChecksInOrder (plan.more_of night d row)
 unfolding plan.more_of
 more_up night d row = record { up = (whole_up 13 (blocks_of night d.blocks row).checks (record { up = (blocks_up night d.blocks row).up })).up }
 
@@ -46,7 +41,7 @@ first_up : (row : List (List ℕ)) → HasChecksInOrder (plan.first_of row)
 unfolding plan.first_of
 first_up row = record { up = refl }
 
-later_up : (night : Night) (d : Draft) (row : List (List ℕ)) → HasChecksInOrder (plan.later_of night d row)
+later_up : (night : Night) (d : PlanDraft) (row : List (List ℕ)) → HasChecksInOrder (plan.later_of night d row)
 unfolding plan.later_of plan.cost_of
 later_up night d row = in_if (is_word row (codes "block")) (more_up night d row) (in_if (is_word row (codes "cost")) (record { up = refl }) (no_word_up d))
 

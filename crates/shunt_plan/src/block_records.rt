@@ -3,7 +3,9 @@ ghost use Rattle.std.specs.Prelude.{◌≡◌, ◌≤◌, ◌<◌, ◌+◌, ◌=
 ghost use Rattle.shunt_rows.specs.declared.fault.RowKind.TheVariants as kinds;
 ghost use Rattle.shunt_rows.specs.defs.Checks.{answer};
 ghost use Rattle.shunt_rows.specs.defs.Given.{Gives};
-ghost use Rattle.shunt_plan.specs.defs.BlockRecords.{first_in, arr_in, dep_in, track_in, arr_units, dep_units, unparked_in, parked_in, option_in, has_id, id_in, runs_of, block_of, blocks_of};
+ghost use Rattle.shunt_plan.specs.defs.BlockRecords.{first_in, arr_in, dep_in, track_in, arr_units};
+ghost use Rattle.shunt_plan.specs.defs.BlockRecords.{dep_units, unparked_in, parked_in, option_in};
+ghost use Rattle.shunt_plan.specs.defs.BlockRecords.{has_id, id_in, runs_of, block_of, blocks_of};
 
 use shunt_base::{ArrId, DepId, TrackId, parse_decimal};
 use shunt_blocks::{Block, Park};
@@ -211,7 +213,8 @@ pub(crate) fn read_more(
     row: &Row,
     n: u32,
 ) -> Result<(), ReadError>
-    ensures { Gives (λ _. blocks.new.items) result (answer n (blocks_of instance.now blocks.old.items row.now)) }
+    ensures { Gives (λ _. blocks.new.items) result
+        (answer n (blocks_of instance.now blocks.old.items row.now)) }
 {
     let block = read_block(instance, blocks, row, n)?;
     blocks.push(block)?;

@@ -3,7 +3,10 @@ ghost use Rattle.std.specs.Prelude.{◌≡◌, ◌≤◌, ◌<◌, ◌==◌, ◌
 ghost use Rattle.shunt_rows.specs.defs.Checks.{answer};
 ghost use Rattle.shunt_rows.specs.defs.Formats.{in_state, reading};
 ghost use Rattle.shunt_rows.specs.defs.Given.{Gives};
-ghost use Rattle.shunt_plan.specs.defs.Edits.{AreTurns, edits_format, count_in, block_id_in, room_in, runs_in, add_of, drop_of, park_of, unpark_of, cut_of, join_of, undo_of, redo_of, turn_of};
+ghost use Rattle.shunt_plan.specs.defs.Edits.{AreTurns, edits_format, count_in, block_id_in};
+ghost use Rattle.shunt_plan.specs.defs.Edits.{room_in, runs_in, add_of, drop_of, park_of};
+ghost use Rattle.shunt_plan.specs.defs.Edits.{unpark_of, cut_of, join_of, undo_of, redo_of};
+ghost use Rattle.shunt_plan.specs.defs.Edits.{turn_of};
 
 use crate::block_records::{read_arr, read_dep, read_first, read_option, read_track};
 use shunt_base::{ArrId, DepId};
@@ -225,7 +228,8 @@ fn read_turn(instance: &Instance, before: usize, row: &Row, n: u32) -> Result<Tu
 
 // Adds the turn of a later record.
 fn read_more(instance: &Instance, turns: &mut Vec<Turn>, n: u32, row: &Row) -> Result<(), ReadError>
-    ensures { Gives (λ _. turns.new.items) result (answer n (in_state (edits_format instance.now) turns.old.items row.now)) }
+    ensures { Gives (λ _. turns.new.items) result
+        (answer n (in_state (edits_format instance.now) turns.old.items row.now)) }
 {
     let turn = read_turn(instance, turns.len(), row, n)?;
     turns.push(turn)?;
@@ -293,7 +297,8 @@ pub fn read_edits(
     instance: &Instance,
     rows: &Vec<Row>,
 ) -> Result<Vec<Turn>, ReadError>
-    ensures stated { Gives (λ v. v.items) result (reading (edits_format instance.now) rows.now.items) }
+    ensures stated { Gives (λ v. v.items) result
+        (reading (edits_format instance.now) rows.now.items) }
     ensures formed { IfOk result (λ v. AreTurns instance.now v.items) }
 {
     Ok(read::<Turns>(instance, alloc, rows)?.into_vec())

@@ -27,15 +27,20 @@ pub fn pins_or_first_fault()
 
 /// The plan that records state is in range, and so are pins.
 pub fn stated_values_are_in_range()
-    ensures plan { (night : Night) (rows : List (List (List ℕ))) (p : Plan) → reading (plan_format night) rows ≡ Ok p → IsPlanInRange night p }
-    ensures pins { (night : Night) (rows : List (List (List ℕ))) (pins : List Block) → reading (pins_format night) rows ≡ Ok pins → AreInRange night pins }
+    ensures plan { (night : Night) (rows : List (List (List ℕ))) (p : Plan)
+        → reading (plan_format night) rows ≡ Ok p → IsPlanInRange night p }
+    ensures pins { (night : Night) (rows : List (List (List ℕ))) (pins : List Block)
+        → reading (pins_format night) rows ≡ Ok pins → AreInRange night pins }
 {}
 
 /// The records of a plan in range state that plan, and its text reads back as it and has at most 32,026 bytes.
 pub fn texts_of_plans()
-    ensures rows { (night : Night) (p : Plan) → IsInstance night → IsPlanInRange night p → reading (plan_format night) (rows_of night p) ≡ Ok p }
-    ensures again { (night : Night) (p : Plan) → IsInstance night → IsPlanInRange night p → ReadsAsPlan night p (text_of_rows (rows_of night p)) }
-    ensures short { (night : Night) (p : Plan) → IsInstance night → IsPlanInRange night p → length (text_of_rows (rows_of night p)) ≤ 32026 }
+    ensures rows { (night : Night) (p : Plan) → IsInstance night → IsPlanInRange night p
+        → reading (plan_format night) (rows_of night p) ≡ Ok p }
+    ensures again { (night : Night) (p : Plan) → IsInstance night → IsPlanInRange night p
+        → ReadsAsPlan night p (text_of_rows (rows_of night p)) }
+    ensures short { (night : Night) (p : Plan) → IsInstance night → IsPlanInRange night p
+        → length (text_of_rows (rows_of night p)) ≤ 32026 }
 {}
 
 /// In each night, records state turns or have a first fault, and never both, and reading them says which.
@@ -45,13 +50,17 @@ pub fn edits_or_first_fault()
 
 /// The turns that records state have trains and tracks of the night and numbers in range, and are at most 10,000.
 pub fn stated_turns_are_in_range()
-    ensures { (night : Night) (rows : List (List (List ℕ))) (turns : List Turn) → reading (edits_format night) rows ≡ Ok turns → AreTurns night turns }
+    ensures { (night : Night) (rows : List (List (List ℕ))) (turns : List Turn)
+        → reading (edits_format night) rows ≡ Ok turns → AreTurns night turns }
 {}
 
 /// The records of such turns state them, and their text reads back as them and has at most 700,008 bytes.
 #[tactic(auto, using(crate::proofs::RoundTrip::edits_again, crate::proofs::RoundTrip::edits_text_back, crate::proofs::Lengths::edits_short))]
 pub fn texts_of_turns()
-    ensures rows { (night : Night) (turns : List Turn) → IsInstance night → AreTurns night turns → reading (edits_format night) (rows_of_edits night turns) ≡ Ok turns }
-    ensures again { (night : Night) (turns : List Turn) → IsInstance night → AreTurns night turns → ReadsAsEdits night turns (text_of_rows (rows_of_edits night turns)) }
-    ensures short { (night : Night) (turns : List Turn) → IsInstance night → AreTurns night turns → length (text_of_rows (rows_of_edits night turns)) ≤ 700008 }
+    ensures rows { (night : Night) (turns : List Turn) → IsInstance night → AreTurns night turns
+        → reading (edits_format night) (rows_of_edits night turns) ≡ Ok turns }
+    ensures again { (night : Night) (turns : List Turn) → IsInstance night → AreTurns night turns
+        → ReadsAsEdits night turns (text_of_rows (rows_of_edits night turns)) }
+    ensures short { (night : Night) (turns : List Turn) → IsInstance night → AreTurns night turns
+        → length (text_of_rows (rows_of_edits night turns)) ≤ 700008 }
 {}

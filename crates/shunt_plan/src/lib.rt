@@ -4,21 +4,21 @@
 
 mod block_records;
 mod edits;
+mod edits_writer;
 mod kept;
 pub mod laws;
 mod pins;
 mod plan;
 mod ranges;
 mod records;
-mod writing;
-mod writing_edits;
+mod writer;
 
 pub use block_records::{read_arr, read_dep, read_first, read_option, read_track};
 pub use edits::{Edit, Turn, read_edits};
+pub use edits_writer::write_edits;
 pub use kept::lost_pin;
 pub use pins::read_pins;
 pub use plan::read_plan;
 pub use ranges::{blocks_cost, plan_cost, plan_in_range};
 pub use records::Plan;
-pub use writing::{arr_name, dep_name, track_name, write_option, write_plan};
-pub use writing_edits::write_edits;
+pub use writer::{arr_name, dep_name, track_name, write_option, write_plan};

@@ -74,7 +74,8 @@ pub fn read_pins(
     instance: &Instance,
     rows: &Vec<Row>,
 ) -> Result<Vec<Block>, ReadError>
-    ensures stated { Gives (λ v. v.items) result (reading (pins_format instance.now) rows.now.items) }
+    ensures stated { Gives (λ v. v.items) result
+        (reading (pins_format instance.now) rows.now.items) }
     ensures in_range { IfOk result (λ v. AreInRange instance.now v.items) }
 {
     Ok(read::<Pins>(instance, alloc, rows)?.into_vec())

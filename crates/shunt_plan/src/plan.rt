@@ -3,7 +3,7 @@ ghost use Rattle.std.specs.Prelude.{IfOk};
 ghost use Rattle.shunt_rows.specs.defs.Checks.{answer};
 ghost use Rattle.shunt_rows.specs.defs.Formats.{reading};
 ghost use Rattle.shunt_rows.specs.defs.Given.{Gives};
-ghost use Rattle.shunt_plan.specs.defs.PlanFormat.{Draft, more_of, cost_of, plan_format};
+ghost use Rattle.shunt_plan.specs.defs.PlanFormat.{PlanDraft, more_of, cost_of, plan_format};
 ghost use Rattle.shunt_plan.specs.defs.Plans.{IsPlanInRange};
 
 use crate::block_records::{read_first, read_more};
@@ -17,20 +17,20 @@ use std::marker::Model;
 
 // What the records so far state.
 #[derive(Debug, Drop)]
-struct Draft {
+struct PlanDraft {
     blocks: Vec<Block>,
     cost: Option<u64>,
 }
 
-impl Model for Draft {
-    ghost use Rattle.shunt_plan.specs.defs.PlanFormat.{Draft};
+impl Model for PlanDraft {
+    ghost use Rattle.shunt_plan.specs.defs.PlanFormat.{PlanDraft};
 
-    ghost Value = { Draft };
+    ghost Value = { PlanDraft };
 
     ghost view = { λ d. record { blocks = d.blocks.items; cost = d.cost } };
 }
 
-impl Draft {
+impl PlanDraft {
     fn read_more(&mut self, instance: &Instance, n: u32, row: &Row) -> Result<(), ReadError>
         ensures { Gives (λ _. self.new) result (answer n (more_of instance.now self.old row.now)) }
     {
@@ -48,7 +48,7 @@ impl Draft {
     }
 }
 
-impl<'r> FormatReader<'r> for Draft {
+impl<'r> FormatReader<'r> for PlanDraft {
     type Context = Instance;
 
     type Output = Plan;
@@ -58,9 +58,9 @@ impl<'r> FormatReader<'r> for Draft {
     ghost suits = { λ _. Unit };
 
     #[tactic(auto, unfolding(crate::specs::defs::PlanFormat::first_of))]
-    fn read_first(_: &'r Instance, alloc: Global, row: &'r Row) -> Result<Draft, ReadError> {
+    fn read_first(_: &'r Instance, alloc: Global, row: &'r Row) -> Result<PlanDraft, ReadError> {
         read_first(row, b"plan")?;
-        Ok(Draft {
+        Ok(PlanDraft {
             blocks: Vec::new(alloc),
             cost: None,
         })
@@ -105,5 +105,5 @@ pub fn read_plan(alloc: Global, instance: &Instance, rows: &Vec<Row>) -> Result<
     ensures stated { Gives (λ p. p) result (reading (plan_format instance.now) rows.now.items) }
     ensures in_range { IfOk result (IsPlanInRange instance.now) }
 {
-    read::<Draft>(instance, alloc, rows)
+    read::<PlanDraft>(instance, alloc, rows)
 }

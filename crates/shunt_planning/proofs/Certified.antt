@@ -3,8 +3,8 @@ use Rattle.std.proofs.Common.{◌≡◌, ◌∙◌, ℕ, List, Some, sym, subst,
 use Rattle.std.specs.Prelude.{IfSome}
 use Rattle.shunt_store.specs.defs.Files.{text_of}
 use Rattle.shunt_proof.specs.declared.records.Node.{Node}
-use Rattle.shunt_proof.specs.defs.Recording.{Finished}
-use Rattle.shunt_proof.specs.defs.Streaming.{Streamed, stage_of, told_of}
+use Rattle.shunt_proof.specs.defs.Recorders.{Finished}
+use Rattle.shunt_proof.specs.defs.TextRecorders.{Streamed, stage_of, told_of}
 use Rattle.shunt_proof.proofs.Stages.{finished, nodes_of_sound, told_finished}
 use Rattle.shunt_proof.proofs.Told.{told_so, ended}
 use Rattle.shunt_planning.specs.defs.Planned.{certificate_file}

@@ -4,7 +4,7 @@ use Rattle.std.proofs.lemmas.List.Sorted.{sum_by-IsPermutation}
 use Rattle.std.specs.List.{range_with_len}
 use Rattle.std.specs.Prelude.{◌==◌, not, IfNone, IfSome}
 use Rattle.shunt_store.specs.defs.Files.{Files, Stage, Closed, Writing, IsWriting, BothTold, content, files_after, text_of}
-use Rattle.shunt_store.specs.defs.Noting.{stored_after}
+use Rattle.shunt_store.specs.defs.Notes.{stored_after}
 use Rattle.shunt_store.proofs.Texts.{both_map}
 use Rattle.shunt_instance.specs.defs.Instance.{Night, unit_total, position_total}
 use Rattle.shunt_instance.specs.defs.Matching.{Entry, IsMatchingOfRest, is_in_rest, unit_entries, position_entries}
@@ -19,32 +19,32 @@ use Rattle.shunt_plan.specs.defs.Plans.{IsPlanInRange}
 use Rattle.shunt_proof.specs.declared.records.Version.{Version}
 use Rattle.shunt_proof.specs.declared.records.Version.TheVariants.{Prices}
 use Rattle.shunt_proof.specs.declared.records.Certificate.{Certificate}
-use Rattle.shunt_proof.specs.defs.Recording.{Finished}
-use Rattle.shunt_proof.specs.defs.Streaming.{Streamed, stage_of, told_of, Keeps}
+use Rattle.shunt_proof.specs.defs.Recorders.{Finished}
+use Rattle.shunt_proof.specs.defs.TextRecorders.{Streamed, stage_of, told_of, KeepsStream}
 use Rattle.shunt_proof.proofs.Stages.{finished}
 use Rattle.shunt_report.specs.defs.PlanTexts.{plan_of}
 use Rattle.shunt_search.specs.declared.solved.Solved.{Solved}
 use Rattle.shunt_search.specs.defs.Endings.{certificate_of, IsShown}
 use Rattle.shunt_inputs.specs.declared.answers.Answer.{Answer}
-use Rattle.shunt_inputs.specs.declared.loading.Halt.{Halt}
-use Rattle.shunt_inputs.specs.declared.loading.Halt.TheVariants as halt
+use Rattle.shunt_inputs.specs.declared.file_loader.Halt.{Halt}
+use Rattle.shunt_inputs.specs.declared.file_loader.Halt.TheVariants as halt
 use Rattle.shunt_inputs.specs.defs.Names.{AreNames}
 use Rattle.shunt_inputs.specs.defs.Inputs.{Agrees}
 use Rattle.shunt_inputs.specs.defs.Replies.{Decided, Reply, refusal, reply_of}
-use Rattle.shunt_inputs.specs.defs.Writes.{written, with_first, Known, Stays, HasFirst, Leads}
+use Rattle.shunt_inputs.specs.defs.Writes.{written, with_first, Known, Stays, HasFirst, LeavesOne}
 use Rattle.shunt_inputs.specs.defs.Halts.{Loads}
-use Rattle.shunt_inputs.specs.defs.Reading.{HoldingTexts}
-use Rattle.shunt_inputs.proofs.Leading.{none_first}
-use Rattle.shunt_inputs.proofs.Seeing.{FailsWith, fails, front_names, seen_texts}
+use Rattle.shunt_inputs.specs.defs.ReadFiles.{HoldingTexts}
+use Rattle.shunt_inputs.proofs.FirstFiles.{none_first}
+use Rattle.shunt_inputs.proofs.SeenFiles.{FailsWith, fails, front_names, seen_texts}
 use Rattle.shunt_planning.specs.defs.Matched.{IsShortBeside}
 use Rattle.shunt_planning.specs.defs.Planned.{IsPlannedAt, IsSoughtOver, Lacks, certificate_file, plan_file, search_outcome}
-use Rattle.shunt_planning.specs.defs.Begun.{IsOver, IsFound}
+use Rattle.shunt_planning.specs.defs.Begun.{IsOverTold, IsFound}
 use Rattle.shunt_planning.proofs.Certified.{finished_text}
 
 -- ---- what a recorder leaves
 
 pub stream_found : (night : Night) (pins : List Block) (most : ℕ) (name : List ℕ) (s t : Streamed) (solved : Solved) → s.version ≡ Prices → s.night ≡ night → s.name ≡ name
-    → Keeps s t → stage_of t ≡ Finished solved.cost solved.bound → solved.cost ≡ solved.plan.cost
+    → KeepsStream s t → stage_of t ≡ Finished solved.cost solved.bound → solved.cost ≡ solved.plan.cost
     → IsShown night pins most solved.plan solved.bound solved.nodes (told_of t) → IsFound night pins most name t.place solved
 stream_found night pins most name s t solved of_version of_night called keeps stage cost shown = record {
   nodes = shown.nodes;
@@ -176,17 +176,17 @@ module _ {X : Type 0} (view : Option Files) (old : Known) (ns ms : List (List �
   over Q h = seen_texts view ns Q (front_names ns ms names) h
 
   pub refused_over : (new : Known) (r : Result Answer Halt) (e : Halt) → FailsWith r e → Stays old new → HoldingTexts view ns (λ bs. Loads {X = X} (Err e) (stated bs))
-      → Leads (IsOver view in_files P) old new r
-  refused_over new r e is same h = subst (Leads (IsOver view in_files P) old new) (sym (fails r e is)) (at e (over (λ bs. Loads {X = X} (Err e) (stated bs)) h))
+      → LeavesOne (IsOverTold view in_files P) old new r
+  refused_over new r e is same h = subst (LeavesOne (IsOverTold view in_files P) old new) (sym (fails r e is)) (at e (over (λ bs. Loads {X = X} (Err e) (stated bs)) h))
     where
-      at : (e : Halt) → (files : Files) × Agrees view files × Loads {X = X} (Err e) (in_files files) → Leads (IsOver view in_files P) old new (Err e)
-      at (halt.Input text) g = none_first (IsOver view in_files P) old new (refusal text.items) same
+      at : (e : Halt) → (files : Files) × Agrees view files × Loads {X = X} (Err e) (in_files files) → LeavesOne (IsOverTold view in_files P) old new (Err e)
+      at (halt.Input text) g = none_first (IsOverTold view in_files P) old new (refusal text.items) same
           (g.0, g.1, subst (λ (s : Result X (List ℕ)). Decided s P (refusal text.items)) (sym g.2) refl)
       at halt.Fault g = same
       at halt.Memory g = same
 
   module _ (x : X) (mid new : Known) (same : Stays old mid) (states : HoldingTexts view ns (λ bs. stated bs ≡ Ok x)) where
-    handed : (r : Reply) → HasFirst (P x) mid new r → HasFirst (IsOver view in_files P) old new r
+    handed : (r : Reply) → HasFirst (P x) mid new r → HasFirst (IsOverTold view in_files P) old new r
     handed r h =
         let g = over (λ bs. stated bs ≡ Ok x) states in
         record {
@@ -196,7 +196,7 @@ module _ {X : Type 0} (view : Option Files) (old : Known) (ns ms : List (List �
           stored = subst (λ o. BothTold o new.stored (λ a b. b ≡ a ++ h.first)) same.1 h.stored;
         }
 
-    pub found_over : (r : Result Answer Halt) → Leads (P x) mid new r → Leads (IsOver view in_files P) old new r
+    pub found_over : (r : Result Answer Halt) → LeavesOne (P x) mid new r → LeavesOne (IsOverTold view in_files P) old new r
     found_over (Ok a) h = handed (reply_of a) h
     found_over (Err (halt.Input text)) h = handed (refusal text.items) h
     found_over (Err halt.Fault) h = (h.0 ∙ same.0, h.1 ∙ same.1)

@@ -1,11 +1,11 @@
 //! The commands that plan a night: `match`, `plan`, `pinned` and `improve`.
 #![tactic(auto)]
 
-mod improving;
-mod pairing;
-mod planning;
-mod searching;
+mod improvement;
+mod matches;
+mod plan_search;
+mod plans;
 
-pub use improving::reply_to_improve;
-pub use pairing::Match;
-pub use planning::{reply_to_pinned, reply_to_plan};
+pub use improvement::reply_to_improve;
+pub use matches::MatchCommand;
+pub use plans::{reply_to_pinned, reply_to_plan};

@@ -10,7 +10,7 @@ use Rattle.shunt_base.specs.declared.duals.Price.{Price}
 use Rattle.shunt_base.specs.declared.keys.EventKey.{EventKey}
 use Rattle.shunt_base.specs.declared.keys.Stay.{Stay}
 use Rattle.shunt_base.specs.defs.Keys.{AreStays, IsKey}
-use Rattle.shunt_stays.specs.defs.Crossing.{load_at}
+use Rattle.shunt_stays.specs.defs.Crossings.{load_at}
 use Rattle.shunt_stays.specs.defs.Run.{GoesThrough, AreOnTracks}
 use Rattle.shunt_instance.specs.declared.records.Track.{Track}
 use Rattle.shunt_instance.specs.defs.Instance.{Night, IsInstance, IsOrderedNight}
@@ -19,13 +19,13 @@ use Rattle.shunt_blocks.specs.declared.records.Shape.{Shape}
 use Rattle.shunt_blocks.specs.declared.records.Block.{Block}
 use Rattle.shunt_blocks.specs.defs.Shapes.{shape_of, IsWithinTrains, IsShape}
 use Rattle.shunt_blocks.specs.defs.Blocks.{IsBlockButId}
-use Rattle.shunt_blocks.specs.defs.Standing.{is_too_soon, block_length}
+use Rattle.shunt_blocks.specs.defs.Stays.{is_too_soon, block_length}
 use Rattle.shunt_blocks.specs.defs.Lists.{CanStand, ShareNothing, RunsThrough, track_lengths, stays_of, placed, placed_from}
-use Rattle.shunt_choices.proofs.Given.{all_within}
 use Rattle.shunt_prices.specs.defs.Limits.{IsPrice}
 use Rattle.shunt_prices.specs.defs.Prices.{track_length, count_of, most_of, most, stands_at, counted}
 use Rattle.shunt_prices.proofs.Parts.{parts_fit}
 use Rattle.shunt_prices.proofs.Moments.{CanStay, moment, moment_key, stand_together}
+use Rattle.shunt_blocks.proofs.Shapes.{all_within}
 
 -- what the laws of the crates below say
 pub record RunLaws : Type 0 where

@@ -4,7 +4,7 @@ use Rattle.std.proofs.Common.{◌≡◌, ℕ, ◌<◌, ◌≤◌, Bool, true, Li
 use Rattle.std.proofs.lemmas.List.Sums.{sum_by-cons}
 use Rattle.std.proofs.lemmas.List.Elements.{All-tail}
 use Rattle.shunt_lists.specs.defs.Members.{In}
-use Rattle.shunt_lists.proofs.Members.{Distinct, in_map, of_map}
+use Rattle.shunt_lists.proofs.Members.{Distinct, in_map, of_map, each_one}
 use Rattle.shunt_lists.proofs.Sums.{sum_within, some_of}
 use Rattle.shunt_instance.specs.defs.Instance.{Night, unit_total, position_total}
 use Rattle.shunt_blocks.specs.declared.records.Block.{Block}
@@ -14,12 +14,13 @@ use Rattle.shunt_blocks.specs.defs.Costs.{block_cost}
 use Rattle.shunt_blocks.specs.defs.Lists.{has_unit, has_position, times_unit, times_position, Covers, ShareNothing, total_cost}
 use Rattle.shunt_blocks.specs.defs.Pins.{IsKept, Keeps, without_id}
 use Rattle.shunt_blocks.proofs.Held.{held, holder, one_holder}
-use Rattle.shunt_choices.proofs.Given.{PlaceLaws, begins_itself, each_one}
-use Rattle.shunt_choices.proofs.Trails.{has_from}
+use Rattle.shunt_choices.proofs.Given.{PlaceLaws}
+use Rattle.shunt_blocks.proofs.Shapes.{has_from, begins_itself}
+use Rattle.shunt_blocks.proofs.StaysOf.{rest_apart as apart_tail}
 
 -- ---- a kept block is the plan's but for its id
 
-kept_block : (night : Night) (plan : List Block) (b : Block) → All (IsBlockButId night) plan → IsKept plan b → IsBlockButId night b
+pub kept_block : (night : Night) (plan : List Block) (b : Block) → All (IsBlockButId night) plan → IsKept plan b → IsBlockButId night b
 kept_block night plan b all k =
     let w = each_one (IsBlockButId night) plan k.block all k.there in
     record {
@@ -72,12 +73,6 @@ cost_without night (b ∷ blocks) = omega (
   sum_by-cons (block_cost night) b blocks,
   cost_without night blocks,
 )
-
-apart_tail : (night : Night) (b : Block) (blocks : List Block) → ShareNothing night (b ∷ blocks) → ShareNothing night blocks
-apart_tail night b blocks apart = record {
-  units = λ u. omega (arith, apart.units u, sum_by-cons (λ x. cond (has_unit night (shape_of x) u) 1 0) b blocks);
-  positions = λ v. omega (arith, apart.positions v, sum_by-cons (λ x. cond (has_position night (shape_of x) v) 1 0) b blocks);
-}
 
 abbrev flag : Bool → ℕ
 flag b = cond b 1 0

@@ -1,14 +1,12 @@
 -- From a path to a path that covers the night, block by block of a plan; and the bound of the first.
-use Rattle.std.specs.Prelude.{◌==◌, nat_le, not, All, is_none, position, Option, Some, None, ◌≤ℤ◌}
-use Rattle.std.proofs.Common.{◌≡◌, ⊎_elim, ℕ, zero, suc, ◌+◌, ◌-◌, ◌*◌, ◌<◌, ◌≤◌, Bool, true, false, List, [], ◌∷◌, length, get_or, ℤ, pos, refl, sym, subst, ap, ◌∙◌, arith, length-append}
-use Rattle.std.specs.List.{position_or_len}
+use Rattle.std.specs.Prelude.{◌==◌, nat_le, not, All, is_none, Option, Some, None, ◌≤ℤ◌}
+use Rattle.std.proofs.Common.{◌≡◌, ⊎_elim, ℕ, zero, suc, ◌+◌, ◌-◌, ◌*◌, ◌<◌, ◌≤◌, true, false, List, [], ◌∷◌, length, ℤ, pos, refl, sym, subst, ap, ◌∙◌, arith, length-append}
 use Rattle.std.proofs.lemmas.Int.{ints}
 use Rattle.std.proofs.lemmas.Bool.{cases_lt, cases_eq, or_right}
 use Rattle.std.proofs.lemmas.Bool.Decides.{nat_tests}
-use Rattle.std.proofs.lemmas.Grind.{common_steps}
-use Rattle.std.proofs.lemmas.List.Sums.{count_by-le-length, fails_before_first}
+use Rattle.std.proofs.lemmas.List.Sums.{count_by-le-length}
 use Rattle.shunt_lists.specs.defs.Members.{In}
-use Rattle.shunt_lists.proofs.Lists.{all_one}
+use Rattle.shunt_lists.proofs.Lists.{all_one, none_passes}
 use Rattle.shunt_base.specs.declared.duals.Duals.{Duals}
 use Rattle.shunt_base.specs.declared.duals.Case.{Case}
 use Rattle.shunt_instance.specs.defs.Instance.{Night, IsInstance, unit_total}
@@ -19,7 +17,7 @@ use Rattle.shunt_blocks.specs.defs.Lists.{times_unit, ShareNothing, IsFeasible, 
 use Rattle.shunt_blocks.specs.defs.Pins.{IsKept, Keeps, without_id}
 use Rattle.shunt_choices.specs.defs.Paths.{masks_of, next_of}
 use Rattle.shunt_choices.specs.defs.Choices.{Choice, IsChoice, IsChoiceAt, chosen, longer_by}
-use Rattle.shunt_choices.proofs.Given.{PlaceLaws, FewerLaw, all_within, but_ids, each_one}
+use Rattle.shunt_choices.proofs.Given.{PlaceLaws, FewerLaw}
 use Rattle.shunt_choices.proofs.Trails.{length_units}
 use Rattle.shunt_choices.proofs.Grown.{next_is, grown_apart, choice_free}
 use Rattle.shunt_choices.proofs.Partial.{next_unit}
@@ -30,9 +28,11 @@ use Rattle.shunt_prices.proofs.Signed.{round_up}
 use Rattle.shunt_prices.proofs.Capacity.{RunLaws, placed_fit}
 use Rattle.shunt_prices.proofs.Room.{StayLaw}
 use Rattle.shunt_prices.proofs.Longer.{cases_stay, unit_mask}
-use Rattle.shunt_prices.proofs.Rising.{was_open, sums_rise}
+use Rattle.shunt_prices.proofs.RisingBounds.{was_open, sums_rise}
 use Rattle.shunt_prices.proofs.Whole.{whole_sum}
 use Rattle.shunt_prices.proofs.Dual.{kept_blocks, path_covers, costs_less}
+use Rattle.shunt_lists.proofs.Members.{each_one}
+use Rattle.shunt_blocks.proofs.Shapes.{all_within, but_ids}
 
 -- what more the laws of the crates below say
 abbrev pub PartLaw : Type 0
@@ -53,11 +53,6 @@ pub record PlanLaws : Type 0 where
   pub held : (night : Night) (plan path : List Block) (u : ℕ) → IsInstance night → IsFeasible night plan → ShareNothing night path → Keeps plan path
       → next_of (masks_of night path) ≡ Some u
       → (c : Choice) × IsChoiceAt night path c × Keeps plan (longer_by path c) × RunsThrough night (placed (longer_by path c))
-
-none_passes : {X : Type 0} (p : X → Bool) (xs : List X) (k : ℕ) (d : X) → position p xs ≡ None → k < length xs → p (get_or xs k d) ≡ false
-none_passes p xs k d e lt =
-    let past : length xs ≤ position_or_len p xs = grind (arith, common_steps) in
-    fails_before_first p xs k d (omega (arith, past, lt))
 
 module _ (laws : PlanLaws) (night : Night) (i : IsInstance night) (plan : List Block) (h : IsFeasible night plan) (cases : List Case) where
   -- a path of the plan's blocks that covers the night, and at which no case has a lesser sum

@@ -4,12 +4,13 @@ mod Capacity
 pub mod Signed
 mod Longer
 mod Room
-mod Rising
+mod RisingBounds
 pub mod Sizes
 mod Whole
-mod Dual
+pub mod Dual
 mod Ends
 mod Examples
 mod Open
 mod Raised
 mod Stepped
+pub mod Counts

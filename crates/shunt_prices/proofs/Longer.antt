@@ -15,12 +15,13 @@ use Rattle.shunt_choices.specs.defs.Paths.{masks_of}
 use Rattle.shunt_choices.specs.defs.Choices.{IsFreeShape}
 use Rattle.shunt_choices.proofs.Given.{PlaceLaws}
 use Rattle.shunt_choices.proofs.Masks.{unit_more, position_more}
-use Rattle.shunt_choices.proofs.Trails.{has_from, has_position_from, not_taken}
+use Rattle.shunt_choices.proofs.Trails.{not_taken}
 use Rattle.shunt_choices.proofs.Grown.{left_free}
 use Rattle.shunt_prices.specs.defs.Sums.{sum_z_below}
 use Rattle.shunt_prices.specs.defs.Cases.{alpha_at, beta_at, duals_over, weight, IsFreeBlock, HasRoom, HoldsInCase, CasesHold}
 use Rattle.shunt_prices.specs.defs.Bounds.{sum_at, uncovered_alphas, uncovered_betas}
 use Rattle.shunt_prices.proofs.Signed.{sum_z_push, sum_z_below-same, sum_z_below-add, is_within, window}
+use Rattle.shunt_blocks.proofs.Shapes.{has_from, has_position_from}
 
 -- ---- what is uncovered
 

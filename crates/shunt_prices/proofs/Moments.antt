@@ -13,17 +13,17 @@ use Rattle.shunt_base.specs.declared.keys.Stay.{Stay}
 use Rattle.shunt_base.specs.declared.duals.Price.{Price}
 use Rattle.shunt_base.specs.defs.Keys.{key_cmp, IsKey}
 use Rattle.shunt_stays.specs.defs.Events.{key_before}
-use Rattle.shunt_stays.specs.defs.Crossing.{stands_at as stands_then, load_at}
+use Rattle.shunt_stays.specs.defs.Crossings.{stands_at as stands_then, load_at}
 use Rattle.shunt_instance.specs.defs.Words.{train_at}
-use Rattle.shunt_instance.specs.defs.Wellformed.{IsTrain}
 use Rattle.shunt_instance.specs.defs.Instance.{Night, IsOrderedNight}
 use Rattle.shunt_blocks.specs.declared.records.Block.{Block}
 use Rattle.shunt_blocks.specs.declared.records.Park.{Park}
 use Rattle.shunt_blocks.specs.defs.Shapes.{shape_of, IsWithinTrains}
-use Rattle.shunt_blocks.specs.defs.Standing.{block_length, leave_minute, is_too_soon, enter_key, leave_key, parked_stay, stay_with, stay_of}
+use Rattle.shunt_blocks.specs.defs.Stays.{block_length, leave_minute, is_too_soon, enter_key, leave_key, parked_stay, stay_with, stay_of}
 use Rattle.shunt_blocks.specs.defs.Lists.{stays_of}
 use Rattle.shunt_prices.specs.defs.Limits.{IsPrice}
 use Rattle.shunt_prices.specs.defs.Prices.{is_there, stands_with, stands_at}
+use Rattle.shunt_blocks.proofs.Times.{arrival}
 
 -- ---- tests
 
@@ -46,9 +46,6 @@ later n m rest lt = grind (arith, nat_tests)
 -- just after a price's train has entered whole
 abbrev pub moment : Night → Price → EventKey
 moment night price = record { minute = (train_at night.arrive price.train.0).minute; enters = true; train = price.train.0; place = 255; id = 4294967295 }
-
-arrival : (night : Night) (a : ℕ) → IsOrderedNight night → a < length night.arrive → IsTrain night.station (train_at night.arrive a)
-arrival night a h lt = h.timetable.arrive.each a _ lt
 
 pub moment_key : (night : Night) (price : Price) → IsOrderedNight night → IsPrice night price → IsKey (moment night price)
 moment_key night price h p = let a = arrival night price.train.0 h p.train in record {

@@ -1,24 +1,25 @@
 -- A block of a run that goes through is no longer than its track.
 use Rattle.std.specs.Prelude.{◌&&◌, All, cond, Option, Some, None}
 use Rattle.std.specs.Ordering.{nat_cmp, bool_cmp, ordering_then, is_le, is_lt}
-use Rattle.std.proofs.Common.{◌≡◌, inl, inr, ℕ, ◌+◌, ◌≤◌, Bool, true, false, List, [], ◌∷◌, refl, sym, subst, ap, ◌∙◌, arith}
+use Rattle.std.proofs.Common.{◌≡◌, inl, inr, ℕ, ◌+◌, ◌≤◌, Bool, true, false, List, [], ◌∷◌, refl, sym, ap, ◌∙◌, arith}
 use Rattle.std.proofs.lemmas.Bool.Decides.{nat_tests}
 use Rattle.std.proofs.lemmas.Bool.{eq-eqb}
 use Rattle.std.proofs.lemmas.List.Sums.{sum_by-cons}
 use Rattle.shunt_lists.specs.defs.Members.{In}
 use Rattle.shunt_base.specs.declared.keys.EventKey.{EventKey}
 use Rattle.shunt_base.specs.declared.keys.Stay.{Stay}
-use Rattle.shunt_base.specs.defs.Keys.{IsWellFormed, AreStays}
-use Rattle.shunt_stays.specs.defs.Crossing.{stands_at as stands_then, load_at}
+use Rattle.shunt_base.specs.defs.Keys.{IsWellFormed}
+use Rattle.shunt_stays.specs.defs.Crossings.{stands_at as stands_then, load_at}
 use Rattle.shunt_instance.specs.defs.Instance.{Night, IsInstance}
 use Rattle.shunt_blocks.specs.declared.records.Block.{Block}
 use Rattle.shunt_blocks.specs.declared.records.Park.{Park}
 use Rattle.shunt_blocks.specs.defs.Shapes.{shape_of, IsWithinTrains}
-use Rattle.shunt_blocks.specs.defs.Standing.{is_too_soon, parked_stay, stay_with, stay_of, shape_length}
+use Rattle.shunt_blocks.specs.defs.Stays.{is_too_soon, parked_stay, stay_with, stay_of, shape_length}
 use Rattle.shunt_blocks.specs.defs.Lists.{CanStand, ShareNothing, RunsThrough, track_lengths, stays_of, placed, placed_from}
 use Rattle.shunt_prices.specs.defs.Prices.{track_length}
 use Rattle.shunt_prices.specs.defs.Cases.{HasRoom}
 use Rattle.shunt_prices.proofs.Capacity.{RunLaws}
+use Rattle.shunt_stays.proofs.Halves.{formed}
 
 -- ---- a stay stands on its track when it enters
 
@@ -39,11 +40,6 @@ at_least (u ∷ stays) s t k (inl e) stands =
     let first : cond (stands_then t k u) u.length 0 ≡ s.length = ap (λ (v : Stay). cond (stands_then t k v) v.length 0) (sym e) ∙ ap (λ x. cond x s.length 0) stands in
     omega (arith, sum_by-cons (λ (v : Stay). cond (stands_then t k v) v.length 0) u stays, first)
 at_least (u ∷ stays) s t k (inr there) stands = omega (arith, sum_by-cons (λ (v : Stay). cond (stands_then t k v) v.length 0) u stays, at_least stays s t k there stands)
-
-formed : (stays : List Stay) (s : Stay) → AreStays stays → In s stays → IsWellFormed s
-formed [] s all there = absurd there
-formed (u ∷ stays) s all (inl e) = subst IsWellFormed (sym e) all.0
-formed (u ∷ stays) s all (inr there) = formed stays s all.2 there
 
 -- ---- blocks
 

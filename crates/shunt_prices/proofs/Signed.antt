@@ -1,12 +1,18 @@
 -- Sums of signed numbers, and bounds.
-use Rattle.std.specs.Prelude.{◌==◌, ◌&&◌, nat_le, nat_lt, cond, ◌≤ℤ◌}
-use Rattle.std.proofs.Common.{◌≡◌, ⊎_elim, ℕ, zero, suc, ◌+◌, ◌/◌, ◌<◌, ◌≤◌, Bool, true, false, List, [], ◌∷◌, ◌++◌, ℤ, pos, negsuc, neg_ℤ, ◌+ℤ◌, refl, sym, ap, ◌∙◌, arith}
+use Rattle.std.specs.Prelude.{◌==◌, ◌&&◌, nat_le, nat_lt, cond, ◌≤ℤ◌, ◌-ℤ◌, ◌<ℤ◌, ◌*ℤ◌}
+use Rattle.std.proofs.Common.{◌≡◌, ⊎_elim, ℕ, zero, suc, ◌+◌, ◌/◌, ◌<◌, ◌≤◌, Bool, true, false, List, [], ◌∷◌, ◌++◌, ℤ, pos, negsuc, neg_ℤ, ◌+ℤ◌, refl, sym, ap, ◌∙◌, arith, ◌*◌}
 use Rattle.std.proofs.Math.Nat.{mul-div-le, lt-div-mul-add}
-use Rattle.std.proofs.lemmas.Int.{ints}
+use Rattle.std.proofs.lemmas.Int.{ints, clamps}
 use Rattle.std.proofs.lemmas.Bool.{cases_lt, cases_eq, eq-eqb, ne_eqb, false≢true}
 use Rattle.std.proofs.lemmas.Bool.Decides.{nat_tests}
-use Rattle.shunt_prices.specs.defs.Sums.{sum_z, sum_z_below}
+use Rattle.shunt_prices.specs.defs.Sums.{sum_z, sum_z_below, IsWithin}
 use Rattle.shunt_prices.specs.defs.Bounds.{IsBoundOf}
+use mir.Syntax.{w64}
+use mir.Val.{to_z, of_z}
+use lib.Signed.{lt_z}
+use Rattle.std.specs.Int.{int_max}
+use Rattle.shunt_prices.specs.defs.Limits.{IsValue}
+use Rattle.shunt_prices.proofs.Sizes.{wider, times_within}
 
 -- ---- lists
 
@@ -103,3 +109,39 @@ round_up (negsuc n) = (
 -- a greater sum has no lesser bound
 pub bound_rises : (sum more bound other : ℤ) → sum ≤ℤ more → IsBoundOf sum bound → IsBoundOf more other → bound ≤ℤ other
 bound_rises sum more bound other le b c = omega (arith, ints, le, b.least, c.enough)
+
+pub joined : (z a b c d : ℤ) → z ≡ a +ℤ b → a ≡ c → b ≡ d → z ≡ c +ℤ d
+joined z a b c d e p q = e ∙ ap (λ (x : ℤ). x +ℤ b) p ∙ ap (λ (x : ℤ). c +ℤ x) q
+
+pub number_seen : (n : ℕ) → n ≤ 160 → to_z w64 n ≡ pos n
+number_seen n le = omega (arith, ints)
+
+pub five : (w a b p s v c d q t : ℤ) → w ≡ v → a ≡ c → b ≡ d → p ≡ q → s ≡ t → w +ℤ (a +ℤ b) -ℤ p -ℤ s ≡ v +ℤ (c +ℤ d) -ℤ q -ℤ t
+five w a b p s v c d q t ew ea eb ep es =
+    ap (λ (x : ℤ). x +ℤ (a +ℤ b) -ℤ p -ℤ s) ew ∙ ap (λ (x : ℤ). v +ℤ (x +ℤ b) -ℤ p -ℤ s) ea ∙ ap (λ (x : ℤ). v +ℤ (c +ℤ x) -ℤ p -ℤ s) eb
+    ∙ ap (λ (x : ℤ). v +ℤ (c +ℤ d) -ℤ x -ℤ s) ep ∙ ap (λ (x : ℤ). v +ℤ (c +ℤ d) -ℤ q -ℤ x) es
+
+pub below : (a b : ℤ) → lt_z a b ≡ true → a <ℤ b
+below a b e = grind (arith, ints)
+
+pub not_below : (a b : ℤ) → lt_z a b ≡ false → b ≤ℤ a
+not_below a b e = grind (arith, ints)
+
+pub max_apart : (x y z : ℤ) → int_max (int_max x y) z ≡ int_max x (int_max y z)
+max_apart x y z = omega (arith, ints, clamps)
+
+pub either_value : (b : Bool) (z : ℤ) → IsValue z → IsValue (cond b (pos 0) z)
+either_value true z v = record { low = omega (arith, ints); high = omega (arith, ints) }
+either_value false z v = v
+
+pub value_seen : (z : ℤ) → IsValue z → to_z w64 (of_z w64 z) ≡ z
+value_seen z v = omega (arith, ints, v.low, v.high)
+
+pub small_seen : (z : ℤ) → IsWithin 159999999999840 z → to_z w64 (of_z w64 z) ≡ z
+small_seen z w = omega (arith, ints, w.low, w.high)
+
+pub product_seen : (m : ℤ) (n : ℕ) → IsValue m → n ≤ 160 → to_z w64 (of_z w64 (to_z w64 (of_z w64 m) *ℤ to_z w64 n)) ≡ m *ℤ pos n
+product_seen m n v le =
+    ap (λ (x : ℤ). to_z w64 (of_z w64 (x *ℤ to_z w64 n))) (value_seen m v)
+    ∙ ap (λ (y : ℤ). to_z w64 (of_z w64 (m *ℤ y))) (number_seen n le)
+    ∙ small_seen (m *ℤ pos n) (wider (999999999999 * n) 159999999999840 (m *ℤ pos n) (omega (arith, le)) (times_within 999999999999 n m (record { low = v.low; high = v.high })))

@@ -24,7 +24,7 @@ use Rattle.shunt_instance.specs.declared.records.Station.{Station}
 use Rattle.shunt_instance.specs.declared.records.Track.{Track}
 use Rattle.shunt_instance.specs.declared.records.UnitType.{UnitType}
 use Rattle.shunt_instance.specs.defs.Words.{train_at}
-use Rattle.shunt_instance.specs.defs.Wellformed.{IsStation, IsTrain}
+use Rattle.shunt_instance.specs.defs.Wellformed.{IsStation}
 use Rattle.shunt_instance.specs.defs.Instance.{Night, IsOrderedNight, unit_at, unit_total, position_total}
 use Rattle.shunt_instance.proofs.Looked.{cost_bound, units_few, positions_few}
 use Rattle.shunt_blocks.specs.declared.records.Shape.{Shape}
@@ -33,13 +33,14 @@ use Rattle.shunt_blocks.specs.declared.records.Park.{Park}
 use Rattle.shunt_blocks.specs.defs.Shapes.{shape_of, unit_from, position_from, AreRunsWithin, IsWithinTrains}
 use Rattle.shunt_blocks.specs.defs.Ways.{way_from, way_to}
 use Rattle.shunt_blocks.specs.defs.Costs.{option_cost, cost_with}
-use Rattle.shunt_blocks.specs.defs.Standing.{length_of, shape_length}
+use Rattle.shunt_blocks.specs.defs.Stays.{length_of, shape_length}
 use Rattle.shunt_choices.specs.defs.Paths.{Masks, masks_of}
 use Rattle.shunt_prices.specs.defs.Sums.{sum_z, sum_z_below, IsWithin}
 use Rattle.shunt_prices.specs.defs.Prices.{track_length, count_of, most_of, count, most, counted_with, price_part_with, stands_with, paid_at_most}
 use Rattle.shunt_prices.specs.defs.Limits.{IsKind, IsPrice, ArePrices, IsValue, AreDuals, IsCase, AreCases, from_of}
 use Rattle.shunt_prices.specs.defs.Cases.{alpha_at, beta_at, duals_over, surcharge, weight_with, weight}
 use Rattle.shunt_prices.specs.defs.Bounds.{uncovered_alphas, uncovered_betas, most_surcharge, sum_at}
+use Rattle.shunt_blocks.proofs.Times.{arrival}
 
 -- ---- signed numbers
 
@@ -98,9 +99,6 @@ from_small night cases (suc k) is lt = omega (arith, is.rise k (suc k) no_case (
     no_case = record { to = 0; multiplier = pos 0; duals = record { alpha = []; beta = []; prices = [] } }
 
 -- ---- lengths, counts and prices
-
-arrival : (night : Night) (a : ℕ) → IsOrderedNight night → a < length night.arrive → IsTrain night.station (train_at night.arrive a)
-arrival night a h lt = h.timetable.arrive.each a _ lt
 
 length_small : (s : Station) (kind : TypeId) → IsStation s → length_of s kind ≤ 5000
 length_small s kind h = ⊎_elim

@@ -16,8 +16,9 @@ use Rattle.shunt_prices.specs.defs.Cases.{alpha_at}
 use Rattle.shunt_prices.specs.defs.Bounds.{duals_sum}
 use Rattle.shunt_prices.specs.defs.Steps.{length_price, raised, with_alpha}
 use Rattle.shunt_prices.proofs.Signed.{sum_z_below-same, sum_z_below-add, sum_z_below-one}
-use Rattle.shunt_prices.proofs.Whole.{weights_are, sum_by-add, sum_by-same}
+use Rattle.shunt_prices.proofs.Whole.{weights_are, sum_by-add}
 use Rattle.shunt_prices.proofs.Raised.{part_rises, paid_rises}
+use Rattle.shunt_lists.proofs.Sums.{sum_by-same}
 
 pub raised_sum : (night : Night) (path : List Block) (t j : ℕ) (d : Duals) → duals_sum night path (record d { prices = raised t j d.prices })
     ≡ duals_sum night path d +ℤ pos (sum_by (counted night (length_price t j)) path) -ℤ pos (track_length night t)

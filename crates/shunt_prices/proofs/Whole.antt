@@ -21,6 +21,7 @@ use Rattle.shunt_prices.specs.defs.Cases.{alpha_at, beta_at, surcharge, weight}
 use Rattle.shunt_prices.specs.defs.Bounds.{unparked_in, most_surcharge, sum_at, uncovered_alphas, uncovered_betas}
 use Rattle.shunt_prices.proofs.Signed.{sum_z_below-zero}
 use Rattle.shunt_prices.proofs.Longer.{unit_mask, place_mask}
+use Rattle.shunt_lists.proofs.Sums.{sum_by-same}
 
 -- ---- weights
 
@@ -71,10 +72,6 @@ sum_by-add f g (x ∷ xs) = omega (arith, sum_by-cons (λ y. f y + g y) x xs, su
 sum_by-times : {X : Type 0} (n : ℕ) (f : X → ℕ) (xs : List X) → sum_by (λ x. n * f x) xs ≡ n * sum_by f xs
 sum_by-times n f [] = sym (mul-zero n)
 sum_by-times n f (x ∷ xs) = omega (arith, sum_by-cons (λ y. n * f y) x xs, ap (λ k. n * k) (sum_by-cons f x xs), mul-add n (f x) (sum_by f xs), sum_by-times n f xs)
-
-pub sum_by-same : {X : Type 0} (f g : X → ℕ) (xs : List X) → ((x : X) → f x ≡ g x) → sum_by f xs ≡ sum_by g xs
-sum_by-same f g [] h = refl
-sum_by-same f g (x ∷ xs) h = omega (arith, sum_by-cons f x xs, sum_by-cons g x xs, h x, sum_by-same f g xs h)
 
 -- where what each price counts adds up to at most its most, the price parts add up to at most what the prices take
 pub parts_paid : (night : Night) (prices : List Price) (blocks : List Block) → All (λ price. sum_by (counted night price) blocks ≤ most night price) prices

@@ -6,13 +6,13 @@ use Rattle.shunt_store.specs.defs.Files as store
 use Rattle.shunt_rows.specs.defs.Records.{text_of_row, text_of_rows}
 use Rattle.shunt_instance.specs.defs.Instance.{IsInstance}
 use Rattle.shunt_proof.specs.declared.records.Node.{Node}
-use Rattle.shunt_proof.specs.declared.text_recorder.Doing.TheVariants as doing
+use Rattle.shunt_proof.specs.declared.text_recorder.TextState.TheVariants as doing
 use Rattle.shunt_proof.specs.defs.Nodes.{FitsNode, CanFollow}
 use Rattle.shunt_proof.specs.defs.Certificates.{own_cases}
 use Rattle.shunt_proof.specs.defs.CertificateRows.{node_rows, head_row, end_row}
 use Rattle.shunt_proof.specs.defs.Numbers.{CanBeRead}
-use Rattle.shunt_proof.specs.defs.Recording.{Open, Finished}
-use Rattle.shunt_proof.specs.defs.Streaming.{Streamed, told_of, stage_of, is_sound, Rests, Keeps}
+use Rattle.shunt_proof.specs.defs.Recorders.{Open, Finished}
+use Rattle.shunt_proof.specs.defs.TextRecorders.{Streamed, told_of, stage_of, is_sound, Rests, KeepsStream}
 use Rattle.shunt_proof.proofs.Told.{so_told, told_first}
 use Rattle.shunt_proof.proofs.Stages.{IsOpen, opened, open_is, finished_is, told_open, sound_some}
 use Rattle.shunt_proof.proofs.Steps.{Tells, Goes, told_moved, note_step, finish_step, restart_step}
@@ -28,7 +28,7 @@ rests_open s name text d p = subst (λ x. Rests x s.place) (sym d) (subst store.
 pub rests_finished : (s : Streamed) (cost bound : ℕ) (name text : List ℕ) → s.doing ≡ doing.Finished cost bound → s.place ≡ store.Writing name text → Rests s.doing s.place
 rests_finished s cost bound name text d p = subst (λ x. Rests x s.place) (sym d) (subst store.IsWriting (sym p) tt)
 
-pub keeps_by : (s t : Streamed) → Goes s t → Rests t.doing t.place → Keeps s t
+pub keeps_by : (s t : Streamed) → Goes s t → Rests t.doing t.place → KeepsStream s t
 keeps_by s t g r = record { version = g.version; night = g.night; name = g.name; rests = λ x. r }
 
 -- what is written on has the name of this recorder's file
@@ -65,7 +65,7 @@ module _ (s t : Streamed) (node : Node) (e : stage_of s ≡ Open) (g : Goes s t)
   pub note_open : Tells s t (λ old new. new ≡ old ++ node ∷ []) → stage_of t ≡ Open
   note_open tells = let o = opened s e in open_is t (store.text_of s.place ++ text_of_rows (node_rows s.night node)) (d ∙ o.doing) (its_name s t _ o g p) tells.sound
 
-  pub note_keeps : Keeps s t
+  pub note_keeps : KeepsStream s t
   note_keeps = keeps_by s t g (rests_open t _ _ (d ∙ (opened s e).doing) p)
 
 -- ---- the end is written
@@ -78,7 +78,7 @@ module _ (s t : Streamed) (cost bound : ℕ) (e : stage_of s ≡ Open) (g : Goes
   pub finish_ended : Tells s t (λ old new. new ≡ old) → stage_of t ≡ Finished cost bound
   finish_ended tells = finished_is t (store.text_of s.place ++ text_of_row (end_row cost bound s.nodes)) cost bound d (its_name s t _ (opened s e) g p) tells.sound
 
-  pub finish_keeps : Keeps s t
+  pub finish_keeps : KeepsStream s t
   finish_keeps = keeps_by s t g (rests_finished t cost bound _ _ d p)
 
 -- both are told and alike, or neither
@@ -101,5 +101,5 @@ module _ (s t : Streamed) (e : stage_of s ≡ Open) (g : Goes s t) (p : t.place 
   restart_open tells = open_is t (text_of_row (head_row s.version)) (d ∙ (opened s e).doing)
       (p ∙ ap (λ n. store.Writing n (text_of_row (head_row s.version))) (sym g.name)) tells.sound
 
-  pub restart_keeps : Keeps s t
+  pub restart_keeps : KeepsStream s t
   restart_keeps = keeps_by s t g (rests_open t _ _ (d ∙ (opened s e).doing) p)

@@ -14,7 +14,7 @@ use Rattle.shunt_rows.specs.declared.fault.RowKind.TheVariants as kinds
 use Rattle.shunt_rows.specs.defs.Records.{at}
 use Rattle.shunt_rows.specs.defs.Checks.{Judged, answer, must, says, found, ◌>>=◌}
 use Rattle.shunt_rows.specs.defs.Fields.{is_within, fields_in}
-use Rattle.shunt_rows.proofs.Holding.{holding}
+use Rattle.shunt_rows.proofs.Answered.{holding}
 use Rattle.shunt_rows.proofs.Joins.{part_ok}
 use Rattle.shunt_rows.proofs.Spelled.{number_again, in_range, signed_again}
 use Rattle.shunt_instance.specs.defs.Instance.{Night, IsOrderedNight, unit_total, position_total}

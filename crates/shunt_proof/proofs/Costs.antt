@@ -1,5 +1,5 @@
 -- A path costs no more than a plan that keeps it: duals of 0 hold at each path, and its bound by them is what it costs.
-use Rattle.std.specs.Prelude.{All, replicate, sum_by, ◌*ℤ◌, ◌≤ℤ◌, Option, Some, None}
+use Rattle.std.specs.Prelude.{All, replicate, sum_by, ◌*ℤ◌, ◌≤ℤ◌}
 use Rattle.std.proofs.Math.Nat.{zero-mul}
 use Rattle.std.proofs.Common.{◌≡◌, ℕ, zero, suc, ◌+◌, ◌*◌, ◌≤◌, Bool, true, false, cond, List, [], ◌∷◌, get_or, ℤ, pos, ◌+ℤ◌, refl, sym, ap, subst, arith}
 use Rattle.std.proofs.lemmas.Int.{ints, clamps}
@@ -10,7 +10,6 @@ use Rattle.shunt_base.specs.declared.duals.Duals.{Duals}
 use Rattle.shunt_base.specs.declared.duals.Case.{Case}
 use Rattle.shunt_instance.specs.defs.Instance.{Night, IsInstance, unit_total, position_total}
 use Rattle.shunt_blocks.specs.declared.records.Block.{Block}
-use Rattle.shunt_blocks.specs.declared.records.Park.{Park}
 use Rattle.shunt_blocks.specs.defs.Shapes.{unit_from, position_from}
 use Rattle.shunt_blocks.specs.defs.Lists.{ShareNothing, IsFeasible, total_cost}
 use Rattle.shunt_blocks.specs.defs.Pins.{Keeps}
@@ -18,9 +17,10 @@ use Rattle.shunt_choices.specs.defs.Paths.{masks_of}
 use Rattle.shunt_prices.specs.defs.Sums.{sum_z, sum_z_below}
 use Rattle.shunt_prices.specs.defs.Prices.{price_part}
 use Rattle.shunt_prices.specs.defs.Limits.{IsValue, AreDuals, plain}
-use Rattle.shunt_prices.specs.defs.Cases.{alpha_at, beta_at, surcharge, weight, HoldsInCase, DualsHold}
+use Rattle.shunt_prices.specs.defs.Cases.{alpha_at, beta_at, weight, HoldsInCase, DualsHold}
 use Rattle.shunt_prices.specs.defs.Bounds.{uncovered_alphas, uncovered_betas, case_sum, unparked_in, IsBoundOf, IsDualsBound}
 use Rattle.shunt_prices.proofs.Signed.{sum_z_below-zero, bound_rises}
+use Rattle.shunt_prices.proofs.Counts.{no_surcharge}
 
 -- what the laws of the crates below say
 pub record CostLaws : Type 0 where
@@ -55,10 +55,6 @@ zeros_are night = record {
   betas_in = none_in (position_total night);
   prices = record { few = omega arith; each = λ k d lt. absurd (omega (arith, lt)) };
 }
-
-no_surcharge : (park : Option Park) → surcharge (pos 0) park ≡ pos 0
-no_surcharge None = refl
-no_surcharge (Some k) = refl
 
 zeros_hold : (night : Night) (path : List Block) → DualsHold night path (zeros night)
 zeros_hold night path = all_one (HoldsInCase night (masks_of night path)) (zero_case night) (record {

@@ -1,20 +1,18 @@
 -- The nodes of a tree have different paths, which are partial plans; so they are at most as many as there are partial plans.
-use Rattle.std.specs.Prelude.{◌↔◌, ◌≢◌, All, map, if◌then◌else◌, sum_by, Option, Some}
+use Rattle.std.specs.Prelude.{◌↔◌, ◌≢◌, All, map, if◌then◌else◌, Option, Some}
 use Rattle.std.specs.List.{flat_map}
 use Rattle.std.proofs.Common.{◌≡◌, ⊎_elim, inl, inr, ℕ, zero, suc, ◌+◌, ◌<◌, ◌≤◌, Bool, true, false, List, [], ◌∷◌, ◌++◌, length, refl, sym, ap, subst, ◌∙◌, arith}
 use Rattle.std.proofs.lemmas.Bool.{cases_lt}
 use Rattle.std.proofs.lemmas.List.{length-append, length-map}
 use Rattle.std.proofs.lemmas.List.Concat.{length-flat_map}
-use Rattle.std.proofs.lemmas.List.Sums.{sum_by-cons}
 use Rattle.shunt_lists.specs.defs.Members.{In}
-use Rattle.shunt_lists.proofs.Members.{in_left, in_right, in_cases, in_flat, of_flat}
+use Rattle.shunt_lists.proofs.Members.{in_left, in_right, in_cases, in_flat, of_flat, split_at_member as split}
 use Rattle.shunt_instance.specs.defs.Instance.{Night, IsInstance, unit_total}
 use Rattle.shunt_blocks.specs.declared.records.Block.{Block}
 use Rattle.shunt_blocks.specs.defs.Shapes.{IsWithinTrains}
 use Rattle.shunt_blocks.specs.defs.Lists.{ShareNothing, RunsThrough, placed}
 use Rattle.shunt_blocks.specs.defs.Pins.{without_id}
 use Rattle.shunt_choices.specs.defs.Paths.{IsPartialPlan}
-use Rattle.shunt_choices.proofs.Given.{all_within}
 use Rattle.shunt_choices.specs.defs.Choices.{Choice as PathChoice, IsChoiceAt, chosen, choices_at, longer_by, runs_placed, plans_from, partial_plans}
 use Rattle.shunt_proof.specs.declared.records.Choice.{Choice}
 use Rattle.shunt_proof.specs.declared.records.Node.{Node}
@@ -23,13 +21,10 @@ use Rattle.shunt_proof.specs.defs.Trees.{depth_at, parent, IsChildOf, choice_fro
 use Rattle.shunt_proof.specs.defs.Proves.{IsPlaced}
 use Rattle.shunt_proof.proofs.Depths.{parent_found, its_child, child_path, root_path}
 use Rattle.shunt_proof.proofs.Ancestors.{root_only, not_root, path_size}
+use Rattle.shunt_lists.proofs.Sums.{sum_by-same as same_sum}
+use Rattle.shunt_blocks.proofs.Shapes.{all_within}
 
 -- ---- different members of a list
-
-split : {X : Type 0} (ys : List X) (x : X) → In x ys → (a : List X) × (b : List X) × (ys ≡ a ++ x ∷ b)
-split [] x i = absurd i
-split {X} (y ∷ ys) x (inl e) = ([], ys, ap (λ (z : X). z ∷ ys) (sym e))
-split {X} (y ∷ ys) x (inr i) = let k = split ys x i in (y ∷ k.0, k.1, ap (λ (zs : List X). y ∷ zs) k.2)
 
 -- different members are at most as many as the list has
 few : {X : Type 0} (n : ℕ) (f : ℕ → X) (ys : List X) → ((k : ℕ) → k < n → In (f k) ys) → ((j k : ℕ) → j < k → k < n → f j ≢ f k) → n ≤ length ys
@@ -48,10 +43,6 @@ few {X} (suc n) f ys within apart =
 abbrev plans : ℕ → Night → List Block → List (List Block)
 plans zero night blocks = blocks ∷ []
 plans (suc more) night blocks = blocks ∷ flat_map (λ c. if runs_placed night (longer_by blocks c) then plans more night (longer_by blocks c) else []) (choices_at night blocks)
-
-same_sum : {X : Type 0} (f g : X → ℕ) (xs : List X) → ((x : X) → f x ≡ g x) → sum_by f xs ≡ sum_by g xs
-same_sum f g [] h = refl
-same_sum f g (x ∷ xs) h = omega (arith, sum_by-cons f x xs, sum_by-cons g x xs, h x, same_sum f g xs h)
 
 some_length : (b : Bool) (ps : List (List Block)) (n : ℕ) → length ps ≡ n → length (if b then ps else []) ≡ (if b then n else 0)
 some_length true ps n e = e

@@ -7,7 +7,7 @@ use Rattle.std.proofs.lemmas.Bool.{ltb-true, leb-true, not-true, eqb-true, eq-eq
 use Rattle.std.proofs.lemmas.Bool.Decides.{nat_tests}
 use Rattle.std.proofs.lemmas.List.Elements.{All-nil, All-push}
 use Rattle.std.proofs.lemmas.List.Sums.{sum_by-append, sum_by-cons}
-use Rattle.shunt_lists.proofs.Lists.{no_pairs}
+use Rattle.shunt_lists.proofs.Lists.{no_pairs, all_one}
 use Rattle.shunt_base.specs.declared.ids.ArrId.{ArrId}
 use Rattle.shunt_base.specs.declared.ids.TrackId.{TrackId}
 use Rattle.shunt_base.specs.declared.duals.Price.{Price}
@@ -19,8 +19,8 @@ use Rattle.shunt_rows.specs.defs.Records.{at}
 use Rattle.shunt_rows.specs.defs.Checks.{AllHold, Judged, answer}
 use Rattle.shunt_rows.specs.defs.Fields.{is_word, no_word}
 use Rattle.shunt_rows.specs.defs.Formats.{in_state, reading}
-use Rattle.shunt_rows.proofs.Holding.{says, hold_first}
-use Rattle.shunt_rows.proofs.Keeping.{all_kept}
+use Rattle.shunt_rows.proofs.Answered.{says, hold_first}
+use Rattle.shunt_rows.proofs.KeptStates.{all_kept}
 use Rattle.shunt_rows.proofs.Named.{distinct_push}
 use Rattle.shunt_rows.proofs.Spelled.{there, within}
 use Rattle.shunt_instance.specs.defs.Instance.{Night, unit_total, position_total}
@@ -38,13 +38,13 @@ use Rattle.shunt_proof.specs.defs.Numbers.{newest, CanBeRead}
 use Rattle.shunt_proof.specs.declared.heads.HeadDuals.{HeadDuals}
 use Rattle.shunt_proof.specs.declared.heads.HeadDuals.TheVariants as words
 use Rattle.shunt_proof.specs.declared.heads.Head.{Head}
-use Rattle.shunt_proof.specs.declared.draft.Place.{Place}
-use Rattle.shunt_proof.specs.declared.draft.Place.TheVariants as places
+use Rattle.shunt_proof.specs.declared.draft.LastRead.{LastRead}
+use Rattle.shunt_proof.specs.declared.draft.LastRead.TheVariants as places
 use Rattle.shunt_proof.specs.defs.Nodes.{FitsChoice, FitsDepth, AreStatable, FitDuals, FitsNode, Follows, StandsAfter, CanFollow, AreNodes}
 use Rattle.shunt_proof.specs.defs.Certificates.{own_cases, case_total, IsCertificate}
 use Rattle.shunt_proof.specs.defs.CertificateFormat as format
-use Rattle.shunt_proof.specs.defs.CertificateFormat.{Draft, empty, is_value, value_in, values_in, same_kind, is_price, has_price, settled, ends_node, cases_of, node_of, with_head, with_node, kind_of, duals_of, deepest, certificate_format}
-use Rattle.shunt_proof.proofs.Growing.{one_more}
+use Rattle.shunt_proof.specs.defs.CertificateFormat.{CertificateDraft, empty, is_value, value_in, values_in, same_kind, is_price, has_price, settled, ends_node, cases_of, node_of, with_head, with_node, kind_of, duals_of, deepest, certificate_format}
+use Rattle.shunt_proof.proofs.LongerLists.{one_more}
 use Rattle.shunt_proof.proofs.Numbers.{number_low}
 
 -- ---- nodes
@@ -79,7 +79,7 @@ FitsWord kind depth words.New = kind ≢ shows.Whole
 -- ---- what is true of the states
 
 -- how many nodes and cases aren't whole yet
-abbrev pending : Place → ℕ
+abbrev pending : LastRead → ℕ
 pending places.Start = 0
 pending places.Node = 0
 pending places.New = 1
@@ -92,7 +92,7 @@ abbrev both : Option Case → ℕ
 both None = 1
 both (Some b) = 2
 
-abbrev pending_cases : Place → Option Case → ℕ
+abbrev pending_cases : LastRead → Option Case → ℕ
 pending_cases places.Start b = 0
 pending_cases places.Node b = 0
 pending_cases places.New b = 0
@@ -115,21 +115,21 @@ record IsLast (nodes : List Node) (h : Head) : Type 0 where
   kind : h.kind ≡ last.kind
 
 -- a node is open behind these nodes
-record IsOpen (night : Night) (d : Draft) : Type 0 where
+record IsOpen (night : Night) (d : CertificateDraft) : Type 0 where
   head : IsHead night d.nodes d.head
   kind : d.head.kind ≢ shows.Whole
 
 -- a case has its limits
-record IsLimited (night : Night) (d : Draft) : Type 0 where
+record IsLimited (night : Night) (d : CertificateDraft) : Type 0 where
   to : d.now.to ≤ 160
   multiplier : IsValue d.now.multiplier
   before : FitsBefore night d.now.to d.before
 
-record IsValued (night : Night) (d : Draft) : Type 0 where
+record IsValued (night : Night) (d : CertificateDraft) : Type 0 where
   many : length d.now.duals.alpha ≡ unit_total night
   each : All IsValue d.now.duals.alpha
 
-abbrev Here : Night → Draft → Place → Type 0
+abbrev Here : Night → CertificateDraft → LastRead → Type 0
 Here night d places.Start = (d.nodes ≡ []) × (d.before ≡ None)
 Here night d places.Node = IsLast d.nodes d.head × (d.before ≡ None)
 Here night d places.New = IsOpen night d × (d.before ≡ None)
@@ -138,7 +138,7 @@ Here night d places.Alpha = IsOpen night d × (IsLimited night d × (IsValued ni
 Here night d places.Beta = IsOpen night d × (FitsBefore night d.now.to d.before × (IsCase night d.now × AreApart d.now.duals.prices))
 Here night d places.End = (1 ≤ length d.nodes) × ((d.cost ≤ 1000000000000) × (d.bound ≤ 1000000000000))
 
-record InPlace (night : Night) (d : Draft) (p : Place) : Type 0 where
+record InPlace (night : Night) (d : CertificateDraft) (p : LastRead) : Type 0 where
   version : CanBeRead d.version
   nodes : AreNodes night d.nodes
   many : length d.nodes + pending p ≤ d.begun
@@ -147,7 +147,7 @@ record InPlace (night : Night) (d : Draft) (p : Place) : Type 0 where
   room : d.cases ≤ 8000
   here : Here night d p
 
-abbrev IsDraft : Night → Draft → Type 0
+abbrev IsDraft : Night → CertificateDraft → Type 0
 IsDraft night d = InPlace night d d.place
 
 -- ---- a node is added
@@ -157,7 +157,7 @@ total_more nodes x = sum_by-append (λ (y : Node). own_cases y.duals) nodes (x �
     ∙ ap (λ k. case_total nodes + k) (sum_by-cons (λ (y : Node). own_cases y.duals) x [] ∙ (let e : own_cases x.duals + 0 ≡ own_cases x.duals = omega arith in e))
 
 -- nodes that are whole, before one more
-record IsSettled (night : Night) (s : Draft) : Type 0 where
+record IsSettled (night : Night) (s : CertificateDraft) : Type 0 where
   version : CanBeRead s.version
   nodes : AreNodes night s.nodes
   many : length s.nodes ≤ s.begun
@@ -165,7 +165,7 @@ record IsSettled (night : Night) (s : Draft) : Type 0 where
   room : s.cases ≤ 8000
   before : s.before ≡ None
 
-head_added : (night : Night) (s : Draft) (h : Head) (w : HeadDuals) → IsSettled night s → s.begun < 5000 → IsHead night s.nodes h → FitsWord h.kind h.depth w
+head_added : (night : Night) (s : CertificateDraft) (h : Head) (w : HeadDuals) → IsSettled night s → s.begun < 5000 → IsHead night s.nodes h → FitsWord h.kind h.depth w
     → IsDraft night (with_head s h w)
 head_added night s h words.New is room head fits = record {
   version = is.version;
@@ -196,9 +196,6 @@ head_added night s h words.Bare is room head fits = record {
 }
 
 -- ---- the last node is made whole
-
-all_one : {X : Type 0} (P : X → Type 0) (x : X) → P x → All P (x ∷ [])
-all_one P x p = All-push P [] x (All-nil P) p
 
 all_two : {X : Type 0} (P : X → Type 0) (x y : X) → P x → P y → All P (x ∷ y ∷ [])
 all_two P x y p q = All-push P (x ∷ []) y (all_one P x p) q
@@ -238,19 +235,24 @@ both_cases None c = refl
 both_cases (Some b) c = refl
 
 -- the node of a case that was read whole
-abbrev last_node : Draft → Node
+abbrev last_node : CertificateDraft → Node
 last_node d = node_of d.head (duals.New (cases_of d.before d.now))
 
-settled_as : (d : Draft) (p : Place) → d.place ≡ p → settled d ≡ (if ends_node p then record d { nodes = d.nodes ++ last_node d ∷ []; before = None; now = format.no_case } else d)
+settled_as : (d : CertificateDraft) (p : LastRead) → d.place ≡ p → settled d ≡ (if ends_node p then record d {
+  nodes = d.nodes
+      ++ last_node d ∷ [];
+  before = None;
+  now = format.no_case;
+} else d)
 unfolding settled
 settled_as d p e = ap (λ q. if ends_node q then record d { nodes = d.nodes ++ last_node d ∷ []; before = None; now = format.no_case } else d) e
 
 -- nodes that are whole, of which the last has this record
-record IsBehind (night : Night) (s : Draft) (h : Head) : Type 0 where
+record IsBehind (night : Night) (s : CertificateDraft) (h : Head) : Type 0 where
   settled : IsSettled night s
   last : IsLast s.nodes h
 
-behind_node : (night : Night) (d : Draft) → d.place ≡ places.Node → InPlace night d places.Node → IsBehind night (settled d) d.head
+behind_node : (night : Night) (d : CertificateDraft) → d.place ≡ places.Node → InPlace night d places.Node → IsBehind night (settled d) d.head
 behind_node night d e is = subst (λ s. IsBehind night s d.head) (sym (settled_as d places.Node e)) record {
   settled = record {
     version = is.version;
@@ -264,7 +266,7 @@ behind_node night d e is = subst (λ s. IsBehind night s d.head) (sym (settled_a
   last = is.here.0;
 }
 
-behind_beta : (night : Night) (d : Draft) → d.place ≡ places.Beta → d.now.to ≡ 160 → InPlace night d places.Beta → IsBehind night (settled d) d.head
+behind_beta : (night : Night) (d : CertificateDraft) → d.place ≡ places.Beta → d.now.to ≡ 160 → InPlace night d places.Beta → IsBehind night (settled d) d.head
 behind_beta night d e last is =
     let open_node = is.here.0 in
     let whole = statable night d.before d.now is.here.1.0 is.here.1.1.0 is.here.1.1.1 last in
@@ -334,7 +336,7 @@ word_fits shows.Leaf depth text w e = ⊎_elim
 
 -- ---- records of nodes
 
-root_holds : (n : ℕ) (night : Night) (d t : Draft) (row : List (List ℕ)) → d.place ≡ places.Start → InPlace night d places.Start → answer n (format.root_of d row) ≡ Ok t
+root_holds : (n : ℕ) (night : Night) (d t : CertificateDraft) (row : List (List ℕ)) → d.place ≡ places.Start → InPlace night d places.Start → answer n (format.root_of d row) ≡ Ok t
     → IsDraft night t
 unfolding format.root_of format.root_in with_node
 root_holds n night d t row e is a =
@@ -360,12 +362,12 @@ root_holds n night d t row e is a =
       before =
           is.here.1;
     } in
-    let stands : CanFollow (settled d).nodes (node_of made duals.Bare) = subst (λ (x : Draft). CanFollow x.nodes (node_of made duals.Bare)) (sym same)
+    let stands : CanFollow (settled d).nodes (node_of made duals.Bare) = subst (λ (x : CertificateDraft). CanFollow x.nodes (node_of made duals.Bare)) (sym same)
     (subst (λ l. CanFollow l (node_of made duals.Bare)) (sym is.here.0) root) in
-    let small : (settled d).begun < 5000 = subst (λ (x : Draft). x.begun < 5000) (sym same) (ltb-true d.begun 5000 room) in
+    let small : (settled d).begun < 5000 = subst (λ (x : CertificateDraft). x.begun < 5000) (sym same) (ltb-true d.begun 5000 room) in
     subst (IsDraft night) s.1 (head_added night (settled d) made own settled_now small (record { depth = omega (arith, root); choice = root; place = stands }) fits)
 
-child_holds : (n : ℕ) (night : Night) (d t : Draft) (row : List (List ℕ)) → IsBehind night (settled d) d.head → (settled d).begun ≡ d.begun
+child_holds : (n : ℕ) (night : Night) (d t : CertificateDraft) (row : List (List ℕ)) → IsBehind night (settled d) d.head → (settled d).begun ≡ d.begun
     → answer n (format.child_of night d row) ≡ Ok t → IsDraft night t
 unfolding format.child_of format.child_in format.later_in with_node
 child_holds n night d t row is same a =
@@ -414,7 +416,8 @@ value_is z e =
     let high = p.1 in
     record { low = grind (arith, ints); high = grind (arith, ints) }
 
-first_case_holds : (n : ℕ) (night : Night) (d t : Draft) (row : List (List ℕ)) → InPlace night d places.New → answer n (format.first_case_of d row) ≡ Ok t → IsDraft night t
+first_case_holds : (n : ℕ) (night : Night) (d t : CertificateDraft) (row : List (List ℕ)) → InPlace night d places.New → answer n (format.first_case_of d row) ≡ Ok t
+    → IsDraft night t
 unfolding format.first_case_of format.first_limits_in
 first_case_holds n night d t row is a =
     let s = says n (format.first_case_of d row) t a in
@@ -436,7 +439,7 @@ first_case_holds n night d t row is a =
       );
     }
 
-second_case_holds : (n : ℕ) (night : Night) (d t : Draft) (row : List (List ℕ)) → InPlace night d places.Beta → d.before ≡ None → d.now.to ≢ 160
+second_case_holds : (n : ℕ) (night : Night) (d t : CertificateDraft) (row : List (List ℕ)) → InPlace night d places.Beta → d.before ≡ None → d.now.to ≢ 160
     → answer n (format.second_case_of d row) ≡ Ok t → IsDraft night t
 unfolding format.second_case_of format.second_limits_in
 second_case_holds n night d t row is none early a =
@@ -484,13 +487,13 @@ values_hold row k (suc more) h =
 abbrev values_read : List (List ℕ) → ℕ → List ℤ
 values_read row more = (values_in row 2 more).value
 
-opened_as : (night : Night) (d t : Draft) → d.nodes ≡ t.nodes → d.head ≡ t.head → IsOpen night d → IsOpen night t
+opened_as : (night : Night) (d t : CertificateDraft) → d.nodes ≡ t.nodes → d.head ≡ t.head → IsOpen night d → IsOpen night t
 opened_as night d t nodes head is = record {
   head = subst (λ l. IsHead night l t.head) nodes (subst (IsHead night d.nodes) head is.head);
   kind = subst (λ (h : Head). h.kind ≢ shows.Whole) head is.kind;
 }
 
-alpha_holds : (n : ℕ) (night : Night) (d t : Draft) (row : List (List ℕ)) → InPlace night d places.Case → answer n (format.alpha_of night d row) ≡ Ok t → IsDraft night t
+alpha_holds : (n : ℕ) (night : Night) (d t : CertificateDraft) (row : List (List ℕ)) → InPlace night d places.Case → answer n (format.alpha_of night d row) ≡ Ok t → IsDraft night t
 unfolding format.alpha_of format.alpha_in
 alpha_holds n night d t row is a =
     let s = says n (format.alpha_of night d row) t a in
@@ -510,7 +513,8 @@ alpha_holds n night d t row is a =
       );
     }
 
-lone_alpha_holds : (n : ℕ) (night : Night) (d t : Draft) (row : List (List ℕ)) → InPlace night d places.New → answer n (format.lone_alpha_of night d row) ≡ Ok t → IsDraft night t
+lone_alpha_holds : (n : ℕ) (night : Night) (d t : CertificateDraft) (row : List (List ℕ)) → InPlace night d places.New → answer n (format.lone_alpha_of night d row) ≡ Ok t
+    → IsDraft night t
 unfolding format.lone_alpha_of format.lone_alpha_in
 lone_alpha_holds n night d t row is a =
     let s = says n (format.lone_alpha_of night d row) t a in
@@ -534,7 +538,7 @@ lone_alpha_holds n night d t row is a =
       );
     }
 
-beta_holds : (n : ℕ) (night : Night) (d t : Draft) (row : List (List ℕ)) → InPlace night d places.Alpha → answer n (format.beta_of night d row) ≡ Ok t → IsDraft night t
+beta_holds : (n : ℕ) (night : Night) (d t : CertificateDraft) (row : List (List ℕ)) → InPlace night d places.Alpha → answer n (format.beta_of night d row) ≡ Ok t → IsDraft night t
 unfolding format.beta_of format.beta_in
 beta_holds n night d t row is a =
     let s = says n (format.beta_of night d row) t a in
@@ -589,7 +593,7 @@ price_same p y e =
     (eq-eqb p.train.0 y.train.0 (ap (λ (x : ArrId). x.0) train))
 
 -- one more price of a case
-price_added : (night : Night) (d : Draft) (price : Price) → InPlace night d places.Beta → length d.now.duals.prices < 64
+price_added : (night : Night) (d : CertificateDraft) (price : Price) → InPlace night d places.Beta → length d.now.duals.prices < 64
     → has_price d.now.duals.prices price.kind price.track price.train ≡ false → IsPrice night price
     → InPlace night (format.with_price d price) places.Beta
 unfolding has_price
@@ -625,10 +629,11 @@ price_added night d price is room new in_range =
       );
     }
 
-placed_as : (night : Night) (d : Draft) → d.place ≡ places.Beta → InPlace night d places.Beta → IsDraft night d
+placed_as : (night : Night) (d : CertificateDraft) → d.place ≡ places.Beta → InPlace night d places.Beta → IsDraft night d
 placed_as night d e is = subst (InPlace night d) (sym e) is
 
-price_holds : (n : ℕ) (night : Night) (d t : Draft) (row : List (List ℕ)) → d.place ≡ places.Beta → InPlace night d places.Beta → answer n (format.price_of night d row) ≡ Ok t
+price_holds : (n : ℕ) (night : Night) (d t : CertificateDraft) (row : List (List ℕ)) → d.place ≡ places.Beta → InPlace night d places.Beta
+    → answer n (format.price_of night d row) ≡ Ok t
     → IsDraft night t
 unfolding format.price_of format.price_in
 price_holds n night d t row e is a =
@@ -643,7 +648,8 @@ price_holds n night d t row e is a =
       value = (within 0 1000000000 price.value h.1.1.1.1.1.1.0).1;
     }))
 
-part_holds : (n : ℕ) (night : Night) (d t : Draft) (row : List (List ℕ)) → d.place ≡ places.Beta → InPlace night d places.Beta → answer n (format.part_of night d row) ≡ Ok t
+part_holds : (n : ℕ) (night : Night) (d t : CertificateDraft) (row : List (List ℕ)) → d.place ≡ places.Beta → InPlace night d places.Beta
+    → answer n (format.part_of night d row) ≡ Ok t
     → IsDraft night t
 unfolding format.part_of format.part_in
 part_holds n night d t row e is a =
@@ -664,7 +670,7 @@ part_holds n night d t row e is a =
 last_some : (nodes : List Node) (h : Head) → IsLast nodes h → 1 ≤ length nodes
 last_some nodes h last = omega (arith, ap length last.is, length-append last.front (last.last ∷ []))
 
-end_holds : (n : ℕ) (night : Night) (d t : Draft) (row : List (List ℕ)) → IsBehind night (settled d) d.head → (settled d).begun ≡ d.begun → d.begun ≤ 5000
+end_holds : (n : ℕ) (night : Night) (d t : CertificateDraft) (row : List (List ℕ)) → IsBehind night (settled d) d.head → (settled d).begun ≡ d.begun → d.begun ≤ 5000
     → answer n (format.end_of d row) ≡ Ok t → IsDraft night t
 unfolding format.end_of format.end_in format.with_end
 end_holds n night d t row is same few a =
@@ -693,22 +699,22 @@ in_or n false m k z P f g e = g refl e
 no_word_holds : {A P : Type 0} (n : ℕ) (s z : A) → answer n (no_word s) ≡ Ok z → P
 no_word_holds n s z e = absurd cc
 
-kept_by : {X : Type 0} (b : Bool) (d e : Draft) (f : Draft → X) → f e ≡ f d → f (if b then e else d) ≡ f d
+pub kept_by : {X : Type 0} (b : Bool) (d e : CertificateDraft) (f : CertificateDraft → X) → f e ≡ f d → f (if b then e else d) ≡ f d
 kept_by true d e f same = same
 kept_by false d e f same = refl
 
-settled_begun : (d : Draft) → (settled d).begun ≡ d.begun
+pub settled_begun : (d : CertificateDraft) → (settled d).begun ≡ d.begun
 unfolding settled
 settled_begun d = kept_by (ends_node d.place) d _ (λ x. x.begun) refl
 
-after_node_holds : (n : ℕ) (night : Night) (d t : Draft) (row : List (List ℕ)) → IsBehind night (settled d) d.head → d.begun ≤ 5000
+after_node_holds : (n : ℕ) (night : Night) (d t : CertificateDraft) (row : List (List ℕ)) → IsBehind night (settled d) d.head → d.begun ≤ 5000
     → answer n (format.after_node night d row) ≡ Ok t → IsDraft night t
 unfolding format.after_node
 after_node_holds n night d t row is few =
     in_or n (is_word row (codes "node")) _ _ t (IsDraft night t) (λ word. child_holds n night d t row is (settled_begun d))
     (λ other. in_or n (is_word row (codes "end")) _ _ t (IsDraft night t) (λ word. end_holds n night d t row is (settled_begun d) few) (λ none. no_word_holds n d t))
 
-after_beta_holds : (n : ℕ) (night : Night) (d t : Draft) (row : List (List ℕ)) → d.place ≡ places.Beta → InPlace night d places.Beta
+after_beta_holds : (n : ℕ) (night : Night) (d t : CertificateDraft) (row : List (List ℕ)) → d.place ≡ places.Beta → InPlace night d places.Beta
     → answer n (format.after_beta night d row) ≡ Ok t → IsDraft night t
 unfolding format.after_beta format.after_case
 after_beta_holds n night d t row e is =
@@ -721,13 +727,15 @@ after_beta_holds n night d t row e is =
     (no_before night d.now.to d.before is.here.1.0 ne) ne)
     (λ none. no_word_holds n d t))))
 
-after_new_holds : (n : ℕ) (night : Night) (d t : Draft) (row : List (List ℕ)) → InPlace night d places.New → answer n (format.after_new night d row) ≡ Ok t → IsDraft night t
+after_new_holds : (n : ℕ) (night : Night) (d t : CertificateDraft) (row : List (List ℕ)) → InPlace night d places.New → answer n (format.after_new night d row) ≡ Ok t
+    → IsDraft night t
 unfolding format.after_new
 after_new_holds n night d t row is =
     in_or n (is_word row (codes "case")) _ _ t (IsDraft night t) (λ word. first_case_holds n night d t row is)
     (λ other. in_or n (is_word row (codes "alpha")) _ _ t (IsDraft night t) (λ word. lone_alpha_holds n night d t row is) (λ none. no_word_holds n d t))
 
-place_holds : (n : ℕ) (night : Night) (d t : Draft) (row : List (List ℕ)) (p : Place) → d.place ≡ p → InPlace night d p → answer n (format.at_place night d p row) ≡ Ok t
+place_holds : (n : ℕ) (night : Night) (d t : CertificateDraft) (row : List (List ℕ)) (p : LastRead) → d.place ≡ p → InPlace night d p
+    → answer n (format.at_place night d p row) ≡ Ok t
     → IsDraft night t
 place_holds n night d t row places.Start e is = in_or n (is_word row (codes "node")) _ _ t (IsDraft night t) (λ word. root_holds n night d t row e is) (λ none. no_word_holds n d t)
 place_holds n night d t row places.Node e is = after_node_holds n night d t row (behind_node night d e is) is.few
@@ -737,11 +745,12 @@ place_holds n night d t row places.Alpha e is = in_or n (is_word row (codes "bet
 place_holds n night d t row places.Beta e is = after_beta_holds n night d t row e is
 place_holds n night d t row places.End e is = no_word_holds n d t
 
-later_holds : (n : ℕ) (night : Night) (d t : Draft) (row : List (List ℕ)) → IsDraft night d → answer n (in_state (certificate_format night) d row) ≡ Ok t → IsDraft night t
+later_holds : (n : ℕ) (night : Night) (d t : CertificateDraft) (row : List (List ℕ)) → IsDraft night d → answer n (in_state (certificate_format night) d row) ≡ Ok t
+    → IsDraft night t
 unfolding format.later_of
 later_holds n night d t row is = in_or n (format.ended d.place) _ _ t (IsDraft night t) (λ ends e. absurd cc) (λ goes. place_holds n night d t row d.place refl is)
 
-first_holds : (night : Night) (t : Draft) (row : List (List ℕ)) → answer 1 (format.first_of row) ≡ Ok t → IsDraft night t
+first_holds : (night : Night) (t : CertificateDraft) (row : List (List ℕ)) → answer 1 (format.first_of row) ≡ Ok t → IsDraft night t
 unfolding format.first_of format.version_in
 first_holds night t row a =
     let s = says 1 (format.first_of row) t a in
@@ -760,7 +769,7 @@ first_holds night t row a =
     }
 
 -- what is stated where no record is needed any more
-ended_in_range : (night : Night) (d : Draft) (p : Place) → format.ended p ≡ true → InPlace night d p → IsCertificate night (format.certificate_of d)
+ended_in_range : (night : Night) (d : CertificateDraft) (p : LastRead) → format.ended p ≡ true → InPlace night d p → IsCertificate night (format.certificate_of d)
 ended_in_range night d places.End e is = record {
   some = is.here.0;
   few = (let m = is.many in let f = is.few in omega (arith, m, f));

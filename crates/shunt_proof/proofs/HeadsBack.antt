@@ -1,6 +1,6 @@
 -- The record of a node is read back.
-use Rattle.std.proofs.Common.{◌≡◌, ℕ, ◌<◌, ◌≤◌, Bool, true, not, ◌&&◌, ◌||◌, List, [], ◌∷◌, length, refl, ap, sym, subst, ◌∙◌, arith}
-use Rattle.std.specs.Prelude.{Ok, ◌==◌, Option, Some, None, nat_lt, nat_le, codes, bytes_eq, if◌then◌else◌}
+use Rattle.std.proofs.Common.{◌≡◌, ℕ, ◌<◌, ◌≤◌, Bool, true, not, ◌&&◌, List, [], ◌∷◌, refl, ap, sym, subst, ◌∙◌, arith}
+use Rattle.std.specs.Prelude.{Ok, Option, Some, None, nat_lt, nat_le, codes, bytes_eq, if◌then◌else◌}
 use Rattle.std.specs.Fmt.{decimal}
 use Rattle.std.proofs.lemmas.Bool.{lt-ltb, le-leb, ne_eqb}
 use Rattle.shunt_base.specs.declared.ids.DepId.{DepId}
@@ -8,15 +8,13 @@ use Rattle.shunt_base.specs.defs.Spelling.{decimal_of}
 use Rattle.shunt_rows.specs.declared.fault.RowKind.TheVariants as kinds
 use Rattle.shunt_rows.specs.defs.Checks.{Judged, answer, must, says, found, ◌>>=◌}
 use Rattle.shunt_rows.specs.defs.Fields.{is_within}
-use Rattle.shunt_rows.proofs.Holding.{holding}
+use Rattle.shunt_rows.proofs.Answered.{holding}
 use Rattle.shunt_rows.proofs.Joins.{part_ok}
 use Rattle.shunt_rows.proofs.Spelled.{number_again, in_range}
 use Rattle.shunt_instance.specs.defs.Instance.{Night, IsOrderedNight}
-use Rattle.shunt_instance.specs.declared.records.Station.{Station}
-use Rattle.shunt_blocks.specs.declared.records.Park.{Park}
 use Rattle.shunt_plan.specs.defs.BlockRecords.{dep_number, option_in}
 use Rattle.shunt_plan.specs.defs.PlanRows.{dep_name, option_fields}
-use Rattle.shunt_plan.proofs.RoundTrip.{dep_there, option_read}
+use Rattle.shunt_plan.proofs.RoundTrip.{dep_there, option_read, fields_fit}
 use Rattle.shunt_proof.specs.declared.records.Choice.{Choice}
 use Rattle.shunt_proof.specs.declared.records.NodeKind.{NodeKind}
 use Rattle.shunt_proof.specs.declared.records.NodeKind.TheVariants as shows
@@ -131,12 +129,6 @@ later_own n begun last depth kind own w c night room some few deep is fits =
         ),
       ),
     ))
-
--- a later record has 8 or 11 fields
-fields_fit : (s : Station) (a b c d e f g : List ℕ) (park : Option Park) → (length (a ∷ b ∷ c ∷ d ∷ e ∷ f ∷ g ∷ option_fields s park) == 8 || length
-    (a ∷ b ∷ c ∷ d ∷ e ∷ f ∷ g ∷ option_fields s park) == 11) ≡ true
-fields_fit s a b c d e f g None = refl
-fields_fit s a b c d e f g (Some k) = refl
 
 -- the record of a node with a choice
 abbrev pub child_row : Night → ℕ → NodeKind → NodeDuals → Choice → List (List ℕ)

@@ -3,7 +3,7 @@ pub mod Fronts
 pub mod Ancestors
 pub mod Children
 pub mod Bests
-pub mod Growing
+pub mod LongerLists
 pub mod Decided
 pub mod Locally
 pub mod Costs
@@ -25,7 +25,6 @@ pub mod Tables
 pub mod Writings
 pub mod Formed
 pub mod RowNumbers
-pub mod Copied
 pub mod Lengths
 pub mod Told
 pub mod Stages

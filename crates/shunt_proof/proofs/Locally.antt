@@ -19,10 +19,11 @@ use Rattle.shunt_proof.proofs.Depths.{parent_found, deep, its_child, child_later
 
 -- ---- a lesser L
 
-lower : (version : Version) (night : Night) (path : List Block) (cases : List Case) (L M : ℤ) → M ≤ℤ L → ReachesIn version night path cases L → ReachesIn version night path cases M
+pub lower : (version : Version) (night : Night) (path : List Block) (cases : List Case) (L M : ℤ) → M ≤ℤ L → ReachesIn version night path cases L
+    → ReachesIn version night path cases M
 lower version night path cases L M le r = (r.0, r.1, omega (arith, ints, le, r.2))
 
-step_lower : (version : Version) (night : Night) (path longer : List Block) (cases : List Case) (L M : ℤ) → M ≤ℤ L → StepReachesIn version night path longer cases L
+pub step_lower : (version : Version) (night : Night) (path longer : List Block) (cases : List Case) (L M : ℤ) → M ≤ℤ L → StepReachesIn version night path longer cases L
     → StepReachesIn version night path longer cases M
 step_lower version night path longer cases L M le r = (r.0, r.1, omega (arith, ints, le, r.2))
 

@@ -30,19 +30,20 @@ use Rattle.shunt_proof.specs.declared.records.NodeDuals.{NodeDuals}
 use Rattle.shunt_proof.specs.declared.records.NodeDuals.TheVariants as duals
 use Rattle.shunt_proof.specs.declared.records.Node.{Node}
 use Rattle.shunt_proof.specs.declared.records.Version.{Version}
-use Rattle.shunt_proof.specs.declared.draft.Place.{Place}
-use Rattle.shunt_proof.specs.declared.draft.Place.TheVariants as places
+use Rattle.shunt_proof.specs.declared.draft.LastRead.{LastRead}
+use Rattle.shunt_proof.specs.declared.draft.LastRead.TheVariants as places
 use Rattle.shunt_proof.specs.defs.Nodes.{node_at, AreNodes, FitsChoice, FitsDepth, AreStatable, FitDuals, FitsNode, Follows}
 use Rattle.shunt_proof.specs.defs.Certificates.{own_cases, case_total}
-use Rattle.shunt_proof.specs.defs.CertificateFormat.{Draft, empty, deepest, ended, settled, ends_node, cases_of, node_of, with_node, with_case, with_second, with_lone, with_alpha, with_beta, with_price, case_with, at_place, later_of, after_node, after_case, after_beta, after_new, root_in, root_of, child_in, child_of, first_limits_in, second_limits_in, first_case_of, second_case_of, alpha_in, alpha_of, lone_alpha_in, lone_alpha_of, beta_in, beta_of, same_kind, is_price, has_price, price_in, part_in, price_of, part_of, certificate_format}
+use Rattle.shunt_proof.specs.defs.CertificateFormat.{CertificateDraft, empty, deepest, ended, settled, ends_node, cases_of, node_of, with_node, with_case, with_second, with_lone, with_alpha, with_beta, with_price, case_with, at_place, later_of, after_node, after_case, after_beta, after_new, root_in, root_of, child_in, child_of, first_limits_in, second_limits_in, first_case_of, second_case_of, alpha_in, alpha_of, lone_alpha_in, lone_alpha_of, beta_in, beta_of, same_kind, is_price, has_price, price_in, part_in, price_of, part_of, certificate_format}
 use Rattle.shunt_proof.specs.defs.CertificateRows.{node_row, case_row, alpha_row, beta_row, priced_row, price_row, duals_rows, case_rows, is_plain, cases_rows, node_rows}
 use Rattle.shunt_proof.proofs.Parts.{then_ok}
 use Rattle.shunt_proof.proofs.HeadsBack.{head_of, root_back, child_back}
 use Rattle.shunt_proof.proofs.CasesBack.{limits, alpha_back, lone_alpha_back, beta_back, first_limits_back, second_limits_back, price_back, part_back}
+use Rattle.shunt_proof.proofs.Formed.{kept_by, settled_begun}
 
 -- ---- records at their place
 
-at_its_place : (n : ℕ) (night : Night) (d : Draft) (p : Place) (row : List (List ℕ)) (r : Result Draft RowFault) → d.place ≡ p → ended p ≡ false
+at_its_place : (n : ℕ) (night : Night) (d : CertificateDraft) (p : LastRead) (row : List (List ℕ)) (r : Result CertificateDraft RowFault) → d.place ≡ p → ended p ≡ false
     → answer n (at_place night d p row) ≡ r → answer n (in_state (certificate_format night) d row) ≡ r
 unfolding later_of
 at_its_place n night d p row r is early e =
@@ -76,10 +77,10 @@ unfolding has_price
 price_new xs zs y all = not_before place_of_price (is_price y.kind y.track y.train) xs zs y (λ p e. place_same y.kind y.track y.train p e) all
 
 -- a case of which that many prices were read
-abbrev pub priced : Draft → Case → List Price → Draft
+abbrev pub priced : CertificateDraft → Case → List Price → CertificateDraft
 priced d c ps = record d { place = places.Beta; now = record c { duals = record c.duals { prices = ps } } }
 
-one_price : (n : ℕ) (night : Night) → IsOrderedNight night → (d : Draft) (c : Case) (xs : List Price) (t : TrackId) (a : ArrId) (v : ℕ) (k : PriceKind)
+one_price : (n : ℕ) (night : Night) → IsOrderedNight night → (d : CertificateDraft) (c : Case) (xs : List Price) (t : TrackId) (a : ArrId) (v : ℕ) (k : PriceKind)
     → length xs < 64 → has_price xs k t a ≡ false → IsKind k → t.0 < length night.station.tracks → a.0 < length night.arrive → v ≤ 1000000000
     → answer n (in_state (certificate_format night) (priced d c xs) (priced_row (track_name night.station t) (arr_name night a) v k))
     ≡ Ok (priced d c (xs ++ record { kind = k; track = t; train = a; value = v } ∷ []))
@@ -91,7 +92,7 @@ one_price n night h d c xs t a v (counts.Parts r) room new kind track train wort
     then_ok n (part_in night xs (priced_row (track_name night.station t) (arr_name night a) v (counts.Parts r))) (with_price (priced d c xs)) _ _
     (part_back n night h xs t a r v room new track train kind.0 kind.1 worth) refl
 
-prices_read : (night : Night) → IsOrderedNight night → (d : Draft) (c : Case) → ArePrices night c.duals.prices → AreApart c.duals.prices
+prices_read : (night : Night) → IsOrderedNight night → (d : CertificateDraft) (c : Case) → ArePrices night c.duals.prices → AreApart c.duals.prices
     → IsReadByEach (certificate_format night) (price_row night) (priced d c) c.duals.prices
 prices_read night h d c are apart n xs y zs e =
     let is = of_middle (IsPrice night) c.duals.prices xs zs y are.each e in
@@ -104,52 +105,52 @@ prices_read night h d c are apart n xs y zs e =
 -- ---- a case
 
 -- a case of which the values of units were read
-abbrev pub valued : Draft → Case → Draft
+abbrev pub valued : CertificateDraft → Case → CertificateDraft
 valued d c = record d { place = places.Alpha; now = record { to = c.to; multiplier = c.multiplier; duals = record { alpha = c.duals.alpha; beta = []; prices = [] } } }
 
 -- a case of which the limits were read
-abbrev pub cased : Draft → Case → Draft
+abbrev pub cased : CertificateDraft → Case → CertificateDraft
 cased d c = record d { place = places.Case; now = case_with c.to c.multiplier }
 
 -- a case that was read whole
-abbrev pub done : Draft → Case → Draft
+abbrev pub done : CertificateDraft → Case → CertificateDraft
 done d c = record d { place = places.Beta; now = c }
 
-beta_read : (n : ℕ) (night : Night) (d : Draft) (c : Case) → AreDuals night c.duals
+beta_read : (n : ℕ) (night : Night) (d : CertificateDraft) (c : Case) → AreDuals night c.duals
     → answer n (in_state (certificate_format night) (valued d c) (beta_row c.duals)) ≡ Ok (priced d c [])
 unfolding later_of beta_of
 beta_read n night d c are =
     then_ok n (beta_in night (beta_row c.duals)) (with_beta (valued d c)) c.duals.beta (priced d c []) (beta_back n night c.duals.beta are.betas are.betas_in) refl
 
-rest_read : (n : ℕ) (night : Night) → IsOrderedNight night → (d : Draft) (c : Case) → AreDuals night c.duals → AreApart c.duals.prices
+rest_read : (n : ℕ) (night : Night) → IsOrderedNight night → (d : CertificateDraft) (c : Case) → AreDuals night c.duals → AreApart c.duals.prices
     → reads (certificate_format night) (valued d c) n (beta_row c.duals ∷ map (price_row night) c.duals.prices) ≡ Ok (done d c)
 rest_read n night h d c are apart =
     let f = certificate_format night in
     ap (λ r. r >>= (λ t. reads f t (n + 1) (map (price_row night) c.duals.prices))) (beta_read n night d c are)
     ∙ section f (price_row night) (priced d c) c.duals.prices (prices_read night h d c are.prices apart) (n + 1) [] c.duals.prices refl
 
-alpha_read : (n : ℕ) (night : Night) (d : Draft) (c : Case) → AreDuals night c.duals
+alpha_read : (n : ℕ) (night : Night) (d : CertificateDraft) (c : Case) → AreDuals night c.duals
     → answer n (in_state (certificate_format night) (cased d c) (alpha_row c.duals)) ≡ Ok (valued d c)
 unfolding later_of alpha_of
 alpha_read n night d c are =
     then_ok n (alpha_in night (alpha_row c.duals)) (with_alpha (cased d c)) c.duals.alpha (valued d c) (alpha_back n night c.duals.alpha are.alphas are.alphas_in) refl
 
 -- the records of a case behind its limits
-cased_read : (n : ℕ) (night : Night) → IsOrderedNight night → (d : Draft) (c : Case) → AreDuals night c.duals → AreApart c.duals.prices
+cased_read : (n : ℕ) (night : Night) → IsOrderedNight night → (d : CertificateDraft) (c : Case) → AreDuals night c.duals → AreApart c.duals.prices
     → reads (certificate_format night) (cased d c) n (duals_rows night c.duals) ≡ Ok (done d c)
 cased_read n night h d c are apart =
     ap (λ r. r >>= (λ t. reads (certificate_format night) t (n + 1) (beta_row c.duals ∷ map (price_row night) c.duals.prices))) (alpha_read n night d c are)
     ∙ rest_read (n + 1) night h d c are apart
 
 -- behind the record of a node with duals of its own
-abbrev pub fresh : Draft → Draft
+abbrev pub fresh : CertificateDraft → CertificateDraft
 fresh d = record d { place = places.New }
 
 -- one more case began
-abbrev pub counted : Draft → Draft
+abbrev pub counted : CertificateDraft → CertificateDraft
 counted d = record d { cases = d.cases + 1 }
 
-lone_read : (n : ℕ) (night : Night) (d : Draft) (c : Case) → d.cases < 8000 → AreDuals night c.duals → c.to ≡ 160 → c.multiplier ≡ pos 0
+lone_read : (n : ℕ) (night : Night) (d : CertificateDraft) (c : Case) → d.cases < 8000 → AreDuals night c.duals → c.to ≡ 160 → c.multiplier ≡ pos 0
     → answer n (in_state (certificate_format night) (fresh d) (alpha_row c.duals)) ≡ Ok (valued (counted d) c)
 unfolding later_of after_new lone_alpha_of
 lone_read n night d c room are to none =
@@ -157,10 +158,10 @@ lone_read n night d c room are to none =
     (lone_alpha_back n night d.cases c.duals.alpha room are.alphas are.alphas_in)
     (ap (λ t. made t c.multiplier) to ∙ ap (λ z. made 160 z) none)
   where
-    made : ℕ → ℤ → Draft
+    made : ℕ → ℤ → CertificateDraft
     made t z = record d { cases = d.cases + 1; place = places.Alpha; now = record { to = t; multiplier = z; duals = record { alpha = c.duals.alpha; beta = []; prices = [] } } }
 
-first_read : (n : ℕ) (night : Night) (d : Draft) (c : Case) → d.cases < 8000 → c.to ≤ 160 → IsValue c.multiplier → is_plain c ≡ false
+first_read : (n : ℕ) (night : Night) (d : CertificateDraft) (c : Case) → d.cases < 8000 → c.to ≤ 160 → IsValue c.multiplier → is_plain c ≡ false
     → answer n (in_state (certificate_format night) (fresh d) (case_row c)) ≡ Ok (cased (counted d) c)
 unfolding later_of after_new first_case_of
 first_read n night d c room to is other =
@@ -168,10 +169,10 @@ first_read n night d c room to is other =
     (first_limits_back n d.cases c.to c.multiplier room to is other) refl
 
 -- the case before the last one of a node
-abbrev pub followed : Draft → Case → Draft
+abbrev pub followed : CertificateDraft → Case → CertificateDraft
 followed d b = record d { before = Some b }
 
-second_read : (n : ℕ) (night : Night) (d : Draft) (b c : Case) → d.cases < 8000 → b.to ≢ 160 → c.to ≡ 160 → IsValue c.multiplier
+second_read : (n : ℕ) (night : Night) (d : CertificateDraft) (b c : Case) → d.cases < 8000 → b.to ≢ 160 → c.to ≡ 160 → IsValue c.multiplier
     → answer n (in_state (certificate_format night) (done d b) (case_row c)) ≡ Ok (cased (counted (followed d b)) c)
 unfolding later_of after_beta after_case second_case_of
 second_read n night d b c room early to is =
@@ -181,7 +182,7 @@ second_read n night d b c room early to is =
 
 -- ---- the cases of a node
 
-one_case : (n : ℕ) (night : Night) → IsOrderedNight night → (d : Draft) (c : Case) → d.cases < 8000 → IsCase night c → c.to ≡ 160 → AreApart c.duals.prices
+one_case : (n : ℕ) (night : Night) → IsOrderedNight night → (d : CertificateDraft) (c : Case) → d.cases < 8000 → IsCase night c → c.to ≡ 160 → AreApart c.duals.prices
     → reads (certificate_format night) (fresh d) n (cases_rows night (c ∷ [])) ≡ Ok (done (counted d) c)
 one_case n night h d c room is to apart = by (is_plain c) refl
   where
@@ -194,7 +195,7 @@ one_case n night h d c room is to apart = by (is_plain c) refl
         ap (λ r. r >>= (λ t. reads (certificate_format night) t (n + 1) (duals_rows night c.duals))) (first_read n night d c room is.to is.multiplier e)
         ∙ cased_read (n + 1) night h (counted d) c is.duals apart
 
-two_cases : (n : ℕ) (night : Night) → IsOrderedNight night → (d : Draft) (b c : Case) → d.cases + 2 ≤ 8000 → IsCase night b → IsCase night c → b.to ≢ 160 → c.to ≡ 160
+two_cases : (n : ℕ) (night : Night) → IsOrderedNight night → (d : CertificateDraft) (b c : Case) → d.cases + 2 ≤ 8000 → IsCase night b → IsCase night c → b.to ≢ 160 → c.to ≡ 160
     → AreApart b.duals.prices → AreApart c.duals.prices
     → reads (certificate_format night) (fresh d) n (cases_rows night (b ∷ c ∷ [])) ≡ Ok (done (counted (followed (counted d) b)) c)
 two_cases n night h d b c room first last early to apart also =
@@ -209,12 +210,12 @@ two_cases n night h d b c room first last early to apart also =
     ∙ cased_read (k + 1) night h (counted (followed (counted d) b)) c last.duals also)
 
 -- behind the cases of a node
-abbrev pub behind_cases : Draft → List Case → Draft
+abbrev pub behind_cases : CertificateDraft → List Case → CertificateDraft
 behind_cases d (c ∷ []) = done (counted d) c
 behind_cases d (b ∷ c ∷ []) = done (counted (followed (counted d) b)) c
 behind_cases d _ = d
 
-cases_read : (n : ℕ) (night : Night) → IsOrderedNight night → (d : Draft) (cases : List Case) → AreStatable night cases → d.cases + length cases ≤ 8000
+cases_read : (n : ℕ) (night : Night) → IsOrderedNight night → (d : CertificateDraft) (cases : List Case) → AreStatable night cases → d.cases + length cases ≤ 8000
     → reads (certificate_format night) (fresh d) n (cases_rows night cases) ≡ Ok (behind_cases d cases)
 cases_read n night h d [] are room = absurd (let le = are.within.some in omega (arith, le))
 cases_read n night h d (c ∷ []) are room = one_case n night h d c (omega (arith, room)) (are.within.each 0 c (omega arith)) are.within.last (are.apart 0 c (omega arith))
@@ -227,26 +228,18 @@ cases_read n night h d (a ∷ b ∷ c ∷ cases) are room = absurd (let le = are
 
 -- ---- a node
 
-kept_by : {X : Type 0} (b : Bool) (d e : Draft) (f : Draft → X) → f e ≡ f d → f (if b then e else d) ≡ f d
-kept_by true d e f same = same
-kept_by false d e f same = refl
-
-settled_begun : (d : Draft) → (settled d).begun ≡ d.begun
-unfolding settled
-settled_begun d = kept_by (ends_node d.place) d _ (λ x. x.begun) refl
-
-settled_cases : (d : Draft) → (settled d).cases ≡ d.cases
+settled_cases : (d : CertificateDraft) → (settled d).cases ≡ d.cases
 unfolding settled
 settled_cases d = kept_by (ends_node d.place) d _ (λ x. x.cases) refl
 
 -- a node was read last, with all that follows it
-pub record IsReadLast (d : Draft) (last : Node) : Type 0 where
+pub record IsReadLast (d : CertificateDraft) (last : Node) : Type 0 where
   pub place : (d.place ≡ places.Node) ⊎ ((d.place ≡ places.Beta) × (d.now.to ≡ 160))
   pub head : d.head ≡ head_of last
 
 -- a node was read behind those of a state
-pub record Reads (night : Night) (d : Draft) (n : ℕ) (x : Node) : Type 0 where
-  pub state : Draft
+pub record Reads (night : Night) (d : CertificateDraft) (n : ℕ) (x : Node) : Type 0 where
+  pub state : CertificateDraft
   pub read : reads (certificate_format night) d n (node_rows night x) ≡ Ok state
   pub version : (settled state).version ≡ (settled d).version
   pub nodes : (settled state).nodes ≡ (settled d).nodes ++ x ∷ []
@@ -260,10 +253,10 @@ abbrev pub made_of : ℕ → Option Choice → NodeKind → NodeDuals → Node
 made_of depth choice kind own = record { depth = depth; choice = choice; kind = kind; duals = own }
 
 -- behind the record of a node, as the records of its cases find it
-abbrev headed : Draft → Node → Draft
+abbrev headed : CertificateDraft → Node → CertificateDraft
 headed d x = record (settled d) { begun = (settled d).begun + 1; head = head_of x }
 
-own_rest : (night : Night) → IsOrderedNight night → (d : Draft) (n depth : ℕ) (choice : Option Choice) (kind : NodeKind) (cases : List Case) → AreStatable night cases
+own_rest : (night : Night) → IsOrderedNight night → (d : CertificateDraft) (n depth : ℕ) (choice : Option Choice) (kind : NodeKind) (cases : List Case) → AreStatable night cases
     → (settled d).before ≡ None → (settled d).cases + length cases ≤ 8000
     → answer n (in_state (certificate_format night) d (node_row night (made_of depth choice kind (duals.New cases))))
     ≡ Ok (with_node d (head_of (made_of depth choice kind (duals.New cases)))) → Reads night d n (made_of depth choice kind (duals.New cases))
@@ -297,7 +290,8 @@ own_rest night h d n depth choice kind (b ∷ c ∷ []) are none room e =
     }
 own_rest night h d n depth choice kind (a ∷ b ∷ c ∷ cases) are none room e = absurd (let le = are.within.few in omega (arith, le))
 
-node_rest : (night : Night) → IsOrderedNight night → (d : Draft) (n depth : ℕ) (choice : Option Choice) (kind : NodeKind) (own : NodeDuals) → FitDuals night depth kind own
+node_rest : (night : Night) → IsOrderedNight night → (d : CertificateDraft) (n depth : ℕ) (choice : Option Choice) (kind : NodeKind) (own : NodeDuals)
+    → FitDuals night depth kind own
     → (settled d).before ≡ None → d.cases + own_cases own ≤ 8000
     → answer n (in_state (certificate_format night) d (node_row night (made_of depth choice kind own))) ≡ Ok (with_node d (head_of (made_of depth choice kind own)))
     → Reads night d n (made_of depth choice kind own)
@@ -325,7 +319,7 @@ node_rest night h d n depth choice kind duals.Bare is none room e = record {
 node_rest night h d n depth choice kind (duals.New cases) is none room e = own_rest night h d n depth choice kind cases is.1 none
     (let same = settled_cases d in omega (arith, room, same)) e
 
-root_read : (night : Night) (d : Draft) (n : ℕ) (kind : NodeKind) (own : NodeDuals) → FitDuals night 0 kind own → d.place ≡ places.Start → d.begun < 5000
+root_read : (night : Night) (d : CertificateDraft) (n : ℕ) (kind : NodeKind) (own : NodeDuals) → FitDuals night 0 kind own → d.place ≡ places.Start → d.begun < 5000
     → answer n (in_state (certificate_format night) d (node_row night (made_of 0 None kind own))) ≡ Ok (with_node d (head_of (made_of 0 None kind own)))
 unfolding root_of
 root_read night d n kind own is start room =
@@ -333,7 +327,7 @@ root_read night d n kind own is start room =
     (then_ok n (root_in d.begun (node_row night (made_of 0 None kind own))) (with_node d) (head_of (made_of 0 None kind own)) _ (root_back n night d.begun kind own room is) refl)
 
 -- the first node
-first_node : (night : Night) → IsOrderedNight night → (d : Draft) (n : ℕ) (x : Node) → FitsNode night x → x.depth ≡ 0 → d.place ≡ places.Start → d.begun < 5000
+first_node : (night : Night) → IsOrderedNight night → (d : CertificateDraft) (n : ℕ) (x : Node) → FitsNode night x → x.depth ≡ 0 → d.place ≡ places.Start → d.begun < 5000
     → (settled d).before ≡ None → d.cases + own_cases x.duals ≤ 8000 → Reads night d n x
 first_node night h d n x fits root start room none cases = by x.choice refl
   where
@@ -345,7 +339,8 @@ first_node night h d n x fits root start room none cases = by x.choice refl
     by (Some c) e = absurd (let some = (subst (FitsDepth night x.depth) e fits.choice).0 in omega (arith, some, root))
 
 -- what is read behind a node, by a word that isn't a price's or a case's
-pub behind_node : (n : ℕ) (night : Night) (d : Draft) (last : Node) (row : List (List ℕ)) (r : Result Draft RowFault) → IsReadLast d last → is_word row (codes "price") ≡ false
+pub behind_node : (n : ℕ) (night : Night) (d : CertificateDraft) (last : Node) (row : List (List ℕ)) (r : Result CertificateDraft RowFault) → IsReadLast d last
+    → is_word row (codes "price") ≡ false
     → is_word row (codes "part") ≡ false
     → answer n (after_node night d row) ≡ r → answer n (in_state (certificate_format night) d row) ≡ r
 unfolding after_beta after_case
@@ -370,7 +365,8 @@ follows_deepest last x follows = by last.kind refl
     by shows.Leaf e = no_deeper x.depth last.depth follows.most (λ same. absurd (let k = sym e ∙ follows.branch same in cc))
     by shows.Whole e = no_deeper x.depth last.depth follows.most (λ same. absurd (let k = sym e ∙ follows.branch same in cc))
 
-child_read : (night : Night) → IsOrderedNight night → (d : Draft) (n depth : ℕ) (last : Node) (c : Choice) (kind : NodeKind) (own : NodeDuals) → FitDuals night depth kind own
+child_read : (night : Night) → IsOrderedNight night → (d : CertificateDraft) (n depth : ℕ) (last : Node) (c : Choice) (kind : NodeKind) (own : NodeDuals)
+    → FitDuals night depth kind own
     → FitsChoice night c → 1 ≤ depth → depth ≤ 160 → depth ≤ deepest d.head → IsReadLast d last → d.begun < 5000
     → answer n (in_state (certificate_format night) d (node_row night (made_of depth (Some c) kind own))) ≡ Ok (with_node d (head_of (made_of depth (Some c) kind own)))
 unfolding after_node child_of
@@ -381,7 +377,7 @@ child_read night h d n depth last c kind own is fits some few deep stands room =
     (child_back n night h d.begun d.head depth kind own c room some few deep is fits) refl)
 
 -- a later node
-later_node : (night : Night) → IsOrderedNight night → (d : Draft) (n : ℕ) (last x : Node) → FitsNode night x → Follows last x → IsReadLast d last → d.begun < 5000
+later_node : (night : Night) → IsOrderedNight night → (d : CertificateDraft) (n : ℕ) (last x : Node) → FitsNode night x → Follows last x → IsReadLast d last → d.begun < 5000
     → (settled d).before ≡ None → d.cases + own_cases x.duals ≤ 8000 → Reads night d n x
 later_node night h d n last x fits follows stands room none cases = by x.choice refl
   where
@@ -401,8 +397,8 @@ Chain night last [] = Unit {0}
 Chain night last (x ∷ xs) = FitsNode night x × (Follows last x × Chain night x xs)
 
 -- nodes were read behind those of a state
-pub record ReadsAll (night : Night) (d : Draft) (n : ℕ) (xs : List Node) : Type 0 where
-  pub state : Draft
+pub record ReadsAll (night : Night) (d : CertificateDraft) (n : ℕ) (xs : List Node) : Type 0 where
+  pub state : CertificateDraft
   pub read : reads (certificate_format night) d n (flat_map (node_rows night) xs) ≡ Ok state
   pub version : (settled state).version ≡ (settled d).version
   pub nodes : (settled state).nodes ≡ (settled d).nodes ++ xs
@@ -411,7 +407,7 @@ pub record ReadsAll (night : Night) (d : Draft) (n : ℕ) (xs : List Node) : Typ
   pub stands : IsReadLast state last
 
 -- one node and then the others
-join_reads : (night : Night) (d : Draft) (n : ℕ) (x : Node) (xs : List Node) → (r : Reads night d n x) → ReadsAll night r.state (n + length (node_rows night x)) xs
+join_reads : (night : Night) (d : CertificateDraft) (n : ℕ) (x : Node) (xs : List Node) → (r : Reads night d n x) → ReadsAll night r.state (n + length (node_rows night x)) xs
     → ReadsAll night d n (x ∷ xs)
 join_reads night d n x xs r more =
     let f = certificate_format night in
@@ -428,7 +424,8 @@ join_reads night d n x xs r more =
       stands = more.stands;
     }
 
-later_nodes : (night : Night) → IsOrderedNight night → (d : Draft) (n : ℕ) (last : Node) (xs : List Node) → Chain night last xs → IsReadLast d last → d.begun + length xs ≤ 5000
+later_nodes : (night : Night) → IsOrderedNight night → (d : CertificateDraft) (n : ℕ) (last : Node) (xs : List Node) → Chain night last xs → IsReadLast d last
+    → d.begun + length xs ≤ 5000
     → (settled d).before ≡ None → d.cases + case_total xs ≤ 8000 → ReadsAll night d n xs
 later_nodes night h d n last [] chain stands room none cases = record {
   state = d;

@@ -20,7 +20,7 @@ use Rattle.shunt_proof.specs.defs.Proves.{IsListed, IsPlaced}
 use Rattle.shunt_proof.proofs.Depths.{above, parent_found, its_child, child_path, child_duals}
 use Rattle.shunt_proof.proofs.Fronts.{depth_front, path_front, duals_front, best_front, node_last}
 use Rattle.shunt_proof.proofs.Ancestors.{front_path, path_size, not_root}
-use Rattle.shunt_proof.proofs.Growing.{front_nodes, last_parent}
+use Rattle.shunt_proof.proofs.LongerLists.{front_nodes, last_parent}
 use Rattle.shunt_proof.proofs.Few.{CountLaws, length_longer, one_path, longer}
 
 -- ---- the node that is appended

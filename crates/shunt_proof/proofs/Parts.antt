@@ -13,6 +13,7 @@ use Rattle.shunt_plan.specs.defs.BlockRecords.{option_in}
 use Rattle.shunt_proof.specs.declared.records.Choice.{Choice}
 use Rattle.shunt_proof.specs.declared.heads.Head.{Head}
 use Rattle.shunt_proof.specs.defs.CertificateFormat.{with_choice, later_in, child_in, value_in, values_in}
+use Rattle.shunt_lists.proofs.Tests.{one_left as one_less}
 
 -- what follows from a part that says a value
 pub then_ok : {A B : Type 0} (n : ℕ) (m : Judged A) (f : A → B) (x : A) (e : B) → answer n m ≡ Ok x → e ≡ f x → answer n (m >>= (λ y. says (f y))) ≡ Ok e
@@ -94,10 +95,6 @@ read_one n row k more z is = part_ok n (value_in row k) (λ z. values_in row (k 
 read_none : (n : ℕ) (row : List (List ℕ)) (k more : ℕ) (e : RowFault) → answer n (value_in row k) ≡ Err e → answer n (values_in row k (suc more)) ≡ Err e
 unfolding values_in
 read_none n row k more e is = part_err n (value_in row k) (λ z. values_in row (k + 1) more >>= (λ zs. says (z ∷ zs))) e is
-
--- how many fields are left before and after one was read
-one_less : (k count : ℕ) → k < count → count - k ≡ suc (count - (k + 1))
-one_less k count lt = omega (arith, lt)
 
 -- one more value was read
 pub one_value : (n : ℕ) (row : List (List ℕ)) (k count : ℕ) (front more : List ℤ) (z : ℤ) (all : Result (List ℤ) RowFault) → k < count

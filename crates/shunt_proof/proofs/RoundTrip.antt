@@ -11,7 +11,7 @@ use Rattle.shunt_rows.specs.defs.Checks.{Judged, answer, must, says, found, ◌>
 use Rattle.shunt_rows.specs.defs.Fields.{is_within}
 use Rattle.shunt_rows.specs.defs.Formats.{in_state, reading}
 use Rattle.shunt_rows.proofs.Again.{again}
-use Rattle.shunt_rows.proofs.Holding.{holding}
+use Rattle.shunt_rows.proofs.Answered.{holding}
 use Rattle.shunt_rows.proofs.Sections.{then_reads, one_reads, all_read}
 use Rattle.shunt_rows.proofs.Spelled.{number_again, in_range}
 use Rattle.shunt_instance.specs.defs.Instance.{Night, IsInstance, IsOrderedNight}
@@ -21,7 +21,7 @@ use Rattle.shunt_proof.specs.declared.records.Version.{Version}
 use Rattle.shunt_proof.specs.declared.records.Certificate.{Certificate}
 use Rattle.shunt_proof.specs.defs.Numbers.{number_of, version_with, newest, CanBeRead}
 use Rattle.shunt_proof.specs.defs.Certificates.{IsCertificate}
-use Rattle.shunt_proof.specs.defs.CertificateFormat.{Draft, empty, version_in, first_of, settled, end_in, with_end, end_of, after_node, certificate_of, certificate_format}
+use Rattle.shunt_proof.specs.defs.CertificateFormat.{CertificateDraft, empty, version_in, first_of, settled, end_in, with_end, end_of, after_node, certificate_of, certificate_format}
 use Rattle.shunt_proof.specs.defs.CertificateRows.{node_rows, head_row, end_row, rows_of, ReadsAsCertificate}
 use Rattle.shunt_proof.proofs.Parts.{then_ok}
 use Rattle.shunt_proof.proofs.NodesBack.{IsReadLast, behind_node, nodes_back}
@@ -29,7 +29,7 @@ use Rattle.shunt_proof.proofs.Plain.{certificate_plain}
 use Rattle.shunt_proof.proofs.Numbers.{number_back, number_small}
 
 -- what the first record says, by what is found of it
-abbrev first_by : Option ℕ → Judged Draft
+abbrev first_by : Option ℕ → Judged CertificateDraft
 first_by version = do
   _ ← must true 1 kinds.Kind
   _ ← must true 1 kinds.Fields
@@ -78,7 +78,7 @@ end_back n begun cost bound nodes c b few many =
       ),
     ))
 
-end_read : (n : ℕ) (night : Night) (d : Draft) (last : Node) (cost bound nodes : ℕ) → IsReadLast d last → cost ≤ 1000000000000 → bound ≤ 1000000000000 → nodes ≤ 5000
+end_read : (n : ℕ) (night : Night) (d : CertificateDraft) (last : Node) (cost bound nodes : ℕ) → IsReadLast d last → cost ≤ 1000000000000 → bound ≤ 1000000000000 → nodes ≤ 5000
     → nodes ≡ d.begun
     → answer n (in_state (certificate_format night) d (end_row cost bound nodes)) ≡ Ok (with_end d (cost, bound))
 unfolding after_node end_of
@@ -89,19 +89,20 @@ end_read n night d last cost bound nodes stands c b few many =
 abbrev certificate : Version → List Node → ℕ → ℕ → Certificate
 certificate version nodes cost bound = record { version = version; nodes = nodes; cost = cost; bound = bound }
 
-ended_value : (night : Night) (d : Draft) (c : Certificate) → (settled d).version ≡ c.version → (settled d).nodes ≡ c.nodes → certificate_of (with_end d (c.cost, c.bound)) ≡ c
+ended_value : (night : Night) (d : CertificateDraft) (c : Certificate) → (settled d).version ≡ c.version → (settled d).nodes ≡ c.nodes
+    → certificate_of (with_end d (c.cost, c.bound)) ≡ c
 unfolding with_end
 ended_value night d c of_version same = ap (λ v. certificate v (settled d).nodes c.cost c.bound) of_version ∙ ap (λ l. certificate c.version l c.cost c.bound) same
 
-ended_whole : (night : Night) (d : Draft) (e : ℕ × ℕ) → (certificate_format night).is_whole (with_end d e) ≡ true
+ended_whole : (night : Night) (d : CertificateDraft) (e : ℕ × ℕ) → (certificate_format night).is_whole (with_end d e) ≡ true
 unfolding with_end
 ended_whole night d e = refl
 
-from_empty : (version : Version) (d : Draft) (nodes : List Node) → (settled d).nodes ≡ (settled (empty version)).nodes ++ nodes → (settled d).nodes ≡ nodes
+from_empty : (version : Version) (d : CertificateDraft) (nodes : List Node) → (settled d).nodes ≡ (settled (empty version)).nodes ++ nodes → (settled d).nodes ≡ nodes
 unfolding settled
 from_empty version d nodes e = e
 
-its_version : (version : Version) (d : Draft) → (settled d).version ≡ (settled (empty version)).version → (settled d).version ≡ version
+its_version : (version : Version) (d : CertificateDraft) → (settled d).version ≡ (settled (empty version)).version → (settled d).version ≡ version
 unfolding settled
 its_version version d e = e
 

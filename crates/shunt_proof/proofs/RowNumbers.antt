@@ -13,10 +13,7 @@ use Rattle.shunt_proof.specs.declared.records.Node.{Node}
 use Rattle.shunt_proof.specs.declared.records.Certificate.{Certificate}
 use Rattle.shunt_proof.specs.defs.Nodes.{node_at}
 use Rattle.shunt_proof.specs.defs.CertificateRows.{price_row, duals_rows, case_rows, is_plain, cases_rows, own_rows, node_row, node_rows, end_row, rows_of, duals_count, case_count, cases_count, own_count, row_count, row_of}
-
-sum_same : {X : Type 0} (f g : X → ℕ) (xs : List X) → ((x : X) → f x ≡ g x) → sum_by f xs ≡ sum_by g xs
-sum_same f g [] same = refl
-sum_same f g (x ∷ xs) same = let p = sum_by-cons f x xs in let q = sum_by-cons g x xs in omega (arith, p, q, same x, sum_same f g xs same)
+use Rattle.shunt_lists.proofs.Sums.{sum_by-same as sum_same}
 
 duals_many : (night : Night) (c : Case) → length (duals_rows night c.duals) ≡ duals_count c
 duals_many night c = let e = length-map c.duals.prices (price_row night) in omega (arith, e)

@@ -9,7 +9,6 @@ use Rattle.shunt_blocks.specs.defs.Lists.{ShareNothing, RunsThrough, placed}
 use Rattle.shunt_blocks.specs.defs.Pins.{AreUsable}
 use Rattle.shunt_choices.specs.defs.Paths.{Masks, masks_of, IsPartialPlan}
 use Rattle.shunt_choices.specs.defs.Choices.{Choice as PathChoice, IsChoice, IsChoiceAt, chosen, longer_by}
-use Rattle.shunt_choices.proofs.Given.{all_within}
 use Rattle.shunt_choices.proofs.Partial.{next_unit}
 use Rattle.shunt_prices.specs.defs.Cases.{IsFreeBlock, CasesHold}
 use Rattle.shunt_prices.specs.defs.Bounds.{IsCasesBound}
@@ -30,6 +29,7 @@ use Rattle.shunt_proof.proofs.Decided.{choice_step}
 use Rattle.shunt_proof.proofs.Locally.{right_proves, root_right}
 use Rattle.shunt_proof.proofs.Few.{CountLaws, longer, is_partial}
 use Rattle.shunt_proof.proofs.Whole.{PinLaws, some_nodes}
+use Rattle.shunt_blocks.proofs.Shapes.{all_within}
 
 -- what the laws of the crates below say
 pub record PriceLaws : Type 0 where

@@ -6,10 +6,10 @@ use Rattle.std.proofs.lemmas.Bool.{and_parts, and_from}
 use Rattle.std.proofs.lemmas.Slice.Eq.{bytes_eq-Decides}
 use Rattle.shunt_store.specs.defs.Files as store
 use Rattle.shunt_proof.specs.declared.records.Node.{Node}
-use Rattle.shunt_proof.specs.declared.text_recorder.Doing.{Doing}
-use Rattle.shunt_proof.specs.declared.text_recorder.Doing.TheVariants as doing
-use Rattle.shunt_proof.specs.defs.Recording.{Stage, Open, Stalled, Finished, Failed}
-use Rattle.shunt_proof.specs.defs.Streaming.{Streamed, where_writing, stage_in, stage_of, is_sound, told_in, told_of, nodes_told}
+use Rattle.shunt_proof.specs.declared.text_recorder.TextState.{TextState}
+use Rattle.shunt_proof.specs.declared.text_recorder.TextState.TheVariants as doing
+use Rattle.shunt_proof.specs.defs.Recorders.{Stage, Open, Stalled, Finished, Failed}
+use Rattle.shunt_proof.specs.defs.TextRecorders.{Streamed, where_writing, stage_in, stage_of, is_sound, told_in, told_of, nodes_told}
 
 if_cases : (b : Bool) (stage : Stage) → ((if b then stage else Failed) ≡ Failed) ⊎ (b ≡ true)
 if_cases true stage = inr refl
@@ -47,7 +47,7 @@ stalled_open e = absurd cc
 finished_open : {P : Type 0} (cost bound : ℕ) → Finished cost bound ≡ Open → P
 finished_open cost bound e = absurd cc
 
-open_in : (s : Streamed) (d : Doing) → s.doing ≡ d → stage_in s d ≡ Open → IsOpen s
+open_in : (s : Streamed) (d : TextState) → s.doing ≡ d → stage_in s d ≡ Open → IsOpen s
 open_in s doing.Open x e = ⊎_elim (λ f. failed_open (sym f ∙ e)) (λ w. record { doing = x; place = w.place; sound = w.holds }) (writing_cases s.name s.place (is_sound s) Open)
 open_in s doing.Stalled x e = stalled_open e
 open_in s (doing.Finished cost bound) x e =
@@ -78,7 +78,7 @@ open_finished cost bound e = absurd cc
 same_end : (x y cost bound : ℕ) → Finished x y ≡ Finished cost bound → doing.Finished x y ≡ doing.Finished cost bound
 same_end x y cost bound e = cc
 
-finished_in : (s : Streamed) (d : Doing) (cost bound : ℕ) → s.doing ≡ d → stage_in s d ≡ Finished cost bound → IsFinished s cost bound
+finished_in : (s : Streamed) (d : TextState) (cost bound : ℕ) → s.doing ≡ d → stage_in s d ≡ Finished cost bound → IsFinished s cost bound
 finished_in s doing.Open cost bound x e =
     ⊎_elim (λ f. failed_finished cost bound (sym f ∙ e)) (λ w. open_finished cost bound
     (sym (writing_is s.name (store.text_of s.place) s.place (is_sound s) Open w.place w.holds) ∙ e)) (writing_cases s.name s.place (is_sound s) Open)

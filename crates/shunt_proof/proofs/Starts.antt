@@ -2,10 +2,10 @@
 use Rattle.std.specs.Prelude.{cond, ◌==◌, IsPermutation}
 use Rattle.std.proofs.Common.{◌≡◌, ℕ, suc, ◌<◌, List, [], ◌∷◌, ap, subst, arith}
 use Rattle.std.proofs.lemmas.List.Sorted.{All-permutation, sum_by-IsPermutation}
-use Rattle.shunt_lists.proofs.Members.{all_from}
+use Rattle.shunt_lists.proofs.Members.{all_from, place}
 use Rattle.shunt_lists.proofs.SumsBelow.{sum_below-same}
-use Rattle.shunt_stays.proofs.Ascending.{Ascends, unique}
-use Rattle.shunt_stays.proofs.Sorting.{in_permuted, of_permuted}
+use Rattle.shunt_stays.proofs.AscendingLists.{Ascends, unique}
+use Rattle.shunt_stays.proofs.SortedEvents.{in_permuted, of_permuted}
 use Rattle.shunt_instance.specs.defs.Instance.{Night, unit_total, position_total}
 use Rattle.shunt_blocks.specs.declared.records.Block.{Block}
 use Rattle.shunt_blocks.specs.defs.Shapes.{begins_at}
@@ -13,7 +13,6 @@ use Rattle.shunt_blocks.specs.defs.Costs.{block_cost}
 use Rattle.shunt_blocks.specs.defs.Lists.{times_unit, times_position}
 use Rattle.shunt_blocks.specs.defs.Pins.{opening_cost, unit_price, position_price, Keeps, IsKept}
 use Rattle.shunt_choices.specs.defs.Paths.{AreInOrder}
-use Rattle.shunt_choices.proofs.Given.{place}
 use Rattle.shunt_proof.specs.defs.Trees.{IsStart}
 
 ascends_from : (night : Night) (blocks : List Block) → AreInOrder night blocks → Ascends (begins_at night) blocks

@@ -6,11 +6,11 @@ use Rattle.shunt_store.specs.defs.Files.{BothTold}
 use Rattle.shunt_rows.specs.defs.Records.{text_of_row, text_of_rows}
 use Rattle.shunt_instance.specs.defs.Instance.{IsInstance}
 use Rattle.shunt_proof.specs.declared.records.Node.{Node}
-use Rattle.shunt_proof.specs.declared.text_recorder.Doing.TheVariants as doing
+use Rattle.shunt_proof.specs.declared.text_recorder.TextState.TheVariants as doing
 use Rattle.shunt_proof.specs.defs.Nodes.{FitsNode, CanFollow}
 use Rattle.shunt_proof.specs.defs.Certificates.{own_cases}
 use Rattle.shunt_proof.specs.defs.CertificateRows.{node_rows, head_row, end_row}
-use Rattle.shunt_proof.specs.defs.Streaming.{nodes_told, IsTextOf, Streamed, told_of, is_sound}
+use Rattle.shunt_proof.specs.defs.TextRecorders.{nodes_told, IsTextOf, Streamed, told_of, is_sound}
 use Rattle.shunt_proof.proofs.Told.{told_so, so_told, told_more, told_end, told_first}
 use Rattle.shunt_proof.proofs.Stages.{IsOpen, told_open, told_finished, sound_some, nodes_of_sound}
 

@@ -21,10 +21,11 @@ use Rattle.shunt_proof.specs.defs.Certificates.{own_cases, case_total, IsCertifi
 use Rattle.shunt_proof.specs.defs.CertificateFormat.{certificate_format}
 use Rattle.shunt_proof.specs.defs.CertificateRows.{node_rows, head_row, end_row, rows_of}
 use Rattle.shunt_proof.specs.defs.Numbers.{number_of, newest, CanBeRead}
-use Rattle.shunt_proof.specs.defs.Streaming.{front_text, end_text, file_text, rest_text, nodes_of, nodes_read, is_text, told_where, nodes_told, IsTextOf, EndFits}
+use Rattle.shunt_proof.specs.defs.TextRecorders.{front_text, end_text, file_text, rest_text, nodes_of, nodes_read, is_text, told_where, nodes_told, IsTextOf, EndFits}
 use Rattle.shunt_proof.proofs.Formed.{certificate_formed}
-use Rattle.shunt_proof.proofs.Growing.{one_more}
+use Rattle.shunt_proof.proofs.LongerLists.{one_more}
 use Rattle.shunt_proof.proofs.RoundTrip.{text_back}
+use Rattle.shunt_rows.proofs.Widths.{one_text as one_row}
 
 -- ---- what is told is so
 
@@ -88,9 +89,6 @@ stated (Some e) = e
 
 abbrev pub certificate_with : Version → List Node → ℕ × ℕ → Certificate
 certificate_with version nodes e = record { version = version; nodes = nodes; cost = e.0; bound = e.1 }
-
-one_row : (row : List (List ℕ)) → text_of_rows (row ∷ []) ≡ text_of_row row
-one_row row = flat_map-cons text_of_row row [] ∙ append-nil (text_of_row row)
 
 pub first_text : (version : Version) (night : Night) → front_text version night [] ≡ text_of_row (head_row version)
 first_text version night = one_row (head_row version)

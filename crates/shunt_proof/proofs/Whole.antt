@@ -9,7 +9,7 @@ use Rattle.shunt_blocks.specs.defs.Lists.{ShareNothing, IsFeasible, total_cost}
 use Rattle.shunt_blocks.specs.defs.Pins.{AreUsable, Keeps}
 use Rattle.shunt_choices.specs.defs.Paths.{IsPartialPlan, AreInOrder}
 use Rattle.shunt_choices.specs.defs.Choices.{partial_plans}
-use Rattle.shunt_choices.proofs.Rising.{share_nothing}
+use Rattle.shunt_choices.proofs.SortedBlocks.{share_nothing}
 use Rattle.shunt_proof.specs.declared.records.Node.{Node}
 use Rattle.shunt_proof.specs.declared.records.Version.{Version}
 use Rattle.shunt_proof.specs.declared.records.Version.TheVariants.{Prices, Stacks}

@@ -1,6 +1,6 @@
 -- What was written of a node's cases.
 use Rattle.std.proofs.Common.{◌≡◌, ℕ, ◌≤◌, List, [], ◌∷◌, ◌++◌, length, sym, ap, ◌∙◌, arith}
-use Rattle.std.specs.Prelude.{Result, Ok, Err, OnOk, Some, slice_get}
+use Rattle.std.specs.Prelude.{Some, slice_get}
 use Rattle.std.proofs.lemmas.List.{append_assoc, append-nil}
 use Rattle.shunt_base.specs.declared.duals.Case.{Case}
 use Rattle.shunt_rows.specs.defs.Records.{text_of_rows}
@@ -8,11 +8,6 @@ use Rattle.shunt_rows.specs.defs.Written.{Written}
 use Rattle.shunt_rows.proofs.Texts.{texts_join}
 use Rattle.shunt_instance.specs.defs.Instance.{Night}
 use Rattle.shunt_proof.specs.defs.CertificateRows.{case_rows, cases_rows}
-
--- what follows of a call that was not refused
-pub on_ok : {X E : Type 0} (r : Result X E) (P Q : Type 0) → OnOk r P → (P → Q) → OnOk r Q
-on_ok (Ok v) P Q p h = h p
-on_ok (Err e) P Q p h = tt
 
 two_of : (cases : List Case) (b c : Case) → length cases ≤ 2 → slice_get cases 0 ≡ Some b → slice_get cases 1 ≡ Some c → cases ≡ b ∷ c ∷ []
 two_of [] b c few first second = absurd cc

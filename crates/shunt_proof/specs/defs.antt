@@ -8,6 +8,6 @@ pub mod Accepted
 pub mod Certificates
 pub mod CertificateFormat
 pub mod CertificateRows
-pub mod Recording
-pub mod Listing
-pub mod Streaming
+pub mod Recorders
+pub mod ListRecorders
+pub mod TextRecorders

@@ -5,7 +5,16 @@ ghost use Rattle.shunt_rows.specs.defs.Checks.{answer};
 ghost use Rattle.shunt_rows.specs.defs.Given.{Gives};
 ghost use Rattle.shunt_rows.specs.defs.Formats.{reading};
 ghost use Rattle.shunt_proof.specs.defs.Certificates.{IsCertificate};
-ghost use Rattle.shunt_proof.specs.defs.CertificateFormat.{Draft, cases_of, settled, with_head, with_node, root_of, child_of, no_case, node_of, with_case, with_second, with_alpha, with_beta, with_lone, with_price, with_end, first_case_of, second_case_of, alpha_of, lone_alpha_of, beta_of, price_of, part_of, end_in, end_of, after_node, after_case, after_beta, after_new, later_of, ended, certificate_format};
+ghost use Rattle.shunt_proof.specs.defs.CertificateFormat.{CertificateDraft, cases_of, settled};
+ghost use Rattle.shunt_proof.specs.defs.CertificateFormat.{with_head, with_node, root_of, child_of};
+ghost use Rattle.shunt_proof.specs.defs.CertificateFormat.{no_case, node_of, with_case};
+ghost use Rattle.shunt_proof.specs.defs.CertificateFormat.{with_second, with_alpha, with_beta};
+ghost use Rattle.shunt_proof.specs.defs.CertificateFormat.{with_lone, with_price, with_end};
+ghost use Rattle.shunt_proof.specs.defs.CertificateFormat.{first_case_of, second_case_of, alpha_of};
+ghost use Rattle.shunt_proof.specs.defs.CertificateFormat.{lone_alpha_of, beta_of, price_of};
+ghost use Rattle.shunt_proof.specs.defs.CertificateFormat.{part_of, end_in, end_of, after_node};
+ghost use Rattle.shunt_proof.specs.defs.CertificateFormat.{after_case, after_beta, after_new};
+ghost use Rattle.shunt_proof.specs.defs.CertificateFormat.{later_of, ended, certificate_format};
 
 use crate::heads::{Head, HeadDuals, read_child, read_root};
 use crate::records::{Certificate, Node, NodeDuals, NodeKind, Version};
@@ -26,7 +35,7 @@ use std::mem::replace;
 
 /// What was read last, which tells the words that may stand next.
 #[derive(Clone, Copy, Debug, PartialEq, Eq, Drop)]
-pub enum Place {
+pub enum LastRead {
     /// The first record of the file.
     Start,
     /// A node whose duals aren't its own.
@@ -43,12 +52,12 @@ pub enum Place {
 
 // What the records so far state.
 #[derive(Debug, Drop)]
-struct Draft {
+struct CertificateDraft {
     version: Version,
     nodes: Vec<Node>,
     begun: u32,
     cases: u32,
-    place: Place,
+    place: LastRead,
     head: Head,
     before: Option<Case>,
     to: u8,
@@ -60,15 +69,34 @@ struct Draft {
     bound: u64,
 }
 
-impl Model for Draft {
-    ghost use Rattle.shunt_proof.specs.defs.CertificateFormat.{Draft};
+impl Model for CertificateDraft {
+    ghost use Rattle.shunt_proof.specs.defs.CertificateFormat.{CertificateDraft};
 
-    ghost Value = { Draft };
+    ghost Value = { CertificateDraft };
 
-    ghost view = { λ d. record { version = d.version; nodes = d.nodes.items; begun = d.begun; cases = d.cases; place = d.place; head = d.head; before = d.before; now = record { to = d.to; multiplier = d.multiplier; duals = record { alpha = d.alpha; beta = d.beta; prices = d.prices.items } }; cost = d.cost; bound = d.bound } };
+    ghost view = { λ d. record {
+      version = d.version;
+      nodes = d.nodes.items;
+      begun = d.begun;
+      cases = d.cases;
+      place = d.place;
+      head = d.head;
+      before = d.before;
+      now = record {
+        to = d.to;
+        multiplier = d.multiplier;
+        duals = record {
+          alpha = d.alpha;
+          beta = d.beta;
+          prices = d.prices.items;
+        };
+      };
+      cost = d.cost;
+      bound = d.bound;
+    } };
 }
 
-impl Draft {
+impl CertificateDraft {
     // Takes the case that was read last.
     fn take_case(&mut self, alloc: Global) -> Case
         ensures taken { result ≡ self.old.now }
@@ -108,7 +136,7 @@ impl Draft {
     fn settle(&mut self, alloc: Global) -> Result<(), AllocError>
         ensures { OnOk result (self.new ≡ settled self.old) }
     {
-        if let Place::Beta = self.place {
+        if let LastRead::Beta = self.place {
             let cases = self.take_cases(alloc);
             self.nodes.push(node_of(self.head, NodeDuals::New(cases)))?;
         }
@@ -122,9 +150,9 @@ impl Draft {
     {
         self.begun += 1;
         self.head = head;
-        self.place = Place::Node;
+        self.place = LastRead::Node;
         match head.duals {
-            HeadDuals::New => self.place = Place::New,
+            HeadDuals::New => self.place = LastRead::New,
             HeadDuals::Same => self.nodes.push(node_of(head, NodeDuals::Same))?,
             HeadDuals::Bare => self.nodes.push(node_of(head, NodeDuals::Bare))?,
         }
@@ -147,7 +175,7 @@ impl Draft {
         ensures { self.new ≡ with_case self.old limits }
     {
         self.cases += 1;
-        self.place = Place::Case;
+        self.place = LastRead::Case;
         self.to = limits.to;
         self.multiplier = limits.multiplier;
         self.alpha = Items::from_vec(Vec::new(alloc));
@@ -168,14 +196,14 @@ impl Draft {
     fn set_alpha(&mut self, values: Vec<i64>)
         ensures { self.new ≡ with_alpha self.old values.items }
     {
-        self.place = Place::Alpha;
+        self.place = LastRead::Alpha;
         self.alpha = Items::from_vec(values);
     }
 
     fn set_beta(&mut self, values: Vec<i64>)
         ensures { self.new ≡ with_beta self.old values.items }
     {
-        self.place = Place::Beta;
+        self.place = LastRead::Beta;
         self.beta = Items::from_vec(values);
     }
 
@@ -204,7 +232,7 @@ impl Draft {
         ensures { OnOk result (self.new ≡ with_end self.old (cost, bound)) }
     {
         self.settle(alloc)?;
-        self.place = Place::End;
+        self.place = LastRead::End;
         self.cost = cost;
         self.bound = bound;
         Ok(())
@@ -269,7 +297,8 @@ impl Draft {
         n: u32,
         row: &Row,
     ) -> Result<(), ReadError>
-        ensures { Gives (λ _. self.new) result (answer n (lone_alpha_of instance.now self.old row.now)) }
+        ensures { Gives (λ _. self.new) result
+            (answer n (lone_alpha_of instance.now self.old row.now)) }
     {
         let values = read_lone_alpha(instance, alloc, self.cases, row, n)?;
         self.begin_lone(alloc, values);
@@ -323,7 +352,8 @@ impl Draft {
         n: u32,
         row: &Row,
     ) -> Result<(), ReadError>
-        ensures { Gives (λ _. self.new) result (answer n (after_node instance.now self.old row.now)) }
+        ensures { Gives (λ _. self.new) result
+            (answer n (after_node instance.now self.old row.now)) }
     {
         let word = row.word();
         if word == b"node".as_slice() {
@@ -344,7 +374,8 @@ impl Draft {
         n: u32,
         row: &Row,
     ) -> Result<(), ReadError>
-        ensures { Gives (λ _. self.new) result (answer n (after_case instance.now self.old row.now)) }
+        ensures { Gives (λ _. self.new) result
+            (answer n (after_case instance.now self.old row.now)) }
     {
         if self.to == 160 {
             return self.read_after_node(instance, alloc, n, row);
@@ -364,7 +395,8 @@ impl Draft {
         n: u32,
         row: &Row,
     ) -> Result<(), ReadError>
-        ensures { Gives (λ _. self.new) result (answer n (after_beta instance.now self.old row.now)) }
+        ensures { Gives (λ _. self.new) result
+            (answer n (after_beta instance.now self.old row.now)) }
     {
         let word = row.word();
         if word == b"price".as_slice() {
@@ -385,7 +417,8 @@ impl Draft {
         n: u32,
         row: &Row,
     ) -> Result<(), ReadError>
-        ensures { Gives (λ _. self.new) result (answer n (after_new instance.now self.old row.now)) }
+        ensures { Gives (λ _. self.new) result
+            (answer n (after_new instance.now self.old row.now)) }
     {
         let word = row.word();
         if word == b"case".as_slice() {
@@ -422,7 +455,7 @@ fn node_of(head: Head, duals: NodeDuals) -> Node
     }
 }
 
-impl<'r> FormatReader<'r> for Draft {
+impl<'r> FormatReader<'r> for CertificateDraft {
     type Context = Instance;
 
     type Output = Certificate;
@@ -432,14 +465,18 @@ impl<'r> FormatReader<'r> for Draft {
     ghost suits = { λ _. Unit };
 
     #[tactic(auto, unfolding(crate::specs::defs::CertificateFormat::first_of))]
-    fn read_first(_: &'r Instance, alloc: Global, row: &'r Row) -> Result<Draft, ReadError> {
+    fn read_first(
+        _: &'r Instance,
+        alloc: Global,
+        row: &'r Row,
+    ) -> Result<CertificateDraft, ReadError> {
         let version = read_version(row)?;
-        Ok(Draft {
+        Ok(CertificateDraft {
             version,
             nodes: Vec::new(alloc),
             begun: 0,
             cases: 0,
-            place: Place::Start,
+            place: LastRead::Start,
             head: Head {
                 depth: 0,
                 choice: None,
@@ -467,13 +504,17 @@ impl<'r> FormatReader<'r> for Draft {
     ) -> Result<(), ReadError> {
         let word = row.word();
         match self.place {
-            Place::Start if word == b"node".as_slice() => self.read_root(alloc, n, row),
-            Place::Node => self.read_after_node(instance, alloc, n, row),
-            Place::New => self.read_after_new(instance, alloc, n, row),
-            Place::Case if word == b"alpha".as_slice() => self.read_alpha(instance, alloc, n, row),
-            Place::Alpha if word == b"beta".as_slice() => self.read_beta(instance, alloc, n, row),
-            Place::Beta => self.read_after_beta(instance, alloc, n, row),
-            Place::End => Err(fault(n, RowKind::Tail)),
+            LastRead::Start if word == b"node".as_slice() => self.read_root(alloc, n, row),
+            LastRead::Node => self.read_after_node(instance, alloc, n, row),
+            LastRead::New => self.read_after_new(instance, alloc, n, row),
+            LastRead::Case if word == b"alpha".as_slice() => self.read_alpha(
+                instance, alloc, n, row,
+            ),
+            LastRead::Alpha if word == b"beta".as_slice() => self.read_beta(
+                instance, alloc, n, row,
+            ),
+            LastRead::Beta => self.read_after_beta(instance, alloc, n, row),
+            LastRead::End => Err(fault(n, RowKind::Tail)),
             _ => Err(fault(n, RowKind::Kind)),
         }
     }
@@ -503,11 +544,11 @@ fn fault(n: u32, kind: RowKind) -> ReadError
     })
 }
 
-fn is_end(place: Place) -> bool
+fn is_end(place: LastRead) -> bool
     ensures { result ≡ ended place }
 {
     match place {
-        Place::End => true,
+        LastRead::End => true,
         _ => false,
     }
 }
@@ -520,8 +561,9 @@ pub fn read_certificate(
     instance: &Instance,
     rows: &Vec<Row>,
 ) -> Result<Certificate, ReadError>
-    ensures stated { Gives (λ c. c) result (reading (certificate_format instance.now) rows.now.items) }
+    ensures stated { Gives (λ c. c) result
+        (reading (certificate_format instance.now) rows.now.items) }
     ensures in_range { IfOk result (IsCertificate instance.now) }
 {
-    read::<Draft>(instance, alloc, rows)
+    read::<CertificateDraft>(instance, alloc, rows)
 }

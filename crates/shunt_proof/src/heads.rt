@@ -1,7 +1,8 @@
 // Records of nodes.
 ghost use Rattle.std.specs.Prelude.{◌≡◌, ◌≤◌, ◌<◌, ◌==◌, ◌||◌, IsTrue, IfOk, length};
 ghost use Rattle.shunt_rows.specs.defs.Checks.{answer};
-ghost use Rattle.shunt_proof.specs.defs.CertificateFormat.{kind_of, duals_of, head_in, root_in, deepest, later_in, child_in};
+ghost use Rattle.shunt_proof.specs.defs.CertificateFormat.{kind_of, duals_of, head_in, root_in};
+ghost use Rattle.shunt_proof.specs.defs.CertificateFormat.{deepest, later_in, child_in};
 
 use crate::records::{Choice, NodeKind};
 use shunt_instance::Instance;

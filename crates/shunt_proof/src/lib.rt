@@ -14,11 +14,11 @@ mod text_recorder;
 mod values;
 pub mod version_laws;
 mod versions;
-mod writing;
+mod writer;
 
 pub use draft::read_certificate;
 pub use list_recorder::ListRecorder;
 pub use recorder::{RecordError, Recorder};
 pub use records::{Certificate, Choice, Node, NodeDuals, NodeKind, Version};
 pub use text_recorder::{TextRecorder, begin_certificate};
-pub use writing::write_certificate;
+pub use writer::write_certificate;

@@ -1,7 +1,8 @@
 // A recorder in memory.
-ghost use Rattle.std.specs.Prelude.{◌≡◌, ◌++◌, ◌∷◌, [], ◌+◌, ◌<◌, ◌≤◌, ℕ, Some, length, OnOk, OnErr};
+ghost use Rattle.std.specs.Prelude.{◌≡◌, ◌++◌, ◌∷◌, [], ◌+◌, ◌<◌, ◌≤◌, ℕ, Some, length, OnOk};
+ghost use Rattle.std.specs.Prelude.{OnErr};
 ghost use Rattle.shunt_proof.specs.defs.Certificates.{own_cases};
-ghost use Rattle.shunt_proof.specs.defs.Recording.{Open, Stalled, Finished};
+ghost use Rattle.shunt_proof.specs.defs.Recorders.{Open, Stalled, Finished};
 
 use crate::copies::copy_node;
 use crate::recorder::{RecordError, Recorder};
@@ -13,7 +14,7 @@ use std::marker::Model;
 
 // What it can do.
 #[derive(Clone, Copy, Debug, PartialEq, Eq, Drop)]
-pub enum Doing {
+pub enum ListState {
     Open,
     Stalled,
     Finished(u64, u64),
@@ -26,15 +27,20 @@ pub struct ListRecorder {
     version: Version,
     nodes: Vec<Node>,
     cases: u32,
-    doing: Doing,
+    doing: ListState,
 }
 
 impl Model for ListRecorder {
-    ghost use Rattle.shunt_proof.specs.defs.Listing.{Listed, stage_of};
+    ghost use Rattle.shunt_proof.specs.defs.ListRecorders.{Listed, stage_of};
 
     ghost Value = { Listed };
 
-    ghost view = { λ r. record { version = r.version; nodes = r.nodes.items; cases = r.cases; stage = stage_of r.doing } };
+    ghost view = { λ r. record {
+      version = r.version;
+      nodes = r.nodes.items;
+      cases = r.cases;
+      stage = stage_of r.doing;
+    } };
 }
 
 // How many cases of its own a node has: 0, 1 or 2.
@@ -57,14 +63,17 @@ impl ListRecorder {
             version,
             nodes: Vec::new(alloc),
             cases: 0,
-            doing: Doing::Open,
+            doing: ListState::Open,
         }
     }
 
     // Notes a copy of a node.
     fn add(&mut self, node: &Node) -> Result<(), AllocError>
         requires { self.old.cases + own_cases node.now.duals ≤ 8000 }
-        ensures { OnOk result (self.new ≡ record self.old { nodes = self.old.nodes ++ node.now ∷ []; cases = self.old.cases + own_cases node.now.duals }) }
+        ensures { OnOk result (self.new ≡ record self.old {
+          nodes = self.old.nodes ++ node.now ∷ [];
+          cases = self.old.cases + own_cases node.now.duals;
+        }) }
     {
         self.nodes.push(copy_node(self.alloc, node)?)?;
         self.cases += own_cases(&node.duals);
@@ -79,7 +88,7 @@ impl ListRecorder {
         ensures stated { self.stage ≡ Finished result.cost result.bound }
     {
         let (cost, bound) = match self.doing {
-            Doing::Finished(cost, bound) => (cost, bound),
+            ListState::Finished(cost, bound) => (cost, bound),
             _ => unreachable!(),
         };
         Certificate {
@@ -112,7 +121,7 @@ impl Recorder for ListRecorder {
 
     fn note(&mut self, _: &Instance, node: &Node) -> Result<(), RecordError> {
         if self.add(node).is_err() {
-            self.doing = Doing::Stalled;
+            self.doing = ListState::Stalled;
             return Err(RecordError::Memory);
         }
         Ok(())
@@ -125,7 +134,7 @@ impl Recorder for ListRecorder {
     }
 
     fn finish(&mut self, cost: u64, bound: u64) -> Result<(), RecordError> {
-        self.doing = Doing::Finished(cost, bound);
+        self.doing = ListState::Finished(cost, bound);
         Ok(())
     }
 }

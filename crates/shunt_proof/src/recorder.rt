@@ -1,5 +1,6 @@
 // What keeps the nodes of a certificate while they are found.
-ghost use Rattle.std.specs.Prelude.{◌≡◌, ◌↔◌, ◌++◌, ◌∷◌, [], ℕ, ◌+◌, ◌<◌, ◌≤◌, List, Option, OnOk, OnErr, IfSome, IsErrOf};
+ghost use Rattle.std.specs.Prelude.{◌≡◌, ◌↔◌, ◌++◌, ◌∷◌, [], ℕ, ◌+◌, ◌<◌, ◌≤◌, List, Option, OnOk};
+ghost use Rattle.std.specs.Prelude.{OnErr, IfSome, IsErrOf};
 ghost use Rattle.shunt_store.specs.defs.Causes.{HasCause};
 ghost use Rattle.shunt_store.specs.defs.Files.{BothTold};
 ghost use Rattle.shunt_instance.specs.defs.Instance.{Night};
@@ -7,7 +8,7 @@ ghost use Rattle.shunt_proof.specs.declared.records.Node.{Node};
 ghost use Rattle.shunt_proof.specs.declared.recorder.RecordError.TheVariants as errors;
 ghost use Rattle.shunt_proof.specs.defs.Nodes.{FitsNode, CanFollow};
 ghost use Rattle.shunt_proof.specs.defs.Certificates.{own_cases};
-ghost use Rattle.shunt_proof.specs.defs.Recording.{Stage, Open, Finished, stage_behind};
+ghost use Rattle.shunt_proof.specs.defs.Recorders.{Stage, Open, Finished, stage_behind};
 
 use crate::records::Node;
 use shunt_instance::Instance;
@@ -75,7 +76,8 @@ pub trait Recorder {
         requires case_room { cases self.old + own_cases node.now.duals ≤ 8000 }
         requires node { FitsNode instance.now node.now }
         requires place { IfSome (told self.old) (λ nodes. CanFollow nodes node.now) }
-        ensures told { OnOk result (BothTold (told self.old) (told self.new) (λ old new. new ≡ old ++ node.now ∷ [])) }
+        ensures told { OnOk result
+            (BothTold (told self.old) (told self.new) (λ old new. new ≡ old ++ node.now ∷ [])) }
         ensures number { OnOk result (number self.new ≡ number self.old + 1) }
         ensures cases { OnOk result (cases self.new ≡ cases self.old + own_cases node.now.duals) }
         ensures stage { stage self.new ≡ stage_behind Open result }
@@ -86,7 +88,8 @@ pub trait Recorder {
     /// Forgets the nodes that were noted.
     fn restart(&mut self) -> Result<(), RecordError>
         requires stage { stage self.old ≡ Open }
-        ensures told { OnOk result (BothTold (told self.old) (told self.new) (λ old new. new ≡ [])) }
+        ensures told { OnOk result
+            (BothTold (told self.old) (told self.new) (λ old new. new ≡ [])) }
         ensures number { OnOk result (number self.new ≡ 0) }
         ensures cases { OnOk result (cases self.new ≡ 0) }
         ensures stage { stage self.new ≡ stage_behind Open result }

@@ -6,13 +6,13 @@ ghost use Rattle.shunt_rows.specs.defs.Records.{text_of_row, text_of_rows};
 ghost use Rattle.shunt_proof.specs.defs.Nodes.{FitsNode};
 ghost use Rattle.shunt_proof.specs.defs.CertificateRows.{head_row, end_row, node_rows};
 ghost use Rattle.shunt_proof.specs.defs.Numbers.{CanBeRead};
-ghost use Rattle.shunt_proof.specs.defs.Recording.{Open};
-ghost use Rattle.shunt_proof.specs.defs.Streaming.{Rests, seen, told_of, stage_of};
+ghost use Rattle.shunt_proof.specs.defs.Recorders.{Open};
+ghost use Rattle.shunt_proof.specs.defs.TextRecorders.{Rests, seen, told_of, stage_of};
 
 use crate::list_recorder::own_cases;
 use crate::recorder::{RecordError, Recorder};
 use crate::records::{Node, Version};
-use crate::writing::{write_end, write_first, write_node};
+use crate::writer::{write_end, write_first, write_node};
 use shunt_instance::Instance;
 use shunt_rows::RowWriter;
 use shunt_store::{Store, StoreError, append_all};
@@ -20,7 +20,7 @@ use std::alloc::{AllocError, Global};
 
 // What it can do. Where it was refused, what was written is given up.
 #[derive(Clone, Copy, Debug, PartialEq, Eq, Drop)]
-pub enum Doing {
+pub enum TextState {
     Open,
     Stalled,
     Finished(u64, u64),
@@ -58,7 +58,8 @@ fn last_text(alloc: Global, cost: u64, bound: u64, nodes: u64) -> Result<Vec<u8>
 // Appends the bytes to what is written, or gives it up.
 fn append<S: Store>(store: &mut S, bytes: &[u8]) -> Result<(), StoreError>
     requires { IsWriting (S.stage store.old) }
-    ensures ok { OnOk result (S.stage store.new ≡ Writing (name_of (S.stage store.old)) (text_of (S.stage store.old) ++ bytes.now)) }
+    ensures ok { OnOk result (S.stage store.new
+        ≡ Writing (name_of (S.stage store.old)) (text_of (S.stage store.old) ++ bytes.now)) }
     ensures err { OnErr result (S.stage store.new ≡ Closed) }
     ensures files { S.told store.new ≡ S.told store.old }
     ensures heard { S.heard store.new ≡ S.heard store.old }
@@ -83,7 +84,8 @@ fn append_node<S: Store>(
 ) -> Result<(), StoreError>
     requires writing { IsWriting (S.stage store.old) }
     requires node { FitsNode instance.now node.now }
-    ensures ok { OnOk result (S.stage store.new ≡ Writing (name_of (S.stage store.old)) (text_of (S.stage store.old) ++ text_of_rows (node_rows instance.now node.now))) }
+    ensures ok { OnOk result (S.stage store.new ≡ Writing (name_of (S.stage store.old))
+        (text_of (S.stage store.old) ++ text_of_rows (node_rows instance.now node.now))) }
     ensures err { OnErr result (S.stage store.new ≡ Closed) }
     ensures files { S.told store.new ≡ S.told store.old }
     ensures heard { S.heard store.new ≡ S.heard store.old }
@@ -108,7 +110,8 @@ fn append_last<S: Store>(
     nodes: u64,
 ) -> Result<(), StoreError>
     requires { IsWriting (S.stage store.old) }
-    ensures ok { OnOk result (S.stage store.new ≡ Writing (name_of (S.stage store.old)) (text_of (S.stage store.old) ++ text_of_row (end_row cost bound nodes))) }
+    ensures ok { OnOk result (S.stage store.new ≡ Writing (name_of (S.stage store.old))
+        (text_of (S.stage store.old) ++ text_of_row (end_row cost bound nodes))) }
     ensures err { OnErr result (S.stage store.new ≡ Closed) }
     ensures files { S.told store.new ≡ S.told store.old }
     ensures heard { S.heard store.new ≡ S.heard store.old }
@@ -132,7 +135,8 @@ pub fn begin_certificate<S: Store>(
     version: Version,
 ) -> Result<(), StoreError>
     requires { S.stage store.old ≡ Closed }
-    ensures ok { OnOk result (S.stage store.new ≡ Writing name.now (text_of_row (head_row version))) }
+    ensures ok { OnOk result
+        (S.stage store.new ≡ Writing name.now (text_of_row (head_row version))) }
     ensures err { OnErr result (S.stage store.new ≡ Closed) }
     ensures files { S.told store.new ≡ S.told store.old }
     ensures heard { S.heard store.new ≡ S.heard store.old }
@@ -152,7 +156,8 @@ fn begin_again<S: Store>(
     version: Version,
 ) -> Result<(), StoreError>
     requires { IsWriting (S.stage store.old) }
-    ensures ok { OnOk result (S.stage store.new ≡ Writing name.now (text_of_row (head_row version))) }
+    ensures ok { OnOk result
+        (S.stage store.new ≡ Writing name.now (text_of_row (head_row version))) }
     ensures err { OnErr result (S.stage store.new ≡ Closed) }
     ensures files { S.told store.new ≡ S.told store.old }
     ensures heard { S.heard store.new ≡ S.heard store.old }
@@ -175,7 +180,7 @@ pub struct TextRecorder<'s, S: Store> {
     instance: &'s Instance,
     name: &'s str,
     version: Version,
-    doing: Doing,
+    doing: TextState,
     nodes: u32,
     cases: u32,
 }
@@ -201,8 +206,10 @@ impl<'s, S: Store> TextRecorder<'s, S> {
         ensures faults { S.faults result.store.now ≡ S.faults store.old }
         ensures number { result.nodes ≡ 0 }
         ensures cases { result.cases ≡ 0 }
-        ensures open { stage_of (seen result.version result.instance.now result.name.now (S.stage result.store.now) result.doing result.nodes result.cases) ≡ Open }
-        ensures told { told_of (seen result.version result.instance.now result.name.now (S.stage result.store.now) result.doing result.nodes result.cases) ≡ Some [] }
+        ensures open { stage_of (seen result.version result.instance.now result.name.now
+            (S.stage result.store.now) result.doing result.nodes result.cases) ≡ Open }
+        ensures told { told_of (seen result.version result.instance.now result.name.now
+            (S.stage result.store.now) result.doing result.nodes result.cases) ≡ Some [] }
         ensures rests { Rests result.doing (S.stage result.store.now) }
     {
         // The call tells that the night is well formed, so that what is written can be read.
@@ -213,7 +220,7 @@ impl<'s, S: Store> TextRecorder<'s, S> {
             instance,
             name,
             version,
-            doing: Doing::Open,
+            doing: TextState::Open,
             nodes: 0,
             cases: 0,
         }
@@ -239,10 +246,10 @@ impl<'s, S: Store> TextRecorder<'s, S> {
             cases: _,
         } = self;
         match doing {
-            Doing::Open => store.drop_file(),
-            Doing::Stalled => {}
-            Doing::Finished(_, _) => store.drop_file(),
-            Doing::Failed => {}
+            TextState::Open => store.drop_file(),
+            TextState::Stalled => {}
+            TextState::Finished(_, _) => store.drop_file(),
+            TextState::Failed => {}
         }
     }
 }
@@ -250,25 +257,38 @@ impl<'s, S: Store> TextRecorder<'s, S> {
 impl<'s, S: Store> Recorder for TextRecorder<'s, S> {
     ghost use Rattle.std.specs.Prelude.{◌≡◌};
     ghost use Rattle.std.proofs.Common.{refl, ◌∙◌};
-    ghost use Rattle.shunt_proof.specs.defs.Streaming.{Keeps, keeps_same, keeps_on, seen, told_of, stage_of};
+    ghost use Rattle.shunt_proof.specs.defs.TextRecorders.{KeepsStream, keeps_same, keeps_on, seen};
+    ghost use Rattle.shunt_proof.specs.defs.TextRecorders.{told_of, stage_of};
 
     ghost owns = { λ r night. night ≡ r.instance.now };
 
-    ghost told = { λ r. told_of (seen r.version r.instance.now r.name.now (S.stage r.store.now) r.doing r.nodes r.cases) };
+    ghost told = { λ r. told_of
+        (seen r.version r.instance.now r.name.now (S.stage r.store.now) r.doing r.nodes r.cases) };
 
     ghost number = { λ r. r.nodes };
 
     ghost cases = { λ r. r.cases };
 
-    ghost stage = { λ r. stage_of (seen r.version r.instance.now r.name.now (S.stage r.store.now) r.doing r.nodes r.cases) };
+    ghost stage = { λ r. stage_of
+        (seen r.version r.instance.now r.name.now (S.stage r.store.now) r.doing r.nodes r.cases) };
 
     ghost faults = { λ r. S.faults r.store.now };
 
-    ghost keeps = { λ a b. (a.store.ghost_name ≡ b.store.ghost_name) × (Keeps (seen a.version a.instance.now a.name.now (S.stage a.store.now) a.doing a.nodes a.cases) (seen b.version b.instance.now b.name.now (S.stage b.store.now) b.doing b.nodes b.cases) × ((S.told b.store.now ≡ S.told a.store.now) × ((S.heard b.store.now ≡ S.heard a.store.now) × (S.stored b.store.now ≡ S.stored a.store.now)))) };
+    ghost keeps = { λ a b. (a.store.ghost_name ≡ b.store.ghost_name) × (KeepsStream
+        (seen a.version a.instance.now a.name.now (S.stage a.store.now) a.doing a.nodes a.cases)
+        (seen b.version b.instance.now b.name.now (S.stage b.store.now) b.doing b.nodes b.cases)
+        × ((S.told b.store.now ≡ S.told a.store.now) × ((S.heard b.store.now ≡ S.heard a.store.now)
+        × (S.stored b.store.now ≡ S.stored a.store.now)))) };
 
     ghost keeps_same = { λ a. (refl, (keeps_same _, (refl, (refl, refl)))) };
 
-    ghost keeps_on = { λ a b c h k. (h.0 ∙ k.0, (keeps_on _ _ _ h.1.0 k.1.0, (k.1.1.0 ∙ h.1.1.0, (k.1.1.1.0 ∙ h.1.1.1.0, k.1.1.1.1 ∙ h.1.1.1.1)))) };
+    ghost keeps_on = { λ a b c h k. (
+      h.0 ∙ k.0,
+      (
+        keeps_on _ _ _ h.1.0 k.1.0,
+        (k.1.1.0 ∙ h.1.1.0, (k.1.1.1.0 ∙ h.1.1.1.0, k.1.1.1.1 ∙ h.1.1.1.1)),
+      ),
+    ) };
 
     fn note(&mut self, _: &Instance, node: &Node) -> Result<(), RecordError> {
         // The call tells that the night is well formed, so that what is written can be read.
@@ -280,11 +300,11 @@ impl<'s, S: Store> Recorder for TextRecorder<'s, S> {
                 Ok(())
             }
             Err(StoreError::Memory) => {
-                self.doing = Doing::Stalled;
+                self.doing = TextState::Stalled;
                 Err(RecordError::Memory)
             }
             Err(StoreError::Fault) => {
-                self.doing = Doing::Failed;
+                self.doing = TextState::Failed;
                 Err(RecordError::Fault)
             }
         }
@@ -299,11 +319,11 @@ impl<'s, S: Store> Recorder for TextRecorder<'s, S> {
                 Ok(())
             }
             Err(StoreError::Memory) => {
-                self.doing = Doing::Stalled;
+                self.doing = TextState::Stalled;
                 Err(RecordError::Memory)
             }
             Err(StoreError::Fault) => {
-                self.doing = Doing::Failed;
+                self.doing = TextState::Failed;
                 Err(RecordError::Fault)
             }
         }
@@ -313,15 +333,15 @@ impl<'s, S: Store> Recorder for TextRecorder<'s, S> {
         self.instance.station();
         match append_last(self.alloc, self.store, cost, bound, self.nodes as u64) {
             Ok(()) => {
-                self.doing = Doing::Finished(cost, bound);
+                self.doing = TextState::Finished(cost, bound);
                 Ok(())
             }
             Err(StoreError::Memory) => {
-                self.doing = Doing::Stalled;
+                self.doing = TextState::Stalled;
                 Err(RecordError::Memory)
             }
             Err(StoreError::Fault) => {
-                self.doing = Doing::Failed;
+                self.doing = TextState::Failed;
                 Err(RecordError::Fault)
             }
         }

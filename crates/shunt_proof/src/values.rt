@@ -3,7 +3,10 @@ ghost use Rattle.std.specs.Prelude.{◌≡◌, ◌≤◌, ◌<◌, ◌+◌, leng
 ghost use Rattle.shunt_base.specs.declared.duals.PriceKind.TheVariants as counts;
 ghost use Rattle.shunt_rows.specs.defs.Checks.{answer};
 ghost use Rattle.shunt_rows.specs.defs.Given.{Gives};
-ghost use Rattle.shunt_proof.specs.defs.CertificateFormat.{is_value, value_in, values_in, first_limits_in, second_limits_in, alpha_in, lone_alpha_in, beta_in, is_price, has_price, price_in, part_in};
+ghost use Rattle.shunt_proof.specs.defs.CertificateFormat.{is_value, value_in, values_in};
+ghost use Rattle.shunt_proof.specs.defs.CertificateFormat.{first_limits_in, second_limits_in};
+ghost use Rattle.shunt_proof.specs.defs.CertificateFormat.{alpha_in, lone_alpha_in, beta_in};
+ghost use Rattle.shunt_proof.specs.defs.CertificateFormat.{is_price, has_price, price_in, part_in};
 
 use shunt_base::{ArrId, Price, PriceKind, TrackId, parse_decimal, parse_signed};
 use shunt_instance::Instance;
@@ -114,7 +117,8 @@ pub fn read_lone_alpha(
     row: &Row,
     n: u32,
 ) -> Result<Vec<i64>, ReadError>
-    ensures answer { Gives (λ v. v.items) result (answer n (lone_alpha_in instance.now cases row.now)) }
+    ensures answer { Gives (λ v. v.items) result
+        (answer n (lone_alpha_in instance.now cases row.now)) }
     ensures room { IfOk result (λ _. cases < 8000) }
 {
     let units = instance.units();

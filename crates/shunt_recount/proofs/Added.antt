@@ -1,5 +1,5 @@
 -- One more block at a path, and how far the gain of its stack falls.
-use Rattle.std.specs.Prelude.{All, ◌-ℤ◌, Option, Some, None, Result, Ok, Err, IfOk}
+use Rattle.std.specs.Prelude.{All, ◌-ℤ◌, Option, Some, None}
 use Rattle.std.proofs.Common.{◌≡◌, ⊎_elim, ℕ, ◌+◌, ◌<◌, false, List, [], ◌∷◌, ◌++◌, length, take, get_or, ℤ, pos, refl, sym, subst}
 use Rattle.std.proofs.lemmas.List.{take_more}
 use Rattle.std.proofs.lemmas.List.Elements.{All-cons, All-nil, All-append}
@@ -49,7 +49,3 @@ pub not_yet : (counts : List StackCount) (i : ℕ) (d : StackCount) (park : Opti
 not_yet counts i d park lt is before k there = ⊎_elim (λ early. before k early) (λ last. subst (λ (x : StackCount). is_of (stack_at x.end) park ≡ false)
     (sym (of_one (get_or counts i d) k last)) is)
     (in_cases (take i counts) (get_or counts i d ∷ []) k (subst (λ (l : List StackCount). In k l) (take_more counts i d lt) there))
-
-pub if_moved : {X E : Type 0} (P Q : X → Type 0) (r : Result X E) → ((x : X) → P x → Q x) → IfOk r P → IfOk r Q
-if_moved P Q (Ok x) h p = h x p
-if_moved P Q (Err e) h p = tt

@@ -1,11 +1,8 @@
 -- What the greatest gain of visits says of a stack.
 use Rattle.std.specs.Prelude.{◌↔◌, Option, Some}
 use Rattle.std.proofs.Common.{◌≡◌, ℕ, ◌+◌, ◌≤◌, List, ℤ, sym, subst, ◌∙◌, arith}
-use Rattle.shunt_stacks.specs.defs.Spans.{Span, AreOwn, best}
+use Rattle.shunt_stacks.specs.defs.Spans.{Span, best}
 use Rattle.shunt_recount.specs.defs.Visits.{AreSmall}
-
-pub moved_own : (fixed free xs ys : List Span) → xs ≡ fixed → ys ≡ free → AreOwn fixed free → AreOwn xs ys
-moved_own fixed free xs ys e f own = subst (λ (zs : List Span). AreOwn zs ys) (sym e) (subst (AreOwn fixed) (sym f) own)
 
 pub moved_small : (fixed free xs ys : List Span) → xs ≡ fixed → ys ≡ free → AreSmall fixed free → AreSmall xs ys
 moved_small fixed free xs ys e f small = subst (λ (zs : List Span). AreSmall zs ys) (sym e) (subst (AreSmall fixed) (sym f) small)

@@ -2,13 +2,12 @@ mod Ordered
 mod Remembered
 mod Small
 mod Stepped
-mod Summed
 mod Offered
 mod Weighed
 mod Spanned
 mod Gained
-mod Taking
+mod TakenOffers
 mod Totalled
 mod Added
 mod Pairwise
-mod Listing
+mod ShapeLists

@@ -1,9 +1,9 @@
 -- Free shapes, candidates and offers, one after another.
 use Rattle.std.specs.Prelude.{◌<ℤ◌, ◌≤ℤ◌, All}
-use Rattle.std.proofs.Common.{◌≡◌, ⊎_elim, inl, List, [], ◌∷◌, ◌++◌, get_or, ℤ, pos, refl, sym, ap, subst, ◌∙◌, arith}
+use Rattle.std.proofs.Common.{◌≡◌, ⊎_elim, inl, List, [], ◌∷◌, ◌++◌, ℤ, pos, refl, sym, ap, subst, ◌∙◌, arith}
 use Rattle.std.proofs.lemmas.Int.{ints}
 use Rattle.shunt_lists.specs.defs.Members.{In}
-use Rattle.shunt_lists.proofs.Members.{in_left, in_right, in_cases, in_place, of_one}
+use Rattle.shunt_lists.proofs.Members.{in_left, in_right, in_cases, of_one, to_all as from_members}
 use Rattle.shunt_base.specs.declared.duals.Case.{Case}
 use Rattle.shunt_instance.specs.defs.Instance.{Night}
 use Rattle.shunt_blocks.specs.declared.records.Shape.{Shape}
@@ -14,9 +14,6 @@ use Rattle.shunt_stacks.specs.defs.Stacks.{Stack}
 use Rattle.shunt_recount.specs.declared.candidates.Candidate.{Candidate}
 use Rattle.shunt_recount.specs.declared.offers.Offer.{Offer}
 use Rattle.shunt_recount.specs.defs.Offers.{AreFreeShapes, IsCandidate, AreCandidatesOf, Gains, IsOffer, AreOffersFor, block_on}
-
-pub from_members : {X : Type 0} (P : X → Type 0) (xs : List X) → ((x : X) → In x xs → P x) → All P xs
-from_members P xs h k d lt = h (get_or xs k d) (in_place xs k d lt)
 
 -- ---- shapes
 

@@ -1,20 +1,17 @@
 -- Visits in the order in which they come.
 use Rattle.std.specs.Prelude.{◌==◌, ◌↔◌, filter, IsPermutation}
 use Rattle.std.specs.List.Sorted.{IsNonDecreasingBy}
-use Rattle.std.proofs.Common.{◌≡◌, ◌⊎◌, inl, inr, ⊎_elim, ℕ, ◌+◌, ◌-◌, ◌<◌, ◌≤◌, true, false, Bool, List, [], ◌∷◌, ◌++◌, length, take, drop, get_or, refl, sym, ap, subst, ◌∙◌, arith}
+use Rattle.std.proofs.Common.{◌≡◌, ◌⊎◌, inl, inr, ⊎_elim, ℕ, ◌+◌, ◌-◌, ◌<◌, ◌≤◌, false, Bool, List, [], ◌∷◌, ◌++◌, length, take, drop, get_or, refl, sym, ap, subst, ◌∙◌, arith}
 use Rattle.std.proofs.lemmas.Bool.{cases_lt}
 use Rattle.std.proofs.lemmas.Bool.Decides.{nat_tests}
 use Rattle.std.proofs.lemmas.List.{take-append-drop, get_or-drop, get_or-take, length-drop, length-take}
 use Rattle.std.proofs.lemmas.List.Sorted.{IsPermutation-map, IsPermutation-sym, Contains-permutation}
 use Rattle.shunt_lists.specs.defs.Members.{In}
-use Rattle.shunt_lists.proofs.Members.{filter_yes, filter_no, in_from, in_to, of_map}
-use Rattle.shunt_choices.proofs.Given.{place}
+use Rattle.shunt_lists.proofs.Members.{filter_yes, filter_no, in_from, in_to, of_map, place}
 use Rattle.shunt_stacks.specs.defs.Spans.{Span, AreOwn, coming_at}
 use Rattle.shunt_recount.specs.declared.visits.Visit.{Visit}
 use Rattle.shunt_recount.specs.defs.Visits.{span_of, spans_of, comes_at, AreSmall}
-
-same_test : (m n : ℕ) → m ≡ n → m == n ≡ true
-same_test m n e = grind (arith, nat_tests)
+use Rattle.shunt_lists.proofs.Tests.{equal_to as same_test}
 
 less_test : (m n : ℕ) → m < n → m == n ≡ false
 less_test m n e = grind (arith, nat_tests)

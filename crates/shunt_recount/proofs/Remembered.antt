@@ -1,17 +1,14 @@
 -- Gains that are known stay right when one comes to them.
-use Rattle.std.specs.Prelude.{cond, Option, Some, IfSome, Bool, true, false, ℤ, List}
+use Rattle.std.specs.Prelude.{Option, Some, IfSome, true, ℤ, List}
 use Rattle.std.specs.BTreeMap.{BTreeMap, get, is_at, Updates}
 use Rattle.std.specs.Option.{option_copied}
 use Rattle.std.specs.Map.{lookup}
-use Rattle.std.proofs.Common.{Bor, ◌≡◌, ℕ, refl, sym, subst, arith}
+use Rattle.std.proofs.Common.{Bor, ◌≡◌, ℕ, sym, subst, arith}
 use Rattle.std.proofs.lemmas.Bool.Decides.{nat_tests}
 use Rattle.shunt_stacks.specs.defs.Spans.{Span}
 use Rattle.shunt_recount.specs.declared.known.Part.{Part}
 use Rattle.shunt_recount.specs.defs.Visits.{IsBest, AreKnown, part_cmp}
-
-pick : {A : Type 0} (P : A → Type 0) (t : Bool) (g : A) (o : Option A) → (t ≡ true → P g) → IfSome o P → IfSome (cond t (Some g) o) P
-pick P true g o sure other = sure refl
-pick P false g o sure other = other
+use Rattle.shunt_lists.proofs.Options.{some_either as pick}
 
 same_parts : (k q : Part) → is_at (part_cmp k) q ≡ true → (k.start ≡ q.start) × ((k.end ≡ q.end) × (k.room ≡ q.room))
 same_parts k q e = grind (arith, nat_tests)

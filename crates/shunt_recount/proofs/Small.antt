@@ -1,57 +1,18 @@
 -- The greatest gain over a part is small: it is at most so much for each event there at which a span comes.
 use mir.Syntax.{w64}
 use mir.Val.{to_z, of_z}
-use Rattle.std.specs.Prelude.{◌==◌, nat_le, ◌&&◌, cond, map, IfSome, Option, Some, None}
-use Rattle.std.proofs.Common.{◌≡◌, ◌⊎◌, inl, inr, ℕ, zero, suc, ◌+◌, ◌-◌, ◌*◌, ◌<◌, ◌≤◌, Bool, true, false, List, [], ◌∷◌, ℤ, pos, refl, sym, ap, subst, arith}
-use Rattle.std.proofs.lemmas.Int.{ints, clamps}
+use Rattle.std.specs.Prelude.{◌==◌, nat_le, ◌&&◌, IfSome, Option, Some}
+use Rattle.std.proofs.Common.{◌≡◌, ◌⊎◌, inl, inr, ℕ, zero, suc, ◌+◌, ◌-◌, ◌*◌, ◌<◌, ◌≤◌, List, [], ℤ, sym, ap, subst, arith}
+use Rattle.std.proofs.lemmas.Int.{ints}
 use Rattle.std.proofs.lemmas.Bool.{and_parts}
-use Rattle.std.proofs.lemmas.Bool.Decides.{nat_tests}
 use Rattle.shunt_lists.specs.defs.Members.{In}
 use Rattle.shunt_lists.proofs.Members.{filter_from}
 use Rattle.shunt_prices.specs.defs.Sums.{IsWithin}
-use Rattle.shunt_stacks.specs.defs.Spans.{Span, AreOwn, greater, plus, greatest_of, coming_at, best_with, best_at, best_step, best}
+use Rattle.shunt_stacks.specs.defs.Spans.{Span, AreOwn, plus, coming_at, best_with, best_step, best}
 use Rattle.shunt_recount.specs.declared.known.Part.{Part}
 use Rattle.shunt_recount.specs.defs.Visits.{AreSmall, IsBest}
-
-le_from : (m n : ℕ) → nat_le m n ≡ true → m ≤ n
-le_from m n e = grind (arith, nat_tests)
-
-lt_from : (m n : ℕ) → nat_le m n ≡ false → n < m
-lt_from m n e = grind (arith, nat_tests)
-
-same_from : (m n : ℕ) → m == n ≡ true → m ≡ n
-same_from m n e = grind (arith, nat_tests)
-
-greater_small : (k : ℕ) (a b : Option ℤ) → IfSome a (IsWithin k) → IfSome b (IsWithin k) → IfSome (greater a b) (IsWithin k)
-greater_small k None b h g = g
-greater_small k (Some x) None h g = h
-greater_small k (Some x) (Some y) h g = record { low = omega (arith, ints, clamps, h.low, g.low); high = omega (arith, ints, clamps, h.high, g.high) }
-
-plus_small : (j k m : ℕ) (a b : Option ℤ) → j + k ≤ m → IfSome a (IsWithin j) → IfSome b (IsWithin k) → IfSome (plus a b) (IsWithin m)
-plus_small j k m None b le h g = tt
-plus_small j k m (Some x) None le h g = tt
-plus_small j k m (Some x) (Some y) le h g = record { low = omega (arith, ints, h.low, g.low, le); high = omega (arith, ints, h.high, g.high, le) }
-
-wider : (j k : ℕ) (a : Option ℤ) → j ≤ k → IfSome a (IsWithin j) → IfSome a (IsWithin k)
-wider j k None le h = tt
-wider j k (Some x) le h = record { low = omega (arith, ints, h.low, le); high = omega (arith, ints, h.high, le) }
-
-most_small : (k : ℕ) (value : Span → Option ℤ) (spans : List Span) → ((s : Span) → In s spans → IfSome (value s) (IsWithin k)) → IfSome (greatest_of (map value spans)) (IsWithin k)
-most_small k value [] h = tt
-most_small k value (s ∷ spans) h = greater_small k (value s) (greatest_of (map value spans)) (h s (inl refl)) (most_small k value spans (λ t i. h t (inr i)))
-
-at_small : (k : ℕ) (fixed free : List Span) (without : Option ℤ) (value : Span → Option ℤ) → IfSome without (IsWithin k) →
-    ((s : Span) → In s fixed ⊎ In s free → IfSome (value s) (IsWithin k)) → IfSome (best_at fixed free without value) (IsWithin k)
-at_small k [] free without value w h = greater_small k without (greatest_of (map value free)) w (most_small k value free (λ s i. h s (inr i)))
-at_small k (f ∷ fixed) free without value w h = most_small k value (f ∷ fixed) (λ s i. h s (inl i))
-
-cond_small : (k : ℕ) (t : Bool) (o : Option ℤ) → (t ≡ true → IfSome o (IsWithin k)) → IfSome (cond t o None) (IsWithin k)
-cond_small k true o h = h refl
-cond_small k false o h = tt
-
-either_small : (k : ℕ) (t : Bool) (o : Option ℤ) → (t ≡ false → IfSome o (IsWithin k)) → IfSome (cond t (Some (pos 0)) o) (IsWithin k)
-either_small k true o h = record { low = omega (arith, ints); high = omega (arith, ints) }
-either_small k false o h = h refl
+use Rattle.shunt_lists.proofs.Tests.{equal_of as same_from, le_from}
+use Rattle.shunt_stacks.proofs.Small.{wider, cond_small, either_small, plus_small, at_small}
 
 module _ (fixed free : List Span) (own : AreOwn fixed free) (small : AreSmall fixed free) where
   -- at most this over the events from x on and before y

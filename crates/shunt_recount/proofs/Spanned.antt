@@ -1,17 +1,17 @@
 -- What blocks and offers take of the events.
 use Rattle.std.specs.Prelude.{All, cond, nat_lt}
-use Rattle.std.proofs.Common.{◌≡◌, ◌⊎◌, inl, inr, ⊎_elim, ℕ, zero, suc, ◌+◌, ◌-◌, ◌<◌, ◌≤◌, Bool, true, false, List, [], ◌∷◌, ◌++◌, length, take, get_or, ℤ, pos, refl, sym, ap, subst, ◌∙◌, arith}
+use Rattle.std.proofs.Common.{◌≡◌, ◌⊎◌, inl, inr, ⊎_elim, ℕ, zero, suc, ◌+◌, ◌-◌, ◌<◌, ◌≤◌, List, [], ◌∷◌, ◌++◌, length, take, get_or, ℤ, pos, refl, sym, ap, subst, ◌∙◌, arith}
 use Rattle.std.proofs.lemmas.Int.{ints}
 use Rattle.std.proofs.lemmas.Bool.{cases_lt}
 use Rattle.std.proofs.lemmas.Bool.Decides.{nat_tests}
 use Rattle.std.proofs.lemmas.List.{map-append, take_more}
 use Rattle.shunt_lists.specs.defs.Members.{In}
-use Rattle.shunt_lists.proofs.Members.{in_map, of_map, filter_from}
+use Rattle.shunt_lists.proofs.Members.{in_map, of_map, filter_from, each_one, to_all as from_members}
 use Rattle.shunt_base.specs.declared.duals.Case.{Case}
 use Rattle.shunt_instance.specs.defs.Instance.{Night, unit_total}
 use Rattle.shunt_blocks.specs.declared.records.Block.{Block}
 use Rattle.shunt_blocks.specs.defs.Shapes.{shape_of, IsWithinTrains, unit_from}
-use Rattle.shunt_choices.proofs.Given.{PlaceLaws, each_one, is_within}
+use Rattle.shunt_choices.proofs.Given.{PlaceLaws}
 use Rattle.shunt_choices.specs.defs.Paths.{masks_of}
 use Rattle.shunt_prices.specs.defs.Sums.{IsWithin}
 use Rattle.shunt_prices.specs.defs.Cases.{IsFreeBlock}
@@ -23,7 +23,8 @@ use Rattle.shunt_recount.specs.declared.visits.Visit.{Visit}
 use Rattle.shunt_recount.specs.declared.offers.Offer.{Offer}
 use Rattle.shunt_recount.specs.defs.Visits.{spans_of, AreSmall, span_of as visit_span}
 use Rattle.shunt_recount.specs.defs.Offers.{blocks_in, offer_span, offer_spans, AreOffersOf}
-use Rattle.shunt_recount.proofs.Offered.{from_members}
+use Rattle.shunt_lists.proofs.Tests.{flag_small as one_at_most}
+use Rattle.shunt_blocks.proofs.Shapes.{is_within}
 
 pub one_more_visit : (night : Night) (offers : List Offer) (i : ℕ) (d : Offer) (old new : List Visit) (v : Visit) (g : ℤ) → i < length offers → new ≡ old ++ v ∷ []
     → spans_of old ≡ offer_spans night (take i offers) →
@@ -68,10 +69,6 @@ units_before (suc k) entry x = units_before k entry x + cond (nat_lt (entry k) x
 
 one_rises : (e x y : ℕ) → x ≤ y → cond (nat_lt e x) 1 0 ≤ cond (nat_lt e y) 1 0
 one_rises e x y le = grind (arith, nat_tests)
-
-one_at_most : (b : Bool) → cond b 1 0 ≤ 1
-one_at_most true = omega arith
-one_at_most false = omega arith
 
 one_new : (e x y : ℕ) → x ≤ e → e < y → cond (nat_lt e x) 1 0 + 1 ≤ cond (nat_lt e y) 1 0
 one_new e x y le lt = grind (arith, nat_tests)

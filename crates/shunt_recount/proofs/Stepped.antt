@@ -1,25 +1,16 @@
 -- The greatest gain over a part, by the visits that come first there.
-use Rattle.std.specs.Prelude.{nat_le, ◌↔◌, ◌==◌, ◌&&◌, ◌-◌, cond, map, Option, Some, None, Result, Ok, Err, IfOk}
-use Rattle.std.specs.Int.{int_max}
-use Rattle.std.proofs.Common.{◌≡◌, ◌⊎◌, inl, inr, ⊎_elim, ℕ, zero, suc, ◌+◌, ◌<◌, ◌≤◌, Bool, true, false, List, [], ◌∷◌, length, drop, get_or, ℤ, pos, refl, sym, subst, ap, ◌∙◌, arith}
-use Rattle.std.proofs.lemmas.Int.{ints, clamps}
+use Rattle.std.specs.Prelude.{nat_le, ◌↔◌, ◌&&◌, ◌-◌, cond, map, Option, Some, None}
+use Rattle.std.proofs.Common.{◌≡◌, ◌⊎◌, inl, inr, ⊎_elim, ℕ, zero, suc, ◌+◌, ◌<◌, ◌≤◌, Bool, false, List, [], ◌∷◌, length, drop, get_or, ℤ, pos, refl, sym, subst, ap, ◌∙◌, arith}
 use Rattle.std.proofs.lemmas.Bool.Decides.{nat_tests}
 use Rattle.std.proofs.lemmas.List.{drop_more}
 use Rattle.shunt_lists.specs.defs.Members.{In}
-use Rattle.shunt_lists.proofs.Members.{filter_from, in_map, in_place}
+use Rattle.shunt_lists.proofs.Members.{in_map, in_place}
 use Rattle.shunt_stacks.specs.defs.Spans.{Span, AgreeWithin, greater, plus, greatest_of, coming_at, best_with, best_at, best_step, best}
 use Rattle.shunt_recount.specs.declared.visits.Visit.{Visit}
 use Rattle.shunt_recount.specs.declared.known.Part.{Part}
 use Rattle.shunt_recount.specs.defs.Visits.{span_of, spans_of, IsBest}
-
-max_apart : (x y z : ℤ) → int_max (int_max x y) z ≡ int_max x (int_max y z)
-max_apart x y z = omega (arith, ints, clamps)
-
-greater_apart : (a b c : Option ℤ) → greater (greater a b) c ≡ greater a (greater b c)
-greater_apart None b c = refl
-greater_apart (Some x) None c = refl
-greater_apart (Some x) (Some y) None = refl
-greater_apart (Some x) (Some y) (Some z) = ap Some (max_apart x y z)
+use Rattle.shunt_stacks.proofs.Steps.{not_yet, greater_apart, nothing}
+use Rattle.shunt_stacks.proofs.Best.{of_coming as comes_there}
 
 -- the greatest of a gain and those of the visits that are left
 abbrev pub left_with : (Span → Option ℤ) → List Visit → ℕ → Option ℤ → Option ℤ
@@ -31,21 +22,6 @@ pub turned : (value : Span → Option ℤ) (vs : List Visit) (i : ℕ) (d : Visi
 turned value vs i d gain w all lt e h = greater_apart gain w (greatest_of (map value (spans_of (drop (i + 1) vs))))
     ∙ (ap (λ (o : Option ℤ). greater gain (greater o (greatest_of (map value (spans_of (drop (i + 1) vs)))))) e
     ∙ (ap (λ (l : List Visit). greater gain (greatest_of (map value (spans_of l)))) (sym (drop_more vs i d lt)) ∙ h))
-
-not_yet : (x y : ℕ) → x < y → nat_le y x ≡ false
-not_yet x y lt = grind (arith, nat_tests)
-
-gone : (x y : ℕ) → y ≤ x → nat_le y x ≡ true
-gone x y le = grind (arith, nat_tests)
-
-not_there : (m n : ℕ) → m == n ≡ true → m ≡ n
-not_there m n e = grind (arith, nat_tests)
-
-pub nothing : (fixed free : List Span) (n x y room : ℕ) → y ≤ x → Some (pos 0) ≡ best n fixed free x y room
-nothing fixed free zero x y room le = refl
-nothing fixed free (suc n) x y room le =
-    sym (ap (λ (t : Bool). cond t (Some (pos 0)) (best_at (coming_at x fixed) (coming_at x free) (best n fixed free (x + 1) y room) (best_with (best n fixed free) y room)))
-    (gone x y le))
 
 -- what the laws say of own spans, where none comes at an event, and where a fixed one does
 abbrev pub NoneLaw : List Span → List Span → Type 0
@@ -93,31 +69,12 @@ module _ (rest : ℕ → ℕ → ℕ → Option ℤ) (fixed free : List Span) (x
       g ≡ best_step rest fixed free x y room
   by_free o g none is h = h ∙ (no_fixed (coming_at x fixed) o none is ∙ stepped)
 
-both : (s : Span) (y room : ℕ) → s.past ≤ y → s.length ≤ room → nat_le s.past y && nat_le s.length room ≡ true
-both s y room le few = grind (arith, nat_tests)
-
 neither : (s : Span) (y room : ℕ) → (y < s.past) ⊎ (room < s.length) → nat_le s.past y && nat_le s.length room ≡ false
 neither s y room (inl more) = grind (arith, nat_tests)
 neither s y room (inr long) = grind (arith, nat_tests)
 
-pub joined : (rest : ℕ → ℕ → ℕ → Option ℤ) (y room : ℕ) (s : Span) (gain : ℤ) (inside behind r : Option ℤ) → s.past ≤ y → s.length ≤ room → gain ≡ s.gain →
-    inside ≡ rest s.inside s.until (room - s.length) → behind ≡ rest s.past y room → r ≡ plus (Some gain) (plus inside behind) → r ≡ best_with rest y room s
-joined rest y room s gain inside behind r le few e a b h = h
-    ∙ (ap (λ (z : ℤ). plus (Some z) (plus inside behind)) e
-    ∙ (ap (λ (o : Option ℤ). plus (Some s.gain) (plus o behind)) a
-    ∙ (ap (λ (o : Option ℤ). plus (Some s.gain) (plus (rest s.inside s.until (room - s.length)) o)) b
-    ∙ sym (ap (λ (t : Bool). cond t (plus (Some s.gain) (plus (rest s.inside s.until (room - s.length)) (rest s.past y room))) None) (both s y room le few)))))
-
 pub no_room : (rest : ℕ → ℕ → ℕ → Option ℤ) (y room : ℕ) (s : Span) → (y < s.past) ⊎ (room < s.length) → None ≡ best_with rest y room s
 no_room rest y room s h = sym (ap (λ (t : Bool). cond t (plus (Some s.gain) (plus (rest s.inside s.until (room - s.length)) (rest s.past y room))) None) (neither s y room h))
-
-pub if_ok : {X E : Type 0} (P Q : X → Type 0) (r : Result X E) → ((x : X) → P x → Q x) → IfOk r P → IfOk r Q
-if_ok P Q (Ok x) h p = h x p
-if_ok P Q (Err e) h p = tt
-
--- a span that is listed as coming at an event
-pub comes_there : (x : ℕ) (spans : List Span) (s : Span) → In s (coming_at x spans) → In s spans × (s.from ≡ x)
-comes_there x spans s i = let h = filter_from (λ (t : Span). t.from == x) spans s i in (h.0, not_there s.from x h.1)
 
 -- one of the visits that come at an event, of those that are listed
 pub listed : (vs all items : List Visit) (i x : ℕ) (d : Visit) → i < length vs → spans_of vs ≡ coming_at x (spans_of all) → all ≡ items

@@ -7,7 +7,7 @@ ghost use Rattle.shunt_prices.specs.defs.Limits.{IsCase};
 ghost use Rattle.shunt_recount.specs.defs.Offers.{AreFreeShapes, IsCandidate, AreCandidatesOf};
 
 use crate::ends::block_of;
-use crate::pricing::worth;
+use crate::prices::worth;
 use crate::shapes::all_shapes;
 use shunt_base::Case;
 use shunt_blocks::{Shape, block_length};
@@ -46,8 +46,9 @@ fn add_worthy(
 ) -> Result<(), AllocError>
     requires case { IsCase instance.now case.now }
     requires within { AreRunsWithin instance.now shape }
-    ensures { (shapes : List AShape) → AreCandidatesOf instance.now case.now shapes candidates.old.items →
-        OnOk result (AreCandidatesOf instance.now case.now (shapes ++ shape ∷ []) candidates.new.items) }
+    ensures { (shapes : List AShape)
+        → AreCandidatesOf instance.now case.now shapes candidates.old.items → OnOk result
+        (AreCandidatesOf instance.now case.now (shapes ++ shape ∷ []) candidates.new.items) }
 {
     let candidate = candidate_of(instance, case, shape);
     if candidate.worth > 0 {
@@ -83,7 +84,8 @@ pub(crate) fn all_candidates(
 ) -> Result<Vec<Candidate>, AllocError>
     requires covered { AreMasksOf instance.now covered.now }
     requires case { IsCase instance.now case.now }
-    ensures { IfOk result (λ v. (shapes : List AShape) × AreFreeShapes instance.now covered.now shapes × AreCandidatesOf instance.now case.now shapes v.items) }
+    ensures { IfOk result (λ v. (shapes : List AShape) × AreFreeShapes instance.now covered.now
+        shapes × AreCandidatesOf instance.now case.now shapes v.items) }
 {
     let shapes = all_shapes(alloc, instance, covered)?;
     worthy(alloc, instance, case, &shapes)

@@ -46,7 +46,8 @@ pub(crate) fn count_of(
     requires through { RunsThrough instance.now (placed path.now.blocks) }
     requires case { IsCase instance.now case.now }
     requires track { end.track.0 < length instance.now.station.tracks }
-    requires candidates { (shapes : List AShape) × AreFreeShapes instance.now path.now.covered shapes × AreCandidatesOf instance.now case.now shapes candidates.now }
+    requires candidates { (shapes : List AShape) × AreFreeShapes instance.now path.now.covered
+        shapes × AreCandidatesOf instance.now case.now shapes candidates.now }
     ensures is { IfOk result (IsCountOf instance.now path.now.blocks case.now) }
     ensures end { IfOk result (λ k. k.end ≡ end) }
 {

@@ -41,7 +41,15 @@ pub(crate) fn stands_by(end: TrackEnd, option: Option<Park>) -> bool
 
 /// A shape with an option as a block.
 pub(crate) fn block_of(shape: Shape, park: Option<Park>) -> Block
-    ensures { result ≡ record { id = 1; arr = shape.arr; p = shape.p; n = shape.n; dep = shape.dep; q = shape.q; park = park } }
+    ensures { result ≡ record {
+      id = 1;
+      arr = shape.arr;
+      p = shape.p;
+      n = shape.n;
+      dep = shape.dep;
+      q = shape.q;
+      park = park;
+    } }
 {
     Block {
         id: 1,
@@ -81,7 +89,8 @@ fn is_open(instance: &Instance, end: TrackEnd) -> bool
 /// Adds an end of a track where it is open.
 fn add_end(instance: &Instance, end: TrackEnd, ends: &mut Vec<TrackEnd>) -> Result<(), AllocError>
     requires { end.track.0 < length instance.now.station.tracks }
-    ensures { OnOk result (stacks_at ends.new.items ≡ stacks_at ends.old.items ++ filter (λ k. is_open_at instance.now.station k.track k.side) (stack_at end ∷ [])) }
+    ensures { OnOk result (stacks_at ends.new.items ≡ stacks_at ends.old.items
+        ++ filter (λ k. is_open_at instance.now.station k.track k.side) (stack_at end ∷ [])) }
 {
     if is_open(instance, end) {
         ends.push(end)?;
@@ -92,7 +101,8 @@ fn add_end(instance: &Instance, end: TrackEnd, ends: &mut Vec<TrackEnd>) -> Resu
 /// Adds the open ends of a track.
 fn add_ends(instance: &Instance, track: TrackId, ends: &mut Vec<TrackEnd>) -> Result<(), AllocError>
     requires { track.0 < length instance.now.station.tracks }
-    ensures { OnOk result (stacks_at ends.new.items ≡ stacks_at ends.old.items ++ open_ends instance.now.station track.0) }
+    ensures { OnOk result (stacks_at ends.new.items ≡ stacks_at ends.old.items
+        ++ open_ends instance.now.station track.0) }
 {
     let first = TrackEnd {
         track,

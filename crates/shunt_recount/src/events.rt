@@ -45,7 +45,8 @@ fn leave_number(instance: &Instance, v: usize) -> u32
 /// What a block takes of the events, with a gain.
 fn visit_of(instance: &Instance, block: &Block, gain: i64) -> Visit
     requires { IsWithinTrains instance.now block.now }
-    ensures { visit_span result ≡ span_of instance.now (entry_number instance.now) (leave_number instance.now) (λ b. gain) block.now }
+    ensures { visit_span result ≡ span_of instance.now (entry_number instance.now)
+        (leave_number instance.now) (λ b. gain) block.now }
 {
     let shape = shape_of(block);
     let last = usize::from(block.n) - 1;
@@ -69,7 +70,8 @@ pub(crate) fn fixed_visits(
     blocks: &[Block],
 ) -> Result<Vec<Visit>, AllocError>
     requires { All (IsWithinTrains instance.now) blocks.now }
-    ensures { IfOk result (λ v. spans_of v.items ≡ fixed_spans instance.now (entry_number instance.now) (leave_number instance.now) (blocks_of (stack_at end) blocks.now)) }
+    ensures { IfOk result (λ v. spans_of v.items ≡ fixed_spans instance.now (entry_number
+        instance.now) (leave_number instance.now) (blocks_of (stack_at end) blocks.now)) }
 {
     let mut visits = Vec::new(alloc);
     'blocks: for block in blocks {

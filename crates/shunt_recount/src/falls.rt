@@ -1,5 +1,6 @@
 //! How far the gain of a stack falls when a block comes to a path.
-ghost use Rattle.std.specs.Prelude.{◌≡◌, ◌<◌, ◌-ℤ◌, ◌++◌, ◌∷◌, [], true, false, All, length, IfOk, IfSome, IfNone};
+ghost use Rattle.std.specs.Prelude.{◌≡◌, ◌<◌, ◌-ℤ◌, ◌++◌, ◌∷◌, [], true, false, All, length, IfOk};
+ghost use Rattle.std.specs.Prelude.{IfSome, IfNone};
 ghost use Rattle.shunt_lists.specs.defs.Members.{In};
 ghost use Rattle.shunt_blocks.specs.defs.Shapes.{shape_of};
 ghost use Rattle.shunt_blocks.specs.defs.Blocks.{IsBlockButId};
@@ -29,8 +30,10 @@ use std::alloc::{AllocError, Global};
 
 /// The stack of an option, where it is of one.
 fn count_for(counts: &[StackCount], option: Option<Park>) -> Option<&StackCount>
-    ensures some { IfSome result (λ k. In k.now counts.now × (is_of (stack_at k.now.end) option ≡ true)) }
-    ensures none { IfNone result ((k : ACount) → In k counts.now → is_of (stack_at k.end) option ≡ false) }
+    ensures some { IfSome result
+        (λ k. In k.now counts.now × (is_of (stack_at k.now.end) option ≡ true)) }
+    ensures none { IfNone result
+        ((k : ACount) → In k counts.now → is_of (stack_at k.end) option ≡ false) }
 {
     'counts: for count in counts {
         if stands_by(count.end, option) {
@@ -56,7 +59,8 @@ fn gain_with(
     requires track { count.now.end.track.0 < length instance.now.station.tracks }
     requires free { IsFreeBlock instance.now path.now.covered (shape_of block.now) block.now.park }
     requires longer { RunsThrough instance.now (placed (path.now.blocks ++ block.now ∷ [])) }
-    ensures exact { IfOk result (IsStackGain instance.now (path.now.blocks ++ block.now ∷ []) case.now (stack_at count.now.end)) }
+    ensures exact { IfOk result (IsStackGain instance.now
+        (path.now.blocks ++ block.now ∷ []) case.now (stack_at count.now.end)) }
     ensures small { IfOk result (IsWithin 319999999999680) }
 {
     // The first call tells that the night is well formed.
@@ -95,7 +99,8 @@ pub fn fall(
     requires case { IsCase instance.now case.now }
     requires free { IsFreeBlock instance.now path.now.covered (shape_of block.now) block.now.park }
     requires longer { RunsThrough instance.now (placed (path.now.blocks ++ block.now ∷ [])) }
-    ensures exact { IfOk result (IsFall instance.now path.now.blocks block.now case.now (stack_of block.now.park)) }
+    ensures exact { IfOk result
+        (IsFall instance.now path.now.blocks block.now case.now (stack_of block.now.park)) }
     ensures small { IfOk result (IsWithin 639999999999360) }
 {
     // The first call tells that the night is well formed.

@@ -11,7 +11,7 @@ ghost use Rattle.shunt_recount.specs.defs.Offers.{stack_at, AreOffersOf};
 use crate::ends::TrackEnd;
 use crate::events::{EVENTS, fixed_visits, free_visits};
 use crate::offers::Offer;
-use crate::pricing::room_on;
+use crate::prices::room_on;
 use crate::values::greatest_gain;
 use shunt_blocks::Block;
 use shunt_blocks::laws::places;
@@ -32,8 +32,10 @@ pub(crate) fn stack_gain(
     requires each { All (IsBlockButId instance.now) blocks.now }
     requires apart { ShareNothing instance.now blocks.now }
     requires through { RunsThrough instance.now (placed blocks.now) }
-    requires offers { (c : ACase) × IsCase instance.now c × AreOffersOf instance.now blocks.now c (stack_at end) offers.now }
-    ensures exact { (c : ACase) → AreOffersOf instance.now blocks.now c (stack_at end) offers.now → IfOk result (IsStackGain instance.now blocks.now c (stack_at end)) }
+    requires offers { (c : ACase) × IsCase instance.now c
+        × AreOffersOf instance.now blocks.now c (stack_at end) offers.now }
+    ensures exact { (c : ACase) → AreOffersOf instance.now blocks.now c (stack_at end) offers.now
+        → IfOk result (IsStackGain instance.now blocks.now c (stack_at end)) }
     ensures small { IfOk result (IsWithin 319999999999680) }
 {
     // The first call tells that the night is well formed.

@@ -19,14 +19,16 @@ pub(crate) type Known = BTreeMap<Part, Option<i64>>;
 
 /// The greatest gain over a part, where it is known.
 pub(crate) fn found(known: &Known, part: Part) -> Option<Option<i64>>
-    ensures { (fixed free : List Span) → AreKnown fixed free known.now → IfSome result (IsBest fixed free part) }
+    ensures { (fixed free : List Span) → AreKnown fixed free known.now
+        → IfSome result (IsBest fixed free part) }
 {
     known.get(&part).copied()
 }
 
 /// Keeps the greatest gain over a part.
 pub(crate) fn remember(known: &mut Known, part: Part, gain: Option<i64>) -> Result<(), AllocError>
-    ensures { (fixed free : List Span) → AreKnown fixed free known.old → IsBest fixed free part gain → AreKnown fixed free known.new }
+    ensures { (fixed free : List Span) → AreKnown fixed free known.old → IsBest fixed free part gain
+        → AreKnown fixed free known.new }
 {
     known.insert(part, gain)?;
     Ok(())

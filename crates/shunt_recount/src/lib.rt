@@ -9,7 +9,7 @@ mod falls;
 mod gains;
 mod known;
 mod offers;
-mod pricing;
+mod prices;
 mod recounts;
 mod shapes;
 mod values;

@@ -1,5 +1,6 @@
 // Free blocks of a stack that gain something in a case.
-ghost use Rattle.std.specs.Prelude.{◌≡◌, ◌<◌, ◌++◌, ◌∷◌, [], List, length, filter, not, All, IfOk, OnOk};
+ghost use Rattle.std.specs.Prelude.{◌≡◌, ◌<◌, ◌++◌, ◌∷◌, [], List, length, filter, not, All, IfOk};
+ghost use Rattle.std.specs.Prelude.{OnOk};
 ghost use Rattle.shunt_blocks.specs.defs.Shapes.{IsWithinTrains};
 ghost use Rattle.shunt_prices.specs.defs.Limits.{IsCase};
 ghost use Rattle.shunt_stacks.specs.defs.Numbers.{shares, meet};
@@ -8,7 +9,7 @@ ghost use Rattle.shunt_recount.specs.defs.Offers.{stack_at, IsCandidate, IsOffer
 
 use crate::candidates::Candidate;
 use crate::ends::{TrackEnd, block_on};
-use crate::pricing::{gain, room_on};
+use crate::prices::{gain, room_on};
 use shunt_base::Case;
 use shunt_blocks::{Block, is_option, position_from, shape_of, unit_from};
 use shunt_instance::Instance;
@@ -53,8 +54,9 @@ fn add_offer(
     requires case { IsCase instance.now case.now }
     requires track { end.track.0 < length instance.now.station.tracks }
     requires candidate { IsCandidate instance.now case.now candidate }
-    ensures { (candidates : List ACandidate) → AreOffersFor instance.now case.now (stack_at end) candidates offers.old.items →
-        OnOk result (AreOffersFor instance.now case.now (stack_at end) (candidates ++ candidate ∷ []) offers.new.items) }
+    ensures { (candidates : List ACandidate) → AreOffersFor instance.now case.now
+        (stack_at end) candidates offers.old.items → OnOk result (AreOffersFor instance.now case.now
+        (stack_at end) (candidates ++ candidate ∷ []) offers.new.items) }
 {
     if let Some(offer) = offer_for(instance, case, end, candidate) {
         offers.push(offer)?;
@@ -73,7 +75,8 @@ pub(crate) fn offers_for(
     requires case { IsCase instance.now case.now }
     requires track { end.track.0 < length instance.now.station.tracks }
     requires candidates { All (IsCandidate instance.now case.now) candidates.now }
-    ensures { IfOk result (λ v. AreOffersFor instance.now case.now (stack_at end) candidates.now v.items) }
+    ensures { IfOk result
+        (λ v. AreOffersFor instance.now case.now (stack_at end) candidates.now v.items) }
 {
     let mut offers = Vec::new(alloc);
     'candidates: for candidate in candidates {
@@ -130,7 +133,8 @@ pub(crate) fn apart_from(
 ) -> Result<Vec<Offer>, AllocError>
     requires block { IsWithinTrains instance.now block.now }
     requires offers { All (λ o. IsWithinTrains instance.now o.block) offers.now }
-    ensures { IfOk result (λ v. v.items ≡ filter (λ o. not (shares instance.now block.now o.block)) offers.now) }
+    ensures { IfOk result
+        (λ v. v.items ≡ filter (λ o. not (shares instance.now block.now o.block)) offers.now) }
 {
     let mut apart = Vec::new(alloc);
     'offers: for offer in offers {

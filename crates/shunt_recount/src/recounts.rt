@@ -51,7 +51,8 @@ fn counts_of(
     requires through { RunsThrough instance.now (placed path.now.blocks) }
     requires case { IsCase instance.now case.now }
     requires ends { stacks_at ends.now ≡ stacks instance.now.station }
-    requires candidates { (shapes : List AShape) × AreFreeShapes instance.now path.now.covered shapes × AreCandidatesOf instance.now case.now shapes candidates.now }
+    requires candidates { (shapes : List AShape) × AreFreeShapes instance.now path.now.covered
+        shapes × AreCandidatesOf instance.now case.now shapes candidates.now }
     ensures { IfOk result (λ v. AreCountsOf instance.now path.now.blocks case.now v.items) }
 {
     stacks_of_stations();
@@ -103,9 +104,11 @@ pub fn recount(
 
 /// What all stacks gain together, in thousandths of a cost unit.
 pub fn total(recount: &Recount) -> i64
-    ensures exact { (night : Night) (path : List ABlock) (c : ACase) → IsRecountOf night path c recount.now →
-        (gains : List ℤ) × AreStackGains night path c gains × (result ≡ sum_z (λ z. z) gains) }
-    ensures small { (night : Night) (path : List ABlock) (c : ACase) → IsRecountOf night path c recount.now → IsWithin 38399999999961600 result }
+    ensures exact { (night : Night) (path : List ABlock) (c : ACase)
+        → IsRecountOf night path c recount.now
+        → (gains : List ℤ) × AreStackGains night path c gains × (result ≡ sum_z (λ z. z) gains) }
+    ensures small { (night : Night) (path : List ABlock) (c : ACase)
+        → IsRecountOf night path c recount.now → IsWithin 38399999999961600 result }
 {
     recount.total
 }

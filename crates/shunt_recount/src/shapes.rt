@@ -4,7 +4,8 @@ ghost use Rattle.shunt_instance.specs.defs.Words.{train_at};
 ghost use Rattle.shunt_instance.specs.defs.Instance.{unit_total, position_total};
 ghost use Rattle.shunt_blocks.specs.defs.Shapes.{AreRunsWithin};
 ghost use Rattle.shunt_choices.specs.defs.Free.{AreMasksOf};
-ghost use Rattle.shunt_recount.specs.defs.Offers.{IsFreePair, IsFree, AreFreeShapes, GoesOn, BeginsAt, HasUnits, GoesWith};
+ghost use Rattle.shunt_recount.specs.defs.Offers.{IsFreePair, IsFree, AreFreeShapes, GoesOn};
+ghost use Rattle.shunt_recount.specs.defs.Offers.{BeginsAt, HasUnits, GoesWith};
 
 use shunt_base::DepId;
 use shunt_blocks::laws::places;
@@ -55,7 +56,8 @@ fn add_shape(
 ) -> Result<(), AllocError>
     requires covered { AreMasksOf instance.now covered.now }
     requires within { AreRunsWithin instance.now shape }
-    ensures { OnOk result (GoesOn instance.now covered.now (λ s. s ≡ shape) shapes.old.items shapes.new.items) }
+    ensures { OnOk result
+        (GoesOn instance.now covered.now (λ s. s ≡ shape) shapes.old.items shapes.new.items) }
 {
     if is_free(instance, covered, shape) {
         shapes.push(shape)?;
@@ -78,7 +80,8 @@ fn add_with(
     requires some { 1 ≤ n }
     requires units { unit.place + n ≤ length (train_at instance.now.arrive unit.train.0).units + 1 }
     requires departing { dep.0 < length instance.now.depart }
-    ensures { OnOk result (GoesOn instance.now covered.now (GoesWith unit n dep.0) shapes.old.items shapes.new.items) }
+    ensures { OnOk result (GoesOn instance.now covered.now
+        (GoesWith unit n dep.0) shapes.old.items shapes.new.items) }
 {
     let positions = instance.depart(dep).units.len();
     let starts = (positions + 1).saturating_sub(n as usize);
@@ -108,7 +111,8 @@ fn add_of(
     requires place { 1 ≤ unit.place }
     requires some { 1 ≤ n }
     requires units { unit.place + n ≤ length (train_at instance.now.arrive unit.train.0).units + 1 }
-    ensures { OnOk result (GoesOn instance.now covered.now (HasUnits unit n) shapes.old.items shapes.new.items) }
+    ensures { OnOk result
+        (GoesOn instance.now covered.now (HasUnits unit n) shapes.old.items shapes.new.items) }
 {
     for dep in 0..instance.departures() {
         add_with(instance, covered, unit, n, DepId(dep as u8), shapes)?;
@@ -125,7 +129,8 @@ fn add_at(
 ) -> Result<(), AllocError>
     requires covered { AreMasksOf instance.now covered.now }
     requires unit { u < unit_total instance.now }
-    ensures { OnOk result (GoesOn instance.now covered.now (BeginsAt instance.now u) shapes.old.items shapes.new.items) }
+    ensures { OnOk result (GoesOn instance.now covered.now
+        (BeginsAt instance.now u) shapes.old.items shapes.new.items) }
 {
     if covered.units()[u] {
         return Ok(());

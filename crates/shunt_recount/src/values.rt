@@ -2,8 +2,10 @@
 ghost use Rattle.std.specs.Prelude.{◌≡◌, ◌⊎◌, ℕ, ◌+◌, ◌<◌, ◌≤◌, map, IfOk, IfSome, Some};
 ghost use Rattle.shunt_lists.specs.defs.Members.{In};
 ghost use Rattle.shunt_prices.specs.defs.Sums.{IsWithin};
-ghost use Rattle.shunt_stacks.specs.defs.Spans.{AreOwn, greater, plus, greatest_of, coming_at, best, best_with};
-ghost use Rattle.shunt_recount.specs.defs.Visits.{span_of, spans_of, AreSmall, AreVisits, IsBest, AreKnown, fixed_in, free_in};
+ghost use Rattle.shunt_stacks.specs.defs.Spans.{AreOwn, greater, plus, greatest_of, coming_at};
+ghost use Rattle.shunt_stacks.specs.defs.Spans.{best, best_with};
+ghost use Rattle.shunt_recount.specs.defs.Visits.{span_of, spans_of, AreSmall, AreVisits, IsBest};
+ghost use Rattle.shunt_recount.specs.defs.Visits.{AreKnown, fixed_in, free_in};
 
 use crate::known::{Known, Part, found, remember};
 use crate::visits::{Visit, Visits, coming, next_coming};
@@ -46,10 +48,12 @@ fn with_visit(
     requires visits { AreVisits visits.now }
     requires known { AreKnown (fixed_in visits.now) (free_in visits.now) known.old }
     requires end { part.end < 4000000000 }
-    requires ours { In (span_of visit) (fixed_in visits.now) ⊎ In (span_of visit) (free_in visits.now) }
+    requires ours { In (span_of visit) (fixed_in visits.now)
+        ⊎ In (span_of visit) (free_in visits.now) }
     requires comes { visit.comes ≡ part.start }
     ensures known { AreKnown (fixed_in visits.now) (free_in visits.now) known.new }
-    ensures is { IfOk result (λ g. (n : ℕ) → part.end ≤ part.start + n → g ≡ best_with (best n (fixed_in visits.now) (free_in visits.now)) part.end part.room (span_of visit)) }
+    ensures is { IfOk result (λ g. (n : ℕ) → part.end ≤ part.start + n → g ≡ best_with
+        (best n (fixed_in visits.now) (free_in visits.now)) part.end part.room (span_of visit)) }
 {
     if visit.gone > part.end || visit.length > part.room {
         return Ok(None);
@@ -82,8 +86,9 @@ fn greatest(
     requires start { part.start < part.end }
     requires end { part.end < 4000000000 }
     ensures known { AreKnown (fixed_in visits.now) (free_in visits.now) known.new }
-    ensures is { IfOk result (λ g. (n : ℕ) → part.end ≤ part.start + n →
-        g ≡ greater without (greatest_of (map (best_with (best n (fixed_in visits.now) (free_in visits.now)) part.end part.room) (coming_at part.start (free_in visits.now))))) }
+    ensures is { IfOk result (λ g. (n : ℕ) → part.end ≤ part.start + n → g ≡ greater without
+        (greatest_of (map (best_with (best n (fixed_in visits.now) (free_in visits.now)) part.end
+        part.room) (coming_at part.start (free_in visits.now))))) }
 {
     let mut gain = without;
     'visits: for visit in coming(&visits.free, part.start) {
@@ -156,7 +161,8 @@ pub(crate) fn greatest_gain(
     requires own { AreOwn (spans_of fixed.items) (spans_of free.items) }
     requires small { AreSmall (spans_of fixed.items) (spans_of free.items) }
     requires end { end < 4000000000 }
-    ensures { IfOk result (IsBest (spans_of fixed.items) (spans_of free.items) (record { start = 0; end = end; room = room })) }
+    ensures { IfOk result (IsBest (spans_of fixed.items) (spans_of free.items)
+        (record { start = 0; end = end; room = room })) }
 {
     nests();
     let visits = Visits::new(fixed, free);

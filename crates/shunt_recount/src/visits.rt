@@ -1,10 +1,12 @@
 // What blocks of a stack take of the night's events, in the order in which they come.
-ghost use Rattle.std.specs.Prelude.{◌≡◌, ℕ, ◌<◌, ◌≤◌, ◌↔◌, ◌-◌, take, drop, length, slice_index_or, IsPermutation};
+ghost use Rattle.std.specs.Prelude.{◌≡◌, ℕ, ◌<◌, ◌≤◌, ◌↔◌, ◌-◌, take, drop, length, slice_index_or};
+ghost use Rattle.std.specs.Prelude.{IsPermutation};
 ghost use Rattle.std.specs.List.Sorted.{IsNonDecreasingBy};
 ghost use Rattle.shunt_lists.specs.defs.Members.{In};
 ghost use Rattle.shunt_stacks.specs.defs.Spans.{Span, AreOwn, coming_at};
 ghost use Rattle.shunt_recount.specs.declared.visits.Visit.{Visit as AVisit};
-ghost use Rattle.shunt_recount.specs.defs.Visits.{spans_of, comes_at, AreSmall, AreVisits, fixed_in, free_in};
+ghost use Rattle.shunt_recount.specs.defs.Visits.{spans_of, comes_at, AreSmall, AreVisits};
+ghost use Rattle.shunt_recount.specs.defs.Visits.{fixed_in, free_in};
 
 /// What a block of a stack takes of the events by their numbers: it comes at the first one, its last unit has entered before `inside`, its
 /// first leave is `until`, and it is gone before `gone`. The length is in dm, the gain in thousandths of a cost unit.
@@ -55,7 +57,8 @@ fn come_before(visits: &[Visit], x: u32) -> usize
     requires { IsNonDecreasingBy comes_at visits.now }
     ensures bound { result ≤ length visits.now }
     ensures before { (k : ℕ) (d : AVisit) → k < result → (slice_index_or visits.now k d).comes < x }
-    ensures after { (k : ℕ) (d : AVisit) → result ≤ k → k < length visits.now → x ≤ (slice_index_or visits.now k d).comes }
+    ensures after { (k : ℕ) (d : AVisit) → result ≤ k → k < length visits.now
+        → x ≤ (slice_index_or visits.now k d).comes }
 {
     visits.partition_point(|visit| visit.comes < x)
 }

@@ -10,7 +10,7 @@ use Rattle.shunt_blocks.specs.defs.Blocks.{IsBlock}
 use Rattle.shunt_blocks.specs.defs.Lists.{IsFeasible, has_unit}
 use Rattle.shunt_compare.specs.declared.records.Placement.{Placement}
 use Rattle.shunt_compare.specs.declared.records.Comparison.{Comparison}
-use Rattle.shunt_compare.specs.defs.Changes.{IsPlaced, IsComparison}
+use Rattle.shunt_compare.specs.defs.Changes.{IsPlacement, IsComparison}
 use Rattle.shunt_compare.proofs.Placed.{is_block}
 use Rattle.shunt_report.specs.defs.ComparisonTexts.{IsPlacementOfNight, IsComparisonOfNight}
 
@@ -24,7 +24,8 @@ behind from start n u le lt = omega (arith, le, lt)
 unit_of : (night : Night) (s : Shape) (u : ℕ) → has_unit night s u ≡ true → (unit_from night s ≤ u) × (u < unit_from night s + s.n)
 unit_of night s u h = grind (arith, nat_tests)
 
-placed_there : (law : PositionsIn) (night : Night) (blocks : List Block) (u : ℕ) (x : Placement) → IsFeasible night blocks → IsPlaced night blocks u x → IsPlacementOfNight night x
+placed_there : (law : PositionsIn) (night : Night) (blocks : List Block) (u : ℕ) (x : Placement) → IsFeasible night blocks → IsPlacement night blocks u x
+    → IsPlacementOfNight night x
 placed_there law night blocks u x h p = subst (IsPlacementOfNight night) (sym p.is) (record {
   position = law night (shape_of p.block) (position_from night (shape_of p.block) + (u - unit_from night (shape_of p.block))) is.shape.within
       (record { from = omega arith; to = behind (unit_from night (shape_of p.block)) (position_from night (shape_of p.block)) p.block.n u has.0 has.1 });

@@ -6,14 +6,13 @@ use Rattle.serde_json.specs.View.{view, items_of}
 use Rattle.serde_json.specs.declared.value.Value.{Value}
 use Rattle.serde_json.specs.Written.{has_float, items_have_float}
 use Rattle.shunt_lists.specs.defs.Members.{In}
-use Rattle.shunt_lists.proofs.Members.{in_place, in_map, of_map}
+use Rattle.shunt_lists.proofs.Members.{in_place, in_map, of_map, each_one}
 use Rattle.shunt_stays.specs.defs.Events.{Move, in_order}
 use Rattle.shunt_stays.specs.defs.Run.{Standing, Through, Stop, run_of, empty_tracks}
 use Rattle.shunt_stays.proofs.Steps.{run_leaves}
 use Rattle.shunt_instance.specs.defs.Instance.{Night, IsInstance}
 use Rattle.shunt_blocks.specs.declared.records.Block.{Block}
 use Rattle.shunt_blocks.specs.defs.Lists.{AreInRange, track_lengths, stays_of}
-use Rattle.shunt_choices.proofs.Given.{each_one}
 use Rattle.shunt_tracks.specs.declared.run.Step.{Step}
 use Rattle.shunt_tracks.specs.declared.run.Ran.{Ran}
 use Rattle.shunt_tracks.specs.defs.Answer.{event_of, step_of, answer}

@@ -1,27 +1,12 @@
 -- Texts that are put together piece by piece, and drivers that are counted one by one.
 use Rattle.std.proofs.Common.{◌≡◌, ℕ, ◌+◌, ◌-◌, ◌<◌, List, ◌∷◌, ◌++◌, length, get_or, take, drop, codes, decimal, sym, ap, ◌∙◌, arith}
-use Rattle.std.specs.Prelude.{Option, Some, Result, Ok, Err, OnOk}
-use Rattle.std.specs.List.{flat_map}
+use Rattle.std.specs.Prelude.{Option, Some}
 use Rattle.std.proofs.lemmas.List.{append_assoc, drop_more, take_all, length-drop}
-use Rattle.std.proofs.lemmas.List.Concat.{flat_map-cons}
 use Rattle.shunt_base.specs.defs.Spelling.{minute_text}
 use Rattle.shunt_zones.specs.declared.records.ZoneLoad.{ZoneLoad}
 use Rattle.shunt_drivers.specs.declared.records.Duty.{Duty}
 use Rattle.shunt_report.specs.defs.ZonesTexts.{busiest_words, zone_line, zone_lines}
 use Rattle.shunt_report.specs.defs.DriversTexts.{busy_words, newly, different_drivers}
-
--- what follows where a text was appended
-pub on_ok : {X E : Type 0} (r : Result X E) (P Q : Type 0) → OnOk r P → (P → Q) → OnOk r Q
-on_ok (Ok v) P Q p h = h p
-on_ok (Err e) P Q p h = tt
-
--- the line of one more of these
-pub one_more : {X : Type 0} (line : X → List ℕ) (xs : List X) (i : ℕ) (d : X) (text more : List ℕ) → i < length xs → more ≡ text ++ line (get_or xs i d)
-    → more ++ flat_map line (drop (i + 1) xs) ≡ text ++ flat_map line (drop i xs)
-one_more line xs i d text more lt push =
-    let rest = flat_map line (drop (i + 1) xs) in
-    ap (λ t. t ++ rest) push ∙ append_assoc text (line (get_or xs i d)) rest
-    ∙ ap (λ t. text ++ t) (sym (ap (flat_map line) (drop_more xs i d lt) ∙ flat_map-cons line (get_or xs i d) (drop (i + 1) xs)))
 
 -- the line of one more zone
 pub one_zone : (names : List (List ℕ)) (loads : List ZoneLoad) (i : ℕ) (name d : List ℕ) (load l : ZoneLoad) (text more : List ℕ) → i < length names → i < length loads

@@ -3,10 +3,7 @@ use Rattle.std.proofs.Common.{◌≡◌, ◌<◌, ℕ, inl, inr, sym, subst, len
 use Rattle.std.specs.Option.{IsSomeAnd}
 use Rattle.shunt_instance.specs.defs.Instance.{Night}
 use Rattle.shunt_blocks.specs.declared.records.Block.{Block}
-use Rattle.shunt_blocks.specs.declared.records.Park.{Park}
-use Rattle.shunt_blocks.specs.declared.records.Shape.{Shape}
 use Rattle.shunt_blocks.specs.defs.Shapes.{IsOnTrack}
-use Rattle.shunt_blocks.specs.defs.Blocks.{IsOption}
 use Rattle.shunt_choices.specs.defs.Paths.{masks_of, next_of}
 use Rattle.shunt_choices.specs.defs.Choices.{Choice as PathChoice, IsChoice, IsChoiceAt}
 use Rattle.shunt_plan.specs.declared.records.Plan.{Plan}
@@ -25,6 +22,7 @@ use Rattle.shunt_checker.specs.defs.NodeFaults.{NodeFault, IsNodeFault}
 use Rattle.shunt_checker.specs.defs.NodeFaults.NodeFault.{NotThere, Twice, NotLean, OtherKind, Broken, LowLeaf, LowWhole, Missing}
 use Rattle.shunt_checker.specs.defs.Verdicts.{IsFirstReason, IsVerdict}
 use Rattle.shunt_report.specs.defs.VerdictTexts.{IsChoiceOfNight, IsPlanFaultOfNight, IsReasonOfNight, IsVerdictOfNight}
+use Rattle.shunt_blocks.proofs.Shapes.{on_track}
 
 of_plan : (night : Night) (plan : Plan) (f : PlanFault) → IsPlanFault night plan f → IsPlanFaultOfNight night f
 of_plan night plan (fault.BadBlock id) h = tt
@@ -33,11 +31,6 @@ of_plan night plan (fault.Place v) h = h.0
 of_plan night plan (fault.Blocked id) h = tt
 of_plan night plan (fault.Over id load) h = tt
 of_plan night plan (fault.Cost stated real) h = tt
-
--- the track of an option is the station's
-on_track : (night : Night) (s : Shape) (park : Option Park) → IsOption night s park → IsOnTrack night.station park
-on_track night s None h = tt
-on_track night s (Some k) h = h.track
 
 -- a choice that a node states
 stated : (night : Night) (depth : ℕ) (c : Choice) (o : Option Choice) → o ≡ Some c → FitsDepth night depth o → IsChoiceOfNight night c

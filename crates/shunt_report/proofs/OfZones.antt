@@ -3,9 +3,8 @@ use Rattle.std.proofs.Common.{◌≡◌, ◌<◌, inl, inr, ℕ, List, [], ◌�
 use Rattle.std.specs.Prelude.{All, filter}
 use Rattle.std.proofs.lemmas.List.FromFn.{length-map-range_with_len}
 use Rattle.shunt_lists.specs.defs.Members.{In}
-use Rattle.shunt_lists.proofs.Members.{in_place, of_map, filter_from}
+use Rattle.shunt_lists.proofs.Members.{in_place, of_map, filter_from, each_one}
 use Rattle.shunt_instance.specs.defs.Instance.{Night, IsInstance}
-use Rattle.shunt_choices.proofs.Given.{each_one}
 use Rattle.shunt_plan.specs.declared.records.Plan.{Plan}
 use Rattle.shunt_plan.specs.defs.Plans.{IsPlanInRange}
 use Rattle.shunt_tracks.specs.declared.run.Event.{Event}
@@ -13,9 +12,9 @@ use Rattle.shunt_zones.specs.declared.records.Zones.{Zones}
 use Rattle.shunt_zones.specs.declared.records.Meet.{Meet}
 use Rattle.shunt_zones.specs.defs.Moves.{train_of, events_of, moves_of, IsMoveOf}
 use Rattle.shunt_zones.specs.defs.Passed.{lies_on, zones_of, passings_of}
-use Rattle.shunt_zones.specs.defs.Loading.{minutes_over, load_of, loads_in}
-use Rattle.shunt_zones.specs.defs.Meeting.{Before, meets_in}
-use Rattle.shunt_zones.specs.defs.ZonesFormat.{IsZones, IsOver}
+use Rattle.shunt_zones.specs.defs.Loads.{minutes_over, load_of, loads_in}
+use Rattle.shunt_zones.specs.defs.Meetings.{Before, meets_in}
+use Rattle.shunt_zones.specs.defs.ZonesFormat.{IsZones, IsOverWay}
 use Rattle.shunt_zones.proofs.InWords.{all_meets}
 use Rattle.shunt_zones.proofs.Ordered.{StayLaws, events_of_night, moves_from, moves_of_night}
 use Rattle.shunt_report.specs.defs.ZonesTexts.{IsMeetOf}
@@ -35,7 +34,7 @@ module _ (laws : StayLaws) (night : Night) (zones : Zones) (plan : Plan) (is : I
   zone_is e zone h =
       let over = of_map (λ o. o.zone) (filter (lies_on (train_of night e.key).origin e.track e.side) zones.over) zone h in
       let there = filter_from (lies_on (train_of night e.key).origin e.track e.side) zones.over over.0 over.1 in
-      subst (λ z. z < length zones.names) (sym over.2) (each_one (IsOver night.station (length zones.names)) zones.over over.0 formed.over there.0).zone
+      subst (λ z. z < length zones.names) (sym over.2) (each_one (IsOverWay night.station (length zones.names)) zones.over over.0 formed.over there.0).zone
 
   meet_is : (m : Meet) → In m (meets_in night zones plan) → IsMeetOf zones m
   meet_is m h =

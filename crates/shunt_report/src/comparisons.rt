@@ -2,7 +2,10 @@
 ghost use Rattle.std.specs.Prelude.{◌≡◌, ◌++◌, All, OnOk, IfOk};
 ghost use Rattle.std.specs.List.{flat_map};
 ghost use Rattle.shunt_blocks.specs.defs.Shapes.{IsWithinTrains};
-ghost use Rattle.shunt_report.specs.defs.ComparisonTexts.{IsPlacementOfNight, IsChangeOfNight, IsComparisonOfNight, placement_words, change_line, regrouped_line, comparison_of};
+ghost use Rattle.shunt_report.specs.defs.ComparisonTexts.{IsPlacementOfNight, IsChangeOfNight};
+ghost use Rattle.shunt_report.specs.defs.ComparisonTexts.{IsComparisonOfNight, placement_words};
+ghost use Rattle.shunt_report.specs.defs.ComparisonTexts.{change_line, regrouped_line};
+ghost use Rattle.shunt_report.specs.defs.ComparisonTexts.{comparison_of};
 
 use crate::found::{push_position, push_unit};
 use crate::verdicts::push_option;
@@ -68,7 +71,8 @@ fn push_all_regrouped(
     blocks: &[Block],
 ) -> Result<(), AllocError>
     requires { All (IsWithinTrains instance.now) blocks.now }
-    ensures { OnOk result (text.new ≡ text.old ++ flat_map (regrouped_line instance.now) blocks.now) }
+    ensures { OnOk result
+        (text.new ≡ text.old ++ flat_map (regrouped_line instance.now) blocks.now) }
 {
     for block in blocks {
         push_regrouped(text, instance, *block)?;

@@ -1,7 +1,8 @@
 // The texts of sharings and rosters.
 ghost use Rattle.std.specs.Prelude.{◌≡◌, ◌≤◌, ◌==◌, ◌++◌, length, OnOk, IfOk, option_map};
 ghost use Rattle.std.specs.List.{list_any};
-ghost use Rattle.shunt_report.specs.defs.DriversTexts.{busy_words, sharing_of, newly, different_drivers, fault_words, roster_of};
+ghost use Rattle.shunt_report.specs.defs.DriversTexts.{busy_words, sharing_of, newly};
+ghost use Rattle.shunt_report.specs.defs.DriversTexts.{different_drivers, fault_words, roster_of};
 
 use crate::moves::push_move;
 use shunt_base::Minute;
@@ -26,7 +27,8 @@ fn push_busy(text: &mut Text, busy: Option<Minute>) -> Result<(), AllocError>
 /// moves run, and the number of duties; `drivers 0 moves 0` where there are no moves. The error is want of memory.
 #[tactic(auto, unfolding(crate::specs::defs::DriversTexts::sharing_of))]
 pub fn sharing_text(alloc: Global, sharing: &Sharing) -> Result<Vec<u8>, AllocError>
-    ensures { IfOk result (λ v. v.items ≡ sharing_of sharing.now.duties.items sharing.now.drivers sharing.now.busy) }
+    ensures { IfOk result
+        (λ v. v.items ≡ sharing_of sharing.now.duties.items sharing.now.drivers sharing.now.busy) }
 {
     let mut text = Text::new(alloc);
     text.push(b"drivers ")?;
@@ -91,7 +93,8 @@ pub fn roster_text(
     duties: &Vec<Duty>,
     fault: Option<&RosterFault>,
 ) -> Result<Vec<u8>, AllocError>
-    ensures { IfOk result (λ v. v.items ≡ roster_of duties.now.items (option_map (λ f. f.now) fault.entry)) }
+    ensures { IfOk result
+        (λ v. v.items ≡ roster_of duties.now.items (option_map (λ f. f.now) fault.entry)) }
 {
     let mut text = Text::new(alloc);
     match fault {

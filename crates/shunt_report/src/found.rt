@@ -2,7 +2,9 @@
 ghost use Rattle.std.specs.Prelude.{◌≡◌, ◌<◌, ◌++◌, All, OnOk, IfOk};
 ghost use Rattle.shunt_instance.specs.defs.Instance.{unit_total, position_total};
 ghost use Rattle.shunt_audit.specs.defs.Findings.{IsOfNight};
-ghost use Rattle.shunt_report.specs.defs.FindingTexts.{unit_place, position_place, two_numbers, finding_word, finding_values, finding_line, findings_of};
+ghost use Rattle.shunt_report.specs.defs.FindingTexts.{unit_place, position_place, two_numbers};
+ghost use Rattle.shunt_report.specs.defs.FindingTexts.{finding_word, finding_values, finding_line};
+ghost use Rattle.shunt_report.specs.defs.FindingTexts.{findings_of};
 
 use crate::matched::push_train;
 use shunt_audit::types::Finding;

@@ -1,5 +1,6 @@
 // The line of a report, in JSON.
-ghost use Rattle.std.specs.Prelude.{◌≡◌, ◌<◌, ◌≤◌, ◌*◌, ◌++◌, IsAscii, All, map, length, codes, false, IfOk};
+ghost use Rattle.std.specs.Prelude.{◌≡◌, ◌<◌, ◌≤◌, ◌*◌, ◌++◌, IsAscii, All, map, length, codes};
+ghost use Rattle.std.specs.Prelude.{false, IfOk};
 ghost use Rattle.serde_json.specs.Data.{array, string};
 ghost use Rattle.serde_json.specs.View.{view, items_of};
 ghost use Rattle.serde_json.specs.Written.{has_float, compact_text};
@@ -11,14 +12,15 @@ ghost use Rattle.shunt_blocks.specs.defs.Lists.{CanStand, stays_of, track_length
 ghost use Rattle.shunt_tracks.specs.defs.Answer.{answer};
 ghost use Rattle.shunt_plan.specs.defs.Plans.{IsPlanInRange};
 ghost use Rattle.shunt_drivers.specs.defs.RosterRows.{move_word};
-ghost use Rattle.shunt_report.specs.defs.JsonTexts.{IsStepOf, ways_cost, route_sum, cost_value, event_value, steps_of, value_with, json_of};
+ghost use Rattle.shunt_report.specs.defs.JsonTexts.{IsStepOf, ways_cost, route_sum, cost_value};
+ghost use Rattle.shunt_report.specs.defs.JsonTexts.{event_value, steps_of, value_with, json_of};
 
 use crate::plans::{couples_in, splits_in, unparked_in};
 use crate::zones::minute_of;
 use serde_json::{Value, json};
-use shunt_base::{Name, Side, Stay, minute_bytes};
+use shunt_base::{Name, Side, minute_bytes};
 use shunt_blocks::laws::stays_of_blocks;
-use shunt_blocks::{Block, stay, way_in, way_out};
+use shunt_blocks::{Block, stays_of, track_lengths, way_in, way_out};
 use shunt_instance::Instance;
 use shunt_plan::{Plan, plan_cost};
 use shunt_text::Text;
@@ -126,7 +128,8 @@ fn event_value(alloc: Global, instance: &Instance, step: &Step) -> Result<Value,
 
 fn events_value(alloc: Global, instance: &Instance, steps: &[Step]) -> Result<Value, AllocError>
     requires { All (IsStepOf instance.now) steps.now }
-    ensures { IfOk result (λ v. view v ≡ array (items_of (map (event_value instance.now) steps.now))) }
+    ensures { IfOk result
+        (λ v. view v ≡ array (items_of (map (event_value instance.now) steps.now))) }
 {
     let mut events = Vec::new(alloc);
     for step in steps {
@@ -135,45 +138,24 @@ fn events_value(alloc: Global, instance: &Instance, steps: &[Step]) -> Result<Va
     Ok(Value::from(events))
 }
 
-fn lengths_of(alloc: Global, instance: &Instance) -> Result<Vec<u32>, AllocError>
-    ensures { IfOk result (λ v. v.items ≡ track_lengths instance.now.station) }
-{
-    let mut lengths = Vec::new(alloc);
-    for track in instance.station().tracks.as_slice() {
-        lengths.push(track.length)?;
-    }
-    Ok(lengths)
-}
-
-fn stays_of(alloc: Global, instance: &Instance, blocks: &[Block]) -> Result<Vec<Stay>, AllocError>
-    requires { All (IsWithinTrains instance.now) blocks.now }
-    ensures { IfOk result (λ v. v.items ≡ stays_of instance.now blocks.now) }
-{
-    let mut stays = Vec::new(alloc);
-    for block in blocks {
-        if let Some(stay) = stay(instance, block) {
-            stays.push(stay)?;
-        }
-    }
-    Ok(stays)
-}
-
 // What comes of the run of blocks.
 fn run_blocks(alloc: Global, instance: &Instance, blocks: &[Block]) -> Result<Ran, AllocError>
     requires { CanStand instance.now blocks.now }
-    ensures { IfOk result (λ r. r ≡ answer (run_of (track_lengths instance.now.station) (stays_of instance.now blocks.now))) }
+    ensures { IfOk result (λ r. r
+        ≡ answer (run_of (track_lengths instance.now.station) (stays_of instance.now blocks.now))) }
 {
     // The first call tells that the night is well formed, the second that these are stays on its tracks.
     instance.units();
     stays_of_blocks();
-    let lengths = lengths_of(alloc, instance)?;
+    let lengths = track_lengths(alloc, instance)?;
     let stays = stays_of(alloc, instance, blocks)?;
     run_lists(alloc, &lengths, &stays)
 }
 
 fn events_of(alloc: Global, instance: &Instance, ran: &Ran) -> Result<Value, AllocError>
     requires { All (IsStepOf instance.now) (steps_of ran.now) }
-    ensures { IfOk result (λ v. view v ≡ array (items_of (map (event_value instance.now) (steps_of ran.now)))) }
+    ensures { IfOk result
+        (λ v. view v ≡ array (items_of (map (event_value instance.now) (steps_of ran.now)))) }
 {
     match ran {
         Ran::Through(steps) => events_value(alloc, instance, steps.as_slice()),
@@ -190,7 +172,8 @@ fn value_with(
 ) -> Result<Value, AllocError>
     requires plan { IsPlanInRange instance.now plan.now }
     requires steps { All (IsStepOf instance.now) (steps_of ran.now) }
-    ensures { IfOk result (λ v. view v ≡ value_with instance.now plan.now.blocks (steps_of ran.now)) }
+    ensures { IfOk result
+        (λ v. view v ≡ value_with instance.now plan.now.blocks (steps_of ran.now)) }
 {
     let count = plan.blocks.len();
     let cost = cost_value(alloc, instance, plan)?;

@@ -10,8 +10,8 @@ ghost use Rattle.shunt_checker.specs.declared.verdict.Verdict.{Verdict};
 ghost use Rattle.shunt_checker.specs.defs.Verdicts.{IsVerdict};
 ghost use Rattle.shunt_zones.specs.declared.records.Zones.{Zones};
 ghost use Rattle.shunt_zones.specs.defs.ZonesFormat.{IsZones};
-ghost use Rattle.shunt_zones.specs.defs.Meeting.{meets_in};
-ghost use Rattle.shunt_zones.specs.defs.Loading.{loads_in};
+ghost use Rattle.shunt_zones.specs.defs.Meetings.{meets_in};
+ghost use Rattle.shunt_zones.specs.defs.Loads.{loads_in};
 ghost use Rattle.shunt_blocks.specs.defs.Lists.{IsFeasible};
 ghost use Rattle.shunt_compare.specs.declared.records.Comparison.{Comparison};
 ghost use Rattle.shunt_compare.specs.defs.Changes.{IsComparison};
@@ -23,14 +23,18 @@ use shunt_blocks::laws::{places, stays_of_blocks};
 
 /// What the verdict on a certificate tells is of the night.
 pub fn verdicts()
-    ensures { (night : Night) (pins : List Block) (plan : Plan) (c : Certificate) (v : Verdict) → IsCertificate night c → IsVerdict night pins plan c v → IsVerdictOfNight night v }
+    ensures { (night : Night) (pins : List Block) (plan : Plan) (c : Certificate) (v : Verdict)
+        → IsCertificate night c → IsVerdict night pins plan c v → IsVerdictOfNight night v }
 {}
 
 /// The meets of the moves of a plan in range, with zones that a file can state over the station, have these zones and minutes of two
 /// days; and there is one load for each zone.
 pub fn meets()
-    ensures each { (night : Night) (zones : Zones) (plan : Plan) → IsInstance night → IsZones night.station zones → IsPlanInRange night plan → All (IsMeetOf zones) (meets_in night zones plan) }
-    ensures loads { (night : Night) (zones : Zones) (plan : Plan) → length (loads_in night zones plan) ≡ length zones.names }
+    ensures each { (night : Night) (zones : Zones) (plan : Plan) → IsInstance night
+        → IsZones night.station zones → IsPlanInRange night plan
+        → All (IsMeetOf zones) (meets_in night zones plan) }
+    ensures loads { (night : Night) (zones : Zones) (plan : Plan)
+        → length (loads_in night zones plan) ≡ length zones.names }
 {
     // The call says what the stays of blocks are.
     stays_of_blocks();
@@ -38,7 +42,8 @@ pub fn meets()
 
 /// What one feasible plan does otherwise than another is of the night.
 pub fn comparisons()
-    ensures { (night : Night) (was now : List Block) (c : Comparison) → IsFeasible night was → IsFeasible night now → IsComparison night was now c → IsComparisonOfNight night c }
+    ensures { (night : Night) (was now : List Block) (c : Comparison) → IsFeasible night was
+        → IsFeasible night now → IsComparison night was now c → IsComparisonOfNight night c }
 {
     places();
 }

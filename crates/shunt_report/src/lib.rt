@@ -24,7 +24,7 @@ pub use json::json_text;
 pub use matched::{pairs_text, shortage_text};
 pub use plans::{lost_text, plan_text};
 pub use sheets::{followed_text, sheet_text};
-pub use turns::{Outcome, turn_text};
+pub use turns::{TurnOutcome, turn_text};
 pub use verdicts::verdict_text;
 pub use words::{FileWord, input_text};
 pub use zones::zones_text;

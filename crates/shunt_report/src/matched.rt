@@ -1,9 +1,11 @@
 // Texts on matchings.
 ghost use Rattle.std.specs.Prelude.{◌≡◌, ◌<◌, ◌++◌, OnOk, IfOk, length};
-ghost use Rattle.shunt_instance.specs.defs.Instance.{unit_at, position_at, unit_total, position_total};
+ghost use Rattle.shunt_instance.specs.defs.Instance.{unit_at, position_at, unit_total};
+ghost use Rattle.shunt_instance.specs.defs.Instance.{position_total};
 ghost use Rattle.shunt_instance.specs.defs.Matching.{place_of};
 ghost use Rattle.shunt_matching.specs.defs.Nights.{HasItsType};
-ghost use Rattle.shunt_report.specs.defs.Texts.{ArePlaces, train_place, pair_line, pair_lines, pairs_of, shortage_of, type_name};
+ghost use Rattle.shunt_report.specs.defs.Texts.{ArePlaces, train_place, pair_line, pair_lines};
+ghost use Rattle.shunt_report.specs.defs.Texts.{pairs_of, shortage_of, type_name};
 
 use shunt_base::TypeId;
 use shunt_instance::{Instance, Position, Train, Unit};

@@ -1,6 +1,7 @@
 // The texts of a plan that was found, and of a pin that a plan doesn't keep.
 ghost use Rattle.std.specs.Prelude.{◌≡◌, ◌++◌, OnOk, IfOk};
-ghost use Rattle.shunt_report.specs.defs.PlanTexts.{parked_in, unparked_in, splits_in, couples_in, cost_line, blocks_line, plan_of, lost_of};
+ghost use Rattle.shunt_report.specs.defs.PlanTexts.{parked_in, unparked_in, splits_in, couples_in};
+ghost use Rattle.shunt_report.specs.defs.PlanTexts.{cost_line, blocks_line, plan_of, lost_of};
 
 use crate::verdicts::end_word;
 use shunt_blocks::Block;

@@ -7,7 +7,7 @@ use std::alloc::{AllocError, Global};
 
 /// How a turn of edits ended.
 #[derive(Clone, Copy, Debug, PartialEq, Eq)]
-pub enum Outcome {
+pub enum TurnOutcome {
     /// It was done.
     Ok,
     /// An id that the edit names isn't there.
@@ -26,18 +26,18 @@ pub enum Outcome {
     Nothing,
 }
 
-fn word_of(outcome: Outcome) -> &'static [u8]
+fn word_of(outcome: TurnOutcome) -> &'static [u8]
     ensures { result.now ≡ outcome_word outcome }
 {
     match outcome {
-        Outcome::Ok => b"ok",
-        Outcome::NoBlock => b"no-block",
-        Outcome::BadCount => b"bad-count",
-        Outcome::NotAdjacent => b"not-adjacent",
-        Outcome::BadRange => b"bad-range",
-        Outcome::Full => b"full",
-        Outcome::IdsSpent => b"ids-spent",
-        Outcome::Nothing => b"nothing",
+        TurnOutcome::Ok => b"ok",
+        TurnOutcome::NoBlock => b"no-block",
+        TurnOutcome::BadCount => b"bad-count",
+        TurnOutcome::NotAdjacent => b"not-adjacent",
+        TurnOutcome::BadRange => b"bad-range",
+        TurnOutcome::Full => b"full",
+        TurnOutcome::IdsSpent => b"ids-spent",
+        TurnOutcome::Nothing => b"nothing",
     }
 }
 
@@ -47,7 +47,7 @@ fn word_of(outcome: Outcome) -> &'static [u8]
 pub fn turn_text(
     alloc: Global,
     number: u32,
-    outcome: Outcome,
+    outcome: TurnOutcome,
     total: u32,
     cost: u64,
 ) -> Result<Vec<u8>, AllocError>

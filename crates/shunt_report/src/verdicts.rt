@@ -2,7 +2,13 @@
 ghost use Rattle.std.specs.Prelude.{◌≡◌, ◌<◌, ◌++◌, length, OnOk, IfOk};
 ghost use Rattle.shunt_rows.specs.defs.Written.{side_text};
 ghost use Rattle.shunt_blocks.specs.defs.Shapes.{IsOnTrack};
-ghost use Rattle.shunt_report.specs.defs.VerdictTexts.{IsChoiceOfNight, IsBlockOfNight, IsPlanFaultOfNight, IsReasonOfNight, IsVerdictOfNight, option_words, choice_words, choice_in, block_words, word_number, plan_fault_words, reason_number, reason_words, end_word, verdict_of};
+ghost use Rattle.shunt_report.specs.defs.VerdictTexts.{IsChoiceOfNight, IsBlockOfNight};
+ghost use Rattle.shunt_report.specs.defs.VerdictTexts.{IsPlanFaultOfNight, IsReasonOfNight};
+ghost use Rattle.shunt_report.specs.defs.VerdictTexts.{IsVerdictOfNight, option_words};
+ghost use Rattle.shunt_report.specs.defs.VerdictTexts.{choice_words, choice_in, block_words};
+ghost use Rattle.shunt_report.specs.defs.VerdictTexts.{word_number, plan_fault_words};
+ghost use Rattle.shunt_report.specs.defs.VerdictTexts.{reason_number, reason_words, end_word};
+ghost use Rattle.shunt_report.specs.defs.VerdictTexts.{verdict_of};
 
 use crate::found::{push_position, push_two, push_unit};
 use shunt_base::Side;

@@ -1,7 +1,8 @@
 // The text of what passes zones.
 ghost use Rattle.std.specs.Prelude.{◌≡◌, ◌<◌, ◌++◌, All, length, OnOk, IfOk};
 ghost use Rattle.std.specs.List.{flat_map};
-ghost use Rattle.shunt_report.specs.defs.ZonesTexts.{IsMeetOf, meet_line, busiest_words, zone_line, zone_lines, zones_of};
+ghost use Rattle.shunt_report.specs.defs.ZonesTexts.{IsMeetOf, meet_line, busiest_words, zone_line};
+ghost use Rattle.shunt_report.specs.defs.ZonesTexts.{zone_lines, zones_of};
 
 use crate::moves::push_move;
 use shunt_base::{Minute, Name};

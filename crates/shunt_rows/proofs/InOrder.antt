@@ -1,10 +1,11 @@
 -- Tables whose checks stand in order.
-use Rattle.std.proofs.Common.{ℕ, ◌≤◌, Bool, true, false, List, [], ◌∷◌, refl, ap, ◌∙◌, arith, IsTrue}
+use Rattle.std.proofs.Common.{ℕ, ◌≤◌, Bool, true, false, List, [], ◌∷◌, refl, ap, ◌∙◌, arith, IsTrue, sym, subst, ◌++◌}
 use Rattle.std.specs.Prelude.{if◌then◌else◌, nat_le, ◌&&◌}
 use Rattle.std.proofs.lemmas.Bool.{le-leb, leb-true, and_parts}
 use Rattle.shunt_rows.specs.defs.Checks.{Check, Judged}
 use Rattle.shunt_rows.specs.defs.Fields.{no_word}
 use Rattle.shunt_rows.specs.defs.FirstFault.{rank, ascends_from, HasChecksInOrder}
+use Rattle.std.proofs.lemmas.List.{append-nil}
 
 -- a choice of two tables
 pub in_if : {A : Type 0} (b : Bool) {m n : Judged A} → HasChecksInOrder m → HasChecksInOrder n → HasChecksInOrder (if b then m else n)
@@ -32,3 +33,7 @@ from_before least from [] le a = none_left
 from_before least from (c ∷ checks) le a =
     let p = and_parts (nat_le from (rank c)) (ascends_from (rank c) checks) a.up in
     one_before (let l = leb-true from (rank c) p.0 in omega (arith, l, le)) (record { up = p.1 })
+
+-- behind a block's checks there are no more
+pub whole_up : (least : ℕ) (checks : List Check) → Ascends least checks → Ascends least (checks ++ [])
+whole_up least checks up = subst (Ascends least) (sym (append-nil checks)) up

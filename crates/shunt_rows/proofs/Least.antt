@@ -7,7 +7,7 @@ use Rattle.shunt_rows.specs.declared.fault.RowKind.{RowKind}
 use Rattle.shunt_rows.specs.declared.fault.RowKind.TheVariants as kinds
 use Rattle.shunt_rows.specs.defs.Faults.{kind_number}
 use Rattle.shunt_rows.specs.defs.Checks.{Check, passes}
-use Rattle.shunt_rows.specs.defs.FirstFault.{Finds, IsFaulty, rank, ascends_from, IsBefore}
+use Rattle.shunt_rows.specs.defs.FirstFault.{Finds, IsFaulty, rank, ascends_from, IsEarlierFault}
 
 kind_of : ℕ → RowKind
 kind_of n = if n == 1 then kinds.Kind else if n == 2 then kinds.Fields else if n == 3 then kinds.Name else if n == 4 then kinds.Number else if n == 5 then kinds.Time else if n == 6
@@ -127,7 +127,7 @@ abbrev made : ℕ → ℕ → RowKind → RowFault
 made n field k = record { row = n; field = field; kind = k }
 
 -- of two faults of one record, the one whose field and kind come first
-pub in_order : (e o : RowFault) → e.row ≡ o.row → 12 * e.field + kind_number e.kind ≤ 12 * o.field + kind_number o.kind → (o ≡ e) ⊎ IsBefore e o
+pub in_order : (e o : RowFault) → e.row ≡ o.row → 12 * e.field + kind_number e.kind ≤ 12 * o.field + kind_number o.kind → (o ≡ e) ⊎ IsEarlierFault e o
 in_order e o row le =
     let low = kind_range e.kind in
     let high = kind_range o.kind in

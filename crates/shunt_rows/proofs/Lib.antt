@@ -1,9 +1,9 @@
 pub mod Again
 pub mod Flexible
-pub mod Holding
+pub mod Answered
 pub mod InOrder
 pub mod Joins
-pub mod Keeping
+pub mod KeptStates
 pub mod Least
 pub mod Named
 pub mod Nonempty

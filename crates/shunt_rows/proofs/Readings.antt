@@ -6,7 +6,7 @@ use Rattle.shunt_rows.specs.declared.fault.RowKind.{RowKind}
 use Rattle.shunt_rows.specs.declared.fault.RowKind.TheVariants as kinds
 use Rattle.shunt_rows.specs.defs.Checks.{Check, Judged, answer}
 use Rattle.shunt_rows.specs.defs.Formats.{Format, after_last, in_state, state_after, judged, ◌>>=◌, reads, ends, reading}
-use Rattle.shunt_rows.specs.defs.FirstFault.{IsBefore, IsFaulty, AtRecord, lacks, IsFirst, States, HasChecksInOrder, IsInOrder, Tells}
+use Rattle.shunt_rows.specs.defs.FirstFault.{IsEarlierFault, IsFaulty, AtRecord, lacks, IsFirst, States, HasChecksInOrder, IsInOrder, Tells}
 use Rattle.shunt_rows.proofs.Joins.{reading_is}
 use Rattle.shunt_rows.proofs.Least.{choice, all_hold, passed, first_fails, least_faulty, in_order}
 
@@ -37,7 +37,7 @@ clean n m x e field k faulty = all_hold n m.checks m.value x e field k faulty.fo
 pub record IsLeastOf (n : ℕ) (checks : List Check) (e : RowFault) : Type 0 where
   pub number : e.row ≡ n
   pub faulty : IsFaulty checks e.field e.kind
-  pub least : (o : RowFault) → o.row ≡ n → IsFaulty checks o.field o.kind → (o ≡ e) ⊎ IsBefore e o
+  pub least : (o : RowFault) → o.row ≡ n → IsFaulty checks o.field o.kind → (o ≡ e) ⊎ IsEarlierFault e o
 
 faulty_first : {A : Type 0} (n : ℕ) (m : Judged A) (e : RowFault) → HasChecksInOrder m → answer n m ≡ Err e → IsLeastOf n m.checks e
 faulty_first n m e up is =
@@ -104,7 +104,7 @@ reads_ok {S = S} f s n (row ∷ rows) t is = ⊎_elim
     (split (answer n (in_state f s row)) (λ x. reads f x (n + 1) rows) (Ok t) is)
 
 reads_err : {S V : Type 0} (f : Format S V) → IsInOrder f → (s : S) (n : ℕ) (rows : List (List (List ℕ))) (e : RowFault) → reads f s n rows ≡ Err e
-    → FaultIn f s n rows e × ((o : RowFault) → FaultIn f s n rows o → (o ≡ e) ⊎ IsBefore e o)
+    → FaultIn f s n rows e × ((o : RowFault) → FaultIn f s n rows o → (o ≡ e) ⊎ IsEarlierFault e o)
 reads_err {S = S} f up s n [] e is = absurd cc
 reads_err {S = S} f up s n (row ∷ rows) e is = ⊎_elim
     (λ p.
@@ -265,7 +265,7 @@ reading_err {S = S} f up (head ∷ rows) e is = ⊎_elim
     (split (answer 1 (f.first head)) (λ s. reads f s 2 rows >>= (λ t. ends f t (length rows + 2))) (Err e) (sym (reading_is f head rows) ∙ is))
 
 -- of two faults, one doesn't come before the other and the other before it
-not_both : (e o : RowFault) → IsBefore e o → IsBefore o e → ⊥
+not_both : (e o : RowFault) → IsEarlierFault e o → IsEarlierFault o e → ⊥
 not_both e o p q = grind arith
 
 one_first : {S V : Type 0} (f : Format S V) (rows : List (List (List ℕ))) (e o : RowFault) → IsFirst f rows e → IsFirst f rows o → e ≡ o

@@ -7,6 +7,7 @@ use Rattle.std.proofs.lemmas.List.Concat.{flat_map-cons}
 use Rattle.csv.specs.Writing.{field_text, fields_text, default_writer, is_blank}
 use Rattle.shunt_rows.specs.defs.Records.{IsPlainField, IsPlainRow, text_of_row, text_of_rows, width}
 use Rattle.shunt_rows.proofs.Again.{field_is}
+use Rattle.std.proofs.lemmas.List.{append-nil}
 
 fields_width : (fields : List (List ℕ)) → AllByRecursion IsPlainField fields → length (fields_text default_writer fields) ≡ width fields
 unfolding fields_text
@@ -45,3 +46,6 @@ rows_width P row most (x ∷ xs) h all =
     let split = ap length (flat_map-cons text_of_row (row x) (map row xs)) in
     let sum = length-append (text_of_row (row x)) (text_of_rows (map row xs)) in
     omega (arith, rest, here, split, sum)
+
+pub one_text : (row : List (List ℕ)) → text_of_rows (row ∷ []) ≡ text_of_row row
+one_text row = flat_map-cons text_of_row row [] ∙ append-nil (text_of_row row)

@@ -1,7 +1,8 @@
 // Fields that are numbers, minutes and sides.
 ghost use Rattle.std.specs.Prelude.{◌≡◌, ◌↔◌, ◌≤◌, IsTrue, IfOk, OnOk, length};
 ghost use Rattle.shunt_rows.specs.defs.Checks.{answer};
-ghost use Rattle.shunt_rows.specs.defs.Fields.{is_within, fields_in, number_in, minute_in, side_in, side_of};
+ghost use Rattle.shunt_rows.specs.defs.Fields.{is_within, fields_in, number_in, minute_in, side_in};
+ghost use Rattle.shunt_rows.specs.defs.Fields.{side_of};
 
 use crate::check::{found, must};
 use crate::fault::{RowFault, RowKind};

@@ -1,19 +1,23 @@
 //! What follows from the definitions of this crate.
-ghost use Rattle.std.specs.Prelude.{◌≡◌, ◌↔◌, ◌<◌, ◌^◌, List, [], ℕ, ℤ, Some, Ok, true, length, map};
+ghost use Rattle.std.specs.Prelude.{◌≡◌, ◌↔◌, ◌<◌, ◌^◌, List, [], ℕ, ℤ, Some, Ok, true, length};
+ghost use Rattle.std.specs.Prelude.{map};
 ghost use Rattle.std.specs.Fmt.{decimal, signed_decimal};
 ghost use Rattle.shunt_base.specs.declared.ids.Side.{Side};
-ghost use Rattle.shunt_base.specs.defs.Spelling.{IsName, IsSigned, is_name_text, decimal_of, signed_of, minute_of, minute_text};
+ghost use Rattle.shunt_base.specs.defs.Spelling.{IsName, IsSigned, is_name_text, decimal_of};
+ghost use Rattle.shunt_base.specs.defs.Spelling.{signed_of, minute_of, minute_text};
 ghost use Rattle.shunt_rows.specs.defs.Fields.{side_of};
 ghost use Rattle.shunt_rows.specs.defs.Written.{side_text};
 ghost use Rattle.shunt_rows.specs.defs.Checks.{Judged, Says, answer};
 ghost use Rattle.shunt_rows.specs.defs.Formats.{Format, GoesOn, IsReadByEach, reads};
 ghost use Rattle.shunt_rows.specs.defs.FirstFault.{IsInOrder, Tells};
-ghost use Rattle.shunt_rows.specs.defs.Records.{ArePlain, IsPlainField, IsPlainRow, records_of, text_of_row, text_of_rows, width};
+ghost use Rattle.shunt_rows.specs.defs.Records.{ArePlain, IsPlainField, IsPlainRow, records_of};
+ghost use Rattle.shunt_rows.specs.defs.Records.{text_of_row, text_of_rows, width};
 
 /// Plain rows are read back from their text.
 #[tactic(auto, using(crate::proofs::Again::again))]
 pub fn plain_rows_are_read_back()
-    ensures { (rows : List (List (List ℕ))) → ArePlain rows → records_of (text_of_rows rows) ≡ rows }
+    ensures { (rows : List (List (List ℕ))) → ArePlain rows
+        → records_of (text_of_rows rows) ≡ rows }
 {}
 
 /// Names, numbers of at most 18 digits with or without a sign, minutes and sides are plain fields, and a side's letter is
@@ -49,7 +53,8 @@ pub fn value_or_first_fault<S, V>()
 
 /// Reading goes on from the state that the records before leave, so that each front of a list of records has a state.
 pub fn reading_goes_on<S, V>()
-    ensures { (f : Format S V) (s : S) (n : ℕ) (rows more : List (List (List ℕ))) → GoesOn f s n rows more }
+    ensures { (f : Format S V) (s : S) (n : ℕ) (rows more : List (List (List ℕ)))
+        → GoesOn f s n rows more }
 {}
 
 /// The answer to a record is a value exactly when all its checks hold and the record says that value.
@@ -59,5 +64,6 @@ pub fn values_are_said<A>()
 
 /// If each thing of a list is read from its own record, behind those before it, all of them are read from theirs.
 pub fn lists_are_read<X, S, V>()
-    ensures { (f : Format S V) (row : X → List (List ℕ)) (state : List X → S) (all : List X) (n : ℕ) → IsReadByEach f row state all → reads f (state []) n (map row all) ≡ Ok (state all) }
+    ensures { (f : Format S V) (row : X → List (List ℕ)) (state : List X → S) (all : List X) (n : ℕ)
+        → IsReadByEach f row state all → reads f (state []) n (map row all) ≡ Ok (state all) }
 {}

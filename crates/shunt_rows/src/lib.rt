@@ -7,7 +7,7 @@ mod fields;
 pub mod laws;
 mod names;
 mod numbered;
-mod reading;
+mod reader;
 mod row;
 mod writer;
 
@@ -16,6 +16,6 @@ pub use fault::{ReadError, RowFault, RowKind};
 pub use fields::{fields_in, is_within, minute_in, number_in, side_in};
 pub use names::Names;
 pub use numbered::{Known, Naming, Numbered};
-pub use reading::{FormatReader, read};
+pub use reader::{FormatReader, read};
 pub use row::{Row, record_number, records};
 pub use writer::RowWriter;

@@ -1,5 +1,6 @@
 // Names that are numbered in the order in which they are made known.
-ghost use Rattle.std.specs.Prelude.{◌≡◌, ◌++◌, ◌∷◌, [], ◌≤◌, ◌<◌, false, IfOk, IfSome, OnOk, OnErr, bytes_eq, position, length};
+ghost use Rattle.std.specs.Prelude.{◌≡◌, ◌++◌, ◌∷◌, [], ◌≤◌, ◌<◌, false, IfOk, IfSome, OnOk, OnErr};
+ghost use Rattle.std.specs.Prelude.{bytes_eq, position, length};
 ghost use Rattle.std.specs.List.{list_any};
 ghost use Rattle.shunt_rows.specs.defs.Checks.{answer};
 ghost use Rattle.shunt_rows.specs.defs.Fields.{known_in};

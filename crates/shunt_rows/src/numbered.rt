@@ -1,5 +1,6 @@
 // Things that are numbered by their names.
-ghost use Rattle.std.specs.Prelude.{◌≡◌, ◌≢◌, ◌++◌, ◌∷◌, ◌≤◌, ◌<◌, List, ℕ, AllPairs, map, [], false, IfOk, IfSome, OnOk, OnErr, bytes_eq, position, length};
+ghost use Rattle.std.specs.Prelude.{◌≡◌, ◌≢◌, ◌++◌, ◌∷◌, ◌≤◌, ◌<◌, List, ℕ, AllPairs, map, []};
+ghost use Rattle.std.specs.Prelude.{false, IfOk, IfSome, OnOk, OnErr, bytes_eq, position, length};
 ghost use Rattle.std.specs.List.{list_any};
 ghost use Rattle.shunt_rows.specs.defs.Checks.{answer};
 ghost use Rattle.shunt_rows.specs.defs.Fields.{named_in};

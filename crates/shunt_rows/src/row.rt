@@ -1,5 +1,6 @@
 // The records of a file.
-ghost use Rattle.std.specs.Prelude.{◌≡◌, ◌+◌, ◌-◌, ◌^◌, ◌<◌, ◌≤◌, Some, IfOk, OnErr, length, slice_get};
+ghost use Rattle.std.specs.Prelude.{◌≡◌, ◌+◌, ◌-◌, ◌^◌, ◌<◌, ◌≤◌, Some, IfOk, OnErr, length};
+ghost use Rattle.std.specs.Prelude.{slice_get};
 ghost use Rattle.shunt_rows.specs.defs.Records.{records_of, at};
 
 use csv::{ByteRecord, ReaderBuilder};

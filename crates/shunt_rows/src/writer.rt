@@ -26,7 +26,8 @@ fn no_rows(alloc: Global) -> Writer<Vec<u8>>
 #[tactic(auto, using(crate::proofs::Flexible::one_more))]
 fn write_row(alloc: Global, rows: &mut Writer<Vec<u8>>, row: &ByteRecord) -> Result<(), AllocError>
     requires { IsAtRow rows.old }
-    ensures text { OnOk result (rows_text rows.new ≡ rows_text rows.old ++ text_of_row (fields_of row.now)) }
+    ensures text { OnOk result
+        (rows_text rows.new ≡ rows_text rows.old ++ text_of_row (fields_of row.now)) }
     ensures at_row { IsAtRow rows.new }
 {
     if rows.write_byte_record(row).is_err() {
@@ -81,7 +82,8 @@ impl RowWriter {
 
     /// Adds a field to the open row.
     pub fn field(&mut self, bytes: &[u8]) -> Result<(), AllocError>
-        ensures { OnOk result (self.new ≡ record self.old { row = self.old.row ++ bytes.now ∷ [] }) }
+        ensures { OnOk result
+            (self.new ≡ record self.old { row = self.old.row ++ bytes.now ∷ [] }) }
     {
         if self.row.push_field(bytes).is_err() {
             self.row = ByteRecord::new(self.alloc);
@@ -92,7 +94,8 @@ impl RowWriter {
 
     /// Adds a number as a field of the open row, in plain decimals.
     pub fn number(&mut self, number: u64) -> Result<(), AllocError>
-        ensures { OnOk result (self.new ≡ record self.old { row = self.old.row ++ decimal number ∷ [] }) }
+        ensures { OnOk result
+            (self.new ≡ record self.old { row = self.old.row ++ decimal number ∷ [] }) }
     {
         let text = format!(in self.alloc; "{number}")?;
         self.field(text.as_bytes())
@@ -100,7 +103,8 @@ impl RowWriter {
 
     /// Adds a side as a field of the open row: `A` or `B`.
     pub fn side(&mut self, side: Side) -> Result<(), AllocError>
-        ensures { OnOk result (self.new ≡ record self.old { row = self.old.row ++ side_text side ∷ [] }) }
+        ensures { OnOk result
+            (self.new ≡ record self.old { row = self.old.row ++ side_text side ∷ [] }) }
     {
         match side {
             Side::A => self.field(b"A"),
@@ -111,7 +115,8 @@ impl RowWriter {
     /// Ends the open row, which has a field.
     pub fn end_row(&mut self) -> Result<(), AllocError>
         requires { self.old.row ≢ [] }
-        ensures { OnOk result (self.new ≡ record { text = self.old.text ++ text_of_row self.old.row; row = [] }) }
+        ensures { OnOk result
+            (self.new ≡ record { text = self.old.text ++ text_of_row self.old.row; row = [] }) }
     {
         write_row(self.alloc, &mut self.rows, &self.row)?;
         self.row.clear();

@@ -1,39 +1,19 @@
 -- Lists that are judged.
-use Rattle.std.specs.Prelude.{All, IfOk, IsTrue, Bool, Result, Ok, Err, Option, Some, None}
-use Rattle.std.specs.List.{filter_map, range_with_len, cons_option}
-use Rattle.std.proofs.Common.{◌≡◌, ⊎_elim, ℕ, zero, suc, ◌+◌, ◌<◌, ◌≤◌, List, [], ◌∷◌, ◌++◌, length, map, take, get_or, refl, sym, subst, ap, ◌∙◌, arith}
+use Rattle.std.specs.Prelude.{All, IfOk, IsTrue, Bool, Result, Ok, Err}
+use Rattle.std.specs.List.{range_with_len}
+use Rattle.std.proofs.Common.{◌≡◌, ⊎_elim, ℕ, suc, ◌+◌, ◌<◌, List, [], ◌∷◌, ◌++◌, length, map, take, get_or, refl, sym, subst, ap, ◌∙◌, arith}
 use Rattle.std.proofs.lemmas.Bool.{cases_lt}
-use Rattle.std.proofs.lemmas.List.{take_all, take_more, length-append, map-append}
+use Rattle.std.proofs.lemmas.List.{take_more, length-append, map-append}
 use Rattle.std.proofs.lemmas.List.Elements.{All-push}
-use Rattle.std.proofs.lemmas.List.FromFn.{get_or-range_with_len, length-range_with_len}
 use Rattle.shunt_lists.specs.defs.Members.{AreDistinct}
-use Rattle.shunt_lists.proofs.Members.{in_place}
+use Rattle.shunt_lists.proofs.Members.{in_place, range_distinct as rising}
 use Rattle.shunt_instance.specs.defs.Instance.{Night, unit_total, position_total}
 use Rattle.shunt_blocks.specs.declared.records.Block.{Block}
 use Rattle.shunt_blocks.specs.defs.Blocks.{IsBlock}
 use Rattle.shunt_blocks.specs.defs.Lists.{times_unit, times_position, AreInRange, RunsThrough, IsFeasible}
 use Rattle.shunt_blocks.specs.defs.Pins.{IsKept, without_id}
-use Rattle.shunt_ruin.specs.defs.Judging.{AreNumbered}
-
-option_few : {X : Type 0} (o : Option X) (xs : List X) → length (cons_option o xs) ≤ length xs + 1
-option_few None xs = omega arith
-option_few (Some x) xs = omega arith
-
-pub few_some : {X Y : Type 0} (h : X → Option Y) (xs : List X) → length (filter_map h xs) ≤ length xs
-few_some h [] = omega arith
-few_some h (x ∷ xs) = omega (arith, option_few (h x) (filter_map h xs), few_some h xs)
-
-rising : (k n : ℕ) → AreDistinct (range_with_len k n)
-rising k n i j d before lt same = omega (
-  arith,
-  before,
-  same,
-  get_or-range_with_len k n i d (omega (arith, before, lt, size)),
-  get_or-range_with_len k n j d (omega (arith, lt, size)),
-)
-  where
-    size : length (range_with_len k n) ≡ n
-    size = length-range_with_len k n
+use Rattle.shunt_ruin.specs.defs.Candidates.{AreNumbered}
+use Rattle.shunt_lists.proofs.Lists.{range_more_to as range_more}
 
 pub numbered_apart : (blocks : List Block) → AreNumbered blocks → AreDistinct (map (λ b. b.id) blocks)
 numbered_apart blocks are = subst AreDistinct (sym are.ids) (rising 1 (length blocks))
@@ -66,18 +46,11 @@ is_kept blocks pin d k lt same = record { block = get_or blocks k d; there = in_
 pub all_more : {X : Type 0} (P : X → Type 0) (xs : List X) (k : ℕ) (d : X) → k < length xs → All P (take k xs) → P (get_or xs k d) → All P (take (k + 1) xs)
 all_more P xs k d lt before this = subst (All P) (sym (take_more xs k d lt)) (All-push P (take k xs) (get_or xs k d) before this)
 
-pub all_whole : {X : Type 0} (P : X → Type 0) (xs : List X) (k : ℕ) → length xs ≤ k → All P (take k xs) → All P xs
-all_whole P xs k le all = subst (All P) (take_all k xs le) all
-
 -- what holds below a number and at it holds below the next
 pub below_more : (P : ℕ → Type 0) (n : ℕ) → ((k : ℕ) → k < n → P k) → P n → (k : ℕ) → k < n + 1 → P k
 below_more P n before this k lt = ⊎_elim (λ l. before k l) (λ ge. let e : k ≡ n = omega (arith, lt, ge) in subst P (sym e) this) (cases_lt k n)
 
 -- ---- blocks that are numbered one by one
-
-range_more : (a n j : ℕ) → a + n ≡ j → range_with_len a (suc n) ≡ range_with_len a n ++ j ∷ []
-range_more a zero j e = let same : a ≡ j = omega (arith, e) in ap (λ k. k ∷ []) same
-range_more a (suc n) j e = ap (λ (l : List ℕ). a ∷ l) (range_more (a + 1) n j (omega (arith, e)))
 
 pub numbered_more : (blocks : List Block) (b : Block) → length blocks < 160 → b.id ≡ length blocks + 1 → AreNumbered blocks → AreNumbered (blocks ++ b ∷ [])
 numbered_more blocks b room is are =

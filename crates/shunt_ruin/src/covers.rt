@@ -1,8 +1,8 @@
 // A plan under change: which blocks it has, what they cover, where they stand, and what they cost.
 ghost use Rattle.std.specs.Prelude.{◌≡◌};
 
-use crate::tables::{Row, Spot, Tables, block_with};
-use crate::yard::{Standing, Yard};
+use crate::tables::{ShapeRow, Spot, Tables, block_with};
+use crate::yard::{RuinYard, Standing};
 use shunt_blocks::{Block, Park};
 use std::alloc::{AllocError, Global};
 
@@ -11,12 +11,12 @@ pub(crate) const NO_BLOCK: u16 = 65535;
 
 /// A shape, and where it is parked, if it is.
 #[derive(Clone, Copy, Debug, Drop)]
-pub(crate) struct Placed {
-    pub(crate) row: Row,
+pub(crate) struct PlacedShape {
+    pub(crate) row: ShapeRow,
     pub(crate) spot: Option<Spot>,
 }
 
-impl Placed {
+impl PlacedShape {
     /// What it costs, in thousandths of a cost unit.
     fn cost(&self, tables: &Tables) -> i64 {
         match self.spot {
@@ -92,7 +92,10 @@ fn count_up(alloc: Global, many: usize) -> Result<Vec<u16>, AllocError> {
 }
 
 /// That many places without a block.
-pub(crate) fn no_blocks(alloc: Global, many: usize) -> Result<Vec<Option<Placed>>, AllocError> {
+pub(crate) fn no_blocks(
+    alloc: Global,
+    many: usize,
+) -> Result<Vec<Option<PlacedShape>>, AllocError> {
     let mut blocks = Vec::with_capacity(alloc, many)?;
     for _unit in 0..many {
         blocks.push(None)?;
@@ -103,13 +106,13 @@ pub(crate) fn no_blocks(alloc: Global, many: usize) -> Result<Vec<Option<Placed>
 /// Blocks by their first units, with what they cover and cost.
 #[derive(Debug, Drop)]
 pub(crate) struct Covers {
-    pub(crate) blocks: Vec<Option<Placed>>,
+    pub(crate) blocks: Vec<Option<PlacedShape>>,
     /// For each unit and each position the first unit of its block.
     pub(crate) units: Vec<u16>,
     pub(crate) positions: Vec<u16>,
     /// The positions that no block has.
     pub(crate) free: Vec<u16>,
-    pub(crate) yard: Yard,
+    pub(crate) yard: RuinYard,
     /// What the blocks cost, in thousandths of a cost unit.
     pub(crate) cost: i64,
     /// What the prices take of them.
@@ -126,7 +129,7 @@ impl Covers {
             units: copies(alloc, NO_BLOCK, tables.units)?,
             positions: copies(alloc, NO_BLOCK, tables.positions)?,
             free: count_up(alloc, tables.positions)?,
-            yard: Yard::new(alloc, tables.rooms.len())?,
+            yard: RuinYard::new(alloc, tables.rooms.len())?,
             cost: 0,
             part: 0,
             bare: tables.all_shares(),
@@ -145,12 +148,12 @@ impl Covers {
     }
 
     /// The block whose first unit this is.
-    pub(crate) fn block(&self, unit: usize) -> Option<Placed> {
+    pub(crate) fn block(&self, unit: usize) -> Option<PlacedShape> {
         self.blocks.get(unit).copied()?
     }
 
     /// There is this block with a first unit, or none.
-    fn set_block(&mut self, unit: usize, block: Option<Placed>) {
+    fn set_block(&mut self, unit: usize, block: Option<PlacedShape>) {
         if unit < self.blocks.len() {
             self.blocks[unit] = block;
         }
@@ -167,14 +170,14 @@ impl Covers {
     }
 
     /// Its positions aren't free any more.
-    fn cover_all(&mut self, row: &Row) {
+    fn cover_all(&mut self, row: &ShapeRow) {
         for k in 0..u16::from(row.shape.n) {
             self.cover(row.position.wrapping_add(k));
         }
     }
 
     /// Its positions are free again. Err is want of memory.
-    fn free_all(&mut self, row: &Row) -> Result<(), AllocError> {
+    fn free_all(&mut self, row: &ShapeRow) -> Result<(), AllocError> {
         for k in 0..u16::from(row.shape.n) {
             self.free.push(row.position.wrapping_add(k))?;
         }
@@ -182,7 +185,7 @@ impl Covers {
     }
 
     /// A block comes. Err is want of memory.
-    pub(crate) fn put(&mut self, tables: &Tables, placed: Placed) -> Result<(), AllocError> {
+    pub(crate) fn put(&mut self, tables: &Tables, placed: PlacedShape) -> Result<(), AllocError> {
         let row = placed.row;
         let place = usize::from(row.unit);
         if place >= self.blocks.len() {
@@ -207,7 +210,7 @@ impl Covers {
         &mut self,
         tables: &Tables,
         unit: u16,
-    ) -> Result<Option<Placed>, AllocError> {
+    ) -> Result<Option<PlacedShape>, AllocError> {
         let place = usize::from(unit);
         let Some(placed) = self.block(place) else {
             return Ok(None);

@@ -5,14 +5,14 @@ use std::alloc::{AllocError, Global};
 
 /// Where the numbers stand. Two runs draw the same.
 #[derive(Debug, Drop)]
-pub(crate) struct Draws {
+pub(crate) struct Chance {
     state: u32,
 }
 
-impl Draws {
+impl Chance {
     /// The start.
-    pub(crate) fn new() -> Draws {
-        Draws { state: 1 }
+    pub(crate) fn new() -> Chance {
+        Chance { state: 1 }
     }
 
     /// A number below 32,768.
@@ -84,7 +84,7 @@ impl Cooling {
     }
 
     /// By how much a sum may rise at a temperature, by a draw.
-    pub(crate) fn rise(&self, temperature: i64, draws: &mut Draws) -> i64 {
+    pub(crate) fn rise(&self, temperature: i64, draws: &mut Chance) -> i64 {
         let logarithm = self.logarithms.get(draws.below(1024)).copied();
         temperature.wrapping_mul(logarithm.unwrap_or(0)) / 65536
     }

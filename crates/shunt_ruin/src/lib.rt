@@ -4,12 +4,12 @@
 mod courses;
 mod covers;
 mod draws;
-mod judging;
-mod recreating;
-mod running;
+mod judge;
+mod recreation;
+mod rounds;
 mod search;
 mod tables;
 mod yard;
 
 pub use courses::{COOL, Course, Fall, HOT, MILD, WARM};
-pub use running::ruin_and_recreate;
+pub use rounds::ruin_and_recreate;

@@ -1,9 +1,9 @@
 // Blocks are ruined and made anew, and what was done is undone where it isn't worth it.
 
 use crate::courses::Course;
-use crate::covers::{Covers, Placed, block_of};
-use crate::draws::Draws;
-use crate::tables::{Row, Spot, Tables};
+use crate::covers::{Covers, PlacedShape, block_of};
+use crate::draws::Chance;
+use crate::tables::{ShapeRow, Spot, Tables};
 use crate::yard::Standing;
 use std::alloc::{AllocError, Global};
 
@@ -12,15 +12,15 @@ const DRAWN: usize = 4;
 
 /// A plan under change, with what has gone and come since it was last kept.
 #[derive(Debug, Drop)]
-pub(crate) struct Search {
+pub(crate) struct RuinSearch {
     pub(crate) covers: Covers,
-    pub(crate) draws: Draws,
+    pub(crate) draws: Chance,
     /// For each unit whether its block is a pin.
     pinned: Vec<bool>,
     /// What noises count in, and whether they are whole or halved.
     pub(crate) grain: i64,
     pub(crate) is_loud: bool,
-    pub(crate) gone: Vec<Placed>,
+    pub(crate) gone: Vec<PlacedShape>,
     pub(crate) come: Vec<u16>,
 }
 
@@ -34,7 +34,7 @@ enum Wanted {
 }
 
 impl Wanted {
-    fn is(self, placed: &Placed) -> bool {
+    fn is(self, placed: &PlacedShape) -> bool {
         match self {
             Wanted::Any => true,
             Wanted::Unparked => placed.spot.is_none(),
@@ -43,17 +43,17 @@ impl Wanted {
     }
 }
 
-impl Search {
+impl RuinSearch {
     /// No blocks, of which those of pinned units stay. Err is want of memory.
     pub(crate) fn new(
         alloc: Global,
         tables: &Tables,
         pinned: Vec<bool>,
         course: &Course<'_>,
-    ) -> Result<Search, AllocError> {
-        Ok(Search {
+    ) -> Result<RuinSearch, AllocError> {
+        Ok(RuinSearch {
             covers: Covers::new(alloc, tables)?,
-            draws: Draws::new(),
+            draws: Chance::new(),
             pinned,
             grain: i64::from(course.grain),
             is_loud: course.is_loud,
@@ -119,7 +119,7 @@ impl Search {
     }
 
     /// The blocks of a shape's units and positions are ruined. Err is want of memory.
-    fn ruin_shape(&mut self, tables: &Tables, row: &Row) -> Result<(), AllocError> {
+    fn ruin_shape(&mut self, tables: &Tables, row: &ShapeRow) -> Result<(), AllocError> {
         for k in 0..usize::from(row.shape.n) {
             let of_unit = block_of(&self.covers.units, usize::from(row.unit) + k);
             self.ruin(tables, of_unit)?;
@@ -139,7 +139,7 @@ impl Search {
     }
 
     /// The first block that is wanted from a unit by chance on.
-    fn some_block(&mut self, wanted: Wanted) -> Option<Placed> {
+    fn some_block(&mut self, wanted: Wanted) -> Option<PlacedShape> {
         let from = self.some_unit();
         let many = self.covers.units.len();
         for k in 0..many {
@@ -176,7 +176,7 @@ impl Search {
     }
 
     /// Of some blocks by chance that split or couple the one that weighs most above its duals.
-    fn dear_split(&mut self, tables: &Tables) -> Option<Placed> {
+    fn dear_split(&mut self, tables: &Tables) -> Option<PlacedShape> {
         let mut dearest = self.some_block(Wanted::Split)?;
         for _more in 1..DRAWN {
             let other = self.some_block(Wanted::Split)?;
@@ -201,7 +201,7 @@ impl Search {
     }
 
     /// Whether the positions of a shape are now of several blocks.
-    fn is_parted(&self, row: &Row) -> bool {
+    fn is_parted(&self, row: &ShapeRow) -> bool {
         let first = block_of(&self.covers.positions, usize::from(row.position));
         for k in 1..usize::from(row.shape.n) {
             if block_of(&self.covers.positions, usize::from(row.position) + k) != first {
@@ -212,7 +212,7 @@ impl Search {
     }
 
     /// By chance one of the shapes with a block's first unit that have more units and positions of several blocks.
-    fn longer(&mut self, tables: &Tables, block: &Row) -> Option<Row> {
+    fn longer(&mut self, tables: &Tables, block: &ShapeRow) -> Option<ShapeRow> {
         let unit = usize::from(block.unit);
         let first = unit.saturating_sub(usize::from(block.shape.p.saturating_sub(1)));
         let mut many: usize = 0;
@@ -260,7 +260,7 @@ impl Search {
     }
 
     /// An unparked block, or any.
-    fn some_in_need(&mut self) -> Option<Placed> {
+    fn some_in_need(&mut self) -> Option<PlacedShape> {
         if self.draws.below(4) > 0 {
             if let Some(placed) = self.some_block(Wanted::Unparked) {
                 return Some(placed);
@@ -270,7 +270,7 @@ impl Search {
     }
 
     /// A way to park a shape, by chance.
-    fn some_spot(&mut self, tables: &Tables, row: &Row) -> Option<Spot> {
+    fn some_spot(&mut self, tables: &Tables, row: &ShapeRow) -> Option<Spot> {
         let spots = tables.spots_of(row);
         if spots.is_empty() {
             return None;
@@ -357,7 +357,11 @@ impl Search {
     }
 
     /// A block comes, where its first unit has none. Err is want of memory.
-    pub(crate) fn put_anew(&mut self, tables: &Tables, placed: Placed) -> Result<(), AllocError> {
+    pub(crate) fn put_anew(
+        &mut self,
+        tables: &Tables,
+        placed: PlacedShape,
+    ) -> Result<(), AllocError> {
         if self.covers.block(usize::from(placed.row.unit)).is_some() {
             return Ok(());
         }

@@ -3,11 +3,10 @@ ghost use Rattle.std.specs.Prelude.{◌≡◌, ◌<◌, ◌≤◌, ◌+◌, IsTr
 ghost use Rattle.shunt_instance.specs.defs.Instance.{unit_total, position_total};
 ghost use Rattle.shunt_blocks.specs.defs.Shapes.{AreRunsWithin};
 
-use crate::judging::track_lengths;
 use indexmap::IndexSet;
 use shunt_base::{Case, Duals, Price, PriceKind};
 use shunt_blocks::{
-    Block, Park, Shape, are_runs_within, block_cost, block_length, in_range, is_pair,
+    Block, Park, Shape, are_runs_within, block_cost, block_length, in_range, is_pair, track_lengths,
 };
 use shunt_choices::options;
 use shunt_instance::{Instance, Origin};
@@ -15,7 +14,7 @@ use std::alloc::{AllocError, Global};
 
 /// A shape by the numbers of its first unit and position, and what its stay needs.
 #[derive(Clone, Copy, Debug, Drop)]
-pub(crate) struct Row {
+pub(crate) struct ShapeRow {
     pub(crate) shape: Shape,
     pub(crate) unit: u16,
     pub(crate) position: u16,
@@ -67,7 +66,7 @@ struct Group {
 
 /// The first unit of a unit's train, and the one behind its last.
 #[derive(Clone, Copy, Debug, Drop)]
-struct Train {
+struct TrainUnits {
     from: u16,
     to: u16,
 }
@@ -75,7 +74,7 @@ struct Train {
 /// All shapes of a night, by units, positions and lengths, with what a case makes of them.
 #[derive(Drop)]
 pub(crate) struct Tables {
-    rows: Vec<Row>,
+    rows: Vec<ShapeRow>,
     /// For each unit and position, where their shapes begin among the rows, and where the last end.
     starts: Vec<usize>,
     groups: Vec<Group>,
@@ -84,7 +83,7 @@ pub(crate) struct Tables {
     /// The ways of each group, the lightest first.
     spots: Vec<Spot>,
     /// For each unit its train.
-    trains: Vec<Train>,
+    trains: Vec<TrainUnits>,
     /// For each unit the least part of a block's cost that falls on it, in thousandths of a cost unit.
     shares: Vec<i64>,
     /// The lengths of the tracks in dm.
@@ -106,7 +105,15 @@ fn part_of<T>(all: &[T], from: usize, to: usize) -> &[T] {
 
 /// A shape with an option as a block.
 pub(crate) fn block_with(shape: Shape, park: Option<Park>, id: u32) -> Block
-    ensures { result ≡ record { id = id; arr = shape.arr; p = shape.p; n = shape.n; dep = shape.dep; q = shape.q; park = park } }
+    ensures { result ≡ record {
+      id = id;
+      arr = shape.arr;
+      p = shape.p;
+      n = shape.n;
+      dep = shape.dep;
+      q = shape.q;
+      park = park;
+    } }
 {
     Block {
         id,
@@ -143,7 +150,7 @@ fn count_of(kind: PriceKind, room: u32, long: u32) -> u64 {
     }
 }
 
-impl Row {
+impl ShapeRow {
     /// Whether it stands at a price's moment.
     fn is_there(&self, instance: &Instance, price: &Price) -> bool {
         if usize::from(price.train.0) >= instance.arrivals() {
@@ -164,7 +171,7 @@ fn room_of(instance: &Instance, park: Park) -> u32 {
 }
 
 /// What the prices take of a shape on a track.
-fn part(instance: &Instance, prices: &[Price], row: &Row, park: Park) -> i64 {
+fn part(instance: &Instance, prices: &[Price], row: &ShapeRow, park: Park) -> i64 {
     let room = room_of(instance, park);
     let mut part: i64 = 0;
     for price in prices {
@@ -191,7 +198,7 @@ fn sort_in(spots: &mut [Spot], from: usize) {
 }
 
 /// An option, where its track is long enough.
-fn long_enough(instance: &Instance, row: &Row, option: Option<Park>) -> Option<Park> {
+fn long_enough(instance: &Instance, row: &ShapeRow, option: Option<Park>) -> Option<Park> {
     let park = option?;
     if row.long > room_of(instance, park) {
         return None;
@@ -203,7 +210,7 @@ fn long_enough(instance: &Instance, row: &Row, option: Option<Park>) -> Option<P
 fn add_spots(
     instance: &Instance,
     prices: &[Price],
-    row: &Row,
+    row: &ShapeRow,
     spots: &mut Vec<Spot>,
 ) -> Result<(), AllocError>
     requires { AreRunsWithin instance.now row.now.shape }
@@ -315,7 +322,7 @@ fn number_of(origin: Origin) -> u16 {
 }
 
 /// What a shape has in common with others.
-fn likeness_of(instance: &Instance, prices: &[Price], row: &Row) -> Likeness
+fn likeness_of(instance: &Instance, prices: &[Price], row: &ShapeRow) -> Likeness
     requires { AreRunsWithin instance.now row.now.shape }
 {
     let kinds = if instance.station().permits.is_empty() {
@@ -357,7 +364,13 @@ fn leaves_at(shape: Shape) -> u16 {
 }
 
 /// A shape, in no group yet.
-fn row_at(instance: &Instance, duals: &Duals, unit: usize, position: usize, shape: Shape) -> Row
+fn row_at(
+    instance: &Instance,
+    duals: &Duals,
+    unit: usize,
+    position: usize,
+    shape: Shape,
+) -> ShapeRow
     requires within { AreRunsWithin instance.now shape }
     requires unit { unit < unit_total instance.now }
     requires position { position < position_total instance.now }
@@ -370,7 +383,7 @@ fn row_at(instance: &Instance, duals: &Duals, unit: usize, position: usize, shap
     let ends = cost_with(instance, shape, None).wrapping_sub(unparked);
     let alphas = run_sum(duals.alpha.as_slice(), unit, shape.n);
     let betas = run_sum(duals.beta.as_slice(), position, shape.n);
-    Row {
+    ShapeRow {
         shape,
         unit: unit as u16,
         position: position as u16,
@@ -385,7 +398,7 @@ fn row_at(instance: &Instance, duals: &Duals, unit: usize, position: usize, shap
 }
 
 /// The train of a unit.
-fn train_of(instance: &Instance, unit: usize) -> Train
+fn train_of(instance: &Instance, unit: usize) -> TrainUnits
     requires { unit < unit_total instance.now }
 {
     // The call tells that there are at most 160 units.
@@ -393,14 +406,14 @@ fn train_of(instance: &Instance, unit: usize) -> Train
     let arr = instance.unit(unit).train;
     let from = instance.first_unit(arr);
     let many = instance.arrive(arr).units.len();
-    Train {
+    TrainUnits {
         from: from as u16,
         to: (from + many) as u16,
     }
 }
 
 /// The trains of all units. Err is want of memory.
-fn trains(alloc: Global, instance: &Instance) -> Result<Vec<Train>, AllocError> {
+fn trains(alloc: Global, instance: &Instance) -> Result<Vec<TrainUnits>, AllocError> {
     let mut trains = Vec::with_capacity(alloc, instance.units())?;
     for unit in 0..instance.units() {
         trains.push(train_of(instance, unit))?;
@@ -410,7 +423,12 @@ fn trains(alloc: Global, instance: &Instance) -> Result<Vec<Train>, AllocError> 
 
 impl Tables {
     /// Adds a shape, and its group where that is a new one.
-    fn add_row(&mut self, instance: &Instance, prices: &[Price], row: Row) -> Result<(), AllocError>
+    fn add_row(
+        &mut self,
+        instance: &Instance,
+        prices: &[Price],
+        row: ShapeRow,
+    ) -> Result<(), AllocError>
         requires { AreRunsWithin instance.now row.shape }
     {
         let likeness = likeness_of(instance, prices, &row);
@@ -418,7 +436,7 @@ impl Tables {
         if is_new {
             self.add_group(instance, prices, &row)?;
         }
-        self.rows.push(Row { group, ..row })?;
+        self.rows.push(ShapeRow { group, ..row })?;
         Ok(())
     }
 
@@ -427,7 +445,7 @@ impl Tables {
         &mut self,
         instance: &Instance,
         prices: &[Price],
-        row: &Row,
+        row: &ShapeRow,
     ) -> Result<(), AllocError>
         requires { AreRunsWithin instance.now row.now.shape }
     {
@@ -440,7 +458,7 @@ impl Tables {
     }
 
     /// The least that a shape costs for each of its units.
-    fn share_of(&self, row: &Row) -> i64 {
+    fn share_of(&self, row: &ShapeRow) -> i64 {
         let least = match self.groups.get(row.group) {
             Some(group) => group.least,
             None => 0,
@@ -562,7 +580,7 @@ impl Tables {
     }
 
     /// The shape at a place.
-    pub(crate) fn row(&self, place: usize) -> Option<Row> {
+    pub(crate) fn row(&self, place: usize) -> Option<ShapeRow> {
         self.rows.get(place).copied()
     }
 
@@ -573,12 +591,12 @@ impl Tables {
     }
 
     /// The shapes that begin at units from one to before another.
-    pub(crate) fn rows_between(&self, from: usize, to: usize) -> &[Row] {
+    pub(crate) fn rows_between(&self, from: usize, to: usize) -> &[ShapeRow] {
         part_of(&self.rows, self.start(from, 0), self.start(to, 0))
     }
 
     /// The shapes that begin at a unit and a position, the shortest first.
-    pub(crate) fn rows_at(&self, unit: usize, position: usize) -> &[Row] {
+    pub(crate) fn rows_at(&self, unit: usize, position: usize) -> &[ShapeRow] {
         let next = position.wrapping_add(1);
         part_of(
             &self.rows,
@@ -588,7 +606,7 @@ impl Tables {
     }
 
     /// The ways to park a shape, the lightest first.
-    pub(crate) fn spots_of(&self, row: &Row) -> &[Spot] {
+    pub(crate) fn spots_of(&self, row: &ShapeRow) -> &[Spot] {
         match self.groups.get(row.group) {
             Some(group) => part_of(&self.spots, group.from, group.to),
             None => &[],

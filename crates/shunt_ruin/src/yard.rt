@@ -1,6 +1,6 @@
 // The blocks that stand on each track, and whether one more goes through.
 
-use crate::tables::{Row, Spot};
+use crate::tables::{ShapeRow, Spot};
 use shunt_base::Side;
 use std::alloc::{AllocError, Global};
 
@@ -18,7 +18,7 @@ pub(crate) struct Standing {
 
 impl Standing {
     /// A shape that is parked somewhere.
-    pub(crate) fn new(row: &Row, spot: &Spot) -> Standing {
+    pub(crate) fn new(row: &ShapeRow, spot: &Spot) -> Standing {
         Standing {
             unit: row.unit,
             arrives: row.arrives,
@@ -106,18 +106,18 @@ fn is_free(others: &[Standing], standing: &Standing) -> bool {
 
 /// For each track what stands there.
 #[derive(Debug, Drop)]
-pub(crate) struct Yard {
+pub(crate) struct RuinYard {
     tracks: Vec<Vec<Standing>>,
 }
 
-impl Yard {
+impl RuinYard {
     /// That many tracks, on which nothing stands. Err is want of memory.
-    pub(crate) fn new(alloc: Global, many: usize) -> Result<Yard, AllocError> {
+    pub(crate) fn new(alloc: Global, many: usize) -> Result<RuinYard, AllocError> {
         let mut tracks = Vec::new(alloc);
         for _track in 0..many {
             tracks.push(Vec::new(alloc))?;
         }
-        Ok(Yard { tracks })
+        Ok(RuinYard { tracks })
     }
 
     /// How many tracks there are.

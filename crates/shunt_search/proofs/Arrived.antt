@@ -8,7 +8,7 @@ use Rattle.std.proofs.lemmas.List.{append-nil, length-append, length-map, length
 use Rattle.std.proofs.Math.Nat.{min-le_right, le-min}
 use Rattle.std.proofs.Math.Seq.{get_or-append_seam, take-append_seam, take-length}
 use Rattle.shunt_lists.specs.defs.Members.{In}
-use Rattle.shunt_lists.proofs.Members.{in_left, in_right, in_cases, in_map, in_place, of_one}
+use Rattle.shunt_lists.proofs.Members.{in_left, in_right, in_cases, in_map, in_place, of_one, place_of}
 use Rattle.shunt_base.specs.declared.duals.Case.{Case}
 use Rattle.shunt_instance.specs.defs.Instance.{Night, IsInstance}
 use Rattle.shunt_blocks.specs.declared.records.Block.{Block}
@@ -28,18 +28,19 @@ use Rattle.shunt_proof.specs.defs.Proves.{IsPlaced, IsListed, ShowsIn}
 use Rattle.shunt_proof.specs.defs.Accepted.{IsLeanIn, AreLeanIn}
 use Rattle.shunt_proof.proofs.Depths.{nearest_here, nearest_before, nearest_low, root_path, root_duals}
 use Rattle.shunt_proof.proofs.Fronts.{node_front, nearest_front, duals_front, path_front, depth_front, node_last}
-use Rattle.shunt_proof.proofs.Growing.{one_more, placed_front, lean_more, listed_more}
+use Rattle.shunt_proof.proofs.LongerLists.{one_more, placed_front, lean_more, listed_more}
 use Rattle.shunt_proof.proofs.Ancestors.{path_size, front_path}
 use Rattle.shunt_proof.proofs.Few.{CountLaws}
 use Rattle.shunt_proof.proofs.Noted.{last_path, last_duals, last_best, last_leans, last_placed, known_listed}
 use Rattle.shunt_search.specs.declared.children.Child.{Child}
-use Rattle.shunt_search.specs.declared.walking.Pending.{Pending}
+use Rattle.shunt_search.specs.declared.walk_stack.Pending.{Pending}
 use Rattle.shunt_search.specs.defs.Yards.{choice_of, more_by, choices_in, IsNextBlock, AreChildren}
-use Rattle.shunt_search.specs.defs.Walking.{kept, goal_of, cases_in, IsPending, IsApart, IsKnown, IsWalked, OpensAbove, AddsChildren, IsWalk}
-use Rattle.shunt_search.proofs.Stays.{place_of}
+use Rattle.shunt_search.specs.defs.WalkStates.{kept, goal_of, cases_in, IsPending, IsApart, IsKnown, IsWalked, OpensAbove, AddsChildren, IsWalk}
 use Rattle.shunt_search.proofs.Offered.{longer_is, of_choices}
-use Rattle.shunt_search.proofs.Yarding.{take_less}
-use Rattle.shunt_search.proofs.Walked.{lower, shows_turn, front_pairs, pairs_append}
+use Rattle.shunt_search.proofs.YardChanges.{take_less}
+use Rattle.shunt_search.proofs.Walked.{shows_turn, front_pairs, pairs_append}
+use Rattle.shunt_proof.proofs.Locally.{step_lower as lower}
+use Rattle.shunt_proof.proofs.Told.{no_nodes as none_formed}
 
 -- a bound of paths and cases that are called otherwise
 same_step : (version : Version) (night : Night) (path path_too longer longer_too : List Block) (cases cases_too : List Case) (bound : ℤ) → path_too ≡ path → longer_too ≡ longer
@@ -493,9 +494,6 @@ module _ (version : Version) (night : Night) (formed_night : IsInstance night) (
     }
 
 -- ---- the root
-
-none_formed : (night : Night) → AreNodes night []
-none_formed night = record { each = λ k d lt. absurd (omega (arith, lt)); root = λ lt. absurd (omega (arith, lt)); follow = λ k lt. absurd (omega (arith, lt)) }
 
 module _ (version : Version) (night : Night) (start : List Block) (stock : List (List Case)) (floor : ℤ) (n : Node) (fits : FitsNode night n) (depth : n.depth ≡ 0) where
   abbrev alone : List Node

@@ -9,7 +9,6 @@ use Rattle.shunt_blocks.specs.declared.records.Block.{Block}
 use Rattle.shunt_blocks.specs.defs.Lists.{IsFeasible, total_cost}
 use Rattle.shunt_blocks.specs.defs.Pins.{AreUsable, Keeps, opening_cost}
 use Rattle.shunt_choices.specs.defs.Paths.{Masks, Trail, IsTrailOf, IsPartialPlan, masks_of, next_of}
-use Rattle.shunt_choices.proofs.Given.{all_within}
 use Rattle.shunt_proof.specs.declared.records.NodeKind.TheVariants.{Branch, Whole}
 use Rattle.shunt_proof.specs.declared.records.Node.{Node}
 use Rattle.shunt_proof.specs.declared.records.Version.{Version}
@@ -19,16 +18,17 @@ use Rattle.shunt_proof.specs.defs.Certificates.{own_cases, case_total}
 use Rattle.shunt_proof.specs.defs.Trees.{IsStart, cases_or, duals_at}
 use Rattle.shunt_proof.specs.defs.Versions.{HoldIn, IsBoundIn, ReachesIn}
 use Rattle.shunt_search.specs.declared.yard.Yard.{Yard}
-use Rattle.shunt_search.specs.declared.known.Known.{Known}
-use Rattle.shunt_search.specs.declared.walking.Pending.{Pending}
-use Rattle.shunt_search.specs.declared.searching.Search.{Search}
+use Rattle.shunt_search.specs.declared.known.KnownPlan.{KnownPlan}
+use Rattle.shunt_search.specs.declared.walk_stack.Pending.{Pending}
+use Rattle.shunt_search.specs.declared.search_state.Search.{Search}
 use Rattle.shunt_search.specs.defs.Roots.{IsFloor, IsBase}
 use Rattle.shunt_search.specs.defs.Yards.{IsYard}
-use Rattle.shunt_search.specs.defs.Walking.{cases_in, IsLifted, IsWalk, AddsChildren, OpensAbove, KeepsCheaper, IsBest}
+use Rattle.shunt_search.specs.defs.WalkStates.{cases_in, IsLifted, IsWalk, AddsChildren, OpensAbove, KeepsCheaper, IsBest}
 use Rattle.shunt_search.specs.defs.Steady.{IsSteady}
-use Rattle.shunt_search.specs.defs.Searching.{IsSearch, IsFresh, Begins, Takes, whole_root, branch_root, TellsRoot}
+use Rattle.shunt_search.specs.defs.SearchStates.{IsSearch, IsFresh, Begins, Takes, whole_root, branch_root, TellsRoot}
 use Rattle.shunt_search.proofs.Lowest.{CostLaw}
 use Rattle.shunt_search.proofs.Searched.{RiseLaw, SomeLaw, opens_above, same_walk, same_best}
+use Rattle.shunt_blocks.proofs.Shapes.{all_within}
 
 -- what the laws of the walk and of the crates below say
 pub record BeginLaws : Type 0 where
@@ -40,7 +40,7 @@ pub record BeginLaws : Type 0 where
   pub whole : (version : Version) (night : Night) (start : List Block) (stock : List (List Case)) (floor : ℤ) (n : Node) (best : ℕ) (low : ℤ) → FitsNode night n → n.depth ≡ 0
       → n.kind ≡ Whole → best ≤ opening_cost night start → best ≤ total_cost night start → low ≤ℤ pos best
       → next_of (masks_of night start) ≡ None → IsWalk version night start stock floor (n ∷ []) start [] best low
-  pub kept_plan : (night : Night) (pins : List Block) (t : Trail) (old new : Known) → IsInstance night → IsTrailOf night t → IsPartialPlan night pins t.blocks
+  pub kept_plan : (night : Night) (pins : List Block) (t : Trail) (old new : KnownPlan) → IsInstance night → IsTrailOf night t → IsPartialPlan night pins t.blocks
       → next_of t.covered ≡ None → position_total night ≡ unit_total night → IsBest night pins old.blocks.items old.cost → KeepsCheaper night t.blocks old new
       → IsBest night pins new.blocks.items new.cost
   pub opening : (night : Night) (pins others : List Block) → IsPermutation pins others → opening_cost night others ≡ opening_cost night pins
@@ -109,7 +109,7 @@ module _ (laws : BeginLaws) (version : Version) (night : Night) (i : IsInstance 
       let yard_is : w.yard ≡ s.yard = takes.yard ∙ b.yard in
       let path_is : w.yard.path.blocks ≡ start = ap (λ (y : Yard). y.path.blocks) yard_is in
       let cheaper : KeepsCheaper night start s.known w.known = subst (λ (l : List Block). KeepsCheaper night l s.known w.known) (ap (λ (y : Yard). y.path.blocks) b.yard)
-      (subst (λ (k : Known). KeepsCheaper night z.yard.path.blocks k w.known) b.known takes.cheaper) in
+      (subst (λ (k : KnownPlan). KeepsCheaper night z.yard.path.blocks k w.known) b.known takes.cheaper) in
       let less = cheaper.known in
       let known = opened in
       let low : w.known.cost ≤ opening_cost night start = omega (arith, less, known) in
@@ -215,7 +215,7 @@ module _ (laws : BeginLaws) (version : Version) (night : Night) (i : IsInstance 
       let low_is = f.low in
       let walk = laws.branch version night start stock low.0 root s.known.cost s.low place z.waiting.items fits refl refl refl lifts.there opened
       (omega (arith, ints, low_is)) adds low.1.1 lifts.hold unfinished in
-      let cost_is : z.known.cost ≡ s.known.cost = ap (λ (k : Known). k.cost) b.known in
+      let cost_is : z.known.cost ≡ s.known.cost = ap (λ (k : KnownPlan). k.cost) b.known in
       let cost = low.1.0.plans s.known.blocks.items f.best.feasible f.best.keeps in
       let best_is = f.best.cost in
       let low_too = b.low in

@@ -6,7 +6,7 @@ use Rattle.std.proofs.lemmas.Bool.Decides.{nat_tests}
 use Rattle.std.proofs.lemmas.List.{append-nil, append_assoc}
 use Rattle.std.proofs.lemmas.List.Sums.{sum_by-append}
 use Rattle.shunt_lists.specs.defs.Members.{In}
-use Rattle.shunt_lists.proofs.Members.{in_left, in_right}
+use Rattle.shunt_lists.proofs.Members.{in_left, in_right, each_one as of_all, to_all}
 use Rattle.shunt_base.specs.declared.duals.Case.{Case}
 use Rattle.shunt_instance.specs.defs.Instance.{Night, IsInstance}
 use Rattle.shunt_blocks.specs.declared.records.Block.{Block}
@@ -15,13 +15,13 @@ use Rattle.shunt_blocks.specs.defs.Blocks.{IsBlockButId}
 use Rattle.shunt_blocks.specs.defs.Lists.{has_unit, has_position, ShareNothing, RunsThrough, placed}
 use Rattle.shunt_blocks.specs.defs.Pins.{without_id}
 use Rattle.shunt_choices.specs.defs.Paths.{masks_of}
-use Rattle.shunt_choices.proofs.Given.{PlaceLaws, all_within}
+use Rattle.shunt_choices.proofs.Given.{PlaceLaws}
 use Rattle.shunt_choices.proofs.Masks.{unit_more, position_more}
 use Rattle.shunt_choices.proofs.Trails.{front_apart}
 use Rattle.shunt_choices.proofs.Grown.{IsFreeBlock as IsNewBlock, free_choice}
 use Rattle.shunt_prices.specs.defs.Cases.{IsFreeBlock, CasesHold}
 use Rattle.shunt_prices.specs.defs.Bounds.{case_sum, IsCasesBound}
-use Rattle.shunt_search.proofs.Stays.{of_all, to_all}
+use Rattle.shunt_blocks.proofs.Shapes.{all_within}
 
 -- what the laws of the crates below say
 pub record CarryLaws : Type 0 where

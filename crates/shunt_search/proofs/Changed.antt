@@ -1,26 +1,27 @@
 -- Lists of blocks of which one has another option.
-use Rattle.std.specs.Prelude.{Option, Some, None, if◌then◌else◌}
+use Rattle.std.specs.Prelude.{Option, if◌then◌else◌}
 use Rattle.std.specs.List.{AllByRecursion, cons_option}
-use Rattle.std.proofs.Common.{◌≡◌, ◌≢◌, ◌↔◌, ℕ, suc, zero, ◌+◌, ◌<◌, ◌==◌, Bool, true, false, cond, List, [], ◌∷◌, ◌++◌, length, map, get_or, set, take, drop, refl, sym, subst, ap, ◌∙◌, arith, count_by}
+use Rattle.std.proofs.Common.{◌≡◌, ◌≢◌, ◌↔◌, ℕ, suc, zero, ◌+◌, ◌<◌, ◌==◌, Bool, false, cond, List, [], ◌∷◌, ◌++◌, length, map, get_or, set, take, drop, refl, sym, subst, ap, ◌∙◌, arith, count_by}
 use Rattle.std.proofs.lemmas.Bool.Decides.{nat_tests}
 use Rattle.std.proofs.lemmas.List.{get_or-map, length-map}
 use Rattle.std.proofs.lemmas.List.Elements.{All-set, filter_map-append}
 use Rattle.std.proofs.lemmas.List.Sums.{sum_by-set}
-use Rattle.shunt_lists.proofs.Members.{all_in, all_from, in_place}
+use Rattle.shunt_lists.proofs.Members.{all_in, all_from, in_place, place_of}
 use Rattle.shunt_lists.specs.defs.Members.{In, AreDistinct}
 use Rattle.shunt_base.specs.declared.keys.Stay.{Stay}
 use Rattle.shunt_instance.specs.defs.Instance.{Night}
 use Rattle.shunt_blocks.specs.declared.records.Block.{Block}
 use Rattle.shunt_blocks.specs.declared.records.Park.{Park}
-use Rattle.shunt_blocks.specs.declared.records.Shape.{Shape}
-use Rattle.shunt_blocks.specs.defs.Shapes.{shape_of, IsOnTrack}
+use Rattle.shunt_blocks.specs.defs.Shapes.{shape_of}
 use Rattle.shunt_blocks.specs.defs.Blocks.{IsBlock, IsOption}
 use Rattle.shunt_blocks.specs.defs.Costs.{block_cost}
-use Rattle.shunt_blocks.specs.defs.Standing.{stay_of}
+use Rattle.shunt_blocks.specs.defs.Stays.{stay_of}
 use Rattle.shunt_blocks.specs.defs.Lists.{has_unit, has_position, RunsThrough, IsFeasible, stays_of, total_cost}
 use Rattle.shunt_blocks.specs.defs.Polished.{with_option}
-use Rattle.shunt_search.specs.defs.Polishing.{others_of}
-use Rattle.shunt_search.proofs.Stays.{place_of, to_front, as_long}
+use Rattle.shunt_search.specs.defs.Polish.{others_of}
+use Rattle.shunt_search.proofs.Stays.{to_front, as_long}
+use Rattle.shunt_lists.proofs.Tests.{same_number}
+use Rattle.shunt_blocks.proofs.Shapes.{on_track}
 
 abbrev pub with_park : Block → Option Park → Block
 with_park b option = record b { park = option }
@@ -62,9 +63,6 @@ pub other_ids : (blocks : List Block) (k : ℕ) (d : Block) → k < length block
 other_ids blocks k d lt h = others_apart blocks k d lt (apart blocks h)
 
 -- ---- another option for the one at a place
-
-same_number : (n : ℕ) → (n == n) ≡ true
-same_number n = grind (arith, nat_tests)
 
 other_number : (n m : ℕ) → n ≢ m → (m == n) ≡ false
 other_number n m apart = grind (arith, nat_tests)
@@ -114,10 +112,6 @@ pub cost_change : (night : Night) (blocks : List Block) (k : ℕ) (d : Block) (o
     → total_cost night (set blocks k (with_park (get_or blocks k d) option)) + block_cost night (get_or blocks k d)
     ≡ total_cost night blocks + block_cost night (with_park (get_or blocks k d) option)
 cost_change night blocks k d option lt = sum_by-set (block_cost night) blocks k (with_park (get_or blocks k d) option) d lt
-
-pub on_track : (night : Night) (s : Shape) (option : Option Park) → IsOption night s option → IsOnTrack night.station option
-on_track night s None is = tt
-on_track night s (Some k) is = is.track
 
 pub still_block : (night : Night) (b : Block) (option : Option Park) → IsBlock night b → IsOption night (shape_of b) option → IsBlock night (with_park b option)
 still_block night b option h is = record {

@@ -7,7 +7,7 @@ use Rattle.shunt_blocks.specs.declared.records.Block.{Block}
 use Rattle.shunt_blocks.specs.defs.Lists.{total_cost}
 use Rattle.shunt_plan.specs.declared.records.Plan.{Plan}
 use Rattle.shunt_proof.specs.declared.records.Node.{Node}
-use Rattle.shunt_search.specs.declared.walking.Pending.{Pending}
+use Rattle.shunt_search.specs.declared.walk_stack.Pending.{Pending}
 use Rattle.shunt_search.specs.defs.Endings.{IsLeft, IsShown}
 
 pub low_enough : (night : Night) (blocks slice items : List Block) (cost : ℕ) → slice ≡ items → total_cost night blocks ≤ total_cost night slice → cost ≡ total_cost night items

@@ -24,13 +24,13 @@ use Rattle.shunt_proof.specs.defs.Trees.{IsStart, path_at, duals_at, best_before
 use Rattle.shunt_proof.specs.defs.Versions.{IsBoundIn}
 use Rattle.shunt_proof.specs.defs.Proves.{ProvesIn, AreRightIn}
 use Rattle.shunt_proof.specs.defs.Accepted.{IsAccepted}
-use Rattle.shunt_proof.proofs.Growing.{front_nodes}
-use Rattle.shunt_search.specs.declared.walking.Pending.{Pending}
-use Rattle.shunt_search.specs.declared.searching.Search.{Search}
+use Rattle.shunt_proof.proofs.LongerLists.{front_nodes}
+use Rattle.shunt_search.specs.declared.walk_stack.Pending.{Pending}
+use Rattle.shunt_search.specs.declared.search_state.Search.{Search}
 use Rattle.shunt_search.specs.defs.Conditions.{IsPlanFor, IsTidy, IsCheap, IsAboveAssignment, IsAboveRoot, AreSteady, AreSpent, MeetConditions, IsBoundForPlans}
-use Rattle.shunt_search.specs.defs.Walking.{IsWalk}
+use Rattle.shunt_search.specs.defs.WalkStates.{IsWalk}
 use Rattle.shunt_search.specs.defs.Steady.{KeepBounds, IsSteady}
-use Rattle.shunt_search.specs.defs.Searching.{IsSearch}
+use Rattle.shunt_search.specs.defs.SearchStates.{IsSearch}
 use Rattle.shunt_search.specs.defs.Endings.{IsLeft, IsDone, IsEnd, certificate_in}
 
 -- what the laws of the walk and of the crates below say

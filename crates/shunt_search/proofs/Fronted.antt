@@ -1,5 +1,5 @@
 -- What the first of some nodes prove, all prove; and they prove no more than what is left.
-use Rattle.std.specs.Prelude.{map, ℤ, pos, ◌≤ℤ◌, Option, Some, None, unwrap_or}
+use Rattle.std.specs.Prelude.{map, ℤ, pos, ◌≤ℤ◌}
 use Rattle.std.proofs.Common.{◌≡◌, ◌≢◌, inl, ⊎_elim, ℕ, zero, suc, ◌<◌, ◌≤◌, List, ◌++◌, length, take, drop, sym, subst, ap, ◌∙◌, arith}
 use Rattle.std.proofs.lemmas.Int.{ints}
 use Rattle.std.proofs.lemmas.Bool.{cases_lt}
@@ -12,36 +12,28 @@ use Rattle.shunt_blocks.specs.declared.records.Block.{Block}
 use Rattle.shunt_blocks.specs.defs.Lists.{RunsThrough, placed, total_cost}
 use Rattle.shunt_blocks.specs.defs.Pins.{without_id}
 use Rattle.shunt_choices.specs.defs.Choices.{Choice as PathChoice, IsChoiceAt, longer_by}
-use Rattle.shunt_proof.specs.declared.records.Choice.{Choice}
 use Rattle.shunt_proof.specs.declared.records.NodeKind.{NodeKind}
 use Rattle.shunt_proof.specs.declared.records.NodeKind.TheVariants.{Branch, Whole}
 use Rattle.shunt_proof.specs.declared.records.Node.{Node}
 use Rattle.shunt_proof.specs.declared.records.Version.{Version}
 use Rattle.shunt_proof.specs.defs.Nodes.{node_at, AreNodes}
-use Rattle.shunt_proof.specs.defs.Trees.{parent, choice_from, stated_choice, longer_with, path_at, duals_at, best_before}
+use Rattle.shunt_proof.specs.defs.Trees.{parent, choice_from, longer_with, path_at, duals_at, best_before}
 use Rattle.shunt_proof.specs.defs.Versions.{IsStepBoundIn}
 use Rattle.shunt_proof.specs.defs.Proves.{ShowsWhole, ShowsByChoicesIn, ShowsIn, IsListed, IsPlaced, AreRightIn}
 use Rattle.shunt_proof.proofs.Depths.{parent_found, child_later, child_path}
 use Rattle.shunt_proof.proofs.Fronts.{node_front, duals_front, path_front}
-use Rattle.shunt_proof.proofs.Growing.{front_nodes, right_more}
+use Rattle.shunt_proof.proofs.LongerLists.{front_nodes, right_more}
 use Rattle.shunt_proof.proofs.Few.{CountLaws, longer, one_path}
-use Rattle.shunt_search.specs.declared.walking.Pending.{Pending}
+use Rattle.shunt_search.specs.declared.walk_stack.Pending.{Pending}
 use Rattle.shunt_search.specs.defs.Yards.{choice_of}
-use Rattle.shunt_search.specs.defs.Walking.{kept, goal_of, IsWalked, IsWalk}
+use Rattle.shunt_search.specs.defs.WalkStates.{kept, goal_of, IsWalked, IsWalk}
 use Rattle.shunt_search.specs.defs.Steady.{KeepBounds, IsSteady}
 use Rattle.shunt_search.proofs.Offered.{longer_is}
-use Rattle.shunt_search.proofs.Lifting.{OneLaw}
-use Rattle.shunt_search.proofs.Walked.{lower}
+use Rattle.shunt_search.proofs.LiftedCases.{OneLaw}
+use Rattle.shunt_proof.proofs.Locally.{step_lower as lower}
+use Rattle.shunt_proof.proofs.Proved.{longer_stated as with_choice}
 
 -- ---- the path of a choice that is listed
-
--- the choice that is stated makes the path longer
-with_choice : (night : Night) (path : List Block) (o : Option Choice) (c : PathChoice) → stated_choice night path o ≡ Some c → longer_with night path o ≡ longer_by path c
-with_choice night path None c e = absurd (other e)
-  where
-    other : None ≡ Some c → ⊥
-    other e = cc
-with_choice night path (Some x) c e = ap (λ (o : Option PathChoice). longer_by path (unwrap_or o c)) e
 
 module _ (version : Version) (night : Night) (start : List Block) (nodes : List Node) (h : AreNodes night nodes) where
   listed_path : (k : ℕ) (c : PathChoice) (l : IsListed night start nodes k c) → path_at night start nodes l.child ≡ longer_by (path_at night start nodes k) c

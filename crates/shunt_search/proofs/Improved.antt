@@ -1,10 +1,10 @@
 -- The options of one block, where timelines have the stays of the others.
 use Rattle.std.specs.Prelude.{All, IfSome, IfNone, OnSome, Option, Some, None}
 use Rattle.std.specs.List.{AllByRecursion, cons_option}
-use Rattle.std.proofs.Common.{◌≡◌, ◌≢◌, inl, inr, ⊎_elim, ◌↔◌, ℕ, ◌+◌, ◌^◌, ◌<◌, ◌≤◌, List, [], ◌∷◌, length, map, get_or, set, refl, sym, subst, ap, ◌∙◌, arith, IsPermutation}
+use Rattle.std.proofs.Common.{◌≡◌, ◌≢◌, ⊎_elim, ◌↔◌, ℕ, ◌+◌, ◌^◌, ◌<◌, ◌≤◌, List, [], ◌∷◌, length, map, get_or, set, refl, sym, subst, ap, ◌∙◌, arith, IsPermutation}
 use Rattle.std.proofs.lemmas.List.{set-get_or}
 use Rattle.std.proofs.lemmas.List.Elements.{All-set}
-use Rattle.shunt_lists.proofs.Members.{all_from}
+use Rattle.shunt_lists.proofs.Members.{all_from, each_one as of_all, to_all}
 use Rattle.shunt_lists.specs.defs.Members.{In, AreDistinct}
 use Rattle.shunt_base.specs.declared.keys.Stay.{Stay}
 use Rattle.shunt_base.specs.defs.Keys.{IsWellFormed, AreStays}
@@ -15,23 +15,21 @@ use Rattle.shunt_blocks.specs.declared.records.Park.{Park}
 use Rattle.shunt_blocks.specs.defs.Shapes.{shape_of, IsWithinTrains}
 use Rattle.shunt_blocks.specs.defs.Blocks.{IsBlock, IsOption}
 use Rattle.shunt_blocks.specs.defs.Costs.{block_cost, cost_with}
-use Rattle.shunt_blocks.specs.defs.Standing.{stay_with, stay_of}
+use Rattle.shunt_blocks.specs.defs.Stays.{stay_with, stay_of}
 use Rattle.shunt_blocks.specs.defs.Lists.{CanStand, RunsThrough, IsFeasible, stays_of, track_lengths, total_cost}
 use Rattle.shunt_timeline.specs.defs.Holdings.{Holding}
-use Rattle.shunt_search.specs.defs.Polishing.{unparked, others_of, Stand, RunsWith, NoLess, IsLeast}
-use Rattle.shunt_search.proofs.Stays.{of_all, to_all, first_or_rest, first, rest, id_with, others_ids, none_taken, one_taken, none_less, one_less, few_some, same_length, PartRuns}
+use Rattle.shunt_search.specs.defs.Polish.{unparked, others_of, Stand, RunsWith, NoLess, IsLeast}
+use Rattle.shunt_search.proofs.Stays.{others_ids, none_taken, one_taken, none_less, one_less, same_length, PartRuns}
 use Rattle.shunt_search.proofs.Changed.{with_park, other_ids, with_option_is, same_fields, cost_change, still_block, still_feasible, stays_front, stays_long, length_others}
+use Rattle.shunt_lists.proofs.Options.{few_some, option_in as first_or_rest, option_first as first, option_rest as rest}
+use Rattle.shunt_stays.proofs.Halves.{formed as formed_in}
+use Rattle.shunt_blocks.proofs.StaysOf.{id_with}
 
 -- what the laws say of blocks' stays
 pub record Laws (night : Night) : Type 0 where
   pub stays : (blocks : List Block) → CanStand night blocks → AreStays (stays_of night blocks)
   pub tracks : (blocks : List Block) → CanStand night blocks → AreOnTracks (track_lengths night.station) (stays_of night blocks)
   pub part : PartRuns
-
-pub formed_in : (stays : List Stay) (s : Stay) → AreStays stays → In s stays → IsWellFormed s
-formed_in [] s a i = absurd i
-formed_in (t ∷ stays) s a (inl e) = subst IsWellFormed (sym e) a.0
-formed_in (t ∷ stays) s a (inr i) = formed_in stays s a.2 i
 
 pub can_stand : (night : Night) (blocks : List Block) → All (IsBlock night) blocks → AreDistinct (map (λ b. b.id) blocks) → CanStand night blocks
 can_stand night blocks each ids = record {

@@ -19,8 +19,11 @@ use Rattle.shunt_blocks.specs.defs.Blocks.{IsBlockButId}
 use Rattle.shunt_blocks.specs.defs.Lists.{has_unit, has_position, times_unit, times_position, units_taken, positions_taken, IsFeasible}
 use Rattle.shunt_blocks.specs.defs.Pins.{IsKept, Keeps}
 use Rattle.shunt_blocks.proofs.Held.{held, holder, one_holder}
-use Rattle.shunt_choices.proofs.Given.{PlaceLaws, each_one, but_ids}
+use Rattle.shunt_choices.proofs.Given.{PlaceLaws}
 use Rattle.shunt_matching.specs.defs.Nights.{MatchesRest}
+use Rattle.shunt_lists.proofs.Members.{each_one}
+use Rattle.shunt_lists.proofs.Tests.{equal_of, equal_to}
+use Rattle.shunt_blocks.proofs.Shapes.{has_from, has_position_from, position_to, unit_to, but_ids}
 
 -- ---- masks
 
@@ -43,12 +46,6 @@ left_in times n k lt none = is_left times n k lt ∙ ap (λ t. not (not (t == 0)
 second : (a b : Bool) → (a && b) ≡ true → b ≡ true
 second true b e = e
 second false b e = absurd (true≢false (sym e))
-
-equal_of : (a b : ℕ) → (a == b) ≡ true → a ≡ b
-equal_of a b e = grind (arith, nat_tests, e)
-
-equal_to : (a b : ℕ) → a ≡ b → (a == b) ≡ true
-equal_to a b e = grind (arith, nat_tests, e)
 
 -- ---- the position of a unit
 
@@ -78,18 +75,6 @@ found night (b ∷ blocks) u some = at (has_unit night (shape_of b) u) refl (λ 
         let more = sum_by-cons (λ c. cond (has_unit night (shape_of c) u) 1 0) b blocks in
         let h = later (omega (arith, some, more, none)) in
         record { block = h.block; there = inr h.there; has = h.has; is = ap {B = ℕ} (λ t. cond t (partner_in night u b) (partner night blocks u)) e ∙ h.is }
-
-has_from : (night : Night) (b : Block) (u : ℕ) → has_unit night (shape_of b) u ≡ true → HasUnit night (shape_of b) u
-has_from night b u e = record { from = grind (arith, nat_tests, e); to = grind (arith, nat_tests, e) }
-
-has_position_from : (night : Night) (b : Block) (v : ℕ) → has_position night (shape_of b) v ≡ true → HasPosition night (shape_of b) v
-has_position_from night b v e = record { from = grind (arith, nat_tests, e); to = grind (arith, nat_tests, e) }
-
-unit_to : (night : Night) (b : Block) (u : ℕ) → HasUnit night (shape_of b) u → has_unit night (shape_of b) u ≡ true
-unit_to night b u has = grind (arith, nat_tests, has.from, has.to)
-
-position_to : (night : Night) (b : Block) (v : ℕ) → HasPosition night (shape_of b) v → has_position night (shape_of b) v ≡ true
-position_to night b v has = grind (arith, nat_tests, has.from, has.to)
 
 partner_there : (night : Night) (u : ℕ) (b : Block) → HasUnit night (shape_of b) u → HasPosition night (shape_of b) (partner_in night u b)
 partner_there night u b has = record { from = omega arith; to = omega (arith, has.from, has.to) }

@@ -6,9 +6,9 @@ mod Swept
 mod Stood
 mod Placed
 mod Nexts
-mod Yarding
+mod YardChanges
 mod Offered
-mod Lifting
+mod LiftedCases
 mod Walked
 mod Arrived
 mod Steadied
@@ -16,8 +16,8 @@ mod Passed
 mod Fronted
 mod NodesBelow
 mod Visits
-mod Waiting
-mod Covering
+mod WaitingChildren
+mod WholePaths
 mod Singles
 mod Carried
 mod Rooted
@@ -27,11 +27,10 @@ mod Searched
 mod Begun
 mod Restarted
 mod Stocked
-mod Copied
 mod Ended
 mod Prepared
 mod Tidied
-mod Telling
+mod ToldNodes
 pub mod Free
 mod Concluded
 mod Reordered

@@ -17,9 +17,9 @@ use Rattle.shunt_proof.specs.defs.Nodes.{AreNodes}
 use Rattle.shunt_proof.specs.defs.Trees.{IsStart, path_at}
 use Rattle.shunt_proof.specs.defs.Versions.{HoldIn, IsBoundIn, ReachesIn}
 use Rattle.shunt_proof.specs.defs.Proves.{IsPlaced}
-use Rattle.shunt_search.specs.declared.walking.Pending.{Pending}
+use Rattle.shunt_search.specs.declared.walk_stack.Pending.{Pending}
 use Rattle.shunt_search.specs.defs.Yards.{choice_of, more_by, IsNextBlock}
-use Rattle.shunt_search.specs.defs.Walking.{kept, goal_of, IsWalk}
+use Rattle.shunt_search.specs.defs.WalkStates.{kept, goal_of, IsWalk}
 use Rattle.shunt_search.proofs.Offered.{longer_is}
 
 -- paths of nodes are partial plans, and grow by choices

@@ -12,7 +12,7 @@ use Rattle.shunt_choices.proofs.Given.{PlaceLaws}
 use Rattle.shunt_choices.proofs.Trails.{pushed}
 use Rattle.shunt_prices.specs.defs.Cases.{IsFreeBlock}
 use Rattle.shunt_search.specs.defs.Yards.{choice_of, IsNextBlock}
-use Rattle.shunt_search.proofs.Changed.{on_track}
+use Rattle.shunt_blocks.proofs.Shapes.{on_track}
 
 -- what a path asks of a block that it gets, and what it is then
 pub record Pushes (night : Night) (t : Trail) (b : Block) : Type 0 where

@@ -21,11 +21,11 @@ use Rattle.shunt_proof.specs.defs.Nodes.{AreStatable, FitsChoice, FitDuals}
 use Rattle.shunt_proof.specs.defs.Trees.{next_unit, choice_at, choice_from}
 use Rattle.shunt_search.specs.declared.children.Child.{Child}
 use Rattle.shunt_search.specs.defs.Yards.{choice_of, IsNextBlock}
-use Rattle.shunt_search.specs.declared.noting.Noted.{Noted}
-use Rattle.shunt_search.specs.declared.noting.Noted.TheVariants as noted
-use Rattle.shunt_search.specs.defs.Walking.{kept, cases_in, IsNodeOf, stated, IsInStock, node_below}
-use Rattle.shunt_search.proofs.Changed.{on_track}
+use Rattle.shunt_search.specs.declared.notes.NodeNoted.{NodeNoted}
+use Rattle.shunt_search.specs.declared.notes.NodeNoted.TheVariants as noted
+use Rattle.shunt_search.specs.defs.WalkStates.{kept, cases_in, IsNodeOf, stated, IsInStock, node_below}
 use Rattle.shunt_search.proofs.Nexts.{at_unit}
+use Rattle.shunt_blocks.proofs.Shapes.{on_track}
 
 -- which units a shape has
 abbrev pub UnitLaw : Type 0
@@ -74,7 +74,8 @@ module _ (night : Night) (path : List Block) (b : Block) (next : IsNextBlock nig
 in_stock : (night : Night) (stock : List (List Case)) (place : ℕ) → All (AreStatable night) stock → place < length stock → AreStatable night (cases_in stock place)
 in_stock night stock place all lt = all place [] lt
 
-pub is_node_of : UnitLaw → (night : Night) → IsOrderedNight night → (stock : List (List Case)) (start path : List Block) (t : Child) (how : Noted) → All (AreStatable night) stock
+pub is_node_of : UnitLaw → (night : Night) → IsOrderedNight night → (stock : List (List Case)) (start path : List Block) (t : Child) (how : NodeNoted)
+    → All (AreStatable night) stock
     → IsInStock stock how → IsNextBlock night (take (kept t) path) t.block → length start < t.block.id → t.block.id ≤ length start + 160
     → IsNodeOf night start path t (node_below (length start) t.block stock how)
 is_node_of law night h stock start path t how statable there next deep few = of how there
@@ -96,7 +97,7 @@ is_node_of law night h stock start path t how statable there next deep few = of 
       };
     }
 
-    of : (how : Noted) → IsInStock stock how → IsNodeOf night start path t (node_below (length start) t.block stock how)
+    of : (how : NodeNoted) → IsInStock stock how → IsNodeOf night start path t (node_below (length start) t.block stock how)
     of noted.Whole there = with_duals Whole Bare refl
     of noted.Same there = with_duals Branch Same (apart, omega (arith, deep))
     of (noted.Own place) there = with_duals Branch (New (cases_in stock place)) (apart, in_stock night stock place statable there)

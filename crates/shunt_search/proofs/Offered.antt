@@ -1,13 +1,12 @@
 -- The children of a path, while its choices are tried one by one.
-use Rattle.std.specs.Prelude.{pos, not, All, Option, Some, None}
+use Rattle.std.specs.Prelude.{pos, All, Option, Some, None}
 use Rattle.std.specs.List.{flat_map}
-use Rattle.std.proofs.Common.{◌≡◌, inl, inr, ⊎_elim, ◌↔◌, ℕ, zero, suc, ◌+◌, ◌<◌, ◌≤◌, false, List, [], ◌∷◌, ◌++◌, length, map, take, get_or, refl, sym, subst, ap, ◌∙◌, arith}
+use Rattle.std.proofs.Common.{◌≡◌, inl, inr, ⊎_elim, ◌↔◌, ℕ, zero, suc, ◌+◌, ◌<◌, ◌≤◌, List, [], ◌∷◌, ◌++◌, length, map, take, get_or, refl, sym, subst, ap, ◌∙◌, arith}
 use Rattle.std.proofs.lemmas.List.{append-nil, append_assoc, map-append, take_more, take_all}
 use Rattle.std.proofs.lemmas.List.Elements.{All-append, All-cons, All-nil}
-use Rattle.std.proofs.lemmas.List.Quantifiers.{position-Some}
 use Rattle.std.proofs.lemmas.List.Concat.{flat_map-cons}
 use Rattle.shunt_lists.specs.defs.Members.{In, AreDistinct}
-use Rattle.shunt_lists.proofs.Members.{in_left, in_right, in_cases, in_map, in_place, of_one, Distinct}
+use Rattle.shunt_lists.proofs.Members.{in_left, in_right, in_cases, in_map, in_place, of_one, Distinct, each_one as of_all, to_all, place_of}
 use Rattle.shunt_base.specs.declared.duals.Case.{Case}
 use Rattle.shunt_instance.specs.defs.Instance.{Night, unit_total}
 use Rattle.shunt_blocks.specs.declared.records.Block.{Block}
@@ -22,7 +21,7 @@ use Rattle.shunt_proof.specs.declared.records.Version.{Version}
 use Rattle.shunt_proof.specs.defs.Versions.{StepReachesIn}
 use Rattle.shunt_search.specs.declared.children.Child.{Child}
 use Rattle.shunt_search.specs.defs.Yards.{choice_of, more_by, choices_in, IsNextBlock, IsOpen, IsClosed, IsTried, AreOpen, AreChildren}
-use Rattle.shunt_search.proofs.Stays.{place_of, of_all, to_all}
+use Rattle.shunt_choices.proofs.AtPaths.{next_in}
 
 -- ---- the block of a choice
 
@@ -33,9 +32,6 @@ pub is_closed : (version : Version) (night : Night) (path : List Block) (cases :
     → (RunsThrough night (placed (more_by path b)) → StepReachesIn version night path (more_by path b) cases (pos best)) → IsClosed version night path cases best (choice_of b)
 is_closed version night path cases best b e h = subst (λ (l : List Block). RunsThrough night (placed l) → StepReachesIn version night path l cases (pos best))
     (sym (longer_is path b e)) h
-
-pub next_in : (night : Night) (path : List Block) (u : ℕ) → next_of (masks_of night path) ≡ Some u → u < unit_total night
-next_in night path u e = omega (arith, (position-Some (λ c. not c) (masks_of night path).units u false e).0, length_units night path)
 
 -- ---- lists without doubles
 

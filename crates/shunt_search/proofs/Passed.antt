@@ -6,7 +6,7 @@ use Rattle.std.proofs.lemmas.List.{length-append, length-take, length-take-le, t
 use Rattle.std.proofs.Math.Nat.{min-le_right}
 use Rattle.std.proofs.Math.Seq.{get_or-append_seam, get_or-append_right, take-append_seam}
 use Rattle.shunt_lists.specs.defs.Members.{In}
-use Rattle.shunt_lists.proofs.Members.{in_left, in_right, in_cases}
+use Rattle.shunt_lists.proofs.Members.{in_left, in_right, in_cases, place_of}
 use Rattle.shunt_base.specs.declared.duals.Case.{Case}
 use Rattle.shunt_instance.specs.defs.Instance.{Night}
 use Rattle.shunt_blocks.specs.declared.records.Block.{Block}
@@ -18,13 +18,12 @@ use Rattle.shunt_proof.specs.defs.Trees.{depth_at, nearest, path_at, duals_at}
 use Rattle.shunt_proof.proofs.Ancestors.{front_path}
 use Rattle.shunt_proof.proofs.Depths.{nearest_here, nearest_before, nearest_low}
 use Rattle.shunt_proof.proofs.Fronts.{node_front, duals_front, path_front}
-use Rattle.shunt_search.specs.declared.walking.Pending.{Pending}
+use Rattle.shunt_search.specs.declared.walk_stack.Pending.{Pending}
 use Rattle.shunt_search.specs.defs.Yards.{choice_of, more_by}
-use Rattle.shunt_search.specs.defs.Walking.{kept, goal_of, IsPending, IsApart, IsWalk, Passes}
+use Rattle.shunt_search.specs.defs.WalkStates.{kept, goal_of, IsPending, IsApart, IsWalk, Passes}
 use Rattle.shunt_search.specs.defs.Steady.{IsPassed, IsSteady}
-use Rattle.shunt_search.proofs.Stays.{place_of}
 use Rattle.shunt_search.proofs.Offered.{longer_is}
-use Rattle.shunt_search.proofs.Yarding.{take_less}
+use Rattle.shunt_search.proofs.YardChanges.{take_less}
 
 -- elements of two parts of a list stand apart
 across : {X : Type 0} (R : X → X → Type 0) (xs ys : List X) (x y : X) → AllPairs R (xs ++ ys) → In x xs → In y ys → R x y

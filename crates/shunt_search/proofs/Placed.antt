@@ -12,12 +12,16 @@ use Rattle.shunt_stays.specs.defs.Run.{GoesThrough, AreOnTracks}
 use Rattle.shunt_instance.specs.defs.Instance.{Night}
 use Rattle.shunt_blocks.specs.declared.records.Block.{Block}
 use Rattle.shunt_blocks.specs.defs.Costs.{block_cost}
-use Rattle.shunt_blocks.specs.defs.Standing.{stay_of}
+use Rattle.shunt_blocks.specs.defs.Stays.{stay_of}
 use Rattle.shunt_blocks.specs.defs.Lists.{CanStand, RunsThrough, stays_of, track_lengths, total_cost, placed, placed_from}
 use Rattle.shunt_timeline.specs.defs.Holdings.{Holding}
-use Rattle.shunt_search.specs.defs.Polishing.{Stand, RunsWith}
-use Rattle.shunt_search.proofs.Stays.{of_all, to_all, of_some, first_or_rest, first, rest, stay_id, same_length, to_front, as_long, few_some}
-use Rattle.shunt_search.proofs.Improved.{Laws, with_first, first_formed, formed_in}
+use Rattle.shunt_search.specs.defs.Polish.{Stand, RunsWith}
+use Rattle.shunt_search.proofs.Stays.{same_length, to_front, as_long}
+use Rattle.shunt_search.proofs.Improved.{Laws, with_first, first_formed}
+use Rattle.shunt_lists.proofs.Members.{each_one as of_all, to_all}
+use Rattle.shunt_lists.proofs.Options.{few_some, option_in as first_or_rest, option_first as first, option_rest as rest, of_some}
+use Rattle.shunt_stays.proofs.Halves.{formed as formed_in}
+use Rattle.shunt_blocks.proofs.StaysOf.{stay_id}
 
 -- ---- the blocks
 

@@ -8,7 +8,7 @@ use Rattle.shunt_blocks.specs.defs.Pins.{AreUsable}
 use Rattle.shunt_choices.specs.defs.Paths.{Masks, Trail, IsTrailOf, masks_of}
 use Rattle.shunt_matching.specs.defs.Nights.{Matches, MatchesRest}
 use Rattle.shunt_proof.specs.defs.Trees.{IsStart}
-use Rattle.shunt_search.proofs.Singles.{same_masks}
+use Rattle.shunt_choices.proofs.Counted.{same_masks}
 
 pub covered_as : (night : Night) (pins : List Block) (t : Trail) → IsTrailOf night t → IsStart night pins t.blocks → t.covered ≡ masks_of night pins
 covered_as night pins t of start = of.covered ∙ sym (same_masks night pins t.blocks start.same)

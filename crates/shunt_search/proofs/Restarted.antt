@@ -12,12 +12,12 @@ use Rattle.shunt_proof.specs.declared.records.Node.{Node}
 use Rattle.shunt_proof.specs.declared.records.Version.{Version}
 use Rattle.shunt_proof.specs.defs.Versions.{HoldIn}
 use Rattle.shunt_proof.specs.defs.Trees.{IsStart, best_before}
-use Rattle.shunt_search.specs.declared.known.Known.{Known}
-use Rattle.shunt_search.specs.declared.walking.Pending.{Pending}
-use Rattle.shunt_search.specs.declared.searching.Search.{Search}
-use Rattle.shunt_search.specs.defs.Walking.{cases_in}
+use Rattle.shunt_search.specs.declared.known.KnownPlan.{KnownPlan}
+use Rattle.shunt_search.specs.declared.walk_stack.Pending.{Pending}
+use Rattle.shunt_search.specs.declared.search_state.Search.{Search}
+use Rattle.shunt_search.specs.defs.WalkStates.{cases_in}
 use Rattle.shunt_search.specs.defs.Roots.{IsAbove, IsFloor}
-use Rattle.shunt_search.specs.defs.Searching.{IsSearch, IsFresh, StartsAgain}
+use Rattle.shunt_search.specs.defs.SearchStates.{IsSearch, IsFresh, StartsAgain}
 use Rattle.shunt_search.specs.defs.Endings.{IsDone}
 use Rattle.shunt_search.proofs.Searched.{same_best}
 
@@ -30,7 +30,7 @@ pub record RestartLaws : Type 0 where
 pub restarted : RestartLaws → (version : Version) (night : Night) (pins : List Block) (stock : List (List Case)) (told : Option (List Node)) (number owned : ℕ) (s z : Search)
     → IsSearch version night pins stock told number owned s.waiting.items s → StartsAgain night pins s z → IsFresh version night pins stock z
 restarted laws version night pins stock told number owned s z S a =
-    let same_cost : z.known.cost ≡ s.known.cost = ap (λ (k : Known). k.cost) a.known in
+    let same_cost : z.known.cost ≡ s.known.cost = ap (λ (k : KnownPlan). k.cost) a.known in
     let same_start = laws.one night pins S.start z.yard.path.blocks S.begins a.begins in
     record {
       usable = S.usable;

@@ -14,7 +14,6 @@ use Rattle.shunt_blocks.specs.defs.Shapes.{shape_of, IsWithinTrains}
 use Rattle.shunt_blocks.specs.defs.Lists.{ShareNothing, RunsThrough, placed, total_cost}
 use Rattle.shunt_choices.specs.defs.Paths.{Masks, Trail, IsTrailOf, IsPartialPlan, masks_of, next_of}
 use Rattle.shunt_choices.specs.defs.Choices.{IsChoice}
-use Rattle.shunt_choices.proofs.Given.{all_within}
 use Rattle.shunt_prices.specs.defs.Cases.{IsFreeBlock}
 use Rattle.shunt_proof.specs.declared.records.NodeKind.TheVariants.{Branch, Whole}
 use Rattle.shunt_proof.specs.declared.records.Node.{Node}
@@ -25,20 +24,21 @@ use Rattle.shunt_proof.specs.defs.Trees.{cases_or}
 use Rattle.shunt_proof.specs.defs.Versions.{HoldIn, IsBoundIn, IsStepBoundIn, ReachesIn}
 use Rattle.shunt_proof.proofs.Fronts.{duals_front}
 use Rattle.shunt_search.specs.declared.yard.Yard.{Yard}
-use Rattle.shunt_search.specs.declared.known.Known.{Known}
-use Rattle.shunt_search.specs.declared.walking.Pending.{Pending}
-use Rattle.shunt_search.specs.declared.noting.Noted.{Noted}
-use Rattle.shunt_search.specs.declared.noting.Noted.TheVariants as noted
-use Rattle.shunt_search.specs.declared.searching.Search.{Search}
+use Rattle.shunt_search.specs.declared.known.KnownPlan.{KnownPlan}
+use Rattle.shunt_search.specs.declared.walk_stack.Pending.{Pending}
+use Rattle.shunt_search.specs.declared.notes.NodeNoted.{NodeNoted}
+use Rattle.shunt_search.specs.declared.notes.NodeNoted.TheVariants as noted
+use Rattle.shunt_search.specs.declared.search_state.Search.{Search}
 use Rattle.shunt_search.specs.defs.Roots.{IsFloor, IsBase}
 use Rattle.shunt_search.specs.defs.Yards.{choice_of, IsYard, IsNextBlock}
-use Rattle.shunt_search.specs.defs.Walking.{kept, goal_of, cases_in, IsWalk, IsNodeOf, node_below, IsInStock, cases_of, AddsChildren, OpensAbove, KeepsCheaper, IsBest, Passes}
+use Rattle.shunt_search.specs.defs.WalkStates.{kept, goal_of, cases_in, IsWalk, IsNodeOf, node_below, IsInStock, cases_of, AddsChildren, OpensAbove, KeepsCheaper, IsBest, Passes}
 use Rattle.shunt_search.specs.defs.Steady.{IsSteady}
-use Rattle.shunt_search.specs.defs.Searching.{IsSearch, IsReady, Arrives, Takes, Falls}
-use Rattle.shunt_search.proofs.Yarding.{MostLaw}
+use Rattle.shunt_search.specs.defs.SearchStates.{IsSearch, IsReady, Arrives, Takes, Falls}
+use Rattle.shunt_search.proofs.YardChanges.{MostLaw}
 use Rattle.shunt_search.proofs.Nexts.{at_unit, next_free}
 use Rattle.shunt_search.proofs.Visits.{NextLaw}
 use Rattle.shunt_search.proofs.Lowest.{PartialLaw, GrowsLaw, parent_plan, pending_plan}
+use Rattle.shunt_blocks.proofs.Shapes.{all_within}
 
 -- no bound falls where a path gets a block more: neither that of the path with it, nor that of the longer path behind this one
 abbrev pub RiseLaw : Type 0
@@ -120,7 +120,7 @@ pub record SearchLaws : Type 0 where
       → (t.cases < length stock) × HoldIn version night (goal_of path t.child) (cases_in stock t.cases)
       × IsStepBoundIn version night (take (kept t.child) path) (goal_of path t.child) (cases_in stock t.cases) t.child.bound
   pub node : NextLaw
-  pub kept_plan : (night : Night) (pins : List Block) (t : Trail) (old new : Known) → IsInstance night → IsTrailOf night t → IsPartialPlan night pins t.blocks
+  pub kept_plan : (night : Night) (pins : List Block) (t : Trail) (old new : KnownPlan) → IsInstance night → IsTrailOf night t → IsPartialPlan night pins t.blocks
       → next_of t.covered ≡ None → position_total night ≡ unit_total night → IsBest night pins old.blocks.items old.cost → KeepsCheaper night t.blocks old new
       → IsBest night pins new.blocks.items new.cost
   pub steady : SteadyLaws
@@ -161,11 +161,11 @@ same_steady version night start nodes path path_too waiting waiting_too best bes
     (subst (λ (x : ℕ). IsSteady version night start nodes path waiting x low_too) (sym b)
     (subst (λ (x : ℤ). IsSteady version night start nodes path waiting best x) (sym l) S)))
 
-pub same_best : (night : Night) (pins : List Block) (k now : Known) → now ≡ k → IsBest night pins k.blocks.items k.cost → IsBest night pins now.blocks.items now.cost
-same_best night pins k now e h = subst (λ (x : Known). IsBest night pins x.blocks.items x.cost) (sym e) h
+pub same_best : (night : Night) (pins : List Block) (k now : KnownPlan) → now ≡ k → IsBest night pins k.blocks.items k.cost → IsBest night pins now.blocks.items now.cost
+same_best night pins k now e h = subst (λ (x : KnownPlan). IsBest night pins x.blocks.items x.cost) (sym e) h
 
 -- how many cases of its own a node has
-its_cases : (pins : ℕ) (b : Block) (stock : List (List Case)) (how : Noted) → own_cases (node_below pins b stock how).duals ≡ cases_of stock how
+its_cases : (pins : ℕ) (b : Block) (stock : List (List Case)) (how : NodeNoted) → own_cases (node_below pins b stock how).duals ≡ cases_of stock how
 its_cases pins b stock noted.Whole = refl
 its_cases pins b stock noted.Same = refl
 its_cases pins b stock (noted.Own place) = refl
@@ -237,17 +237,17 @@ module _ (laws : SearchLaws) (version : Version) (night : Night) (i : IsInstance
       let most = laws.most night goal (all_within night goal plan.each) plan.apart in
       omega (arith, id, long, most, units)
 
-  abbrev node : Noted → Node
+  abbrev node : NodeNoted → Node
   node how = node_below (length S.start) t.child.block stock how
 
-  is_node : (how : Noted) → IsInStock stock how → IsNodeOf night S.start path t.child (node how)
+  is_node : (how : NodeNoted) → IsInStock stock how → IsNodeOf night S.start path t.child (node how)
   is_node how there = laws.node night stock S.start path t.child how i S.stocked.each there ready.2 deep few
 
-  same_node : (how : Noted) → node_below s.yard.path.pins t.child.block stock how ≡ node how
+  same_node : (how : NodeNoted) → node_below s.yard.path.pins t.child.block stock how ≡ node how
   same_node how = ap (λ (n : ℕ). node_below n t.child.block stock how) S.long
 
   module _ (below : t.child.bound <ℤ pos s.known.cost) where
-    place : (how : Noted) → IsInStock stock how → IfSome told (λ nodes. CanFollow nodes (node_below s.yard.path.pins t.child.block stock how))
+    place : (how : NodeNoted) → IsInStock stock how → IfSome told (λ nodes. CanFollow nodes (node_below s.yard.path.pins t.child.block stock how))
     place how there =
         let can = laws.follows version night S.start stock floor S.nodes path left t s.known.cost s.low (node how) i S.walk (is_node how there) below in
         of_told told (λ l. l ≡ S.nodes) (λ l. CanFollow l (node_below s.yard.path.pins t.child.block stock how))
@@ -257,7 +257,7 @@ module _ (laws : SearchLaws) (version : Version) (night : Night) (i : IsInstance
     pub is_ready : IsReady night stock told s.yard t
     is_ready = record { pins = pins_kept; there = ready.1; next = ready.2; inherits = inherited.0; place = place }
 
-    module _ (z : Search) (how : Noted) (a : Arrives version night stock s z t how left) (now : Option (List Node)) (count cases : ℕ) (more : count ≡ number + 1)
+    module _ (z : Search) (how : NodeNoted) (a : Arrives version night stock s z t how left) (now : Option (List Node)) (count cases : ℕ) (more : count ≡ number + 1)
         (owns : cases ≡ owned + cases_of stock how) (both : BothTold told now (λ x y. y ≡ x ++ node_below s.yard.path.pins t.child.block stock how ∷ [])) where
       abbrev nodes : List Node
       nodes = S.nodes ++ node how ∷ []
@@ -278,7 +278,7 @@ module _ (laws : SearchLaws) (version : Version) (night : Night) (i : IsInstance
           omega (arith, owns, sum, one, none, its, few)
 
       same_cost : z.known.cost ≡ s.known.cost
-      same_cost = ap (λ (k : Known). k.cost) a.known
+      same_cost = ap (λ (k : KnownPlan). k.cost) a.known
 
       -- where it is a branch with these cases
       with_cases : (at : ℕ) → at < length stock → IsInStock stock how → (node how).kind ≡ Branch → cases_or (node how).duals (cases_in stock t.cases) ≡ cases_in stock at
@@ -322,7 +322,7 @@ module _ (laws : SearchLaws) (version : Version) (night : Night) (i : IsInstance
             plain = λ e. a.low ∙ S.plain (sym a.plain ∙ e) ∙ ap pos (sym same_cost);
           }
 
-  pub branch_search : (below : t.child.bound <ℤ pos s.known.cost) (z : Search) (how : Noted) (a : Arrives version night stock s z t how left) (now : Option (List Node))
+  pub branch_search : (below : t.child.bound <ℤ pos s.known.cost) (z : Search) (how : NodeNoted) (a : Arrives version night stock s z t how left) (now : Option (List Node))
       (count cases : ℕ) (more : count ≡ number + 1) (owns : cases ≡ owned + cases_of stock how)
       → BothTold told now (λ x y. y ≡ x ++ node_below s.yard.path.pins t.child.block stock how ∷ []) → how ≢ noted.Whole
       → IsSearch version night pins stock now count cases z.waiting.items z
@@ -406,7 +406,7 @@ pub closed_search : ((version : Version) (night : Night) (start : List Block) (s
     → IsSearch version night pins stock told number owned waiting s → Falls s z waiting left → IsSearch version night pins stock told number owned left z
 closed_search closed steady version night pins stock told number owned waiting left s z S f =
     let p = f.passes in
-    let same_cost : z.known.cost ≡ s.known.cost = ap (λ (k : Known). k.cost) f.known in
+    let same_cost : z.known.cost ≡ s.known.cost = ap (λ (k : KnownPlan). k.cost) f.known in
     record {
       start = S.start;
       nodes = S.nodes;

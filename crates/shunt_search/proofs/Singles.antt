@@ -1,14 +1,12 @@
 -- The plan that parks nothing but the pins, unit by unit.
-use Rattle.std.specs.Prelude.{map, not, cond, ◌==◌, slice_index_or}
-use Rattle.std.specs.List.{range_with_len}
-use Rattle.std.proofs.Common.{◌≡◌, ℕ, suc, ◌+◌, ◌<◌, Bool, true, false, List, [], ◌∷◌, ◌++◌, length, refl, sym, ap, ◌∙◌, arith, IsPermutation}
+use Rattle.std.specs.Prelude.{not, cond, ◌==◌, slice_index_or}
+use Rattle.std.proofs.Common.{◌≡◌, ℕ, suc, ◌+◌, ◌<◌, Bool, true, false, List, [], ◌∷◌, ◌++◌, length, refl, sym, ap, ◌∙◌, arith}
 use Rattle.std.proofs.lemmas.List.{append_assoc}
 use Rattle.std.proofs.lemmas.List.FromFn.{get_or-map-range_with_len}
-use Rattle.std.proofs.lemmas.List.Sorted.{sum_by-IsPermutation}
-use Rattle.shunt_instance.specs.defs.Instance.{Night, unit_total, position_total}
+use Rattle.shunt_instance.specs.defs.Instance.{Night, unit_total}
 use Rattle.shunt_instance.specs.defs.Matching.{place_of}
 use Rattle.shunt_blocks.specs.declared.records.Block.{Block}
-use Rattle.shunt_blocks.specs.defs.Lists.{times_unit, times_position, units_taken, positions_taken}
+use Rattle.shunt_blocks.specs.defs.Lists.{times_unit}
 use Rattle.shunt_blocks.specs.defs.Pins.{single, singles_below}
 use Rattle.shunt_choices.specs.defs.Paths.{Masks, masks_of}
 use Rattle.shunt_choices.proofs.Trails.{length_units}
@@ -44,18 +42,3 @@ module _ (night : Night) (pins : List Block) (covered : Masks) (place : List ℕ
 
 pub covered_long : (night : Night) (pins : List Block) (covered : Masks) → covered ≡ masks_of night pins → length covered.units ≡ unit_total night
 covered_long night pins covered is = ap (λ (m : Masks). length m.units) is ∙ length_units night pins
-
--- ---- the order of the pins
-
-same_values : {X Y : Type 0} (f g : X → Y) (xs : List X) → ((x : X) → f x ≡ g x) → map f xs ≡ map g xs
-same_values f g [] h = refl
-same_values f g (x ∷ xs) h = let one = h x in let rest = same_values f g xs h in cc
-
-pub same_masks : (night : Night) (blocks others : List Block) → IsPermutation blocks others → masks_of night blocks ≡ masks_of night others
-same_masks night blocks others same =
-    let units : units_taken night blocks ≡ units_taken night others = same_values (λ u. not (times_unit night blocks u == 0)) (λ u. not (times_unit night others u == 0))
-    (range_with_len 0 (unit_total night)) (λ u. ap (λ n. not (n == 0)) (sym (sum_by-IsPermutation _ blocks others same))) in
-    let positions : positions_taken night blocks ≡ positions_taken night others = same_values (λ v. not (times_position night blocks v == 0))
-    (λ v. not (times_position night others v == 0)) (range_with_len 0 (position_total night)) (λ v. ap (λ n. not (n == 0)) (sym (sum_by-IsPermutation _ blocks others same))) in
-    ap (λ (us : List Bool). record { units = us; places = positions_taken night blocks }) units
-    ∙ ap (λ (vs : List Bool). record { units = units_taken night others; places = vs }) positions

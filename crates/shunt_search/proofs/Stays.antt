@@ -1,51 +1,21 @@
 -- The stays of blocks, where one of them comes or goes.
-use Rattle.std.proofs.Common.{◌≡◌, ◌≢◌, ◌⊎◌, inl, inr, ⊎_elim, ◌↔◌, ℕ, suc, ◌+◌, ◌<◌, ◌≤◌, Bool, true, false, List, [], ◌∷◌, ◌++◌, length, get_or, refl, sym, subst, ap, ◌∙◌, arith, IsPermutation}
-use Rattle.std.specs.Prelude.{All, Option, Some, None, IfSome, if◌then◌else◌}
-use Rattle.std.specs.List.{filter_map, cons_option, AllByRecursion}
-use Rattle.std.proofs.lemmas.Option.{none-some}
-use Rattle.shunt_lists.proofs.Members.{all_in, all_from, in_left, in_right, in_cases, in_place}
+use Rattle.std.proofs.Common.{◌≡◌, ◌≢◌, inl, inr, ⊎_elim, ◌↔◌, ℕ, ◌+◌, List, [], ◌∷◌, ◌++◌, length, refl, sym, subst, ap, ◌∙◌, arith, IsPermutation}
+use Rattle.std.specs.Prelude.{Option, Some, None, IfSome}
+use Rattle.std.specs.List.{cons_option, AllByRecursion}
+use Rattle.shunt_lists.proofs.Members.{all_in, all_from, in_left, in_right, in_cases}
 use Rattle.shunt_lists.specs.defs.Members.{In}
 use Rattle.shunt_base.specs.declared.keys.Stay.{Stay}
 use Rattle.shunt_base.specs.defs.Keys.{IsWellFormed, AreStays}
-use Rattle.shunt_stays.proofs.Sorting.{in_permuted, of_permuted}
+use Rattle.shunt_stays.proofs.SortedEvents.{in_permuted, of_permuted}
 use Rattle.shunt_stays.specs.defs.Run.{GoesThrough, AreOnTracks}
 use Rattle.shunt_instance.specs.defs.Instance.{Night}
 use Rattle.shunt_blocks.specs.declared.records.Block.{Block}
-use Rattle.shunt_blocks.specs.declared.records.Park.{Park}
-use Rattle.shunt_blocks.specs.defs.Shapes.{shape_of}
-use Rattle.shunt_blocks.specs.defs.Standing.{is_too_soon, parked_stay, stay_with, stay_of}
+use Rattle.shunt_blocks.specs.defs.Stays.{stay_of}
 use Rattle.shunt_blocks.specs.defs.Lists.{stays_of}
-
--- ---- members by their places
-
-pub place_of : {X : Type 0} (xs : List X) (x d : X) → In x xs → (k : ℕ) × (k < length xs) × (get_or xs k d ≡ x)
-place_of [] x d h = absurd h
-place_of (y ∷ xs) x d (inl e) = (0, omega arith, sym e)
-place_of (y ∷ xs) x d (inr h) = let r = place_of xs x d h in (suc r.0, let lt = r.1 in omega arith, r.2)
-
-pub of_all : {X : Type 0} (P : X → Type 0) (xs : List X) (x : X) → All P xs → In x xs → P x
-of_all P xs x h i = let r = place_of xs x x i in subst P r.2 (h r.0 x r.1)
-
-pub to_all : {X : Type 0} (P : X → Type 0) (xs : List X) → ((x : X) → In x xs → P x) → All P xs
-to_all P xs h k d lt = h (get_or xs k d) (in_place xs k d lt)
+use Rattle.shunt_lists.proofs.Options.{option_in as first_or_rest, option_first as first, option_rest as rest, of_some}
+use Rattle.shunt_blocks.proofs.StaysOf.{stay_id}
 
 -- ---- an item that may be there
-
-pub first_or_rest : {Y : Type 0} (o : Option Y) (ys : List Y) (y : Y) → In y (cons_option o ys) → (o ≡ Some y) ⊎ In y ys
-first_or_rest None ys y h = inr h
-first_or_rest (Some z) ys y (inl e) = inl (ap Some (sym e))
-first_or_rest (Some z) ys y (inr h) = inr h
-
-pub rest : {Y : Type 0} (o : Option Y) (ys : List Y) (y : Y) → In y ys → In y (cons_option o ys)
-rest None ys y h = h
-rest (Some z) ys y h = inr h
-
-some_is : {Y : Type 0} (z y : Y) → Some z ≡ Some y → y ≡ z
-some_is z y e = cc
-
-pub first : {Y : Type 0} (o : Option Y) (ys : List Y) (y : Y) → o ≡ Some y → In y (cons_option o ys)
-first None ys y e = absurd (cc)
-first (Some z) ys y e = inl (some_is z y e)
 
 -- an item that may stand in the middle may as well stand in front
 pub to_front : {Y : Type 0} (o : Option Y) (xs ys : List Y) (y : Y) → In y (xs ++ cons_option o ys) ↔ In y (cons_option o (xs ++ ys))
@@ -67,31 +37,6 @@ as_long {Y} (Some z) xs ys = go xs
 pub same_length : (o : Option Stay) (xs ys : List Stay) → length xs ≡ length ys → length (cons_option o xs) ≡ length (cons_option o ys)
 same_length None xs ys e = e
 same_length (Some s) xs ys e = omega (arith, e)
-
--- ---- what blocks give
-
-pub of_some : {X Y : Type 0} (h : X → Option Y) (xs : List X) (y : Y) → In y (filter_map h xs) → (x : X) × In x xs × (h x ≡ Some y)
-of_some h [] y i = absurd i
-of_some h (x ∷ xs) y i = ⊎_elim (λ e. (x, inl refl, e)) (λ j. let r = of_some h xs y j in (r.0, inr r.1, r.2)) (first_or_rest (h x) (filter_map h xs) y i)
-
-option_few : {Y : Type 0} (o : Option Y) (ys : List Y) → length (cons_option o ys) ≤ length ys + 1
-option_few None ys = omega arith
-option_few (Some y) ys = omega arith
-
-pub few_some : {X Y : Type 0} (h : X → Option Y) (xs : List X) → length (filter_map h xs) ≤ length xs
-few_some h [] = omega arith
-few_some h (x ∷ xs) = omega (arith, option_few (h x) (filter_map h xs), few_some h xs)
-
-id_where : (soon : Bool) (t s : Stay) → (if soon then None else Some t) ≡ Some s → s.id ≡ t.id
-id_where true t s e = absurd (none-some _ e)
-id_where false t s e = let same : t ≡ s = cc in sym (ap (λ (u : Stay). u.id) same)
-
-pub id_with : (night : Night) (b : Block) (option : Option Park) (s : Stay) → stay_with night b option ≡ Some s → s.id ≡ b.id
-id_with night b None s e = absurd (none-some _ e)
-id_with night b (Some k) s e = id_where (is_too_soon night (shape_of b)) (parked_stay night b k) s e
-
-pub stay_id : (night : Night) (b : Block) (s : Stay) → stay_of night b ≡ Some s → s.id ≡ b.id
-stay_id night b s e = id_with night b b.park s e
 
 -- ---- a stay that comes
 

@@ -20,17 +20,17 @@ use Rattle.shunt_proof.specs.defs.Versions.{HoldIn, IsStepBoundIn}
 use Rattle.shunt_proof.specs.defs.Trees.{depth_at, parent, choice_from, path_at, cases_or, duals_at}
 use Rattle.shunt_proof.proofs.Depths.{nearest_low}
 use Rattle.shunt_proof.proofs.Fronts.{node_front, node_last, parent_front, duals_front, path_front}
-use Rattle.shunt_proof.proofs.Growing.{last_parent}
+use Rattle.shunt_proof.proofs.LongerLists.{last_parent}
 use Rattle.shunt_proof.proofs.Few.{CountLaws}
 use Rattle.shunt_search.specs.declared.children.Child.{Child}
-use Rattle.shunt_search.specs.declared.walking.Pending.{Pending}
+use Rattle.shunt_search.specs.declared.walk_stack.Pending.{Pending}
 use Rattle.shunt_search.specs.defs.Yards.{choice_of, more_by, AreChildren}
-use Rattle.shunt_search.specs.defs.Walking.{kept, goal_of, cases_in, IsPending, IsWalk, AddsChildren, OpensAbove}
+use Rattle.shunt_search.specs.defs.WalkStates.{kept, goal_of, cases_in, IsPending, IsWalk, AddsChildren, OpensAbove}
 use Rattle.shunt_search.specs.defs.Steady.{AreNoWorse, KeepBounds, IsPassed, IsSteady}
 use Rattle.shunt_search.proofs.Offered.{longer_is, of_choices}
-use Rattle.shunt_search.proofs.Walked.{lower}
 use Rattle.shunt_search.proofs.Arrived.{new_path, new_size, new_duals, above_is, apart_from, same_goal, keeps_goal}
 use Rattle.shunt_search.proofs.Passed.{passed_more}
+use Rattle.shunt_proof.proofs.Locally.{step_lower as lower}
 
 -- a root is steady
 pub steady_root : (version : Version) (night : Night) (start : List Block) (n : Node) (path : List Block) (waiting : List Pending) (best : ℕ) (low : ℤ) → low ≡ pos best

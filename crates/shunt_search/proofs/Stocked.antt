@@ -7,8 +7,8 @@ use Rattle.shunt_base.specs.declared.duals.Case.{Case}
 use Rattle.shunt_instance.specs.defs.Instance.{Night}
 use Rattle.shunt_prices.specs.defs.Limits.{AreApart, AreCases}
 use Rattle.shunt_proof.specs.defs.Nodes.{AreStatable}
-use Rattle.shunt_search.specs.defs.Walking.{cases_in}
-use Rattle.shunt_search.specs.defs.Searching.{IsStock}
+use Rattle.shunt_search.specs.defs.WalkStates.{cases_in}
+use Rattle.shunt_search.specs.defs.SearchStates.{IsStock}
 
 -- one entry
 pub alone : (night : Night) (stock : List (List Case)) (cases : List Case) → stock ≡ cases ∷ [] → AreStatable night cases → IsStock night stock × (cases_in stock 0 ≡ cases)

@@ -4,17 +4,19 @@ use Rattle.std.specs.List.{cons_option}
 use Rattle.std.proofs.Common.{◌≡◌, ◌≢◌, ⊎_elim, ◌↔◌, ℕ, zero, ◌+◌, ◌<◌, ◌≤◌, List, [], ◌∷◌, ◌++◌, length, map, get_or, take, drop, suc, sym, subst, ap, ◌∙◌, arith}
 use Rattle.std.proofs.lemmas.List.{append-nil, take_more}
 use Rattle.std.proofs.lemmas.List.Elements.{filter_map-append}
-use Rattle.shunt_lists.proofs.Members.{all_in, in_left}
+use Rattle.shunt_lists.proofs.Members.{all_in, in_left, to_all}
 use Rattle.shunt_lists.specs.defs.Members.{In, AreDistinct}
 use Rattle.shunt_base.specs.declared.keys.Stay.{Stay}
 use Rattle.shunt_instance.specs.defs.Instance.{Night}
 use Rattle.shunt_blocks.specs.declared.records.Block.{Block}
-use Rattle.shunt_blocks.specs.defs.Standing.{stay_of}
+use Rattle.shunt_blocks.specs.defs.Stays.{stay_of}
 use Rattle.shunt_blocks.specs.defs.Lists.{stays_of}
 use Rattle.shunt_timeline.specs.defs.Holdings.{Holding}
-use Rattle.shunt_search.specs.defs.Polishing.{others_of, Stand}
-use Rattle.shunt_search.proofs.Stays.{of_some, first_or_rest, first, rest, same_length, to_front, as_long, few_some, stay_id, to_all}
+use Rattle.shunt_search.specs.defs.Polish.{others_of, Stand}
+use Rattle.shunt_search.proofs.Stays.{same_length, to_front, as_long}
 use Rattle.shunt_search.proofs.Changed.{other_ids}
+use Rattle.shunt_lists.proofs.Options.{few_some, option_in as first_or_rest, option_first as first, option_rest as rest, of_some}
+use Rattle.shunt_blocks.proofs.StaysOf.{stay_id}
 
 module _ (night : Night) (xs : List Block) (i : ℕ) (d : Block) (lt : i < length xs) where
   abbrev b : Block

@@ -6,15 +6,14 @@ use Rattle.std.proofs.lemmas.List.{length-map, take_all, take_more}
 use Rattle.std.proofs.lemmas.List.Elements.{All-push}
 use Rattle.std.proofs.Math.Seq.{take-append_seam}
 use Rattle.shunt_lists.specs.defs.Members.{In}
-use Rattle.shunt_lists.proofs.Members.{in_place}
+use Rattle.shunt_lists.proofs.Members.{in_place, each_one as of_all, to_all, place_of}
 use Rattle.shunt_instance.specs.defs.Instance.{Night}
 use Rattle.shunt_blocks.specs.declared.records.Block.{Block}
 use Rattle.shunt_blocks.specs.defs.Lists.{IsFeasible, total_cost}
 use Rattle.shunt_blocks.specs.defs.Pins.{IsKept, Keeps, without_id}
 use Rattle.shunt_blocks.specs.defs.Polished.{IsPolished}
 use Rattle.shunt_timeline.specs.defs.Holdings.{Holding}
-use Rattle.shunt_search.specs.defs.Polishing.{unparked, others_of, Stand, IsLeastBut, AreLeast}
-use Rattle.shunt_search.proofs.Stays.{place_of, of_all, to_all}
+use Rattle.shunt_search.specs.defs.Polish.{unparked, others_of, Stand, IsLeastBut, AreLeast}
 
 -- ---- the other blocks
 

@@ -4,21 +4,20 @@ use Rattle.std.specs.Prelude.{All, IsTrue, Option, Some, None, if◌then◌else�
 use Rattle.std.specs.List.{cons_option}
 use Rattle.std.proofs.lemmas.List.{length-map}
 use Rattle.std.proofs.lemmas.Option.{none-some}
-use Rattle.shunt_lists.proofs.Members.{all_from}
+use Rattle.shunt_lists.proofs.Members.{all_from, each_one as of_all, to_all}
 use Rattle.shunt_lists.specs.defs.Members.{In}
 use Rattle.shunt_base.specs.declared.keys.Stay.{Stay}
 use Rattle.shunt_base.specs.defs.Keys.{IsWellFormed, AreStays}
 use Rattle.shunt_stays.specs.defs.Run.{GoesThrough, AreOnTracks}
-use Rattle.shunt_stays.specs.defs.Crossing.{pairs_in, overs_in}
+use Rattle.shunt_stays.specs.defs.Crossings.{pairs_in, overs_in}
 use Rattle.shunt_instance.specs.defs.Instance.{Night}
 use Rattle.shunt_blocks.specs.declared.records.Block.{Block}
 use Rattle.shunt_blocks.specs.declared.records.Park.{Park}
 use Rattle.shunt_blocks.specs.defs.Shapes.{shape_of, IsOnTrack}
-use Rattle.shunt_blocks.specs.defs.Standing.{is_too_soon, parked_stay, stay_with, stay_of}
+use Rattle.shunt_blocks.specs.defs.Stays.{is_too_soon, parked_stay, stay_with, stay_of}
 use Rattle.shunt_blocks.specs.defs.Lists.{track_lengths}
 use Rattle.shunt_cross.specs.declared.clash.Clash.{Clash}
 use Rattle.shunt_cross.specs.defs.Clashes.{clash_of}
-use Rattle.shunt_search.proofs.Stays.{of_all, to_all}
 
 -- what the law of clashes says
 abbrev pub Counts : Type 0

@@ -4,7 +4,7 @@ use Rattle.std.proofs.Common.{◌≡◌, ℕ, ◌+◌, ◌<◌, List, [], ◌∷
 use Rattle.std.proofs.lemmas.List.{append-nil, get_or-map, length-map}
 use Rattle.std.proofs.lemmas.List.Sorted.{All-permutation, sum_by-IsPermutation}
 use Rattle.shunt_lists.specs.defs.Members.{In}
-use Rattle.shunt_stays.proofs.Sorting.{of_permuted}
+use Rattle.shunt_stays.proofs.SortedEvents.{of_permuted}
 use Rattle.shunt_instance.specs.defs.Instance.{Night, IsInstance}
 use Rattle.shunt_blocks.specs.declared.records.Block.{Block}
 use Rattle.shunt_blocks.specs.declared.records.Shape.{Shape}
@@ -14,11 +14,11 @@ use Rattle.shunt_blocks.specs.defs.Costs.{block_cost}
 use Rattle.shunt_blocks.specs.defs.Lists.{has_unit, has_position, ShareNothing, Covers, RunsThrough, IsFeasible, placed, placed_from, total_cost}
 use Rattle.shunt_blocks.specs.defs.Pins.{without_id, IsKept, Keeps}
 use Rattle.shunt_choices.specs.defs.Paths.{AreInOrder}
-use Rattle.shunt_choices.proofs.Given.{all_within, but_ids}
-use Rattle.shunt_choices.proofs.Rising.{share_nothing}
-use Rattle.shunt_search.specs.defs.Polishing.{unparked}
+use Rattle.shunt_choices.proofs.SortedBlocks.{share_nothing}
+use Rattle.shunt_search.specs.defs.Polish.{unparked}
 use Rattle.shunt_search.specs.defs.Conditions.{AreNumbered}
-use Rattle.shunt_search.proofs.Stays.{of_all, to_all}
+use Rattle.shunt_lists.proofs.Members.{each_one as of_all, to_all}
+use Rattle.shunt_blocks.proofs.Shapes.{all_within, but_ids}
 
 -- what the laws of the crates below say
 pub record TidyLaws : Type 0 where

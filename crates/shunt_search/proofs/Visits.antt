@@ -7,14 +7,15 @@ use Rattle.shunt_instance.specs.defs.Instance.{Night, IsInstance}
 use Rattle.shunt_blocks.specs.declared.records.Block.{Block}
 use Rattle.shunt_proof.specs.defs.Nodes.{AreStatable, FitsNode}
 use Rattle.shunt_search.specs.declared.children.Child.{Child}
-use Rattle.shunt_search.specs.declared.noting.Noted.{Noted}
-use Rattle.shunt_search.specs.declared.noting.Noted.TheVariants as noted
+use Rattle.shunt_search.specs.declared.notes.NodeNoted.{NodeNoted}
+use Rattle.shunt_search.specs.declared.notes.NodeNoted.TheVariants as noted
 use Rattle.shunt_search.specs.defs.Yards.{IsNextBlock}
-use Rattle.shunt_search.specs.defs.Walking.{kept, goal_of, IsNodeOf, IsInStock, node_below, place_of}
+use Rattle.shunt_search.specs.defs.WalkStates.{kept, goal_of, IsNodeOf, IsInStock, node_below, place_of}
 
 -- what is known of the nodes of children
 abbrev pub NextLaw : Type 0
-NextLaw = (night : Night) (stock : List (List Case)) (start path : List Block) (t : Child) (how : Noted) → IsInstance night → All (AreStatable night) stock → IsInStock stock how
+NextLaw = (night : Night) (stock : List (List Case)) (start path : List Block) (t : Child) (how : NodeNoted) → IsInstance night → All (AreStatable night) stock
+    → IsInStock stock how
     → IsNextBlock night (take (kept t) path) t.block
     → length start < t.block.id → t.block.id ≤ length start + 160 → IsNodeOf night start path t (node_below (length start) t.block stock how)
 
@@ -28,7 +29,7 @@ module _ (night : Night) (path : List Block) (t : Child) (next : IsNextBlock nig
       let long : length now ≡ length (take (kept t) path) + 1 = ap (λ (l : List Block). length l) e ∙ length-append (take (kept t) path) (t.block ∷ []) in
       omega (arith, id, long, le)
 
-  pub fits : NextLaw → IsInstance night → (stock : List (List Case)) → All (AreStatable night) stock → (how : Noted) → IsInStock stock how → (pins : ℕ) → pins ≤ length path
+  pub fits : NextLaw → IsInstance night → (stock : List (List Case)) → All (AreStatable night) stock → (how : NodeNoted) → IsInStock stock how → (pins : ℕ) → pins ≤ length path
       → pins < t.block.id → t.block.id ≤ pins + 160 → FitsNode night (node_below pins t.block stock how)
   fits law formed stock statable how there pins le deep few =
       let size = length-take-le pins path le in
@@ -36,7 +37,7 @@ module _ (night : Night) (path : List Block) (t : Child) (next : IsNextBlock nig
       (law night stock (take pins path) path t how formed statable there next (omega (arith, size, deep)) (omega (arith, size, few))).fits
 
 -- the place of a node's cases is in the stock
-pub place_in : (stock : List (List Case)) (how : Noted) (above place : ℕ) → place_of how above ≡ Some place → above < length stock → IsInStock stock how → place < length stock
+pub place_in : (stock : List (List Case)) (how : NodeNoted) (above place : ℕ) → place_of how above ≡ Some place → above < length stock → IsInStock stock how → place < length stock
 place_in stock noted.Whole above place e below there = absurd (other e)
   where
     other : None ≡ Some place → ⊥

@@ -8,7 +8,7 @@ use Rattle.shunt_lists.specs.defs.Members.{In}
 use Rattle.std.proofs.lemmas.Bool.{cases_lt}
 use Rattle.std.proofs.Math.Seq.{get_or-append_right}
 use Rattle.std.proofs.Math.Nat.{min-le_right}
-use Rattle.shunt_lists.proofs.Members.{in_left, in_right, in_cases, in_place}
+use Rattle.shunt_lists.proofs.Members.{in_left, in_right, in_cases, in_place, place_of}
 use Rattle.shunt_base.specs.declared.duals.Case.{Case}
 use Rattle.shunt_instance.specs.defs.Instance.{Night}
 use Rattle.shunt_blocks.specs.declared.records.Block.{Block}
@@ -19,22 +19,14 @@ use Rattle.shunt_proof.specs.declared.records.Node.{Node}
 use Rattle.shunt_proof.specs.declared.records.Version.{Version}
 use Rattle.shunt_proof.specs.defs.Nodes.{node_at}
 use Rattle.shunt_proof.specs.defs.Trees.{path_at, duals_at}
-use Rattle.shunt_proof.specs.defs.Versions.{HoldIn, IsStepBoundIn, ReachesIn, StepReachesIn}
+use Rattle.shunt_proof.specs.defs.Versions.{HoldIn, IsStepBoundIn, StepReachesIn}
 use Rattle.shunt_proof.specs.defs.Proves.{ShowsIn, IsListed, AreRightIn}
-use Rattle.shunt_search.specs.declared.walking.Pending.{Pending}
+use Rattle.shunt_search.specs.declared.walk_stack.Pending.{Pending}
 use Rattle.shunt_search.specs.defs.Yards.{IsNextBlock}
-use Rattle.shunt_search.proofs.Stays.{place_of}
-use Rattle.shunt_search.specs.defs.Walking.{kept, goal_of, cases_in, IsPending, IsApart, IsKnown, IsWalk, IsLesser, Passes}
+use Rattle.shunt_search.specs.defs.WalkStates.{kept, goal_of, cases_in, IsPending, IsApart, IsKnown, IsWalk, IsLesser, Passes}
+use Rattle.shunt_proof.proofs.Locally.{lower as lower_path, step_lower as lower}
 
 -- ---- a node shows less, where what is known no more is reached
-
-lower_path : (version : Version) (night : Night) (path : List Block) (cases : List Case) (L M : ℤ) → M ≤ℤ L → ReachesIn version night path cases L
-    → ReachesIn version night path cases M
-lower_path version night path cases L M le r = (r.0, r.1, omega (arith, ints, le, r.2))
-
-pub lower : (version : Version) (night : Night) (path longer : List Block) (cases : List Case) (L M : ℤ) → M ≤ℤ L → StepReachesIn version night path longer cases L
-    → StepReachesIn version night path longer cases M
-lower version night path longer cases L M le r = (r.0, r.1, omega (arith, ints, le, r.2))
 
 pub shows_turn : (version : Version) (night : Night) (path : List Block) (cases : List Case) (kind : NodeKind) (Before After : PathChoice → Type 0) (L M : ℤ) → M ≤ℤ L
     → (kind ≡ Branch → (c : PathChoice) → Before c → StepReachesIn version night path (longer_by path c) cases M ⊎ After c)

@@ -1,9 +1,9 @@
 -- The definitions of this crate.
-pub mod Polishing
+pub mod Polish
 pub mod Conditions
 pub mod Yards
-pub mod Walking
+pub mod WalkStates
 pub mod Steady
 pub mod Roots
-pub mod Searching
+pub mod SearchStates
 pub mod Endings

@@ -1,5 +1,6 @@
 // The choices at a path that are worth a node.
-ghost use Rattle.std.specs.Prelude.{◌≡◌, ◌++◌, ◌+◌, ◌≤◌, [], length, map, All, Some, IfOk, OnOk, IfSome, IfNone};
+ghost use Rattle.std.specs.Prelude.{◌≡◌, ◌++◌, ◌+◌, ◌≤◌, [], length, map, All, Some, IfOk, OnOk};
+ghost use Rattle.std.specs.Prelude.{IfSome, IfNone};
 ghost use Rattle.shunt_blocks.specs.defs.Shapes.{AreRunsWithin};
 ghost use Rattle.shunt_choices.specs.defs.Paths.{IsTrailOf, masks_of, next_of};
 ghost use Rattle.shunt_choices.specs.defs.Choices.{choices_with, choices_at};
@@ -7,7 +8,8 @@ ghost use Rattle.shunt_prices.specs.defs.Limits.{AreCases};
 ghost use Rattle.shunt_prices.specs.defs.Bounds.{IsCasesBound};
 ghost use Rattle.shunt_dual.specs.defs.Longer.{AreSumsAt};
 ghost use Rattle.shunt_proof.specs.declared.records.Version.TheVariants.{Prices};
-ghost use Rattle.shunt_search.specs.defs.Yards.{IsYard, IsNextBlock, IsOpen, IsClosed, IsTried, AreOpen, AreChildren, more_by, choice_of};
+ghost use Rattle.shunt_search.specs.defs.Yards.{IsYard, IsNextBlock, IsOpen, IsClosed, IsTried};
+ghost use Rattle.shunt_search.specs.defs.Yards.{AreOpen, AreChildren, more_by, choice_of};
 
 use crate::yard::Yard;
 use shunt_base::Cases;
@@ -56,8 +58,10 @@ fn open_bound(
     requires cases { AreCases instance.now cases.now }
     requires sums { AreSumsAt instance.now yard.now.path.blocks cases.now sums.now }
     requires best { best ≤ 1000000000000 }
-    ensures some { IfSome result (λ bound. IsOpen Prices instance.now yard.now.path.blocks cases.now best block.now bound) }
-    ensures none { IfNone result (IsClosed Prices instance.now yard.now.path.blocks cases.now best (choice_of block.now)) }
+    ensures some { IfSome result
+        (λ bound. IsOpen Prices instance.now yard.now.path.blocks cases.now best block.now bound) }
+    ensures none { IfNone result
+        (IsClosed Prices instance.now yard.now.path.blocks cases.now best (choice_of block.now)) }
 {
     let bound = bound_with(instance, yard, block, cases, sums);
     if bound >= best as i64 {
@@ -85,7 +89,8 @@ fn offer(
     requires cases { AreCases instance.now cases.now }
     requires sums { AreSumsAt instance.now yard.now.path.blocks cases.now sums.now }
     requires best { best ≤ 1000000000000 }
-    ensures { OnOk result (IsTried Prices instance.now yard.now.path.blocks cases.now best block.now children.old.items children.new.items) }
+    ensures { OnOk result (IsTried Prices instance.now yard.now.path.blocks cases.now best block.now
+        children.old.items children.new.items) }
 {
     if let Some(bound) = open_bound(instance, yard, block, cases, sums, best) {
         children.push(Child {
@@ -111,7 +116,8 @@ fn open_ones(
     requires cases { AreCases instance.now cases.now }
     requires sums { AreSumsAt instance.now yard.now.path.blocks cases.now sums.now }
     requires best { best ≤ 1000000000000 }
-    ensures { IfOk result (λ v. AreOpen Prices instance.now yard.now.path.blocks cases.now best (map choice_of blocks.now) v.items) }
+    ensures { IfOk result (λ v. AreOpen Prices instance.now yard.now.path.blocks cases.now best
+        (map choice_of blocks.now) v.items) }
 {
     let mut children = Vec::new(alloc);
     for block in blocks {
@@ -123,7 +129,15 @@ fn open_ones(
 /// The block of a shape with an option, and an id.
 fn block_of(shape: Shape, park: Option<Park>, id: usize) -> Block
     requires { id ≤ 161 }
-    ensures { result ≡ record { id = id; arr = shape.arr; p = shape.p; n = shape.n; dep = shape.dep; q = shape.q; park = park } }
+    ensures { result ≡ record {
+      id = id;
+      arr = shape.arr;
+      p = shape.p;
+      n = shape.n;
+      dep = shape.dep;
+      q = shape.q;
+      park = park;
+    } }
 {
     Block {
         id: id as u32,
@@ -146,7 +160,8 @@ fn add_options(
     requires within { AreRunsWithin instance.now shape }
     requires id { id ≤ 161 }
     requires ids { All (λ b. b.id ≡ id) blocks.old.items }
-    ensures choices { OnOk result (map choice_of blocks.new.items ≡ map choice_of blocks.old.items ++ choices_with instance.now shape) }
+    ensures choices { OnOk result (map choice_of blocks.new.items ≡ map choice_of blocks.old.items
+        ++ choices_with instance.now shape) }
     ensures ids { OnOk result (All (λ b. b.id ≡ id) blocks.new.items) }
 {
     let mut options = options(instance, shape);
@@ -168,7 +183,8 @@ fn add_shapes(
     requires next { next_of (masks_of instance.now path.now.blocks) ≡ Some unit }
     requires id { id ≤ 161 }
     requires none { blocks.old.items ≡ [] }
-    ensures choices { OnOk result (map choice_of blocks.new.items ≡ choices_at instance.now path.now.blocks) }
+    ensures choices { OnOk result
+        (map choice_of blocks.new.items ≡ choices_at instance.now path.now.blocks) }
     ensures ids { OnOk result (All (λ b. b.id ≡ id) blocks.new.items) }
 {
     // The call says which shapes these are.
@@ -184,7 +200,8 @@ fn add_shapes(
 /// The blocks of the choices at a path, with their place in it as id. Err is want of memory.
 fn next_blocks(alloc: Global, instance: &Instance, path: &Path) -> Result<Vec<Block>, AllocError>
     requires { IsTrailOf instance.now path.now }
-    ensures choices { IfOk result (λ v. map choice_of v.items ≡ choices_at instance.now path.now.blocks) }
+    ensures choices { IfOk result
+        (λ v. map choice_of v.items ≡ choices_at instance.now path.now.blocks) }
     ensures ids { IfOk result (λ v. All (λ b. b.id ≡ length path.now.blocks + 1) v.items) }
 {
     // The calls tell that there are at most 160 blocks.
@@ -210,7 +227,8 @@ pub(crate) fn plan_children(
     requires yard { IsYard instance.now yard.now }
     requires cases { AreCases instance.now cases.now }
     requires best { best ≤ 1000000000000 }
-    ensures { IfOk result (λ v. AreChildren Prices instance.now yard.now.path.blocks cases.now best v.items) }
+    ensures { IfOk result
+        (λ v. AreChildren Prices instance.now yard.now.path.blocks cases.now best v.items) }
 {
     // The calls tell that the choices are all and differ.
     choices();

@@ -10,14 +10,16 @@ ghost use Rattle.shunt_proof.specs.declared.records.Version.{Version};
 ghost use Rattle.shunt_proof.specs.defs.Trees.{IsStart};
 ghost use Rattle.shunt_proof.specs.defs.Versions.{HoldIn, ReachesIn};
 
-use crate::rising::bounds_rise_in_versions;
+use crate::monotonicity::bounds_rise_in_versions;
 use shunt_proof::laws::starts;
 
 /// If cases bound the pins' path by this or more, so much is what a plan costs that keeps the pins.
 pub(crate) fn floors()
-    ensures { (version : Version) (night : Night) (pins start : List OneBlock) (cases : List OneCase) (floor : ℤ) (plan : List OneBlock) →
-        IsInstance night → AreUsable night pins → IsStart night pins start → AreCases night cases → HoldIn version night start cases → ReachesIn version night start cases floor →
-        IsFeasible night plan → Keeps plan pins → floor ≤ℤ pos (total_cost night plan) }
+    ensures { (version : Version) (night : Night) (pins start : List OneBlock)
+        (cases : List OneCase) (floor : ℤ) (plan : List OneBlock) → IsInstance night
+        → AreUsable night pins → IsStart night pins start → AreCases night cases
+        → HoldIn version night start cases → ReachesIn version night start cases floor
+        → IsFeasible night plan → Keeps plan pins → floor ≤ℤ pos (total_cost night plan) }
 {
     starts();
     bounds_rise_in_versions();

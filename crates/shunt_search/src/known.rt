@@ -5,8 +5,8 @@ ghost use Rattle.shunt_blocks.specs.declared.records.Block.{Block as OneBlock};
 ghost use Rattle.shunt_blocks.specs.defs.Lists.{IsFeasible, total_cost};
 ghost use Rattle.shunt_blocks.specs.defs.Pins.{Keeps};
 ghost use Rattle.shunt_choices.specs.defs.Paths.{Trail, IsTrailOf, IsPartialPlan, next_of};
-ghost use Rattle.shunt_search.specs.declared.known.Known.{Known as KnownPlan};
-ghost use Rattle.shunt_search.specs.defs.Walking.{KeepsCheaper, IsBest};
+ghost use Rattle.shunt_search.specs.declared.known.KnownPlan.{KnownPlan as KnownPlan};
+ghost use Rattle.shunt_search.specs.defs.WalkStates.{KeepsCheaper, IsBest};
 
 use crate::wholes::{path_cost, placed_blocks, whole_paths};
 use shunt_blocks::Block;
@@ -18,16 +18,18 @@ use std::alloc::{AllocError, Global};
 
 /// The blocks of a plan, and what they cost in cost units.
 #[derive(Drop)]
-pub struct Known {
+pub struct KnownPlan {
     pub blocks: Vec<Block>,
     pub cost: u64,
 }
 
 /// If a whole partial plan is the path, the plan that is known goes on to be feasible, to keep the pins and to cost what it says.
 pub(crate) fn kept_plans()
-    ensures { (night : Night) (pins : List OneBlock) (t : Trail) (old new : KnownPlan) → IsInstance night → IsTrailOf night t → IsPartialPlan night pins t.blocks →
-        next_of t.covered ≡ None → position_total night ≡ unit_total night → IsBest night pins old.blocks.items old.cost → KeepsCheaper night t.blocks old new →
-        IsBest night pins new.blocks.items new.cost }
+    ensures { (night : Night) (pins : List OneBlock) (t : Trail) (old new : KnownPlan)
+        → IsInstance night → IsTrailOf night t → IsPartialPlan night pins t.blocks
+        → next_of t.covered ≡ None → position_total night ≡ unit_total night
+        → IsBest night pins old.blocks.items old.cost → KeepsCheaper night t.blocks old new
+        → IsBest night pins new.blocks.items new.cost }
 {
     whole_paths();
     opening_plans();
@@ -40,7 +42,7 @@ pub(crate) fn keep_cheaper(
     alloc: Global,
     instance: &Instance,
     path: &Path,
-    known: &mut Known,
+    known: &mut KnownPlan,
 ) -> Result<(), AllocError>
     requires { IsTrailOf instance.now path.now }
     ensures { OnOk result (KeepsCheaper instance.now path.now.blocks known.old known.new) }
@@ -62,12 +64,13 @@ pub(crate) fn keep_plan(
     instance: &Instance,
     pins: &[Block],
     plan: &[Block],
-    known: &mut Known,
+    known: &mut KnownPlan,
 ) -> Result<(), AllocError>
     requires best { IsBest instance.now pins.now known.old.blocks.items known.old.cost }
     requires feasible { IsFeasible instance.now plan.now }
     requires keeps { Keeps plan.now pins.now }
-    ensures best { OnOk result (IsBest instance.now pins.now known.new.blocks.items known.new.cost) }
+    ensures best { OnOk result
+        (IsBest instance.now pins.now known.new.blocks.items known.new.cost) }
     ensures cheaper { OnOk result (known.new.cost ≤ known.old.cost) }
     ensures plan_too { OnOk result (known.new.cost ≤ total_cost instance.now plan.now) }
 {

@@ -18,8 +18,10 @@ use shunt_proof::laws::{few_nodes, proved_bounds};
 /// If an accepted certificate has all nodes that were allowed unless its bound is its cost, the bound is the cost wherever
 /// more nodes were allowed than there are partial plans.
 pub fn all_plans()
-    ensures { (night : Night) (pins own : List Block) (stated most : ℕ) (c : Certificate) → IsInstance night → AreNodes night c.nodes → AreUsable night pins →
-        IsAccepted night pins own stated c → (c.bound < c.cost → length c.nodes ≡ most) → partial_plans night pins < most → c.bound ≡ c.cost }
+    ensures { (night : Night) (pins own : List Block) (stated most : ℕ) (c : Certificate)
+        → IsInstance night → AreNodes night c.nodes → AreUsable night pins
+        → IsAccepted night pins own stated c → (c.bound < c.cost → length c.nodes ≡ most)
+        → partial_plans night pins < most → c.bound ≡ c.cost }
 {
     few_nodes();
     proved_bounds();
@@ -27,8 +29,12 @@ pub fn all_plans()
 
 /// If a feasible plan keeps pins, what they leave has a matching, and so no shortage.
 pub fn kept_matchings()
-    ensures some { (night : Night) (pins blocks : List Block) → IsFeasible night blocks → Keeps blocks pins → HasMatching night (units_taken night pins) (positions_taken night pins) }
-    ensures no_shortage { (night : Night) (pins blocks : List Block) (s : Shortage) → IsFeasible night blocks → Keeps blocks pins → IsShortageOf night (units_taken night pins) (positions_taken night pins) s → ⊥ }
+    ensures some { (night : Night) (pins blocks : List Block) → IsFeasible night blocks
+        → Keeps blocks pins
+        → HasMatching night (units_taken night pins) (positions_taken night pins) }
+    ensures no_shortage { (night : Night) (pins blocks : List Block) (s : Shortage)
+        → IsFeasible night blocks → Keeps blocks pins
+        → IsShortageOf night (units_taken night pins) (positions_taken night pins) s → ⊥ }
 {
     places();
     one_shortage();

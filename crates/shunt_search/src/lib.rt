@@ -2,34 +2,34 @@
 //! node of its tree.
 #![tactic(auto)]
 
-mod attempting;
-mod beginning;
-mod cheapening;
+mod attempts;
+mod cheaper_plans;
+mod child_list;
+mod child_visits;
 mod children;
-mod copies;
-mod ending;
+mod conclusion;
+mod final_plan;
 mod floors;
-mod following;
+mod guide_tree;
 mod known;
 pub mod laws;
-mod listing;
-mod noting;
-mod opening;
-mod polishing;
-mod preparing;
-mod proposing;
-mod rising;
-mod rooting;
-mod searching;
+mod monotonicity;
+mod notes;
+mod polisher;
+mod preparation;
+mod proposed_plan;
+mod root_bounds;
+mod root_node;
+mod search;
+mod search_state;
 mod solved;
-mod solving;
-mod steadying;
-mod tidying;
-mod visiting;
-mod walking;
+mod solver;
+mod start_plan;
+mod steadiness;
+mod walk_stack;
 mod wholes;
 mod yard;
 
-pub use polishing::polish;
+pub use polisher::polish;
 pub use solved::{SolveError, Solved};
-pub use solving::{solve, solve_pinned};
+pub use solver::{solve, solve_pinned};

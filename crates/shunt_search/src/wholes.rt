@@ -3,10 +3,11 @@ ghost use Rattle.std.specs.Prelude.{◌≡◌, ◌≤◌, length, None, All, IfO
 ghost use Rattle.shunt_instance.specs.defs.Instance.{Night, IsInstance, unit_total, position_total};
 ghost use Rattle.shunt_blocks.specs.defs.Shapes.{IsWithinTrains};
 ghost use Rattle.shunt_blocks.specs.defs.Blocks.{IsBlockButId};
-ghost use Rattle.shunt_blocks.specs.defs.Lists.{Covers, RunsThrough, IsFeasible, placed, total_cost};
+ghost use Rattle.shunt_blocks.specs.defs.Lists.{Covers, RunsThrough, IsFeasible, placed};
+ghost use Rattle.shunt_blocks.specs.defs.Lists.{total_cost};
 ghost use Rattle.shunt_choices.specs.defs.Paths.{Trail, IsTrailOf, next_of};
 
-use crate::polishing::block_at;
+use crate::polisher::block_at;
 use crate::yard::at_place;
 use shunt_blocks::laws::{feasible_lists, places};
 use shunt_blocks::{Block, block_cost};
@@ -16,9 +17,12 @@ use std::alloc::{AllocError, Global};
 /// If there are as many positions as units, a path that covers all units covers all positions; so it is a feasible plan with its
 /// places as ids.
 pub(crate) fn whole_paths()
-    ensures covers { (night : Night) (t : Trail) → IsTrailOf night t → next_of t.covered ≡ None → position_total night ≡ unit_total night → Covers night t.blocks }
-    ensures feasible { (night : Night) (t : Trail) → IsInstance night → IsTrailOf night t → All (IsBlockButId night) t.blocks → RunsThrough night (placed t.blocks) →
-        next_of t.covered ≡ None → position_total night ≡ unit_total night → IsFeasible night (placed t.blocks) }
+    ensures covers { (night : Night) (t : Trail) → IsTrailOf night t → next_of t.covered ≡ None
+        → position_total night ≡ unit_total night → Covers night t.blocks }
+    ensures feasible { (night : Night) (t : Trail) → IsInstance night → IsTrailOf night t
+        → All (IsBlockButId night) t.blocks → RunsThrough night (placed t.blocks)
+        → next_of t.covered ≡ None → position_total night ≡ unit_total night
+        → IsFeasible night (placed t.blocks) }
 {
     places();
     feasible_lists();

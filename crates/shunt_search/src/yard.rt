@@ -1,15 +1,16 @@
 // A path that grows and shrinks, and whether its run goes through with a block more.
-ghost use Rattle.std.specs.Prelude.{◌≡◌, ◌↔◌, ◌+◌, ◌<◌, ◌≤◌, [], ◌∷◌, take, length, All, IsTrue, IfOk};
+ghost use Rattle.std.specs.Prelude.{◌≡◌, ◌↔◌, ◌+◌, ◌<◌, ◌≤◌, [], ◌∷◌, take, length, All, IsTrue};
+ghost use Rattle.std.specs.Prelude.{IfOk};
 ghost use Rattle.shunt_instance.specs.defs.Instance.{unit_total};
 ghost use Rattle.shunt_blocks.specs.defs.Shapes.{IsWithinTrains, IsInRange};
 ghost use Rattle.shunt_blocks.specs.defs.Lists.{ShareNothing, RunsThrough, placed, track_lengths};
 ghost use Rattle.shunt_choices.specs.defs.Paths.{masks_of};
 ghost use Rattle.shunt_proof.specs.defs.Trees.{IsStart};
-ghost use Rattle.shunt_search.specs.defs.Polishing.{Stand};
+ghost use Rattle.shunt_search.specs.defs.Polish.{Stand};
 ghost use Rattle.shunt_search.specs.defs.Yards.{IsYard, IsNextBlock, more_by};
 
-use crate::polishing::{block_at, goes_through, settle, track_lengths};
-use shunt_blocks::{Block, laws};
+use crate::polisher::{block_at, goes_through, settle};
+use shunt_blocks::{Block, laws, track_lengths};
 use shunt_choices::Path;
 use shunt_instance::Instance;
 use shunt_stays::laws::part_of_a_run;
@@ -71,7 +72,8 @@ impl Yard {
     pub(crate) fn goes_through(&self, instance: &Instance, block: &Block) -> bool
         requires yard { IsYard instance.now self.now }
         requires next { IsNextBlock instance.now self.now.path.blocks block.now }
-        ensures { IsTrue result ↔ RunsThrough instance.now (placed (more_by self.now.path.blocks block.now)) }
+        ensures { IsTrue result
+            ↔ RunsThrough instance.now (placed (more_by self.now.path.blocks block.now)) }
     {
         // The calls say how the stays of blocks stand, and that a part of a run goes through.
         laws::stays_of_blocks();
@@ -87,7 +89,11 @@ impl Yard {
     pub(crate) fn push(&mut self, instance: &Instance, block: Block)
         requires yard { IsYard instance.now self.old }
         requires next { IsNextBlock instance.now self.old.path.blocks block }
-        ensures path { self.new.path ≡ record self.old.path { blocks = more_by self.old.path.blocks block; covered = masks_of instance.now (more_by self.old.path.blocks block) } }
+        ensures path { self.new.path
+            ≡ record self.old.path {
+              blocks = more_by self.old.path.blocks block;
+              covered = masks_of instance.now (more_by self.old.path.blocks block);
+            } }
         ensures yard { IsYard instance.now self.new }
     {
         laws::places();
@@ -102,7 +108,8 @@ impl Yard {
         requires yard { IsYard instance.now self.old }
         requires more { self.old.path.pins < length self.old.path.blocks }
         ensures blocks { length self.old.path.blocks ≡ length self.new.path.blocks + 1 }
-        ensures front { self.new.path.blocks ≡ take (length self.new.path.blocks) self.old.path.blocks }
+        ensures front { self.new.path.blocks
+            ≡ take (length self.new.path.blocks) self.old.path.blocks }
         ensures pins { self.new.path.pins ≡ self.old.path.pins }
         ensures yard { IsYard instance.now self.new }
     {

@@ -11,16 +11,17 @@ use Rattle.shunt_rows.specs.defs.Records.{at}
 use Rattle.shunt_rows.specs.defs.Checks.{answer}
 use Rattle.shunt_rows.specs.defs.Fields.{is_word, side_in}
 use Rattle.shunt_rows.specs.defs.Formats.{reading}
-use Rattle.shunt_rows.proofs.Holding.{says, in_either}
-use Rattle.shunt_rows.proofs.Keeping.{formed}
+use Rattle.shunt_rows.proofs.Answered.{says, in_either}
+use Rattle.shunt_rows.proofs.KeptStates.{formed}
 use Rattle.shunt_rows.proofs.Spelled.{there, within, minute_small}
 use Rattle.shunt_instance.specs.declared.records.Station.{Station}
 use Rattle.shunt_sheet.specs.declared.records.Order.{Order}
-use Rattle.shunt_sheet.specs.declared.reading.Entered.{Entered}
-use Rattle.shunt_sheet.specs.declared.reading.Named.{Named}
-use Rattle.shunt_sheet.specs.declared.reading.Place.{Place}
+use Rattle.shunt_sheet.specs.declared.reader.Entered.{Entered}
+use Rattle.shunt_sheet.specs.declared.reader.StatedMove.{StatedMove}
+use Rattle.shunt_sheet.specs.declared.reader.StatedPlace.{StatedPlace}
 use Rattle.shunt_sheet.specs.defs.SheetFormat.{stands, has_entered, keeps_length, keeps_track, entry_in, is_of, last_minute, enters_of, start_in, move_in, place_in, order_by, order_in, sheet_first, more_of, sheet_later, sheet_format, MayFollow, AreOrders}
-use Rattle.shunt_sheet.proofs.Tests.{never_both, tells_of, none_first, any_to, keeps_is, last_or_earlier}
+use Rattle.shunt_sheet.proofs.Tests.{tells_of, none_first, any_to, keeps_is, last_or_earlier}
+use Rattle.shunt_lists.proofs.Tests.{never_both}
 
 -- behind formed orders one that may follow them
 grown : (s : Station) (orders : List Order) (o : Order) → AreOrders s orders → length orders < 800 → MayFollow s orders o → AreOrders s (orders ++ o ∷ [])
@@ -41,7 +42,8 @@ no_block : Entered
 no_block = record { length = 0; track = record { 0 = 0 } }
 
 -- what the tests of a leave tell of its entry
-entered_from : (orders : List Order) (m : Named) (long track : ℕ) → has_entered orders m.enters m.id ≡ true → keeps_length orders m long ≡ true → keeps_track orders m track ≡ true
+entered_from : (orders : List Order) (m : StatedMove) (long track : ℕ) → has_entered orders m.enters m.id ≡ true → keeps_length orders m long ≡ true
+    → keeps_track orders m track ≡ true
     → m.enters ≡ false
     → entry_in m.id orders ≡ Some (record { length = long; track = record { 0 = track } })
 unfolding has_entered keeps_length keeps_track
@@ -72,9 +74,9 @@ order_formed s n orders more row f e =
     let track = same_length.1 in
     let same_track = track.1 in
     let time = unwrap_or (minute_of (at row 2)) 0 in
-    let m : Named = record { enters = unwrap_or (enters_of (at row 3)) true; id = unwrap_or (decimal_of (at row 4)) 0 } in
+    let m : StatedMove = record { enters = unwrap_or (enters_of (at row 3)) true; id = unwrap_or (decimal_of (at row 4)) 0 } in
     let place = position (λ x. bytes_eq x.name (at row 6)) s.tracks in
-    let p : Place = record { length = unwrap_or (decimal_of (at row 5)) 0; track = record { 0 = unwrap_or place 0 }; side = (side_in row 7).value } in
+    let p : StatedPlace = record { length = unwrap_or (decimal_of (at row 5)) 0; track = record { 0 = unwrap_or place 0 }; side = (side_in row 7).value } in
     let o : Order = order_by time m p in
     let may : MayFollow s orders o = record {
       minute = minute_small (at row 2) time (there 0 (minute_of (at row 2)) minute.0);

@@ -1,22 +1,24 @@
 -- The entries and leaves of stays in key order are orders that a file can state.
-use Rattle.std.proofs.Common.{◌≡◌, inl, inr, ⊎_elim, ℕ, ◌+◌, ◌-◌, ◌*◌, ◌<◌, ◌≤◌, Bool, true, false, cond, List, [], ◌∷◌, ◌++◌, length, get_or, map, refl, sym, subst, ap, ◌∙◌, arith}
-use Rattle.std.specs.Prelude.{All, Some, if◌then◌else◌}
+use Rattle.std.proofs.Common.{◌≡◌, inl, inr, ⊎_elim, ℕ, ◌-◌, ◌<◌, ◌≤◌, Bool, true, false, List, [], ◌∷◌, ◌++◌, length, get_or, map, refl, sym, subst, ap, ◌∙◌, arith}
+use Rattle.std.specs.Prelude.{All, Some}
 use Rattle.std.proofs.lemmas.List.{length-map}
 use Rattle.shunt_lists.specs.defs.Members.{In}
 use Rattle.shunt_lists.proofs.Members.{all_in, in_left, in_right, in_cases, in_map, of_map, in_place}
 use Rattle.shunt_base.specs.declared.keys.EventKey.{EventKey}
 use Rattle.shunt_base.specs.declared.keys.Stay.{Stay}
 use Rattle.shunt_base.specs.defs.Keys.{rank, IsKey, IsWellFormed, AreStays}
-use Rattle.shunt_stays.specs.defs.Events.{Move, entry_of, leave_of, key_before, insert_by_key, in_order}
-use Rattle.shunt_stays.proofs.Ascending.{Ascends}
+use Rattle.shunt_stays.specs.defs.Events.{Move, in_order}
+use Rattle.shunt_stays.proofs.AscendingLists.{Ascends}
 use Rattle.shunt_stays.proofs.Halves.{Half, at, move_of as half_move, halves_of, of_stay, entry_in as entry_half, formed, same_id, later_rank, ordered, in_order_is}
 use Rattle.shunt_instance.specs.declared.records.Station.{Station}
 use Rattle.shunt_sheet.specs.declared.records.Order.{Order}
-use Rattle.shunt_sheet.specs.declared.orders.Due.{Due}
+use Rattle.shunt_tracks.specs.declared.dues.Due.{Due}
 use Rattle.shunt_sheet.specs.defs.Orders.{order_of}
-use Rattle.shunt_sheet.specs.defs.Dues.{due_move}
+use Rattle.shunt_tracks.specs.defs.Dues.{move_of as due_move}
 use Rattle.shunt_sheet.specs.defs.SheetFormat.{entered_by, entry_in, last_minute, MayFollow, AreOrders}
-use Rattle.shunt_sheet.proofs.Tests.{never_both, of_tells, tells_of, first_entry, split_map}
+use Rattle.shunt_sheet.proofs.Tests.{of_tells, tells_of, first_entry, split_map}
+use Rattle.shunt_lists.proofs.Tests.{flag_small, never_both}
+use Rattle.shunt_stays.proofs.SortedEvents.{events_long}
 
 -- the numbers of a stay are those of orders, and its track is the station's
 pub record IsFit (s : Station) (t : Stay) : Type 0 where
@@ -32,10 +34,6 @@ abbrev pub half_order : Half → Order
 half_order h = order_of (half_move h)
 
 -- ---- keys
-
-flag_small : (b : Bool) → cond b 1 0 ≤ 1
-flag_small true = omega arith
-flag_small false = omega arith
 
 minutes_rise : (k l : EventKey) → IsKey k → IsKey l → rank k < rank l → k.minute ≤ l.minute
 unfolding rank
@@ -164,19 +162,6 @@ module _ (s : Station) (stays : List Stay) (a : AreStays stays) (fit : (t : Stay
       subst (λ (m : Move). m.key.minute < 2880) (sym r.2) (numbers r.0 (of_stay stays r.0 r.1)).0
 
 -- ---- how many there are
-
-either_long : {X : Type 0} (b : Bool) (xs ys : List X) (n : ℕ) → length xs ≡ n → length ys ≡ n → length (if b then xs else ys) ≡ n
-either_long true xs ys n e f = e
-either_long false xs ys n e f = f
-
-inserted_long : (m : Move) (moves : List Move) → length (insert_by_key m moves) ≡ length moves + 1
-inserted_long m [] = refl
-inserted_long m (n ∷ moves) = either_long (key_before m.key n.key) (m ∷ n ∷ moves) (n ∷ insert_by_key m moves) (length (n ∷ moves) + 1) (omega arith)
-    (omega (arith, inserted_long m moves))
-
-events_long : (stays : List Stay) → length (in_order stays) ≡ 2 * length stays
-events_long [] = refl
-events_long (s ∷ stays) = omega (arith, inserted_long (entry_of s) (insert_by_key (leave_of s) (in_order stays)), inserted_long (leave_of s) (in_order stays), events_long stays)
 
 maps_join : (halves : List Half) → map order_of (map half_move halves) ≡ map half_order halves
 maps_join [] = refl

@@ -4,7 +4,6 @@ mod Parts
 mod Formed
 mod RoundTrip
 mod Lengths
-mod Sorting
 mod Halved
 mod Plans
 mod Ends

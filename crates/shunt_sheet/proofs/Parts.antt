@@ -1,23 +1,17 @@
 -- The record of an order, by what its parts say.
 use Rattle.std.proofs.Common.{◌≡◌, ℕ, List, [], ◌∷◌, ◌++◌, sym, ap, subst, ◌∙◌}
 use Rattle.std.specs.Prelude.{Ok, Err, Result}
-use Rattle.std.specs.Result.{IsErrAnd}
 use Rattle.shunt_rows.specs.declared.fault.RowFault.{RowFault}
 use Rattle.shunt_rows.specs.defs.Checks.{Judged, answer, says}
 use Rattle.shunt_rows.specs.defs.Checks as judging
 use Rattle.shunt_rows.proofs.Joins.{part_ok, part_err}
 use Rattle.shunt_instance.specs.declared.records.Station.{Station}
 use Rattle.shunt_sheet.specs.declared.records.Order.{Order}
-use Rattle.shunt_sheet.specs.declared.reading.Named.{Named}
-use Rattle.shunt_sheet.specs.declared.reading.Place.{Place}
+use Rattle.shunt_sheet.specs.declared.reader.StatedMove.{StatedMove}
+use Rattle.shunt_sheet.specs.declared.reader.StatedPlace.{StatedPlace}
 use Rattle.shunt_sheet.specs.defs.SheetFormat.{start_in, move_in, place_in, order_by, order_in, more_of}
 
--- an error is handed on by `?`
-pub err_is : {X : Type 0} (r : Result X RowFault) (e : RowFault) (stated : Result X RowFault) → IsErrAnd r (λ f. f ≡ e) → stated ≡ Err e → r ≡ stated
-err_is (Ok x) e stated same is = absurd same
-err_is {X = X} (Err f) e stated same is = ap (λ (g : RowFault). let s : Result X RowFault = Err g in s) same ∙ sym is
-
-abbrev with_move : Station → List Order → List (List ℕ) → ℕ → Named → Judged Order
+abbrev with_move : Station → List Order → List (List ℕ) → ℕ → StatedMove → Judged Order
 with_move s orders row minute m = judging.◌>>=◌ (place_in s orders m row) (λ p. says (order_by minute m p))
 
 abbrev with_start : Station → List Order → List (List ℕ) → ℕ → Judged Order
@@ -37,16 +31,16 @@ pub move_fails : (n : ℕ) (s : Station) (orders : List Order) (row : List (List
     → answer n (move_in orders row) ≡ Err e → answer n (order_in s orders row) ≡ Err e
 move_fails n s orders row minute e start fails = after_start n s orders row minute start ∙ part_err n (move_in orders row) (with_move s orders row minute) e fails
 
-after_move : (n : ℕ) (s : Station) (orders : List Order) (row : List (List ℕ)) (minute : ℕ) (m : Named) → answer n (start_in orders row) ≡ Ok minute
+after_move : (n : ℕ) (s : Station) (orders : List Order) (row : List (List ℕ)) (minute : ℕ) (m : StatedMove) → answer n (start_in orders row) ≡ Ok minute
     → answer n (move_in orders row) ≡ Ok m → answer n (order_in s orders row) ≡ answer n (with_move s orders row minute m)
 after_move n s orders row minute m start move = after_start n s orders row minute start ∙ part_ok n (move_in orders row) (with_move s orders row minute) m move
 
-pub place_fails : (n : ℕ) (s : Station) (orders : List Order) (row : List (List ℕ)) (minute : ℕ) (m : Named) (e : RowFault) → answer n (start_in orders row) ≡ Ok minute
+pub place_fails : (n : ℕ) (s : Station) (orders : List Order) (row : List (List ℕ)) (minute : ℕ) (m : StatedMove) (e : RowFault) → answer n (start_in orders row) ≡ Ok minute
     → answer n (move_in orders row) ≡ Ok m → answer n (place_in s orders m row) ≡ Err e → answer n (order_in s orders row) ≡ Err e
 place_fails n s orders row minute m e start move fails = after_move n s orders row minute m start move
     ∙ part_err n (place_in s orders m row) (λ p. says (order_by minute m p)) e fails
 
-pub order_is : (n : ℕ) (s : Station) (orders : List Order) (row : List (List ℕ)) (minute : ℕ) (m : Named) (p : Place) → answer n (start_in orders row) ≡ Ok minute
+pub order_is : (n : ℕ) (s : Station) (orders : List Order) (row : List (List ℕ)) (minute : ℕ) (m : StatedMove) (p : StatedPlace) → answer n (start_in orders row) ≡ Ok minute
     → answer n (move_in orders row) ≡ Ok m → answer n (place_in s orders m row) ≡ Ok p → answer n (order_in s orders row) ≡ Ok (order_by minute m p)
 order_is n s orders row minute m p start move place = after_move n s orders row minute m start move ∙ part_ok n (place_in s orders m row) (λ p. says (order_by minute m p)) p place
 

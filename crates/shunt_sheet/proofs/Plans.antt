@@ -1,13 +1,10 @@
 -- The stays of blocks in range, and the orders that they give.
-use Rattle.std.proofs.Common.{◌≡◌, ⊎_elim, ℕ, zero, suc, ◌+◌, ◌-◌, ◌<◌, ◌≤◌, Bool, true, false, List, [], ◌∷◌, length, map, sym, subst, ap, ◌∙◌, arith}
-use Rattle.std.specs.Prelude.{All, Option, Some, None, if◌then◌else◌}
-use Rattle.std.specs.List.{filter_map, cons_option}
+use Rattle.std.proofs.Common.{◌≡◌, ⊎_elim, ℕ, zero, suc, ◌+◌, ◌-◌, ◌<◌, ◌≤◌, List, [], length, map, sym, subst, ap, ◌∙◌, arith}
+use Rattle.std.specs.Prelude.{All, Some}
 use Rattle.std.proofs.lemmas.Bool.{cases_lt}
 use Rattle.std.proofs.lemmas.List.{get_or-map, get_or_past, length-map}
-use Rattle.std.proofs.lemmas.Option.{none-some}
 use Rattle.shunt_lists.specs.defs.Below.{sum_below}
 use Rattle.shunt_lists.specs.defs.Members.{In}
-use Rattle.shunt_lists.proofs.Members.{in_to}
 use Rattle.shunt_lists.proofs.SumsBelow.{sum_below-small}
 use Rattle.shunt_base.specs.declared.ids.TypeId.{TypeId}
 use Rattle.shunt_base.specs.declared.keys.Stay.{Stay}
@@ -18,25 +15,29 @@ use Rattle.shunt_instance.specs.declared.records.Station.{Station}
 use Rattle.shunt_instance.specs.declared.records.UnitType.{UnitType}
 use Rattle.shunt_instance.specs.declared.records.Unit.{Unit as TrainUnit}
 use Rattle.shunt_instance.specs.defs.Words.{train_at, kind_at}
-use Rattle.shunt_instance.specs.defs.Wellformed.{IsStation, IsTrain}
+use Rattle.shunt_instance.specs.defs.Wellformed.{IsStation}
 use Rattle.shunt_instance.specs.defs.Instance.{Night, IsInstance, IsOrderedNight, make_unit, unit_at}
 use Rattle.shunt_instance.proofs.Orders.{opened}
 use Rattle.shunt_blocks.specs.declared.records.Shape.{Shape}
 use Rattle.shunt_blocks.specs.declared.records.Block.{Block}
 use Rattle.shunt_blocks.specs.declared.records.Park.{Park}
-use Rattle.shunt_blocks.specs.defs.Shapes.{shape_of, unit_from, AreRunsWithin, IsOnTrack, IsInRange}
-use Rattle.shunt_blocks.specs.defs.Standing.{length_of, block_length, is_too_soon, parked_stay, stay_with, stay_of}
+use Rattle.shunt_blocks.specs.defs.Shapes.{shape_of, unit_from, AreRunsWithin, IsInRange}
+use Rattle.shunt_blocks.specs.defs.Stays.{length_of, block_length, parked_stay, stay_of}
 use Rattle.shunt_blocks.specs.defs.Lists.{AreInRange, CanStand, RunsThrough, stays_of}
-use Rattle.shunt_sheet.specs.declared.orders.Due.{Due}
+use Rattle.shunt_tracks.specs.declared.dues.Due.{Due}
 use Rattle.shunt_sheet.specs.defs.Orders.{order_of, orders_in}
 use Rattle.shunt_sheet.specs.declared.records.Followed.TheVariants as answers
-use Rattle.shunt_sheet.specs.defs.Dues.{due_move}
-use Rattle.shunt_sheet.specs.defs.Following.{followed}
+use Rattle.shunt_tracks.specs.defs.Dues.{move_of as due_move}
+use Rattle.shunt_sheet.specs.defs.FollowedOrders.{followed}
 use Rattle.shunt_sheet.specs.defs.SheetFormat.{AreOrders}
 use Rattle.shunt_sheet.specs.defs.SheetRows.{rows_of, ReadsAsSheet}
 use Rattle.shunt_sheet.proofs.RoundTrip.{on_tracks, text_back}
 use Rattle.shunt_sheet.proofs.Halved.{IsFit, dues_in_time, stays_ordered}
 use Rattle.shunt_sheet.proofs.Runs.{stays_followed}
+use Rattle.shunt_lists.proofs.Members.{each_one}
+use Rattle.shunt_lists.proofs.Options.{few_some}
+use Rattle.shunt_blocks.proofs.Times.{arrival, departure}
+use Rattle.shunt_blocks.proofs.StaysOf.{stay_is}
 
 -- what the laws of blocks say of stays and units
 pub record BlockLaws : Type 0 where
@@ -64,12 +65,6 @@ some_below : (n : ℕ) (f : ℕ → ℕ) → 1 ≤ n → ((k : ℕ) → k < n �
 some_below zero f le h = absurd (omega arith)
 some_below (suc n) f le h = let last = h n (omega arith) in omega (arith, last)
 
-arrival : (night : Night) (k : ℕ) → IsOrderedNight night → k < length night.arrive → IsTrain night.station (train_at night.arrive k)
-arrival night k h lt = h.timetable.arrive.each k _ lt
-
-departure : (night : Night) (k : ℕ) → IsOrderedNight night → k < length night.depart → IsTrain night.station (train_at night.depart k)
-departure night k h lt = h.timetable.depart.each k _ lt
-
 unit_long : (laws : BlockLaws) (night : Night) (s : Shape) (k : ℕ) → IsOrderedNight night → AreRunsWithin night s → k < s.n
     → 1 ≤ length_of night.station (unit_at night (unit_from night s + k)).kind
 unit_long laws night s k h r lt =
@@ -88,15 +83,6 @@ block_long laws night b h r =
 
 -- ---- stays
 
-stands_when : (soon : Bool) (t s : Stay) → (if soon then None else Some t) ≡ Some s → s ≡ t
-stands_when true t s e = absurd (none-some _ e)
-stands_when false t s e = cc
-
-stay_is : (night : Night) (b : Block) (o : Option Park) (s : Stay) → IsOnTrack night.station o → stay_with night b o ≡ Some s
-    → (k : Park) × (k.track.0 < length night.station.tracks) × (s ≡ parked_stay night b k)
-stay_is night b None s on e = absurd (none-some _ e)
-stay_is night b (Some k) s on e = (k, on, stands_when (is_too_soon night (shape_of b)) (parked_stay night b k) s e)
-
 parked_fits : (laws : BlockLaws) (night : Night) (b : Block) (k : Park) → IsOrderedNight night → IsInRange night b → k.track.0 < length night.station.tracks
     → IsFit night.station (parked_stay night b k)
 parked_fits laws night b k h r on =
@@ -111,9 +97,6 @@ parked_fits laws night b k h r on =
       leave = (departure night b.dep.0 h r.within.runs.dep).minute;
     }
 
-each_one : {X : Type 0} (P : X → Type 0) (xs : List X) (x : X) → All P xs → In x xs → P x
-each_one P xs x all i = let c = in_to xs x i in subst P c.2 (all c.0 x c.1)
-
 stay_fits : (laws : BlockLaws) (night : Night) (blocks : List Block) → IsInstance night → AreInRange night blocks → (s : Stay) → In s (stays_of night blocks)
     → IsFit night.station s
 stay_fits laws night blocks is range s i =
@@ -121,14 +104,6 @@ stay_fits laws night blocks is range s i =
     let r = each_one (IsInRange night) blocks b.0 range.each b.1 in
     let p = stay_is night b.0 b.0.park s r.within.track b.2 in
     subst (IsFit night.station) (sym p.2) (parked_fits laws night b.0 p.0 (opened night is) r p.1)
-
-option_few : {Y : Type 0} (o : Option Y) (ys : List Y) → length (cons_option o ys) ≤ length ys + 1
-option_few None ys = omega arith
-option_few (Some y) ys = omega arith
-
-few_some : {X Y : Type 0} (h : X → Option Y) (xs : List X) → length (filter_map h xs) ≤ length xs
-few_some h [] = omega arith
-few_some h (x ∷ xs) = omega (arith, option_few (h x) (filter_map h xs), few_some h xs)
 
 -- ---- the orders of blocks in range
 

@@ -6,7 +6,7 @@ use Rattle.std.proofs.lemmas.Bool.{eq-eqb, le-leb}
 use Rattle.std.proofs.lemmas.List.{append-nil, length-map}
 use Rattle.std.proofs.lemmas.List.Elements.{All-from_recursion}
 use Rattle.std.proofs.lemmas.Option.{slice_get-get_or}
-use Rattle.shunt_lists.proofs.Members.{all_from}
+use Rattle.shunt_lists.proofs.Members.{all_from, split_at_member as split_in}
 use Rattle.shunt_base.proofs.Minutes.{read_again}
 use Rattle.shunt_base.specs.declared.ids.Side.{Side}
 use Rattle.shunt_base.specs.declared.ids.Side.TheVariants.{A}
@@ -17,7 +17,7 @@ use Rattle.shunt_rows.specs.defs.Formats.{reading}
 use Rattle.shunt_rows.specs.defs.Records.{records_of, text_of_row, text_of_rows, IsPlainField, IsPlainRow, ArePlain, ReadsBack}
 use Rattle.shunt_rows.specs.defs.Written.{Written}
 use Rattle.shunt_rows.proofs.Again.{again}
-use Rattle.shunt_rows.proofs.Holding.{holding}
+use Rattle.shunt_rows.proofs.Answered.{holding}
 use Rattle.shunt_rows.proofs.Named.{fewer, name_at}
 use Rattle.shunt_rows.proofs.Plain.{plain_name, plain_number, plain_word, plain_side, plain_minute, plain_map, side_read}
 use Rattle.shunt_rows.proofs.Sections.{section, all_read}
@@ -28,10 +28,10 @@ use Rattle.shunt_instance.specs.declared.records.Station.{Station}
 use Rattle.shunt_instance.specs.defs.Wellformed.{IsStation}
 use Rattle.shunt_instance.proofs.Found.{found_there}
 use Rattle.shunt_sheet.specs.declared.records.Order.{Order}
-use Rattle.shunt_sheet.specs.declared.reading.Named.{Named}
+use Rattle.shunt_sheet.specs.declared.reader.StatedMove.{StatedMove}
 use Rattle.shunt_sheet.specs.defs.SheetFormat.{is_of, stands, entered_by, entry_in, has_entered, keeps_length, keeps_track, last_minute, enters_of, start_in, move_in, place_in, order_in, sheet_first, more_of, sheet_later, sheet_format, MayFollow, AreOrders}
 use Rattle.shunt_sheet.specs.defs.SheetRows.{move_word, head_row, order_row, rows_of, ReadsAsSheet}
-use Rattle.shunt_sheet.proofs.Tests.{of_tells, unless, any_none, is_kept, split_in}
+use Rattle.shunt_sheet.proofs.Tests.{of_tells, unless, any_none, is_kept}
 
 -- ---- plain records
 
@@ -104,7 +104,7 @@ new_order : (s : Station) (xs : List Order) (y : Order) → MayFollow s xs y →
 unfolding stands
 new_order s xs y may = ap not (any_none (is_of y.enters y.id) xs (λ p i t. let q = of_tells y.enters y.id p t in may.once p i q.0 q.1))
 
-abbrev name_of : Order → Named
+abbrev name_of : Order → StatedMove
 name_of y = record { enters = y.enters; id = y.id }
 
 length_kept : (s : Station) (xs : List Order) (y : Order) → MayFollow s xs y → keeps_length xs (name_of y) y.length ≡ true

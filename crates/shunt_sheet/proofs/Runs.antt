@@ -1,5 +1,5 @@
 -- Following is the run, and what it leaves.
-use Rattle.std.proofs.Common.{◌≡◌, ℕ, ◌+◌, ◌<◌, ◌≤◌, Bool, true, false, cond, not, List, [], ◌∷◌, length, get_or, set, map, Result, Ok, Err, refl, sym, subst, ap, ◌∙◌, arith}
+use Rattle.std.proofs.Common.{◌≡◌, ℕ, ◌+◌, ◌<◌, ◌≤◌, cond, not, List, [], ◌∷◌, length, get_or, set, map, Result, Ok, Err, refl, sym, subst, ap, ◌∙◌, arith}
 use Rattle.std.specs.Prelude.{All, IsOk}
 use Rattle.std.specs.Result.{IfOk}
 use Rattle.std.proofs.lemmas.List.{length-map}
@@ -11,7 +11,7 @@ use Rattle.shunt_base.specs.defs.Keys.{AreStays}
 use Rattle.shunt_stays.specs.defs.Events.{Move, in_order}
 use Rattle.shunt_stays.specs.defs.Run.{Standing, Stop, Through, moved, run, load, ◌>>=◌, empty_tracks, blocks_on, entries_in, leaves_in, seen, GoesThrough}
 use Rattle.shunt_stays.specs.defs.Run.Stop.{Blocked, Over}
-use Rattle.shunt_stays.proofs.Ends.{as_many, counted}
+use Rattle.shunt_stays.proofs.Ends.{as_many, counted, none_on}
 use Rattle.shunt_stays.proofs.Steps.{seen_alike}
 use Rattle.shunt_instance.specs.declared.records.Station.{Station}
 use Rattle.shunt_blocks.specs.defs.Lists.{track_lengths}
@@ -19,7 +19,8 @@ use Rattle.shunt_sheet.specs.declared.records.Order.{Order}
 use Rattle.shunt_sheet.specs.declared.records.Followed.{Followed}
 use Rattle.shunt_sheet.specs.declared.records.Followed.TheVariants as answers
 use Rattle.shunt_sheet.specs.defs.Orders.{order_of}
-use Rattle.shunt_sheet.specs.defs.Following.{move_of, goes_on, follow_from, followed}
+use Rattle.shunt_sheet.specs.defs.FollowedOrders.{move_of, goes_on, follow_from, followed}
+use Rattle.shunt_lists.proofs.Tests.{flag_small}
 
 -- ---- following is the run
 
@@ -54,10 +55,6 @@ agrees lengths n (o ∷ orders) tracks =
 
 -- ---- how many blocks it leaves
 
-flag_small : (b : Bool) → cond b 1 0 ≤ 1
-flag_small true = omega arith
-flag_small false = omega arith
-
 entries_few : (moves : List Move) → entries_in moves ≤ length moves
 entries_few [] = omega arith
 entries_few (m ∷ moves) = omega (arith, sum_by-cons (λ (n : Move). cond n.key.enters 1 0) m moves, flag_small m.key.enters, entries_few moves)
@@ -88,10 +85,6 @@ few_left lengths orders tracks left few on none e =
     by (Ok t) h c = omega (arith, through_same left (blocks_on t.tracks) (e ∙ h), c, none, few, entries_few (map move_of orders), length-map orders move_of)
     by (Err (Blocked m)) h c = absurd (through_blocked left h.0 (e ∙ h.1))
     by (Err (Over m k)) h c = absurd (through_over left h.0 k (e ∙ h.1))
-
-none_on : (lengths : List ℕ) → blocks_on (empty_tracks lengths) ≡ 0
-none_on [] = refl
-none_on (n ∷ lengths) = omega (arith, sum_by-cons (λ (bs : List Standing). length bs) [] (empty_tracks lengths), none_on lengths)
 
 pub nothing_on : (lengths : List ℕ) (tracks : List (List Standing)) → tracks ≡ empty_tracks lengths → blocks_on tracks ≡ 0
 nothing_on lengths tracks e = ap blocks_on e ∙ none_on lengths

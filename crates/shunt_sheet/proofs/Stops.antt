@@ -9,8 +9,9 @@ use Rattle.shunt_blocks.specs.defs.Lists.{track_lengths}
 use Rattle.shunt_sheet.specs.declared.records.Order.{Order}
 use Rattle.shunt_sheet.specs.declared.records.Followed.{Followed}
 use Rattle.shunt_sheet.specs.declared.records.Followed.TheVariants as answers
-use Rattle.shunt_sheet.specs.defs.Following.{move_of, goes_on, follow_from, followed, run_in, StopsAt, InWords}
+use Rattle.shunt_sheet.specs.defs.FollowedOrders.{move_of, goes_on, follow_from, followed, run_in, StopsAt, InWords}
 use Rattle.shunt_sheet.proofs.Runs.{Agrees, agrees, one_more}
+use Rattle.shunt_stays.proofs.Steps.{ok_was, first_was}
 
 abbrev moved_at : List ℕ → Order → List (List Standing) → Result (List Standing) Stop
 moved_at lengths o tracks = moved (get_or lengths o.track.0 0) (move_of o) (get_or tracks o.track.0 [])
@@ -130,15 +131,6 @@ blames room m blocks stop =
 
 ok_same : (t u : Through) → ◌≡◌ {A = Result Through Stop} (Ok t) (Ok u) → t ≡ u
 ok_same t u e = cc
-
-ok_was : (r : Result Through Stop) (f : Through → Through) (t : Through) → (r >>= (λ x. Ok (f x))) ≡ Ok t → (x : Through) × (r ≡ Ok x) × (t ≡ f x)
-ok_was (Ok x) f t e = (x, refl, cc)
-ok_was (Err stop) f t e = absurd (cc)
-
-first_was : (r : Result (List Standing) Stop) (f : List Standing → Result Through Stop) (t : Through) → (r >>= f) ≡ Ok t
-    → (blocks : List Standing) × (r ≡ Ok blocks) × (f blocks ≡ Ok t)
-first_was (Ok blocks) f t e = (blocks, refl, e)
-first_was (Err stop) f t e = absurd (cc)
 
 -- where the first orders can be done, it goes on behind them
 reached : (lengths : List ℕ) (n : ℕ) (before later : List Order) (tracks : List (List Standing)) (done : Through) → run lengths (map move_of before) tracks ≡ Ok done

@@ -6,28 +6,11 @@ use Rattle.std.proofs.lemmas.Bool.{cases_Bool, cond-true, cond-false, and_from, 
 use Rattle.std.proofs.lemmas.List.{get_or-map}
 use Rattle.shunt_lists.specs.defs.Members.{In}
 use Rattle.shunt_sheet.specs.declared.records.Order.{Order}
-use Rattle.shunt_sheet.specs.declared.reading.Entered.{Entered}
+use Rattle.shunt_sheet.specs.declared.reader.Entered.{Entered}
 use Rattle.shunt_sheet.specs.defs.SheetFormat.{is_of, entered_by, entry_in, keeps, last_minute}
-
-pub some_same : {X : Type 0} (x y : X) → Some x ≡ Some y → x ≡ y
-some_same x y e = cc
-
-pub never_both : (b : Bool) → b ≡ true → b ≡ false → ⊥
-never_both b t f = absurd cc
+use Rattle.shunt_lists.proofs.Tests.{alike_is, never_both, first_true, second_true, is_alike}
 
 -- ---- an entry or a leave
-
-alike_is : (a b : Bool) → (if a then b else not b) ≡ true → a ≡ b
-alike_is true true e = refl
-alike_is true false e = absurd cc
-alike_is false true e = absurd cc
-alike_is false false e = refl
-
-is_alike : (a b : Bool) → a ≡ b → (if a then b else not b) ≡ true
-is_alike true true e = refl
-is_alike true false e = absurd cc
-is_alike false true e = absurd cc
-is_alike false false e = refl
 
 pub of_tells : (enters : Bool) (id : ℕ) (o : Order) → is_of enters id o ≡ true → (o.enters ≡ enters) × (o.id ≡ id)
 of_tells enters id o e =
@@ -38,14 +21,6 @@ pub tells_of : (enters : Bool) (id : ℕ) (o : Order) → o.enters ≡ enters �
 tells_of enters id o e f = and_from (if o.enters then enters else not enters) (o.id == id) (is_alike o.enters enters e) (eq-eqb o.id id f)
 
 -- ---- one of a list
-
-first_true : (a b : Bool) → a ≡ true → (a || b) ≡ true
-first_true true b e = refl
-first_true false b e = absurd cc
-
-second_true : (a b : Bool) → b ≡ true → (a || b) ≡ true
-second_true true b e = refl
-second_true false b e = e
 
 pub none_first : (a b : Bool) → a ≡ false → (a || b) ≡ true → b ≡ true
 none_first true b f e = absurd cc
@@ -99,12 +74,6 @@ heads x y xs ys e = cc
 
 tails : {X : Type 0} (x y : X) (xs ys : List X) → x ∷ xs ≡ y ∷ ys → xs ≡ ys
 tails x y xs ys e = cc
-
--- one of a list stands between others
-pub split_in : {X : Type 0} (xs : List X) (x : X) → In x xs → (before : List X) × (after : List X) × (xs ≡ before ++ x ∷ after)
-split_in [] x i = absurd i
-split_in (y ∷ ys) x (inl e) = ([], ys, ap (λ z. z ∷ ys) (sym e))
-split_in (y ∷ ys) x (inr i) = let r = split_in ys x i in (y ∷ r.0, r.1, ap (λ l. y ∷ l) r.2)
 
 -- one of a list and one more is the last one, or stands among the others
 pub last_or_earlier : {X : Type 0} (xs before after : List X) (x y : X) → xs ++ x ∷ [] ≡ before ++ y ∷ after

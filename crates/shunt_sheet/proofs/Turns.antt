@@ -1,8 +1,8 @@
 -- One order that is followed, as the loop does it.
-use Rattle.std.proofs.Common.{◌≡◌, ⊎_elim, ℕ, zero, suc, ◌+◌, ◌<◌, ◌≤◌, List, [], ◌∷◌, ◌++◌, length, get_or, set, take, drop, map, Result, Ok, refl, sym, subst, ap, ◌∙◌, arith}
+use Rattle.std.proofs.Common.{◌≡◌, ⊎_elim, ℕ, zero, suc, ◌+◌, ◌<◌, ◌≤◌, List, [], ◌∷◌, length, get_or, set, drop, map, Result, Ok, refl, sym, subst, ap, ◌∙◌, arith}
 use Rattle.std.specs.Prelude.{All}
 use Rattle.std.proofs.lemmas.Bool.{cases_eq}
-use Rattle.std.proofs.lemmas.List.{map-append, take_more, drop_more, length-set, map-set, length-map, get_or-map, get_or-set_same, get_or-set_other}
+use Rattle.std.proofs.lemmas.List.{drop_more, length-set, map-set, length-map, get_or-map, get_or-set_same, get_or-set_other}
 use Rattle.shunt_stays.specs.defs.Events.{Move}
 use Rattle.shunt_stays.specs.defs.Run.{Standing, Stop, moved, load, empty_tracks, blocks_on}
 use Rattle.shunt_stays.proofs.Steps.{load_kept}
@@ -14,8 +14,9 @@ use Rattle.shunt_sheet.specs.declared.records.Followed.TheVariants as answers
 use Rattle.shunt_sheet.specs.declared.tracks.Did.{Did}
 use Rattle.shunt_sheet.specs.declared.tracks.Did.TheVariants as did
 use Rattle.shunt_sheet.specs.defs.Tracks.{Does, Fit}
-use Rattle.shunt_sheet.specs.defs.Following.{move_of, goes_on, follow_from, followed}
+use Rattle.shunt_sheet.specs.defs.FollowedOrders.{move_of, goes_on, follow_from, followed}
 use Rattle.shunt_sheet.proofs.Runs.{few_left}
+use Rattle.shunt_stays.proofs.Tracks.{none_at}
 
 did_moved : (x : Did) (m : Move) (room : ℕ) (old new : List Standing) → x ≡ did.Moved → Does x m room old new → moved room m old ≡ Ok new
 did_moved x m room old new e h = subst (λ (y : Did). Does y m room old new) e h
@@ -76,25 +77,10 @@ left_few view lengths orders i n was now seen few sizes on none past so same =
     (few_left lengths orders (map view was) (blocks_on (map view now)) few (λ k d lt. let below = on k d lt in omega (arith, below, sizes, length-map was view)) none
     (all_through lengths orders i n (map view now) (follow_from lengths 1 orders (map view was)) past so))
 
--- empty tracks
-none_at : (lengths : List ℕ) (k : ℕ) → get_or (empty_tracks lengths) k [] ≡ []
-none_at [] k = refl
-none_at (n ∷ lengths) zero = refl
-none_at (n ∷ lengths) (suc k) = none_at lengths k
-
 pub fit_empty : {X : Type 0} (view : X → List Standing) (lengths : List ℕ) (tracks : List X) → map view tracks ≡ empty_tracks lengths → Fit view lengths tracks
 fit_empty view lengths tracks e = λ k d lt.
     let none : view (get_or tracks k d) ≡ [] = sym (get_or-map view tracks k d [] lt) ∙ ap (λ (l : List (List Standing)). get_or l k []) e ∙ none_at lengths k in
     omega (arith, ap load none)
-
-pub empty_more : {X : Type 0} (view : X → List Standing) (lengths : List ℕ) (i : ℕ) (tracks more : List X) (v : X) → i < length lengths → view v ≡ [] → more ≡ tracks ++ v ∷ []
-    → map view tracks ≡ empty_tracks (take i lengths) → map view more ≡ empty_tracks (take (i + 1) lengths)
-empty_more view lengths i tracks more v lt none grown so =
-    ap (map view) grown ∙ map-append view tracks (v ∷ [])
-    ∙ ap (λ (l : List Standing). map view tracks ++ l ∷ []) none
-    ∙ ap (λ (l : List (List Standing)). l ++ [] ∷ []) so
-    ∙ sym (map-append (λ (n : ℕ). []) (take i lengths) (get_or lengths i 0 ∷ []))
-    ∙ ap empty_tracks (sym (take_more lengths i 0 lt))
 
 -- the tracks of orders have lengths
 pub lengths_for : (s : Station) (lengths : List ℕ) (orders seen : List Order) → seen ≡ orders → lengths ≡ track_lengths s → All (λ o. o.track.0 < length s.tracks) orders

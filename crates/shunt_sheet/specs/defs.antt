@@ -1,7 +1,6 @@
 -- The definitions of this crate.
 pub mod Orders
-pub mod Dues
 pub mod SheetFormat
 pub mod SheetRows
 pub mod Tracks
-pub mod Following
+pub mod FollowedOrders

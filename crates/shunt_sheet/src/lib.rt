@@ -1,16 +1,16 @@
 //! Sheets of shunting orders: their file, the orders of a plan, and whether orders can be followed.
 #![tactic(auto)]
 
-mod following;
+mod follower;
 pub mod laws;
 mod orders;
-mod reading;
+mod reader;
 mod records;
 mod tracks;
-mod writing;
+mod writer;
 
-pub use following::follow;
+pub use follower::follow;
 pub use orders::orders_of;
-pub use reading::read_sheet;
+pub use reader::read_sheet;
 pub use records::{Followed, Order};
-pub use writing::write_sheet;
+pub use writer::write_sheet;

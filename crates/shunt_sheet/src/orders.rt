@@ -1,52 +1,21 @@
 // The orders of a plan.
 ghost use Rattle.std.specs.Prelude.{◌≡◌, ◌<◌, All, map, IfOk};
-ghost use Rattle.std.specs.List.{flat_map};
 ghost use Rattle.shunt_base.specs.defs.Keys.{AreStays};
 ghost use Rattle.shunt_stays.specs.defs.Events.{in_order};
 ghost use Rattle.shunt_blocks.specs.defs.Shapes.{IsInRange};
 ghost use Rattle.shunt_blocks.specs.defs.Lists.{AreInRange, stays_of};
 ghost use Rattle.shunt_plan.specs.defs.Plans.{IsPlanInRange};
-ghost use Rattle.shunt_sheet.specs.defs.Dues.{due_move, entry_due, leave_due, dues_of};
+ghost use Rattle.shunt_tracks.specs.defs.Dues.{move_of as due_move};
 ghost use Rattle.shunt_sheet.specs.defs.Orders.{order_of, orders_in};
 ghost use Rattle.shunt_sheet.specs.defs.SheetFormat.{AreOrders};
 
 use crate::records::Order;
-use shunt_base::{EventKey, Minute, Side, Stay, TrackId};
-use shunt_blocks::{Block, laws, stay};
+use shunt_base::Minute;
+use shunt_blocks::{Block, laws, stays_of};
 use shunt_instance::Instance;
 use shunt_plan::Plan;
+use shunt_tracks::{Due, sorted_dues};
 use std::alloc::{AllocError, Global};
-
-// An entry or a leave. They are sorted by their keys, as the key stands first.
-#[derive(Clone, Copy, Debug, PartialEq, Eq, PartialOrd, Ord)]
-struct Due {
-    key: EventKey,
-    track: TrackId,
-    side: Side,
-    length: u32,
-}
-
-fn entry_of(stay: &Stay) -> Due
-    ensures { result ≡ entry_due stay.now }
-{
-    Due {
-        key: stay.enter,
-        track: stay.track,
-        side: stay.side_in,
-        length: stay.length,
-    }
-}
-
-fn leave_of(stay: &Stay) -> Due
-    ensures { result ≡ leave_due stay.now }
-{
-    Due {
-        key: stay.leave,
-        track: stay.track,
-        side: stay.side_out,
-        length: stay.length,
-    }
-}
 
 fn order_of(due: &Due) -> Order
     requires { due.now.key.minute < 2880 }
@@ -66,30 +35,15 @@ fn order_of(due: &Due) -> Order
     }
 }
 
-// The entries and leaves of the stays of these blocks.
+// The entries and leaves of the stays of these blocks, in the order of their keys.
 fn dues_in(alloc: Global, instance: &Instance, blocks: &[Block]) -> Result<Vec<Due>, AllocError>
-    requires { All (IsInRange instance.now) blocks.now }
-    ensures { IfOk result (λ v. v.items ≡ flat_map dues_of (stays_of instance.now blocks.now)) }
-{
-    let mut dues = Vec::new(alloc);
-    for block in blocks {
-        if let Some(stay) = stay(instance, block) {
-            dues.push(entry_of(&stay))?;
-            dues.push(leave_of(&stay))?;
-        }
-    }
-    Ok(dues)
-}
-
-// The same in the order of their keys.
-fn sorted_dues(alloc: Global, instance: &Instance, blocks: &[Block]) -> Result<Vec<Due>, AllocError>
     requires each { All (IsInRange instance.now) blocks.now }
     requires stays { AreStays (stays_of instance.now blocks.now) }
-    ensures { IfOk result (λ v. map due_move v.items ≡ in_order (stays_of instance.now blocks.now)) }
+    ensures { IfOk result
+        (λ v. map due_move v.items ≡ in_order (stays_of instance.now blocks.now)) }
 {
-    let mut dues = dues_in(alloc, instance, blocks)?;
-    dues.sort_unstable();
-    Ok(dues)
+    let stays = stays_of(alloc, instance, blocks)?;
+    sorted_dues(alloc, &stays)
 }
 
 fn orders_from(alloc: Global, dues: &[Due]) -> Result<Vec<Order>, AllocError>
@@ -116,7 +70,7 @@ fn orders_of_blocks(
     instance.station();
     laws::stays_of_blocks();
     laws::places();
-    let dues = sorted_dues(alloc, instance, blocks)?;
+    let dues = dues_in(alloc, instance, blocks)?;
     orders_from(alloc, &dues)
 }
 

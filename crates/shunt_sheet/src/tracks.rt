@@ -2,7 +2,7 @@
 ghost use Rattle.std.specs.Prelude.{◌≡◌, ◌≤◌, ◌<◌, ◌^◌, ◌+◌, true, false, IfOk, OnOk, Some, None};
 ghost use Rattle.std.specs.Bool.{OnTrue, OnFalse};
 ghost use Rattle.shunt_stays.specs.defs.Run.{put as placed, without, load as total};
-ghost use Rattle.shunt_sheet.specs.defs.Following.{move_of};
+ghost use Rattle.shunt_sheet.specs.defs.FollowedOrders.{move_of};
 ghost use Rattle.shunt_sheet.specs.defs.Tracks.{blocks_of, Does};
 
 use crate::records::Order;
@@ -34,7 +34,8 @@ fn put(side: Side, block: Parked, blocks: &mut Vec<Parked>) -> Result<(), AllocE
 }
 
 fn take_first(id: u32, blocks: &mut Vec<Parked>) -> bool
-    ensures out { OnTrue result (without Side.A id (blocks_of blocks.old.items) ≡ Some (blocks_of blocks.new.items)) }
+    ensures out { OnTrue result
+        (without Side.A id (blocks_of blocks.old.items) ≡ Some (blocks_of blocks.new.items)) }
     ensures blocked { OnFalse result (without Side.A id (blocks_of blocks.old.items) ≡ None) }
 {
     if blocks.is_empty() || blocks[0].id != id {
@@ -45,7 +46,8 @@ fn take_first(id: u32, blocks: &mut Vec<Parked>) -> bool
 }
 
 fn take_last(id: u32, blocks: &mut Vec<Parked>) -> bool
-    ensures out { OnTrue result (without Side.B id (blocks_of blocks.old.items) ≡ Some (blocks_of blocks.new.items)) }
+    ensures out { OnTrue result
+        (without Side.B id (blocks_of blocks.old.items) ≡ Some (blocks_of blocks.new.items)) }
     ensures blocked { OnFalse result (without Side.B id (blocks_of blocks.old.items) ≡ None) }
 {
     let count = blocks.len();
@@ -60,7 +62,8 @@ fn take_last(id: u32, blocks: &mut Vec<Parked>) -> bool
 }
 
 fn take(side: Side, id: u32, blocks: &mut Vec<Parked>) -> bool
-    ensures out { OnTrue result (without side id (blocks_of blocks.old.items) ≡ Some (blocks_of blocks.new.items)) }
+    ensures out { OnTrue result
+        (without side id (blocks_of blocks.old.items) ≡ Some (blocks_of blocks.new.items)) }
     ensures blocked { OnFalse result (without side id (blocks_of blocks.old.items) ≡ None) }
 {
     match side {
@@ -86,7 +89,8 @@ fn load_with(length: u32, blocks: &[Parked]) -> u64
 fn enter(room: u32, order: &Order, blocks: &mut Vec<Parked>) -> Result<Did, AllocError>
     requires enters { order.now.enters ≡ true }
     requires fit { total (blocks_of blocks.old.items) ≤ room }
-    ensures { IfOk result (λ d. Does d (move_of order.now) room (blocks_of blocks.old.items) (blocks_of blocks.new.items)) }
+    ensures { IfOk result (λ d. Does d (move_of order.now) room (blocks_of blocks.old.items)
+        (blocks_of blocks.new.items)) }
 {
     let load = load_with(order.length, blocks);
     if load > u64::from(room) {
@@ -102,7 +106,8 @@ fn enter(room: u32, order: &Order, blocks: &mut Vec<Parked>) -> Result<Did, Allo
 
 fn leave(room: u32, order: &Order, blocks: &mut Vec<Parked>) -> Did
     requires { order.now.enters ≡ false }
-    ensures { Does result (move_of order.now) room (blocks_of blocks.old.items) (blocks_of blocks.new.items) }
+    ensures { Does result (move_of order.now) room (blocks_of blocks.old.items)
+        (blocks_of blocks.new.items) }
 {
     if !take(order.side, order.id, blocks) {
         return Did::Blocked;
@@ -112,7 +117,8 @@ fn leave(room: u32, order: &Order, blocks: &mut Vec<Parked>) -> Did
 
 pub(crate) fn done(room: u32, order: &Order, blocks: &mut Vec<Parked>) -> Result<Did, AllocError>
     requires { total (blocks_of blocks.old.items) ≤ room }
-    ensures { IfOk result (λ d. Does d (move_of order.now) room (blocks_of blocks.old.items) (blocks_of blocks.new.items)) }
+    ensures { IfOk result (λ d. Does d (move_of order.now) room (blocks_of blocks.old.items)
+        (blocks_of blocks.new.items)) }
 {
     if order.enters {
         return enter(room, order, blocks);

@@ -1,16 +1,13 @@
 -- The greatest gain at an event where a fixed span comes, and where none does; and over events where two lists of spans agree.
-use Rattle.std.specs.Prelude.{cond, map, nat_le, IfSome, Option, Some, None}
+use Rattle.std.specs.Prelude.{cond, map, IfSome, Option, Some, None}
 use Rattle.std.specs.Int.{int_max}
-use Rattle.std.proofs.Common.{◌≡◌, ◌⊎◌, inl, inr, ℕ, suc, ◌+◌, ◌<◌, ◌≤◌, Bool, false, List, [], ◌∷◌, ℤ, pos, refl, sym, subst, ap, ◌∙◌, arith}
+use Rattle.std.proofs.Common.{◌≡◌, ◌⊎◌, inl, inr, ℕ, suc, ◌+◌, ◌<◌, ◌≤◌, Bool, List, [], ◌∷◌, ℤ, pos, refl, sym, subst, ap, ◌∙◌, arith}
 use Rattle.std.proofs.lemmas.Int.{ints, clamps}
-use Rattle.std.proofs.lemmas.Bool.Decides.{nat_tests}
 use Rattle.shunt_lists.specs.defs.Members.{In}
 use Rattle.shunt_lists.proofs.Members.{of_map}
 use Rattle.shunt_stacks.specs.defs.Spans.{Span, IsNest, greater, greatest_of, coming_at, best_with, best_at, best_step, best, AreOwn, AgreeWithin}
 use Rattle.shunt_stacks.proofs.Best.{AtLeast, Reached, up, down, in_coming, of_coming, one_of, any_number}
-
-no_le : (m n : ℕ) → n < m → nat_le m n ≡ false
-no_le m n lt = grind (arith, nat_tests)
+use Rattle.shunt_lists.proofs.Tests.{no_le}
 
 -- ---- one and the same value
 

@@ -1,12 +1,12 @@
 -- Free blocks and spans at a path with one block more.
-use Rattle.std.specs.Prelude.{Option, Some, None, ◌&&◌, ◌||◌, nat_le, nat_lt, not, cond, map, All}
+use Rattle.std.specs.Prelude.{Option, Some, None, ◌&&◌, nat_le, nat_lt, not, cond, map, All}
 use Rattle.std.proofs.Common.{◌≡◌, ◌⊎◌, ⊎_elim, inl, inr, ℕ, ◌+◌, ◌-◌, ◌<◌, ◌≤◌, Bool, true, false, List, [], ◌∷◌, ◌++◌, ℤ, pos, refl, sym, subst, ap, ◌∙◌, arith}
 use Rattle.std.proofs.lemmas.Bool.{cases_Bool, cases_lt, not-true, true≢false}
 use Rattle.std.proofs.lemmas.Bool.Decides.{nat_tests}
 use Rattle.std.proofs.lemmas.List.{map-append}
 use Rattle.std.proofs.lemmas.List.Elements.{All-push, filter-append}
 use Rattle.shunt_lists.specs.defs.Members.{In}
-use Rattle.shunt_lists.proofs.Members.{in_map, of_map, in_left, in_right, in_cases, filter_from, filter_to, filter_yes}
+use Rattle.shunt_lists.proofs.Members.{in_map, of_map, in_left, in_right, in_cases, filter_from, filter_to, filter_yes, each_one, to_all as from_members}
 use Rattle.shunt_lists.proofs.Lists.{all_one}
 use Rattle.shunt_base.specs.declared.duals.Case.{Case}
 use Rattle.shunt_instance.specs.defs.Instance.{Night, IsInstance}
@@ -14,19 +14,19 @@ use Rattle.shunt_blocks.specs.declared.records.Block.{Block}
 use Rattle.shunt_blocks.specs.defs.Shapes.{shape_of, unit_from, position_from}
 use Rattle.shunt_blocks.specs.defs.Blocks.{IsBlockButId}
 use Rattle.shunt_blocks.specs.defs.Lists.{has_unit, has_position, times_unit, times_position, ShareNothing}
-use Rattle.shunt_choices.proofs.Given.{PlaceLaws, each_one}
-use Rattle.shunt_choices.proofs.Grown.{alone_apart}
+use Rattle.shunt_choices.proofs.Given.{PlaceLaws}
 use Rattle.shunt_choices.proofs.Masks.{unit_more, position_more}
-use Rattle.shunt_choices.proofs.Trails.{has_from, has_position_from}
 use Rattle.shunt_stacks.specs.defs.Stacks.{Stack, is_of, blocks_of}
 use Rattle.shunt_stacks.specs.defs.Fillings.{gain}
 use Rattle.shunt_stacks.specs.defs.Spans.{Span, IsSpan, AgreeWithin, IsOutside, AreOwn, plus, best, best_with}
 use Rattle.shunt_stacks.specs.defs.Numbers.{IsNumbering, span_of, fixed_spans, free_spans, AreFreeOf, meet, shares, apart_of}
-use Rattle.shunt_stacks.proofs.Sums.{from_members}
-use Rattle.shunt_stacks.proofs.Parts.{part_itself, part_left, joined_apart, IsFreeAt, is_block, unit_bare, position_bare, free_from, free_before, unit_test, position_test}
+use Rattle.shunt_stacks.proofs.Parts.{part_itself, part_left, joined_apart, IsFreeAt, is_block, unit_bare, position_bare, free_from, free_before}
 use Rattle.shunt_stacks.proofs.Around.{at_fixed, agreeing}
 use Rattle.shunt_stacks.proofs.Tied.{TieLaws, own_events}
 use Rattle.shunt_stacks.proofs.Pairs.{EventLaws, is_span, unit_between, position_between}
+use Rattle.shunt_lists.proofs.Tests.{first_true as or_left, second_true as or_right, or_cases}
+use Rattle.shunt_blocks.proofs.Shapes.{has_from, has_position_from, position_to as position_test, unit_to as unit_test}
+use Rattle.shunt_blocks.proofs.StaysOf.{alone_apart}
 
 -- ---- what two blocks share
 
@@ -44,18 +44,6 @@ common a n b m some more e = ⊎_elim (λ lt. (b, first lt, own b m more)) (λ g
 
     second : b ≤ a → (nat_le b a && nat_lt a (b + m)) ≡ true
     second le = grind (arith, nat_tests)
-
-or_cases : (p q : Bool) → (p || q) ≡ true → (p ≡ true) ⊎ (q ≡ true)
-or_cases true q e = inl refl
-or_cases false q e = inr e
-
-or_left : (p q : Bool) → p ≡ true → (p || q) ≡ true
-or_left true q e = refl
-or_left false q e = absurd (true≢false (sym e))
-
-or_right : (p q : Bool) → q ≡ true → (p || q) ≡ true
-or_right true q e = refl
-or_right false q e = e
 
 -- two blocks that share something share a unit or a position
 record Shared (night : Night) (x y : Block) : Type 0 where

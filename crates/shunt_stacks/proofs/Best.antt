@@ -5,24 +5,13 @@ use Rattle.std.specs.Int.{int_max}
 use Rattle.std.proofs.Common.{◌≡◌, ◌⊎◌, ⊎_elim, inl, inr, ℕ, zero, suc, ◌+◌, ◌-◌, ◌<◌, ◌≤◌, Bool, true, false, List, [], ◌∷◌, ◌++◌, ℤ, pos, ◌+ℤ◌, refl, sym, subst, ap, ◌∙◌, arith}
 use Rattle.std.proofs.lemmas.Int.{ints, clamps, by_lt_z}
 use Rattle.std.proofs.lemmas.Bool.{cases_lt, cases_eq, eq-eqb, eqb-true, and_parts, and_from}
-use Rattle.std.proofs.lemmas.Bool.Decides.{nat_tests}
 use Rattle.shunt_lists.specs.defs.Members.{In}
 use Rattle.shunt_lists.proofs.Members.{all_from, in_map, of_map, in_left, in_right, in_cases, filter_from, filter_to}
 use Rattle.shunt_prices.proofs.Signed.{sum_z-append}
 use Rattle.shunt_stacks.specs.defs.Spans.{Span, IsSpan, AreNested, is_standing, load_with, gain_of_spans, IsNest, greater, plus, greatest_of, coming_at, best_with, best_at, best_step, best, AreOwn}
 use Rattle.shunt_stacks.proofs.Sums.{sum_z-low}
 use Rattle.shunt_stacks.proofs.Nests.{two_of, apart_starts, nested_filter, nested_append, stands, not_yet, no_more, load_one, load_parts, load_none, load_own, share_small, is_inside, is_behind, inner, beyond, outer, inner_to, outer_to, in_inner, in_outer, split, load_inner, load_outer}
-
--- ---- tests
-
-no_le : (m n : ℕ) → n < m → nat_le m n ≡ false
-no_le m n lt = grind (arith, nat_tests)
-
-yes_le : (m n : ℕ) → m ≤ n → nat_le m n ≡ true
-yes_le m n le = grind (arith, nat_tests)
-
-le_from : (m n : ℕ) → nat_le m n ≡ true → m ≤ n
-le_from m n e = grind (arith, nat_tests)
+use Rattle.shunt_lists.proofs.Tests.{le_from, no_le, yes_le}
 
 -- ---- at least that much
 

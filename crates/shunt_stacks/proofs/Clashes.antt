@@ -5,14 +5,15 @@ use Rattle.std.proofs.lemmas.List.Elements.{All-append}
 use Rattle.shunt_base.specs.declared.keys.Stay.{Stay}
 use Rattle.shunt_base.specs.defs.Keys.{AreStays}
 use Rattle.shunt_stays.specs.defs.Run.{GoesThrough, AreOnTracks}
-use Rattle.shunt_stays.specs.defs.Crossing.{NoneCross, NoneOver}
+use Rattle.shunt_stays.specs.defs.Crossings.{NoneCross, NoneOver}
 use Rattle.shunt_instance.specs.defs.Instance.{Night, IsInstance}
 use Rattle.shunt_blocks.specs.declared.records.Block.{Block}
 use Rattle.shunt_blocks.specs.defs.Shapes.{IsWithinTrains}
 use Rattle.shunt_blocks.specs.defs.Lists.{CanStand, ShareNothing, RunsThrough, placed, stays_of, track_lengths}
-use Rattle.shunt_choices.proofs.Given.{PlaceLaws, is_within}
+use Rattle.shunt_choices.proofs.Given.{PlaceLaws}
 use Rattle.shunt_stacks.specs.defs.Stacks.{Stack, is_of, blocks_of}
 use Rattle.shunt_stacks.proofs.Parts.{part_filter, part_within, IsFreeAt, is_block, joined_apart}
+use Rattle.shunt_blocks.proofs.Shapes.{is_within}
 
 pub record ClashLaws : Type 0 where
   pub places : PlaceLaws

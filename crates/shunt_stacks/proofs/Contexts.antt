@@ -1,11 +1,10 @@
 -- What a stack gains with one choice after another at a path: one value for all events around, and one for each choice.
 use Rattle.std.specs.Prelude.{not, ◌&&◌, nat_le, cond, All, Option, Some, None}
-use Rattle.std.proofs.Common.{◌≡◌, ◌⊎◌, ⊎_elim, inl, inr, ℕ, zero, suc, ◌+◌, ◌-◌, ◌<◌, ◌≤◌, Bool, true, false, List, [], ◌∷◌, ◌++◌, ℤ, pos, ◌+ℤ◌, refl, sym, subst, ap, ◌∙◌, arith}
+use Rattle.std.proofs.Common.{◌≡◌, ◌⊎◌, ⊎_elim, inl, inr, ℕ, zero, suc, ◌+◌, ◌-◌, ◌<◌, ◌≤◌, Bool, true, List, [], ◌∷◌, ◌++◌, ℤ, pos, ◌+ℤ◌, refl, sym, subst, ap, ◌∙◌, arith}
 use Rattle.std.proofs.lemmas.Int.{ints}
 use Rattle.std.proofs.lemmas.Bool.{cases_lt, and_from}
-use Rattle.std.proofs.lemmas.Bool.Decides.{nat_tests}
 use Rattle.shunt_lists.specs.defs.Members.{In}
-use Rattle.shunt_lists.proofs.Members.{in_map, of_map, of_one, filter_from, filter_to, in_left, in_right, in_cases}
+use Rattle.shunt_lists.proofs.Members.{in_map, of_map, of_one, filter_from, filter_to, in_left, in_right, in_cases, each_one}
 use Rattle.shunt_base.specs.declared.duals.Case.{Case}
 use Rattle.shunt_instance.specs.defs.Instance.{Night, IsInstance, unit_total}
 use Rattle.shunt_blocks.specs.declared.records.Block.{Block}
@@ -13,7 +12,7 @@ use Rattle.shunt_blocks.specs.defs.Shapes.{shape_of, unit_from}
 use Rattle.shunt_blocks.specs.defs.Blocks.{IsBlockButId}
 use Rattle.shunt_blocks.specs.defs.Lists.{ShareNothing}
 use Rattle.shunt_choices.specs.defs.Paths.{masks_of, next_of}
-use Rattle.shunt_choices.proofs.Given.{PlaceLaws, each_one}
+use Rattle.shunt_choices.proofs.Given.{PlaceLaws}
 use Rattle.shunt_choices.proofs.Grown.{next_is}
 use Rattle.shunt_prices.specs.defs.Prices.{track_length}
 use Rattle.shunt_stacks.specs.defs.Stacks.{Stack, is_of, blocks_of}
@@ -26,6 +25,7 @@ use Rattle.shunt_stacks.proofs.Best.{find_start}
 use Rattle.shunt_stacks.proofs.Around.{at_fixed, at_none}
 use Rattle.shunt_stacks.proofs.Tied.{TieLaws, own_events}
 use Rattle.shunt_stacks.proofs.Beside.{own_after, same_among, value_at, span_there}
+use Rattle.shunt_lists.proofs.Tests.{no_le, yes_le, off_right}
 
 -- ---- gains that there may be
 
@@ -63,16 +63,6 @@ inside_first g (Some x) (Some y) (Some z) = ap Some (same g x y z)
 
 abbrev sum_with : (ℕ → ℕ → ℕ → Option ℤ) → ℕ → ℕ → Span → Option ℤ
 sum_with rest y room s = plus (Some s.gain) (plus (rest s.inside s.until (room - s.length)) (rest s.past y room))
-
-yes_le : (m n : ℕ) → m ≤ n → nat_le m n ≡ true
-yes_le m n le = grind (arith, nat_tests)
-
-no_le : (m n : ℕ) → n < m → nat_le m n ≡ false
-no_le m n lt = grind (arith, nat_tests)
-
-off_right : (p : Bool) → (p && false) ≡ false
-off_right true = refl
-off_right false = refl
 
 with_yes : (rest : ℕ → ℕ → ℕ → Option ℤ) (y room : ℕ) (s : Span) → s.past ≤ y → s.length ≤ room → best_with rest y room s ≡ sum_with rest y room s
 with_yes rest y room s past long = ap (λ (t : Bool). cond t (sum_with rest y room s) None)

@@ -7,19 +7,20 @@ use Rattle.std.proofs.lemmas.Bool.{not-true}
 use Rattle.std.proofs.lemmas.List.{append-nil}
 use Rattle.std.proofs.lemmas.List.Elements.{All-nil, All-append}
 use Rattle.shunt_lists.specs.defs.Members.{In}
-use Rattle.shunt_lists.proofs.Members.{filter_from}
+use Rattle.shunt_lists.proofs.Members.{filter_from, each_one, to_all as from_members}
 use Rattle.shunt_base.specs.declared.duals.Case.{Case}
 use Rattle.shunt_instance.specs.defs.Instance.{Night, IsInstance}
 use Rattle.shunt_blocks.specs.declared.records.Block.{Block}
 use Rattle.shunt_blocks.specs.defs.Shapes.{IsWithinTrains}
 use Rattle.shunt_blocks.specs.defs.Blocks.{IsBlockButId}
 use Rattle.shunt_blocks.specs.defs.Lists.{ShareNothing, RunsThrough, placed}
-use Rattle.shunt_choices.proofs.Given.{PlaceLaws, is_within, all_within, each_one}
+use Rattle.shunt_choices.proofs.Given.{PlaceLaws}
 use Rattle.shunt_prices.specs.defs.Sums.{sum_z}
 use Rattle.shunt_stacks.specs.defs.Stacks.{Stack, is_of, blocks_of}
 use Rattle.shunt_stacks.specs.defs.Fillings.{gain, gain_of, IsFilling, IsStackGain}
-use Rattle.shunt_stacks.proofs.Sums.{sum_z-both, sum_z-low, from_members}
+use Rattle.shunt_stacks.proofs.Sums.{sum_z-both, sum_z-low}
 use Rattle.shunt_stacks.proofs.Parts.{IsPart, part_itself, part_filter, part_part, part_append, part_right, part_apart, part_within, PartLaw, part_runs, IsFreeAt, is_block, free_behind, joined_apart}
+use Rattle.shunt_blocks.proofs.Shapes.{all_within, is_within}
 
 -- a stack has one gain
 pub one_gain : (night : Night) (path : List Block) (c : Case) (stack : Stack) (x y : ℤ) → IsStackGain night path c stack x → IsStackGain night path c stack y → x ≡ y

@@ -4,23 +4,14 @@ use Rattle.std.specs.declared.cmp.Ordering.{Ordering}
 use Rattle.std.specs.declared.cmp.Ordering.TheVariants.{Less, Equal, Greater}
 use Rattle.std.proofs.Common.{◌≡◌, ⊎_elim, ℕ, ◌<◌, ◌≤◌, Bool, true, false, refl, sym, ap, ◌∙◌, arith}
 use Rattle.std.proofs.lemmas.Bool.{cases_lt, false≢true}
-use Rattle.std.proofs.lemmas.Bool.Decides.{nat_tests}
 use Rattle.shunt_base.specs.declared.keys.EventKey.{EventKey}
 use Rattle.shunt_base.specs.defs.Keys.{key_cmp}
+use Rattle.shunt_lists.proofs.Orders.{nat_less as less, nat_greater as greater, nat_equal as even}
 
 -- the one comes first
 pub record Ordered (k l : EventKey) : Type 0 where
   pub less : key_cmp k l ≡ Less
   pub more : key_cmp l k ≡ Greater
-
-less : (a b : ℕ) → a < b → nat_cmp a b ≡ Less
-less a b lt = grind (arith, nat_tests)
-
-greater : (a b : ℕ) → b < a → nat_cmp a b ≡ Greater
-greater a b lt = grind (arith, nat_tests)
-
-even : (a b : ℕ) → a ≡ b → nat_cmp a b ≡ Equal
-even a b e = grind (arith, nat_tests)
 
 -- what comes first decides, and what is even leaves it to the rest
 first_less : (a b : ℕ) (rest : Ordering) → a < b → ordering_then (nat_cmp a b) rest ≡ Less

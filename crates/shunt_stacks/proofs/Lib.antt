@@ -1,4 +1,4 @@
-mod Sums
+pub mod Sums
 mod Parts
 mod Owned
 mod Filled
@@ -9,12 +9,12 @@ mod Ones
 mod Clashes
 mod Sizes
 mod Listed
-mod Existing
+mod Existence
 mod Least
 mod Bounded
 mod Examples
 mod Nests
-mod Best
+pub mod Best
 mod Keyed
 mod Pairs
 mod Spanned
@@ -23,3 +23,5 @@ mod Numbered
 mod Around
 mod Beside
 mod Contexts
+pub mod Steps
+pub mod Small

@@ -5,8 +5,7 @@ use Rattle.std.proofs.Common.{◌≡◌, ⊎_elim, inl, inr, ℕ, zero, suc, ◌
 use Rattle.std.proofs.lemmas.Int.{ints, by_lt_z}
 use Rattle.std.proofs.lemmas.List.FromFn.{length-range_with_len, get_or-range_with_len}
 use Rattle.shunt_lists.specs.defs.Members.{In}
-use Rattle.shunt_lists.proofs.Members.{in_place, in_map, of_map, in_flat, of_flat}
-use Rattle.shunt_choices.proofs.Given.{place}
+use Rattle.shunt_lists.proofs.Members.{in_place, in_map, of_map, in_flat, of_flat, place}
 
 -- ---- numbers below one
 

@@ -10,7 +10,7 @@ use Rattle.shunt_base.specs.defs.Keys.{key_cmp, IsBefore as ComesBefore, IsWellF
 use Rattle.shunt_base.specs.defs.Sides.{same_side}
 use Rattle.shunt_base.proofs.Sides.{same_side_tells}
 use Rattle.shunt_stays.specs.defs.Events.{key_before}
-use Rattle.shunt_stays.specs.defs.Crossing.{Crosses, stands_at}
+use Rattle.shunt_stays.specs.defs.Crossings.{Crosses, stands_at}
 use Rattle.shunt_instance.specs.declared.records.Train.{Train}
 use Rattle.shunt_instance.specs.declared.records.Unit.{Unit as TrainUnit}
 use Rattle.shunt_instance.specs.declared.records.Position.{Position}
@@ -23,12 +23,13 @@ use Rattle.shunt_blocks.specs.declared.records.Park.{Park}
 use Rattle.shunt_blocks.specs.defs.Shapes.{shape_of, unit_from, position_from, AreRunsWithin, IsWithinTrains, IsShape}
 use Rattle.shunt_blocks.specs.defs.Blocks.{IsBlockButId}
 use Rattle.shunt_blocks.specs.defs.Lists.{has_unit, has_position}
-use Rattle.shunt_blocks.specs.defs.Standing.{block_length, enter_key, leave_key, is_too_soon, parked_stay, stay_with, stay_of}
-use Rattle.shunt_choices.proofs.Given.{PlaceLaws, is_within}
+use Rattle.shunt_blocks.specs.defs.Stays.{block_length, enter_key, leave_key, is_too_soon, parked_stay, stay_with, stay_of}
+use Rattle.shunt_choices.proofs.Given.{PlaceLaws}
 use Rattle.shunt_stacks.specs.defs.Stacks.{Stack, is_of}
-use Rattle.shunt_stacks.specs.defs.Spans.{Span, IsSpan, IsBefore, IsInside, AreNested, is_standing}
+use Rattle.shunt_stacks.specs.defs.Spans.{Span, IsSpan, IsEarlierSpan, IsInside, AreNested, is_standing}
 use Rattle.shunt_stacks.specs.defs.Numbers.{arrives, departs, IsNumbering, span_of}
 use Rattle.shunt_stacks.proofs.Keyed.{Ordered, by_minute, by_train, by_place, by_kind, itself, not_before_itself, less_not_more}
+use Rattle.shunt_blocks.proofs.Shapes.{is_within}
 
 -- what the laws of the crates below say
 pub record EventLaws : Type 0 where
@@ -442,7 +443,7 @@ module _ (laws : EventLaws) (night : Night) (i : IsInstance night) (stack : Stac
 
   -- blocks whose spans are nested or apart share nothing
   half_apart : (x y : Block) → IsBlockButId night x → IsBlockButId night y → is_of stack x.park ≡ true → is_of stack y.park ≡ true
-      → (IsBefore (span x) (span y)) ⊎ (IsInside (span y) (span x)) → AreApart night x y
+      → (IsEarlierSpan (span x) (span y)) ⊎ (IsInside (span y) (span x)) → AreApart night x y
   half_apart x y a b of on (inl before) = record {
     units = λ u p q. omega (arith, before, (unit_between x a u p).1, (unit_between y b u q).0, stays_then x a of, earlier_leave x a (x.n - 1) (last x a));
     positions = λ v p q. omega (arith, before, (position_between x a v p).1, (position_between y b v q).0, stays_then y b on, later_entry y b (y.n - 1) (last y b));

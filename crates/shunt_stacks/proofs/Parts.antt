@@ -2,10 +2,9 @@
 use Rattle.std.specs.Prelude.{All, cond, filter}
 use Rattle.std.proofs.Common.{◌≡◌, ⊎_elim, ℕ, ◌+◌, ◌≤◌, Bool, true, List, ◌++◌, refl, arith}
 use Rattle.std.proofs.lemmas.Bool.{cases_lt}
-use Rattle.std.proofs.lemmas.Bool.Decides.{nat_tests}
 use Rattle.std.proofs.lemmas.List.Sums.{sum_by-append}
 use Rattle.shunt_lists.specs.defs.Members.{In}
-use Rattle.shunt_lists.proofs.Members.{filter_from, in_left, in_right, in_cases}
+use Rattle.shunt_lists.proofs.Members.{filter_from, in_left, in_right, in_cases, each_one, to_all as from_members}
 use Rattle.shunt_lists.proofs.Sums.{filter_least}
 use Rattle.shunt_instance.specs.defs.Instance.{Night, IsInstance, unit_total, position_total}
 use Rattle.shunt_blocks.specs.declared.records.Block.{Block}
@@ -15,11 +14,11 @@ use Rattle.shunt_blocks.specs.defs.Lists.{has_unit, has_position, times_unit, ti
 use Rattle.shunt_blocks.specs.defs.Pins.{without_id}
 use Rattle.shunt_blocks.proofs.Held.{held, holder}
 use Rattle.shunt_choices.specs.defs.Paths.{masks_of}
-use Rattle.shunt_choices.proofs.Given.{PlaceLaws, each_one}
-use Rattle.shunt_choices.proofs.Trails.{has_from, has_position_from, not_taken}
+use Rattle.shunt_choices.proofs.Given.{PlaceLaws}
+use Rattle.shunt_choices.proofs.Trails.{not_taken}
 use Rattle.shunt_choices.proofs.Grown.{left_free}
 use Rattle.shunt_prices.specs.defs.Cases.{IsFreeBlock}
-use Rattle.shunt_stacks.proofs.Sums.{from_members}
+use Rattle.shunt_blocks.proofs.Shapes.{has_from, has_position_from, position_to as position_test, unit_to as unit_test}
 
 -- ---- parts
 
@@ -96,12 +95,6 @@ part_runs law night part whole i within apart h go =
     (λ b there. (b, h.members b there, refl)) go
 
 -- ---- free blocks
-
-pub unit_test : (night : Night) (b : Block) (w : ℕ) → HasUnit night (shape_of b) w → has_unit night (shape_of b) w ≡ true
-unit_test night b w has = let from = has.from in let to = has.to in grind (arith, nat_tests)
-
-pub position_test : (night : Night) (b : Block) (w : ℕ) → HasPosition night (shape_of b) w → has_position night (shape_of b) w ≡ true
-position_test night b w has = let from = has.from in let to = has.to in grind (arith, nat_tests)
 
 abbrev pub IsFreeAt : Night → List Block → Block → Type 0
 IsFreeAt night path b = IsFreeBlock night (masks_of night path) (shape_of b) b.park

@@ -1,29 +1,27 @@
 -- A plan that keeps a path costs at least the path's bound with stacks, and one that has a block more at least the bound of that choice.
-use Rattle.std.specs.Prelude.{not, All, position, Option, Some, None, slice_index_or, ◌-ℤ◌, ◌≤ℤ◌}
-use Rattle.std.specs.List.{AllZip, position_or_len}
-use Rattle.std.proofs.Common.{◌≡◌, inl, ℕ, zero, suc, ◌+◌, ◌<◌, ◌≤◌, Bool, true, false, List, [], ◌∷◌, ◌++◌, length, get_or, ℤ, pos, ◌+ℤ◌, refl, sym, subst, ap, ◌∙◌, arith}
+use Rattle.std.specs.Prelude.{not, All, Option, Some, None, slice_index_or, ◌-ℤ◌, ◌≤ℤ◌}
+use Rattle.std.specs.List.{AllZip}
+use Rattle.std.proofs.Common.{◌≡◌, inl, ℕ, zero, suc, ◌+◌, ◌<◌, ◌≤◌, true, List, [], ◌∷◌, ◌++◌, length, get_or, ℤ, pos, ◌+ℤ◌, refl, sym, subst, ap, ◌∙◌, arith}
 use Rattle.std.proofs.lemmas.Int.{ints}
 use Rattle.std.proofs.lemmas.Bool.{true≢false, not-false}
-use Rattle.std.proofs.lemmas.Grind.{common_steps}
 use Rattle.std.proofs.lemmas.List.{append-nil, length-append}
-use Rattle.std.proofs.lemmas.List.Sums.{fails_before_first}
 use Rattle.std.proofs.lemmas.List.Elements.{All-tail}
 use Rattle.shunt_lists.specs.defs.Members.{In}
-use Rattle.shunt_lists.proofs.Members.{in_right}
-use Rattle.shunt_lists.proofs.Lists.{append_one}
+use Rattle.shunt_lists.proofs.Members.{in_right, each_one, to_all as from_members}
+use Rattle.shunt_lists.proofs.Lists.{append_one, none_passes}
 use Rattle.shunt_base.specs.declared.duals.Case.{Case}
 use Rattle.shunt_instance.specs.defs.Wellformed.{IsStation}
 use Rattle.shunt_instance.specs.defs.Instance.{Night, IsInstance, unit_total}
 use Rattle.shunt_blocks.specs.declared.records.Shape.{Shape}
 use Rattle.shunt_blocks.specs.declared.records.Block.{Block}
 use Rattle.shunt_blocks.specs.declared.records.Park.{Park}
-use Rattle.shunt_blocks.specs.defs.Shapes.{shape_of, unit_from, IsShape, HasUnit, IsWithinTrains}
-use Rattle.shunt_blocks.specs.defs.Blocks.{IsBlockButId, IsOption}
+use Rattle.shunt_blocks.specs.defs.Shapes.{shape_of, unit_from, HasUnit, IsWithinTrains}
+use Rattle.shunt_blocks.specs.defs.Blocks.{IsBlockButId}
 use Rattle.shunt_blocks.specs.defs.Lists.{ShareNothing, IsFeasible, RunsThrough, total_cost, placed}
-use Rattle.shunt_blocks.specs.defs.Pins.{IsKept, Keeps, without_id}
+use Rattle.shunt_blocks.specs.defs.Pins.{IsKept, Keeps}
 use Rattle.shunt_choices.specs.defs.Paths.{masks_of, next_of}
 use Rattle.shunt_choices.specs.defs.Choices.{Choice, IsChoiceAt, chosen, longer_by}
-use Rattle.shunt_choices.proofs.Given.{PlaceLaws, FewerLaw, all_within, but_ids, each_one}
+use Rattle.shunt_choices.proofs.Given.{PlaceLaws, FewerLaw}
 use Rattle.shunt_choices.proofs.Trails.{length_units}
 use Rattle.shunt_choices.proofs.Grown.{next_is, grown_apart, choice_free}
 use Rattle.shunt_choices.proofs.Partial.{next_unit}
@@ -35,10 +33,12 @@ use Rattle.shunt_stacks.specs.defs.Stacks.{Stack, stacks, is_of, blocks_of, stac
 use Rattle.shunt_stacks.specs.defs.Fillings.{gain, gain_of, IsStackGain}
 use Rattle.shunt_stacks.specs.defs.Cases.{HoldsBesideStacks, StackCasesHold}
 use Rattle.shunt_stacks.specs.defs.Bounds.{IsStackSum, IsFall, IsChoiceSum, IsStackBound, IsChoiceBound}
-use Rattle.shunt_stacks.proofs.Sums.{sum_z-both, from_members}
+use Rattle.shunt_stacks.proofs.Sums.{sum_z-both}
 use Rattle.shunt_stacks.proofs.Parts.{IsPart, part_itself, part_part, part_right, part_filter, PartLaw, free_behind}
 use Rattle.shunt_stacks.proofs.Owned.{is_of_tells, stack_there}
 use Rattle.shunt_stacks.proofs.Filled.{others, other_block, fills, NoneBeside, within_gains, within_others}
+use Rattle.shunt_blocks.proofs.Shapes.{all_within, but_ids}
+use Rattle.shunt_prices.proofs.Dual.{kept_block}
 
 -- what the laws of the crates below say
 pub record StepLaws : Type 0 where
@@ -66,22 +66,6 @@ pub record PlanLaws : Type 0 where
       → Keeps plan path → AreCases night cases → CasesHold night path cases → IsCasesBound night path cases bound → bound ≤ℤ pos (total_cost night plan)
 
 -- ---- a kept block is the plan's but for its id
-
-kept_block : (night : Night) (plan : List Block) (b : Block) → All (IsBlockButId night) plan → IsKept plan b → IsBlockButId night b
-kept_block night plan b all k =
-    let w = each_one (IsBlockButId night) plan k.block all k.there in
-    record {
-      shape = subst (IsShape night) (ap shape_of k.same) w.shape;
-      option = subst (λ (x : Block). IsOption night (shape_of x) x.park) k.same (option_of w);
-    }
-  where
-    option_of : IsBlockButId night k.block → IsOption night (shape_of (without_id k.block)) (without_id k.block).park
-    option_of w = w.option
-
-none_passes : {X : Type 0} (p : X → Bool) (xs : List X) (k : ℕ) (d : X) → position p xs ≡ None → k < length xs → p (get_or xs k d) ≡ false
-none_passes p xs k d e lt =
-    let past : length xs ≤ position_or_len p xs = grind (arith, common_steps) in
-    fails_before_first p xs k d (omega (arith, past, lt))
 
 -- an option of no stack has none
 unowned : (o : Option Stack) → ((s : Stack) → o ≡ Some s → ⊥) → o ≡ None

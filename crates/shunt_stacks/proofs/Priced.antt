@@ -5,14 +5,13 @@ use Rattle.std.proofs.Common.{◌≡◌, ℕ, ◌<◌, List, [], ◌∷◌, ◌+
 use Rattle.std.proofs.lemmas.Int.{ints}
 use Rattle.std.proofs.lemmas.List.FromFn.{get_or-map-range_with_len}
 use Rattle.shunt_lists.specs.defs.Members.{In}
-use Rattle.shunt_lists.proofs.Members.{in_right}
+use Rattle.shunt_lists.proofs.Members.{in_right, each_one}
 use Rattle.shunt_base.specs.declared.duals.Case.{Case}
 use Rattle.shunt_instance.specs.defs.Instance.{Night, IsInstance}
 use Rattle.shunt_blocks.specs.declared.records.Block.{Block}
 use Rattle.shunt_blocks.specs.defs.Shapes.{shape_of, IsWithinTrains}
 use Rattle.shunt_blocks.specs.defs.Lists.{ShareNothing, RunsThrough, placed}
 use Rattle.shunt_choices.specs.defs.Paths.{masks_of}
-use Rattle.shunt_choices.proofs.Given.{each_one}
 use Rattle.shunt_prices.specs.defs.Sums.{sum_z}
 use Rattle.shunt_prices.specs.defs.Limits.{case_at, from_of}
 use Rattle.shunt_prices.specs.defs.Cases.{HoldsInCase, CasesHold, weight, duals_over}

@@ -6,7 +6,7 @@ use Rattle.std.proofs.lemmas.Int.{ints}
 use Rattle.std.proofs.lemmas.List.Sums.{sum_by-cons}
 use Rattle.std.proofs.lemmas.List.Elements.{All-append, All-cons, All-push, All-tail, filter-append}
 use Rattle.shunt_lists.specs.defs.Members.{In}
-use Rattle.shunt_lists.proofs.Members.{filter_yes, in_right}
+use Rattle.shunt_lists.proofs.Members.{filter_yes, in_right, each_one, to_all as from_members}
 use Rattle.shunt_lists.proofs.Lists.{append_one, all_one}
 use Rattle.shunt_base.specs.declared.duals.Case.{Case}
 use Rattle.shunt_instance.specs.defs.Instance.{Night, IsInstance}
@@ -17,9 +17,8 @@ use Rattle.shunt_blocks.specs.defs.Shapes.{shape_of, IsWithinTrains}
 use Rattle.shunt_blocks.specs.defs.Lists.{has_unit, has_position, ShareNothing, RunsThrough, placed}
 use Rattle.shunt_blocks.proofs.Held.{held}
 use Rattle.shunt_choices.specs.defs.Paths.{masks_of}
-use Rattle.shunt_choices.proofs.Given.{PlaceLaws, is_within, each_one}
+use Rattle.shunt_choices.proofs.Given.{PlaceLaws}
 use Rattle.shunt_choices.proofs.Masks.{unit_more, position_more}
-use Rattle.shunt_choices.proofs.Grown.{alone_apart}
 use Rattle.shunt_prices.specs.defs.Sums.{sum_z}
 use Rattle.shunt_prices.specs.defs.Limits.{case_at, from_of}
 use Rattle.shunt_prices.specs.defs.Cases.{weight, duals_over}
@@ -28,11 +27,12 @@ use Rattle.shunt_stacks.specs.defs.Stacks.{Stack, stacks, is_of, blocks_of, stac
 use Rattle.shunt_stacks.specs.defs.Fillings.{gain, IsFilling, IsStackGain}
 use Rattle.shunt_stacks.specs.defs.Cases.{HoldsBesideStacks, StackCasesHold}
 use Rattle.shunt_stacks.specs.defs.Bounds.{IsStackSum, IsFall, IsChoiceSum, IsStackBound, IsChoiceBound}
-use Rattle.shunt_stacks.proofs.Sums.{from_members}
-use Rattle.shunt_stacks.proofs.Parts.{IsPart, part_itself, part_filter, part_left, part_right, part_append, part_apart, part_within, part_runs, unit_test, position_test, IsFreeAt, unit_bare, position_bare, free_from, is_block, free_before, joined_apart, PartLaw}
+use Rattle.shunt_stacks.proofs.Parts.{IsPart, part_itself, part_filter, part_left, part_right, part_append, part_apart, part_within, part_runs, IsFreeAt, unit_bare, position_bare, free_from, is_block, free_before, joined_apart, PartLaw}
 use Rattle.shunt_stacks.proofs.Owned.{is_of_tells, stack_there}
 use Rattle.shunt_stacks.proofs.Filled.{one_gain}
 use Rattle.shunt_stacks.proofs.Plans.{StepLaws}
+use Rattle.shunt_blocks.proofs.Shapes.{position_to as position_test, unit_to as unit_test, is_within}
+use Rattle.shunt_blocks.proofs.StaysOf.{alone_apart}
 
 -- ---- cases still hold
 

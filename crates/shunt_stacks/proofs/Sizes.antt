@@ -14,7 +14,7 @@ use Rattle.shunt_blocks.specs.declared.records.Block.{Block}
 use Rattle.shunt_blocks.specs.declared.records.Park.{Park}
 use Rattle.shunt_blocks.specs.defs.Shapes.{shape_of, unit_from, position_from, AreRunsWithin, IsWithinTrains}
 use Rattle.shunt_blocks.specs.defs.Lists.{has_unit, times_unit, ShareNothing, RunsThrough, placed}
-use Rattle.shunt_choices.proofs.Given.{PlaceLaws, is_within}
+use Rattle.shunt_choices.proofs.Given.{PlaceLaws}
 use Rattle.shunt_prices.specs.defs.Sums.{sum_z, sum_z_below, IsWithin}
 use Rattle.shunt_prices.specs.defs.Limits.{IsValue, IsCase}
 use Rattle.shunt_prices.specs.defs.Cases.{alpha_at, beta_at, duals_over, weight_with}
@@ -25,6 +25,7 @@ use Rattle.shunt_stacks.specs.defs.Bounds.{IsFall}
 use Rattle.shunt_stacks.specs.defs.Fillings.{gain, gain_of, IsFilling, IsStackGain}
 use Rattle.shunt_stacks.proofs.Parts.{PartLaw, is_block}
 use Rattle.shunt_stacks.proofs.Filled.{at_least_zero}
+use Rattle.shunt_blocks.proofs.Shapes.{is_within}
 
 -- ---- blocks that share nothing have few units
 

@@ -8,21 +8,21 @@ use Rattle.shunt_lists.proofs.Members.{all_from, in_map, of_map}
 use Rattle.shunt_base.specs.declared.keys.Stay.{Stay}
 use Rattle.shunt_base.specs.defs.Keys.{AreStays}
 use Rattle.shunt_stays.specs.defs.Run.{GoesThrough, AreOnTracks}
-use Rattle.shunt_stays.specs.defs.Crossing.{Crosses, NoneCross, NoneOver, stands_at, load_at, load_after}
+use Rattle.shunt_stays.specs.defs.Crossings.{Crosses, NoneCross, NoneOver, stands_at, load_at, load_after}
 use Rattle.shunt_instance.specs.defs.Instance.{Night, IsInstance}
 use Rattle.shunt_blocks.specs.declared.records.Block.{Block}
 use Rattle.shunt_blocks.specs.defs.Shapes.{shape_of}
 use Rattle.shunt_blocks.specs.defs.Blocks.{IsBlockButId}
-use Rattle.shunt_blocks.specs.defs.Standing.{block_length, enter_key}
+use Rattle.shunt_blocks.specs.defs.Stays.{block_length, enter_key}
 use Rattle.shunt_blocks.specs.defs.Lists.{has_unit, has_position, CanStand, ShareNothing, RunsThrough, stays_of, track_lengths}
 use Rattle.shunt_blocks.proofs.Held.{held}
 use Rattle.shunt_prices.specs.defs.Prices.{track_length}
 use Rattle.shunt_stacks.specs.defs.Stacks.{Stack, is_of}
 use Rattle.shunt_stacks.specs.defs.Spans.{Span, AreNested, AreAllNested, is_standing, load_with}
 use Rattle.shunt_stacks.specs.defs.Numbers.{IsNumbering, span_of}
-use Rattle.shunt_stacks.proofs.Parts.{part_right, part_apart}
 use Rattle.shunt_stacks.proofs.Nests.{two_of, load_one}
 use Rattle.shunt_stacks.proofs.Pairs.{EventLaws, AreApart, has_stay, stay, nested_from, no_cross, not_itself, not_one_entry, same_standing, own_standing}
+use Rattle.shunt_blocks.proofs.StaysOf.{rest_apart as apart_tail}
 
 -- ---- blocks that share nothing
 
@@ -36,9 +36,6 @@ apart_head night x blocks apart y there = record {
     two test p q few =
         let one : cond (test x) 1 0 ≡ 1 = ap {B = ℕ} (λ t. cond t 1 0) p in
         omega (arith, few, sum_by-cons (λ (b : Block). cond (test b) 1 0) x blocks, one, held test blocks y there q)
-
-pub apart_tail : (night : Night) (x : Block) (blocks : List Block) → ShareNothing night (x ∷ blocks) → ShareNothing night blocks
-apart_tail night x blocks apart = part_apart night blocks (x ∷ blocks) (part_right night (x ∷ []) blocks) apart
 
 pub turned_apart : (night : Night) (x y : Block) → AreApart night x y → AreApart night y x
 turned_apart night x y h = record { units = λ u p q. h.units u q p; positions = λ v p q. h.positions v q p }

@@ -1,11 +1,12 @@
 -- Signed sums over parts of lists, and members.
-use Rattle.std.specs.Prelude.{not, All, filter, ◌≤ℤ◌}
-use Rattle.std.proofs.Common.{◌≡◌, ⊎_elim, inl, inr, Bool, List, [], ◌∷◌, get_or, ℤ, pos, ◌+ℤ◌, refl, ap, arith}
+use Rattle.std.specs.Prelude.{not, filter, ◌≤ℤ◌}
+use Rattle.std.proofs.Common.{◌≡◌, ⊎_elim, inl, inr, Bool, List, [], ◌∷◌, ℤ, pos, ◌+ℤ◌, refl, ap, arith, sym, subst}
 use Rattle.std.proofs.lemmas.Int.{ints}
 use Rattle.std.proofs.lemmas.Bool.{cases_Bool, not_from_true}
 use Rattle.shunt_lists.specs.defs.Members.{In}
-use Rattle.shunt_lists.proofs.Members.{filter_yes, filter_no, in_place}
+use Rattle.shunt_lists.proofs.Members.{filter_yes, filter_no}
 use Rattle.shunt_prices.specs.defs.Sums.{sum_z}
+use Rattle.shunt_stacks.specs.defs.Spans.{Span, AreOwn}
 
 -- what passes a test and what doesn't
 pub sum_z-both : {X : Type 0} (f : X → ℤ) (p : X → Bool) (xs : List X) → sum_z f xs ≡ sum_z f (filter p xs) +ℤ sum_z f (filter (λ x. not (p x)) xs)
@@ -22,5 +23,5 @@ pub sum_z-low : {X : Type 0} (f : X → ℤ) (xs : List X) → ((x : X) → In x
 sum_z-low f [] h = omega (arith, ints)
 sum_z-low f (x ∷ xs) h = omega (arith, ints, h x (inl refl), sum_z-low f xs (λ y i. h y (inr i)))
 
-pub from_members : {X : Type 0} (P : X → Type 0) (xs : List X) → ((x : X) → In x xs → P x) → All P xs
-from_members P xs h k d lt = h (get_or xs k d) (in_place xs k d lt)
+pub own_lists : (fixed free xs ys : List Span) → xs ≡ fixed → ys ≡ free → AreOwn fixed free → AreOwn xs ys
+own_lists fixed free xs ys e f own = subst (λ (zs : List Span). AreOwn zs ys) (sym e) (subst (AreOwn fixed) (sym f) own)

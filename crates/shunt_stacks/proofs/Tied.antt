@@ -6,7 +6,7 @@ use Rattle.std.proofs.lemmas.Bool.{cases_lt}
 use Rattle.std.proofs.lemmas.List.{map-append}
 use Rattle.std.proofs.lemmas.List.Sums.{sum_by-cons}
 use Rattle.shunt_lists.specs.defs.Members.{In}
-use Rattle.shunt_lists.proofs.Members.{all_in, all_from, in_map, of_map, in_left, in_right, in_cases, filter_from, Distinct}
+use Rattle.shunt_lists.proofs.Members.{all_in, all_from, in_map, of_map, in_left, in_right, in_cases, filter_from, Distinct, each_one, to_all as from_members}
 use Rattle.shunt_lists.proofs.Sums.{sum_within}
 use Rattle.shunt_base.specs.declared.duals.Case.{Case}
 use Rattle.shunt_instance.specs.defs.Instance.{Night, IsInstance}
@@ -15,8 +15,7 @@ use Rattle.shunt_blocks.specs.defs.Shapes.{shape_of, unit_from, IsWithinTrains}
 use Rattle.shunt_blocks.specs.defs.Blocks.{IsBlockButId}
 use Rattle.shunt_blocks.specs.defs.Lists.{has_unit, has_position, times_unit, times_position, CanStand, ShareNothing, RunsThrough, placed, placed_from}
 use Rattle.shunt_blocks.proofs.Held.{held, holder}
-use Rattle.shunt_choices.proofs.Given.{PlaceLaws, is_within, all_within, each_one}
-use Rattle.shunt_choices.proofs.Trails.{has_from, has_position_from}
+use Rattle.shunt_choices.proofs.Given.{PlaceLaws}
 use Rattle.shunt_prices.specs.defs.Prices.{track_length}
 use Rattle.shunt_prices.specs.defs.Cases.{HasRoom}
 use Rattle.shunt_prices.proofs.Signed.{sum_z-append}
@@ -24,13 +23,14 @@ use Rattle.shunt_stacks.specs.defs.Stacks.{Stack, is_of, blocks_of}
 use Rattle.shunt_stacks.specs.defs.Fillings.{gain, gain_of, IsFilling, IsStackGain}
 use Rattle.shunt_stacks.specs.defs.Spans.{Span, IsSpan, AreNested, AreAllNested, is_standing, load_with, gain_of_spans, IsNest, AreOwn, best}
 use Rattle.shunt_stacks.specs.defs.Numbers.{IsNumbering, span_of, fixed_spans, free_spans, AreFreeOf}
-use Rattle.shunt_stacks.proofs.Sums.{from_members}
 use Rattle.shunt_stacks.proofs.Parts.{part_filter, part_apart, IsFreeAt, is_block, joined_apart, unit_bare, position_bare, PartLaw}
 use Rattle.shunt_stacks.proofs.Nests.{two_of, apart_starts, nested_append, load_one}
 use Rattle.shunt_stacks.proofs.Filled.{one_gain, part_fills, Gaining, gaining}
 use Rattle.shunt_stacks.proofs.Best.{AtLeast, Reached, up, down}
 use Rattle.shunt_stacks.proofs.Pairs.{AreApart, is_span, not_one_entry, not_between, not_leaving, apart_from, begins_in, ends_in}
-use Rattle.shunt_stacks.proofs.Spanned.{apart_head, apart_tail, two_blocks, ListLaws, to_nest, from_nest}
+use Rattle.shunt_stacks.proofs.Spanned.{apart_head, two_blocks, ListLaws, to_nest, from_nest}
+use Rattle.shunt_blocks.proofs.Shapes.{all_within, has_from, has_position_from, is_within}
+use Rattle.shunt_blocks.proofs.StaysOf.{rest_apart as apart_tail}
 
 -- ---- spans without their gains
 

@@ -4,7 +4,6 @@ use Rattle.std.specs.Prelude.{Ok, bytes_eq, nat_lt, All, ◌==◌, Option, Some,
 use Rattle.std.specs.Option.{unwrap_or}
 use Rattle.std.proofs.lemmas.List.Elements.{All-nil, All-push, All-weaker}
 use Rattle.std.proofs.lemmas.Bool.{true≢false, ltb-true, not-true, and_from}
-use Rattle.std.proofs.lemmas.Bool.Decides.{nat_tests}
 use Rattle.shunt_base.proofs.Sides.{same_side_itself}
 use Rattle.shunt_base.specs.defs.Sides.{same_side}
 use Rattle.shunt_lists.specs.defs.Members.{AreDistinct}
@@ -20,8 +19,8 @@ use Rattle.shunt_rows.specs.defs.Records.{at}
 use Rattle.shunt_rows.specs.defs.Checks.{found, answer}
 use Rattle.shunt_rows.specs.defs.Fields.{is_word, number_in, side_in}
 use Rattle.shunt_rows.specs.defs.Formats.{reading}
-use Rattle.shunt_rows.proofs.Holding.{says, in_either}
-use Rattle.shunt_rows.proofs.Keeping.{formed}
+use Rattle.shunt_rows.proofs.Answered.{says, in_either}
+use Rattle.shunt_rows.proofs.KeptStates.{formed}
 use Rattle.shunt_rows.proofs.Named.{distinct_push, plain_push, same_name, number_found}
 use Rattle.shunt_rows.proofs.Spelled.{there, within}
 use Rattle.shunt_instance.specs.declared.records.UnitType.{UnitType}
@@ -31,7 +30,8 @@ use Rattle.shunt_instance.specs.declared.records.Permit.{Permit}
 use Rattle.shunt_instance.specs.declared.records.Station.{Station}
 use Rattle.shunt_instance.specs.defs.Words.{is_open, is_open_at, joins, way_of}
 use Rattle.shunt_instance.specs.defs.Wellformed.{IsUnitType, IsTrack, IsRoute, IsPermit, IsStation}
-use Rattle.shunt_station.specs.defs.Stating.{Draft, OpenSides, empty_station, first_of, type_of_name, platform_of_name, track_number, open_sides_of, type_of, platform_of, track_of, opens, stands, route_of, is_permitted, permit_of, cost_of, later_of, station_format}
+use Rattle.shunt_station.specs.defs.StatedStations.{StationDraft, OpenSides, empty_station, first_of, type_of_name, platform_of_name, track_number, open_sides_of, type_of, platform_of, track_of, opens, stands, route_of, is_permitted, permit_of, cost_of, later_of, station_format}
+use Rattle.shunt_lists.proofs.Tests.{same_number}
 
 -- the lists of a station, each with what is true of it
 abbrev AreTypes : List UnitType → Type 0
@@ -138,7 +138,7 @@ more xs x most lt = let l = ltb-true _ _ lt in omega (arith, l, length-append xs
 at_least : {X : Type 0} (xs : List X) (x : X) → length xs ≤ length (xs ++ x ∷ [])
 at_least xs x = omega (arith, length-append xs (x ∷ []))
 
-type_formed : (n : ℕ) (d t : Draft) (row : List (List ℕ)) → IsStation d.station → answer n (type_of d row) ≡ Ok t → IsStation t.station
+type_formed : (n : ℕ) (d t : StationDraft) (row : List (List ℕ)) → IsStation d.station → answer n (type_of d row) ≡ Ok t → IsStation t.station
 unfolding type_of
 type_formed n d t row s e =
     let all = says n (type_of d row) t e in
@@ -158,10 +158,11 @@ type_formed n d t row s e =
       All-push IsUnitType old.types t0 s.types (record { name = name_from (at row 2) name.0; some = long.0; long = long.1; turns = late.0; turn = late.1 }),
       distinct_push (λ u. u.name) (λ u. bytes_eq u.name (at row 2)) old.types t0 (λ u. same_name (at row 2) u.name) s.type_names (not-true _ new.0),
     ) in
-    subst (λ (u : Draft). IsStation u.station) all.1 (of_parts next s.name types (platforms_of old s) (tracks_of old s) (routes_on old next grows s) (permits_on old next grows s)
+    subst (λ (u : StationDraft). IsStation u.station) all.1 (of_parts next s.name types (platforms_of old s) (tracks_of old s) (routes_on old next grows s)
+    (permits_on old next grows s)
     (costs_of old s))
 
-platform_formed : (n : ℕ) (d t : Draft) (row : List (List ℕ)) → IsStation d.station → answer n (platform_of d row) ≡ Ok t → IsStation t.station
+platform_formed : (n : ℕ) (d t : StationDraft) (row : List (List ℕ)) → IsStation d.station → answer n (platform_of d row) ≡ Ok t → IsStation t.station
 unfolding platform_of
 platform_formed n d t row s e =
     let all = says n (platform_of d row) t e in
@@ -176,7 +177,8 @@ platform_formed n d t row s e =
       All-push IsName old.platforms (at row 2) s.platforms (name_from (at row 2) name.0),
       plain_push (λ p. bytes_eq p (at row 2)) old.platforms (at row 2) (λ p. same_name (at row 2) p) s.platform_names (not-true _ new.0),
     ) in
-    subst (λ (u : Draft). IsStation u.station) all.1 (of_parts next s.name (types_of old s) platforms (tracks_of old s) (routes_on old next grows s) (permits_on old next grows s)
+    subst (λ (u : StationDraft). IsStation u.station) all.1 (of_parts next s.name (types_of old s) platforms (tracks_of old s) (routes_on old next grows s)
+    (permits_on old next grows s)
     (costs_of old s))
 
 if_is : {X : Type 0} (P : X → Type 0) (b : Bool) (r s : X) → (b ≡ true → P r) → (b ≡ false → P s) → P (if b then r else s)
@@ -194,7 +196,7 @@ ends_open text =
     (λ _. if_is AreEnds (bytes_eq text (codes "B")) _ _ (λ _. λ e is. cc)
     (λ _. if_is AreEnds (bytes_eq text (codes "AB")) _ _ (λ _. λ e is. cc) (λ _. λ e is. cc)))
 
-track_formed : (n : ℕ) (d t : Draft) (row : List (List ℕ)) → IsStation d.station → answer n (track_of d row) ≡ Ok t → IsStation t.station
+track_formed : (n : ℕ) (d t : StationDraft) (row : List (List ℕ)) → IsStation d.station → answer n (track_of d row) ≡ Ok t → IsStation t.station
 unfolding track_of AreEnds
 track_formed n d t row s e =
     let all = says n (track_of d row) t e in
@@ -227,7 +229,8 @@ track_formed n d t row s e =
       }),
       distinct_push (λ u. u.name) (λ u. bytes_eq u.name (at row 2)) old.tracks t0 (λ u. same_name (at row 2) u.name) s.track_names (not-true _ new.0),
     ) in
-    subst (λ (u : Draft). IsStation u.station) all.1 (of_parts next s.name (types_of old s) (platforms_of old s) tracks (routes_on old next grows s) (permits_on old next grows s)
+    subst (λ (u : StationDraft). IsStation u.station) all.1 (of_parts next s.name (types_of old s) (platforms_of old s) tracks (routes_on old next grows s)
+    (permits_on old next grows s)
     (costs_of old s))
 
 platform_within : (s : Station) (name : List ℕ) (i : PlatformId) → platform_of_name s name ≡ Some i → i.0 < length s.platforms
@@ -242,9 +245,6 @@ track_within s name i e = number_found (λ t. bytes_eq t.name name) s.tracks (re
 type_within : (s : Station) (name : List ℕ) (i : TypeId) → type_of_name s name ≡ Some i → i.0 < length s.types
 unfolding type_of_name
 type_within s name i e = number_found (λ t. bytes_eq t.name name) s.types (record { name = []; length = 0; turn = 0 }) (λ k. record { 0 = k }) (λ j. j.0) (λ k. refl) i e
-
-same_number : (k : ℕ) → (k == k) ≡ true
-same_number k = grind (arith, nat_tests)
 
 joins_own : (r q : Route) → way_of q ≡ way_of r → joins r.platform r.track r.side q ≡ true
 joins_own r q e =
@@ -263,7 +263,7 @@ no_track = record { 0 = 0 }
 abbrev no_type : TypeId
 no_type = record { 0 = 0 }
 
-route_formed : (n : ℕ) (d t : Draft) (row : List (List ℕ)) → IsStation d.station → answer n (route_of d row) ≡ Ok t → IsStation t.station
+route_formed : (n : ℕ) (d t : StationDraft) (row : List (List ℕ)) → IsStation d.station → answer n (route_of d row) ≡ Ok t → IsStation t.station
 unfolding route_of stands opens
 route_formed n d t row s e =
     let all = says n (route_of d row) t e in
@@ -292,10 +292,10 @@ route_formed n d t row s e =
       All-push (IsRoute next) old.routes r0 kept.0 is,
       distinct_push way_of (joins mp.value mt.value ms.value) old.routes r0 (joins_own r0) kept.1 (not-true _ new.0),
     ) in
-    subst (λ (u : Draft). IsStation u.station) all.1 (of_parts next s.name (types_of old s) (platforms_of old s) (tracks_of old s) routes (permits_on old next grows s)
+    subst (λ (u : StationDraft). IsStation u.station) all.1 (of_parts next s.name (types_of old s) (platforms_of old s) (tracks_of old s) routes (permits_on old next grows s)
     (costs_of old s))
 
-permit_formed : (n : ℕ) (d t : Draft) (row : List (List ℕ)) → IsStation d.station → answer n (permit_of d row) ≡ Ok t → IsStation t.station
+permit_formed : (n : ℕ) (d t : StationDraft) (row : List (List ℕ)) → IsStation d.station → answer n (permit_of d row) ≡ Ok t → IsStation t.station
 unfolding permit_of is_permitted
 permit_formed n d t row s e =
     let all = says n (permit_of d row) t e in
@@ -314,10 +314,10 @@ permit_formed n d t row s e =
       All-push (IsPermit next) old.permits p0 kept.0 is,
       plain_push (λ p. p.track.0 == mt.value.0 && p.kind.0 == mk.value.0) old.permits p0 (names_own p0) kept.1 (not-true _ new.0),
     ) in
-    subst (λ (u : Draft). IsStation u.station) all.1 (of_parts next s.name (types_of old s) (platforms_of old s) (tracks_of old s) (routes_on old next grows s) permits
+    subst (λ (u : StationDraft). IsStation u.station) all.1 (of_parts next s.name (types_of old s) (platforms_of old s) (tracks_of old s) (routes_on old next grows s) permits
     (costs_of old s))
 
-cost_formed : (n : ℕ) (d t : Draft) (row : List (List ℕ)) → IsStation d.station → answer n (cost_of d row) ≡ Ok t → IsStation t.station
+cost_formed : (n : ℕ) (d t : StationDraft) (row : List (List ℕ)) → IsStation d.station → answer n (cost_of d row) ≡ Ok t → IsStation t.station
 unfolding cost_of
 cost_formed n d t row s e =
     let all = says n (cost_of d row) t e in
@@ -328,10 +328,10 @@ cost_formed n d t row s e =
     let next : Station = record old { split = (number_in row 2 0 1000000).value; couple = (number_in row 3 0 1000000).value; unparked = (number_in row 4 0 1000000).value } in
     let grows = same_size old next refl refl refl in
     let costs : AreCosts next = ((within 0 1000000 next.split a.0).1, (within 0 1000000 next.couple b.0).1, (within 0 1000000 next.unparked c.0).1) in
-    subst (λ (u : Draft). IsStation u.station) all.1 (of_parts next s.name (types_of old s) (platforms_of old s) (tracks_of old s) (routes_on old next grows s)
+    subst (λ (u : StationDraft). IsStation u.station) all.1 (of_parts next s.name (types_of old s) (platforms_of old s) (tracks_of old s) (routes_on old next grows s)
     (permits_on old next grows s) costs)
 
-later_formed : (n : ℕ) (d t : Draft) (row : List (List ℕ)) → IsStation d.station → answer n (later_of d row) ≡ Ok t → IsStation t.station
+later_formed : (n : ℕ) (d t : StationDraft) (row : List (List ℕ)) → IsStation d.station → answer n (later_of d row) ≡ Ok t → IsStation t.station
 unfolding later_of
 later_formed n d t row s =
     in_either n (is_word row (codes "type")) _ _ t (IsStation t.station) (λ w. type_formed n d t row s)
@@ -350,11 +350,11 @@ empty_formed name is = of_parts (empty_station name) is
     (All-nil (IsPermit (empty_station name)), no_pairs (λ m n. m ≢ n))
     (omega arith, omega arith, omega arith)
 
-first_formed : (d : Draft) (row : List (List ℕ)) → answer 1 (first_of row) ≡ Ok d → IsStation d.station
+first_formed : (d : StationDraft) (row : List (List ℕ)) → answer 1 (first_of row) ≡ Ok d → IsStation d.station
 unfolding first_of
 first_formed d row e =
     let all = says 1 (first_of row) d e in
-    subst (λ (u : Draft). IsStation u.station) all.1 (empty_formed (at row 3) (name_from (at row 3) all.0.1.1.1.1.0))
+    subst (λ (u : StationDraft). IsStation u.station) all.1 (empty_formed (at row 3) (name_from (at row 3) all.0.1.1.1.1.0))
 
 pub station_formed : (rows : List (List (List ℕ))) (t : Station) → reading station_format rows ≡ Ok t → IsStation t
 station_formed = formed station_format (λ d. IsStation d.station) IsStation first_formed (λ n d t row s e. later_formed n d t row s e) (λ d is. is)

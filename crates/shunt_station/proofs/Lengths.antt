@@ -27,7 +27,7 @@ use Rattle.shunt_instance.specs.defs.Words.{way_of}
 use Rattle.shunt_instance.specs.defs.Wellformed.{IsUnitType, IsTrack, IsRoute, IsPermit, IsStation}
 use Rattle.shunt_rows.proofs.Plain.{side_short}
 use Rattle.shunt_rows.proofs.Texts.{join_short, one_short, row_written, rows_written}
-use Rattle.shunt_station.specs.defs.Writing.{ends_text, head_row, type_row, platform_row, track_row, route_row, permit_row, cost_row, rows_of}
+use Rattle.shunt_station.specs.defs.WrittenRows.{ends_text, head_row, type_row, platform_row, track_row, route_row, permit_row, cost_row, rows_of}
 use Rattle.shunt_station.proofs.Plain.{platform_named, track_named, type_named, plain_head, plain_type, plain_platform, plain_track, plain_route, plain_permit, plain_cost}
 
 type_short : (t : UnitType) → IsUnitType t → length (text_of_row (type_row t)) ≤ 32

@@ -23,7 +23,7 @@ use Rattle.shunt_rows.specs.defs.Formats.{reading}
 use Rattle.shunt_rows.specs.defs.Records.{records_of, text_of_rows, ReadsBack}
 use Rattle.shunt_rows.specs.defs.Written.{side_text}
 use Rattle.shunt_rows.proofs.Again.{again}
-use Rattle.shunt_rows.proofs.Holding.{holding}
+use Rattle.shunt_rows.proofs.Answered.{holding}
 use Rattle.shunt_rows.proofs.Named.{by_name, not_before, of_middle, fewer}
 use Rattle.shunt_rows.proofs.Plain.{side_read}
 use Rattle.shunt_rows.proofs.Sections.{section_then, one_reads, all_read}
@@ -36,12 +36,12 @@ use Rattle.shunt_instance.specs.declared.records.Station.{Station}
 use Rattle.shunt_instance.specs.defs.Words.{is_open_at, joins, way_of}
 use Rattle.shunt_instance.specs.defs.Wellformed.{IsUnitType, IsTrack, IsRoute, IsPermit, IsStation}
 use Rattle.shunt_instance.proofs.Found.{found_there}
-use Rattle.shunt_station.specs.defs.Stating.{Draft, OpenSides, empty_station, first_of, type_of_name, platform_of_name, track_number, open_sides_of, type_of, platform_of, track_of, opens, stands, route_of, is_permitted, permit_of, cost_of, later_of, station_format}
-use Rattle.shunt_station.specs.defs.Writing.{type_name, platform_name, track_name, ends_text, head_row, type_row, platform_row, track_row, route_row, permit_row, cost_row, rows_of, ReadsAsStation}
+use Rattle.shunt_station.specs.defs.StatedStations.{StationDraft, OpenSides, empty_station, first_of, type_of_name, platform_of_name, track_number, open_sides_of, type_of, platform_of, track_of, opens, stands, route_of, is_permitted, permit_of, cost_of, later_of, station_format}
+use Rattle.shunt_station.specs.defs.WrittenRows.{type_name, platform_name, track_name, ends_text, head_row, type_row, platform_row, track_row, route_row, permit_row, cost_row, rows_of, ReadsAsStation}
 use Rattle.shunt_station.proofs.Plain.{station_plain}
 
 -- the parts of a station that were read
-abbrev partial : Station → List UnitType → List (List ℕ) → List Track → List Route → List Permit → Draft
+abbrev partial : Station → List UnitType → List (List ℕ) → List Track → List Route → List Permit → StationDraft
 partial s ts ps ks rs qs = record {
   version = 2;
   station = record {
@@ -230,7 +230,7 @@ permit_read s f n xs y zs e =
     holding n m.checks m.value (refl, (ap is_some t, (ap is_some k, (repeats, tt))))
     ∙ ap (λ (p : Permit). Ok (partial s s.types s.platforms s.tracks s.routes (xs ++ p ∷ []))) same
 
-abbrev whole : Station → ℕ → ℕ → ℕ → Draft
+abbrev whole : Station → ℕ → ℕ → ℕ → StationDraft
 whole s a b c = record {
   version = 2;
   station = record {

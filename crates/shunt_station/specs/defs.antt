@@ -1,3 +1,3 @@
 -- The definitions of this crate.
-pub mod Stating
-pub mod Writing
+pub mod StatedStations
+pub mod WrittenRows

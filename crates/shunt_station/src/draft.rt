@@ -5,7 +5,13 @@ ghost use Rattle.shunt_base.specs.defs.Sides.{same_side};
 ghost use Rattle.shunt_rows.specs.defs.Checks.{answer};
 ghost use Rattle.shunt_rows.specs.defs.Given.{Gives};
 ghost use Rattle.shunt_instance.specs.defs.Words.{is_open, joins};
-ghost use Rattle.shunt_station.specs.defs.Stating.{Draft, OpenSides, first_of, type_of_name, platform_of_name, track_number, opens, stands, is_permitted, open_sides_of, type_of, platform_of, track_of, route_of, permit_of, cost_of, later_of, station_format};
+ghost use Rattle.shunt_station.specs.defs.StatedStations.{StationDraft, OpenSides, first_of};
+ghost use Rattle.shunt_station.specs.defs.StatedStations.{type_of_name, platform_of_name};
+ghost use Rattle.shunt_station.specs.defs.StatedStations.{track_number, opens, stands};
+ghost use Rattle.shunt_station.specs.defs.StatedStations.{is_permitted, open_sides_of, type_of};
+ghost use Rattle.shunt_station.specs.defs.StatedStations.{platform_of, track_of, route_of};
+ghost use Rattle.shunt_station.specs.defs.StatedStations.{permit_of, cost_of, later_of};
+ghost use Rattle.shunt_station.specs.defs.StatedStations.{station_format};
 
 use shunt_base::{Name, PlatformId, Side, TrackId, TypeId, is_name};
 use shunt_instance::{Permit, Route, Station, Track, UnitType};
@@ -56,7 +62,7 @@ impl Naming for TrackNames {
 
 /// What the records so far state.
 #[derive(Drop)]
-pub struct Draft<'r> {
+pub struct StationDraft<'r> {
     version: u64,
     name: Name,
     types: Numbered<'r, TypeNames>,
@@ -70,15 +76,30 @@ pub struct Draft<'r> {
     is_costed: bool,
 }
 
-impl<'r> Model for Draft<'r> {
+impl<'r> Model for StationDraft<'r> {
     ghost use Rattle.std.specs.Prelude.{◌≤◌, length};
-    ghost use Rattle.shunt_station.specs.defs.Stating.{Draft};
+    ghost use Rattle.shunt_station.specs.defs.StatedStations.{StationDraft};
 
-    ghost Value = { Draft };
+    ghost Value = { StationDraft };
 
-    ghost view = { λ d. record { version = d.version; station = record { name = d.name; types = d.types; platforms = d.platforms; tracks = d.tracks; routes = d.routes.items; permits = d.permits.items; split = d.split; couple = d.couple; unparked = d.unparked }; is_costed = d.is_costed } };
+    ghost view = { λ d. record {
+      version = d.version;
+      station = record {
+        name = d.name;
+        types = d.types;
+        platforms = d.platforms;
+        tracks = d.tracks;
+        routes = d.routes.items;
+        permits = d.permits.items;
+        split = d.split;
+        couple = d.couple;
+        unparked = d.unparked;
+      };
+      is_costed = d.is_costed;
+    } };
 
-    ghost invariant = { λ d. (length d.types ≤ 40) × (length d.platforms ≤ 30) × (length d.tracks ≤ 60) };
+    ghost invariant = { λ d. (length d.types ≤ 40) × (length d.platforms ≤ 30)
+        × (length d.tracks ≤ 60) };
 }
 
 // At which sides a track is open.
@@ -89,14 +110,14 @@ struct Sides {
 }
 
 impl Model for Sides {
-    ghost use Rattle.shunt_station.specs.defs.Stating.{OpenSides};
+    ghost use Rattle.shunt_station.specs.defs.StatedStations.{OpenSides};
 
     ghost Value = { OpenSides };
 
     ghost view = { λ s. record { side_a = s.a; side_b = s.b } };
 }
 
-#[tactic(auto, unfolding(crate::specs::defs::Stating::open_sides_of))]
+#[tactic(auto, unfolding(crate::specs::defs::StatedStations::open_sides_of))]
 fn sides_named(text: &[u8]) -> Option<Sides>
     ensures { result ≡ open_sides_of text.now }
 {
@@ -151,8 +172,8 @@ fn is_open(track: &Track, side: Side) -> bool
     }
 }
 
-impl<'r> Draft<'r> {
-    #[tactic(auto, unfolding(crate::specs::defs::Stating::type_of))]
+impl<'r> StationDraft<'r> {
+    #[tactic(auto, unfolding(crate::specs::defs::StatedStations::type_of))]
     fn read_type(&mut self, alloc: Global, n: u32, row: &'r Row) -> Result<(), ReadError>
         ensures { Gives (λ _. self.new) result (answer n (type_of self.old row.now)) }
     {
@@ -173,7 +194,7 @@ impl<'r> Draft<'r> {
         Ok(())
     }
 
-    #[tactic(auto, unfolding(crate::specs::defs::Stating::platform_of))]
+    #[tactic(auto, unfolding(crate::specs::defs::StatedStations::platform_of))]
     fn read_platform(&mut self, alloc: Global, n: u32, row: &'r Row) -> Result<(), ReadError>
         ensures { Gives (λ _. self.new) result (answer n (platform_of self.old row.now)) }
     {
@@ -187,7 +208,7 @@ impl<'r> Draft<'r> {
         Ok(())
     }
 
-    #[tactic(auto, unfolding(crate::specs::defs::Stating::track_of))]
+    #[tactic(auto, unfolding(crate::specs::defs::StatedStations::track_of))]
     fn read_track(&mut self, alloc: Global, n: u32, row: &'r Row) -> Result<(), ReadError>
         ensures { Gives (λ _. self.new) result (answer n (track_of self.old row.now)) }
     {
@@ -210,7 +231,7 @@ impl<'r> Draft<'r> {
     }
 
     // The number of the type with a name.
-    #[tactic(auto, unfolding(crate::specs::defs::Stating::type_of_name))]
+    #[tactic(auto, unfolding(crate::specs::defs::StatedStations::type_of_name))]
     fn type_named(&self, name: &[u8]) -> Option<TypeId>
         ensures { result ≡ type_of_name self.now.station name.now }
     {
@@ -221,7 +242,7 @@ impl<'r> Draft<'r> {
     }
 
     // The number of the platform with a name.
-    #[tactic(auto, unfolding(crate::specs::defs::Stating::platform_of_name))]
+    #[tactic(auto, unfolding(crate::specs::defs::StatedStations::platform_of_name))]
     fn platform_named(&self, name: &[u8]) -> Option<PlatformId>
         ensures { result ≡ platform_of_name self.now.station name.now }
     {
@@ -232,7 +253,7 @@ impl<'r> Draft<'r> {
     }
 
     // The number of the track with a name.
-    #[tactic(auto, unfolding(crate::specs::defs::Stating::track_number))]
+    #[tactic(auto, unfolding(crate::specs::defs::StatedStations::track_number))]
     fn track_named(&self, name: &[u8]) -> Option<TrackId>
         ensures { result ≡ track_number self.now.station name.now }
     {
@@ -243,7 +264,7 @@ impl<'r> Draft<'r> {
     }
 
     // Whether a route joins these three already.
-    #[tactic(auto, unfolding(crate::specs::defs::Stating::stands))]
+    #[tactic(auto, unfolding(crate::specs::defs::StatedStations::stands))]
     fn stands(&self, platform: PlatformId, track: TrackId, side: Side) -> bool
         ensures { result ≡ stands self.now.station platform track side }
     {
@@ -251,7 +272,7 @@ impl<'r> Draft<'r> {
     }
 
     // Whether a permit names both already.
-    #[tactic(auto, unfolding(crate::specs::defs::Stating::is_permitted))]
+    #[tactic(auto, unfolding(crate::specs::defs::StatedStations::is_permitted))]
     fn is_permitted(&self, track: TrackId, kind: TypeId) -> bool
         ensures { result ≡ is_permitted self.now.station track kind }
     {
@@ -259,7 +280,7 @@ impl<'r> Draft<'r> {
     }
 
     // Whether the track with a number is open at a side.
-    #[tactic(auto, unfolding(crate::specs::defs::Stating::opens))]
+    #[tactic(auto, unfolding(crate::specs::defs::StatedStations::opens))]
     fn is_open_at(&self, track: TrackId, side: Side) -> bool
         ensures { result ≡ opens self.now.station track side }
     {
@@ -269,7 +290,7 @@ impl<'r> Draft<'r> {
         }
     }
 
-    #[tactic(auto, unfolding(crate::specs::defs::Stating::route_of))]
+    #[tactic(auto, unfolding(crate::specs::defs::StatedStations::route_of))]
     fn read_route(&mut self, n: u32, row: &Row) -> Result<(), ReadError>
         ensures { Gives (λ _. self.new) result (answer n (route_of self.old row.now)) }
     {
@@ -291,7 +312,7 @@ impl<'r> Draft<'r> {
         Ok(())
     }
 
-    #[tactic(auto, unfolding(crate::specs::defs::Stating::permit_of))]
+    #[tactic(auto, unfolding(crate::specs::defs::StatedStations::permit_of))]
     fn read_permit(&mut self, n: u32, row: &Row) -> Result<(), ReadError>
         ensures { Gives (λ _. self.new) result (answer n (permit_of self.old row.now)) }
     {
@@ -304,7 +325,7 @@ impl<'r> Draft<'r> {
         Ok(())
     }
 
-    #[tactic(auto, unfolding(crate::specs::defs::Stating::cost_of))]
+    #[tactic(auto, unfolding(crate::specs::defs::StatedStations::cost_of))]
     fn read_cost(&mut self, n: u32, row: &Row) -> Result<(), ReadError>
         ensures { Gives (λ _. self.new) result (answer n (cost_of self.old row.now)) }
     {
@@ -321,7 +342,7 @@ impl<'r> Draft<'r> {
     }
 }
 
-impl<'r> FormatReader<'r> for Draft<'r> {
+impl<'r> FormatReader<'r> for StationDraft<'r> {
     type Context = ();
 
     type Output = Station;
@@ -330,14 +351,14 @@ impl<'r> FormatReader<'r> for Draft<'r> {
 
     ghost suits = { λ _. Unit };
 
-    #[tactic(auto, unfolding(crate::specs::defs::Stating::first_of))]
-    fn read_first(_: &'r (), alloc: Global, row: &'r Row) -> Result<Draft<'r>, ReadError> {
+    #[tactic(auto, unfolding(crate::specs::defs::StatedStations::first_of))]
+    fn read_first(_: &'r (), alloc: Global, row: &'r Row) -> Result<StationDraft<'r>, ReadError> {
         must(row.word() == b"station".as_slice(), 1, 1, RowKind::Kind)?;
         fields_in(row, 1, 3, 3)?;
         let version = number_in(row, 1, 2, 1, 2)?;
         let name = row.field(3);
         must(is_name(name), 1, 3, RowKind::Name)?;
-        Ok(Draft {
+        Ok(StationDraft {
             version,
             name: Name::new(alloc, name)?,
             types: Numbered::new(alloc),
@@ -352,7 +373,7 @@ impl<'r> FormatReader<'r> for Draft<'r> {
         })
     }
 
-    #[tactic(auto, unfolding(crate::specs::defs::Stating::later_of))]
+    #[tactic(auto, unfolding(crate::specs::defs::StatedStations::later_of))]
     fn read_later(
         &mut self,
         _: &'r (),

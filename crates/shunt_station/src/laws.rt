@@ -5,8 +5,8 @@ ghost use Rattle.shunt_rows.specs.defs.Formats.{reading};
 ghost use Rattle.shunt_rows.specs.defs.Records.{text_of_rows};
 ghost use Rattle.shunt_instance.specs.declared.records.Station.{Station};
 ghost use Rattle.shunt_instance.specs.defs.Wellformed.{IsStation};
-ghost use Rattle.shunt_station.specs.defs.Stating.{station_format};
-ghost use Rattle.shunt_station.specs.defs.Writing.{rows_of, ReadsAsStation};
+ghost use Rattle.shunt_station.specs.defs.StatedStations.{station_format};
+ghost use Rattle.shunt_station.specs.defs.WrittenRows.{rows_of, ReadsAsStation};
 
 /// Records state a station or have a first fault, and never both, and reading them says which.
 pub fn station_or_first_fault()
@@ -15,7 +15,8 @@ pub fn station_or_first_fault()
 
 /// The station that records state is well formed.
 pub fn stated_stations_are_well_formed()
-    ensures { (rows : List (List (List ℕ))) (s : Station) → reading station_format rows ≡ Ok s → IsStation s }
+    ensures { (rows : List (List (List ℕ))) (s : Station) → reading station_format rows ≡ Ok s
+        → IsStation s }
 {}
 
 /// The records of a well-formed station state that station.

@@ -3,8 +3,8 @@
 
 mod draft;
 pub mod laws;
-mod reading;
-mod writing;
+mod reader;
+mod writer;
 
-pub use reading::read_station;
-pub use writing::write_station;
+pub use reader::read_station;
+pub use writer::write_station;

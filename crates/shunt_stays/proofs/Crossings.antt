@@ -1,16 +1,15 @@
 -- Crossings and loads by the numbers of the keys, and the clash law.
 use Rattle.std.proofs.Common.{◌≡◌, ◌≢◌, ◌⊎◌, inl, inr, ⊎_elim, ◌↔◌, ℕ, ◌≤◌, leb, ltb, eqb, Bool, true, false, not, ◌&&◌, cond, List, [], ◌∷◌, get_or, refl, sym, subst, ap, ◌∙◌, arith, sum_by, IsPermutation}
 use Rattle.std.specs.List.{filter, count_by}
-use Rattle.std.specs.Ordering.{nat_cmp, is_lt, is_le}
+use Rattle.std.specs.Ordering.{is_lt, is_le}
 use Rattle.std.specs.declared.cmp.Ordering.{Ordering}
 use Rattle.std.specs.declared.cmp.Ordering.TheVariants.{Less, Equal, Greater}
 use Rattle.std.proofs.lemmas.Bool.{false≢true, and_parts, and_from, or_cases, or_left, or_right, not-true, not_from_false, eqb-true, eq-eqb, ltb-true, ltb-false, false_from_ne_true}
-use Rattle.std.proofs.lemmas.Bool.Decides.{nat_tests}
 use Rattle.std.proofs.lemmas.List.Sums.{sum_by-cons}
 use Rattle.std.proofs.lemmas.List.Sorted.{sum_by-IsPermutation}
 use Rattle.shunt_base.proofs.Sides.{same_side_tells, same_side_is}
 use Rattle.shunt_base.specs.defs.Sides.{same_side}
-use Rattle.shunt_lists.proofs.Sums.{some_of, sum_filter}
+use Rattle.shunt_lists.proofs.Sums.{some_of, sum_filter, sum_alike}
 use Rattle.shunt_lists.proofs.Members.{filter_from, filter_to}
 use Rattle.shunt_lists.specs.defs.Members.{In}
 use Rattle.shunt_base.specs.declared.ids.Side.{Side}
@@ -20,13 +19,14 @@ use Rattle.shunt_base.specs.defs.Keys.{key_cmp, rank, IsBefore, IsKey, IsWellFor
 use Rattle.shunt_base.proofs.Ranks.{key_cmp_is, is_before}
 use Rattle.shunt_stays.specs.defs.Events.{key_before}
 use Rattle.shunt_stays.specs.defs.Run.{GoesThrough, AreOnTracks}
-use Rattle.shunt_stays.specs.defs.Crossing.{Crosses, in_the_way, crosses, stands_at, load_at, load_after, NoneCross, NoneOver, pairs_in, overs_in}
+use Rattle.shunt_stays.specs.defs.Crossings.{Crosses, in_the_way, crosses, stands_at, load_at, load_after, NoneCross, NoneOver, pairs_in, overs_in}
 use Rattle.shunt_stays.proofs.Halves.{formed, before_is, halves_of, ordered}
 use Rattle.shunt_stays.proofs.Track.{length_of, Meets, stands_by, total_at}
 use Rattle.shunt_stays.proofs.Runs.{goes_clear, clear_goes}
 use Rattle.shunt_stays.proofs.Tracks.{on_track}
 use Rattle.shunt_stays.proofs.Fewer.{stays_filter, by_track}
-use Rattle.shunt_stays.proofs.Standing.{fits_at}
+use Rattle.shunt_stays.proofs.StandingStays.{fits_at}
+use Rattle.shunt_lists.proofs.Orders.{le_is}
 
 side_differs : (x y : Side) → not (same_side x y) ≡ true → x ≢ y
 side_differs x y t e = false≢true (sym (not-true (same_side x y) t) ∙ same_side_is x y e)
@@ -94,14 +94,6 @@ never_itself b w x = let lt = (meets b b w w x).after in omega arith
 
 pub never_both : (b c : Stay) → IsWellFormed b → IsWellFormed c → Crosses b c → Crosses c b → ⊥
 never_both b c w v x y = let lt = (meets b c w v x).after in let gt = (meets c b v w y).after in omega arith
-
--- loads
-sum_alike : {X : Type 0} (f g : X → ℕ) (xs : List X) → ((x : X) → In x xs → f x ≡ g x) → sum_by f xs ≡ sum_by g xs
-sum_alike f g [] e = refl
-sum_alike f g (x ∷ xs) e = let first = e x (inl refl) in let rest = sum_alike f g xs (λ y h. e y (inr h)) in omega (arith, sum_by-cons f x xs, sum_by-cons g x xs)
-
-le_is : (a b : ℕ) → is_le (nat_cmp a b) ≡ leb a b
-le_is a b = grind (arith, nat_tests)
 
 by_is : (k : EventKey) (s : Stay) → IsKey k → IsWellFormed s → (is_le (key_cmp s.enter k) && key_before k s.leave) ≡ stands_by (rank k) s
 by_is k s q w =

@@ -44,7 +44,7 @@ as_many (s ∷ stays) a =
       count_insert leaves (leave_of s) (in_order stays),
     )
 
-none_on : (lengths : List ℕ) → blocks_on (empty_tracks lengths) ≡ 0
+pub none_on : (lengths : List ℕ) → blocks_on (empty_tracks lengths) ≡ 0
 none_on [] = refl
 none_on (n ∷ lengths) = omega (arith, sum_by-cons (λ (bs : List Standing). length bs) [] (empty_tracks lengths), none_on lengths)
 

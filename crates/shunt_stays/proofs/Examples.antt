@@ -6,7 +6,7 @@ use Rattle.shunt_base.specs.declared.keys.Stay.{Stay}
 use Rattle.shunt_stays.specs.defs.Events.{entry_of, leave_of, in_order}
 use Rattle.shunt_stays.specs.defs.Run.{run_of}
 use Rattle.shunt_stays.specs.defs.Run.Stop.{Blocked, Over}
-use Rattle.shunt_stays.specs.defs.Crossing.{pairs_in, overs_in}
+use Rattle.shunt_stays.specs.defs.Crossings.{pairs_in, overs_in}
 
 -- a block of this id and length that stands on track 0: its sides, its two minutes, its trains and its places there
 abbrev stay : ℕ → ℕ → Side → Side → ℕ → ℕ → ℕ → ℕ → ℕ → ℕ → Stay

@@ -14,7 +14,7 @@ use Rattle.shunt_base.specs.declared.keys.Stay.{Stay}
 use Rattle.shunt_base.specs.defs.Keys.{AreStays}
 use Rattle.shunt_stays.specs.defs.Events.{in_order, Move}
 use Rattle.shunt_stays.specs.defs.Run.{put, run, GoesThrough, AreOnTracks, empty_tracks, Standing}
-use Rattle.shunt_stays.proofs.Ascending.{ascends_filter, unique}
+use Rattle.shunt_stays.proofs.AscendingLists.{ascends_filter, unique}
 use Rattle.shunt_stays.proofs.Halves.{Half, at, move_of, halves_of, ordered, same_id, of_stay, half_in, in_order_is}
 use Rattle.shunt_stays.proofs.Track.{length_of, total, GoesOn}
 use Rattle.shunt_stays.proofs.Blocks.{Known, tracks_of, blocks_all, all_blocks}

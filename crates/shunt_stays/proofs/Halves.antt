@@ -10,7 +10,7 @@ use Rattle.shunt_base.specs.declared.keys.Stay.{Stay}
 use Rattle.shunt_base.specs.defs.Keys.{rank, IsKey, IsWellFormed, AreStays}
 use Rattle.shunt_base.proofs.Ranks.{key_cmp_is, is_before}
 use Rattle.shunt_stays.specs.defs.Events.{Move, entry_of, leave_of, key_before, insert_by_key, in_order}
-use Rattle.shunt_stays.proofs.Ascending.{Ascends}
+use Rattle.shunt_stays.proofs.AscendingLists.{Ascends}
 
 -- a stay's entry (true) or its leave
 abbrev pub Half : Type 0

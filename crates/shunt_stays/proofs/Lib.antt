@@ -1,5 +1,5 @@
 pub mod Members
-pub mod Ascending
+pub mod AscendingLists
 pub mod Halves
 pub mod Track
 pub mod Sides
@@ -7,10 +7,10 @@ pub mod Runs
 pub mod Blocks
 pub mod Tracks
 pub mod Fewer
-pub mod Standing
+pub mod StandingStays
 pub mod Crossings
-pub mod Renaming
-pub mod Sorting
+pub mod OtherIds
+pub mod SortedEvents
 pub mod Steps
 pub mod Ends
 mod Examples

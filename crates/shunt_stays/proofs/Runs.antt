@@ -9,7 +9,7 @@ use Rattle.shunt_base.specs.declared.keys.Stay.{Stay}
 use Rattle.shunt_base.specs.defs.Keys.{rank}
 use Rattle.shunt_stays.specs.defs.Run.{put}
 use Rattle.shunt_stays.proofs.Members.{put_here, put_there, put_cases, distinct_put, distinct_taken}
-use Rattle.shunt_stays.proofs.Ascending.{Ascends}
+use Rattle.shunt_stays.proofs.AscendingLists.{Ascends}
 use Rattle.shunt_stays.proofs.Halves.{Half, at, InKeyOrder}
 use Rattle.shunt_stays.proofs.Track.{length_of, total, GoesOn, Meets, stands_by, total_at}
 use Rattle.shunt_stays.proofs.Sides.{Arranged, arranged_put, arranged_taken, arranged_none, clear_from, fits_from, leaves_first, at_end}

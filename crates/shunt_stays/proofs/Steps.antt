@@ -102,11 +102,11 @@ count_moved room m blocks after e =
     subst (λ b. length after + cond (not b) 1 0 ≡ length blocks + cond b 1 0) (sym t) (omega (arith, ap (λ (l : List Standing). length l) w.2, length_put m.side w.0 after)))
     (cases_Bool m.key.enters)
 
-ok_was : (r : Result Through Stop) (f : Through → Through) (t : Through) → (r >>= (λ x. Ok (f x))) ≡ Ok t → (x : Through) × (r ≡ Ok x) × (t ≡ f x)
+pub ok_was : (r : Result Through Stop) (f : Through → Through) (t : Through) → (r >>= (λ x. Ok (f x))) ≡ Ok t → (x : Through) × (r ≡ Ok x) × (t ≡ f x)
 ok_was (Ok x) f t e = (x, refl, cc)
 ok_was (Err stop) f t e = absurd (cc)
 
-first_was : (r : Result (List Standing) Stop) (f : List Standing → Result Through Stop) (t : Through) → (r >>= f) ≡ Ok t
+pub first_was : (r : Result (List Standing) Stop) (f : List Standing → Result Through Stop) (t : Through) → (r >>= f) ≡ Ok t
     → (blocks : List Standing) × (r ≡ Ok blocks) × (f blocks ≡ Ok t)
 first_was (Ok blocks) f t e = (blocks, refl, e)
 first_was (Err stop) f t e = absurd (cc)

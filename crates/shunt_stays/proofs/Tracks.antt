@@ -1,12 +1,12 @@
 -- The run over all tracks goes through exactly when the run of each track does.
-use Rattle.std.proofs.Common.{◌≡◌, inl, inr, ⊎_elim, ◌↔◌, ℕ, ◌<◌, eqb, Bool, true, false, List, [], ◌∷◌, length, get_or, set, refl, sym, subst, arith}
+use Rattle.std.proofs.Common.{◌≡◌, inl, inr, ⊎_elim, ◌↔◌, ℕ, ◌<◌, eqb, Bool, true, false, List, [], ◌∷◌, length, get_or, set, refl, sym, subst, arith, zero, suc, take, map, ap, ◌+◌, ◌++◌, ◌∙◌}
 use Rattle.std.specs.List.{filter}
 use Rattle.std.proofs.lemmas.Bool.{cases_Bool, eqb-true, eqb-false, eq-eqb}
-use Rattle.std.proofs.lemmas.List.{length-set, get_or-set_same, get_or-set_other}
+use Rattle.std.proofs.lemmas.List.{length-set, get_or-set_same, get_or-set_other, map-append, take_more}
 use Rattle.shunt_lists.proofs.Members.{filter_yes, filter_no}
 use Rattle.shunt_lists.specs.defs.Members.{In}
 use Rattle.shunt_base.specs.declared.keys.Stay.{Stay}
-use Rattle.shunt_stays.specs.defs.Run.{put}
+use Rattle.shunt_stays.specs.defs.Run.{put, empty_tracks, Standing}
 use Rattle.shunt_stays.proofs.Halves.{Half}
 use Rattle.shunt_stays.proofs.Track.{GoesOn}
 use Rattle.shunt_stays.proofs.Blocks.{GoesAll}
@@ -91,3 +91,18 @@ module _ (lengths : List ℕ) where
             (each (s, false) (Sees halves (set states u g.0)) ((sees_set (s, false) halves states g.0 (ins (s, false) (inl refl))).1 g.2)
             (λ v e. (sees_no (s, false) halves states g.0 v e).1 (sees v))),
       )
+
+-- empty tracks
+pub none_at : (lengths : List ℕ) (k : ℕ) → get_or (empty_tracks lengths) k [] ≡ []
+none_at [] k = refl
+none_at (n ∷ lengths) zero = refl
+none_at (n ∷ lengths) (suc k) = none_at lengths k
+
+pub empty_more : {X : Type 0} (view : X → List Standing) (lengths : List ℕ) (i : ℕ) (tracks more : List X) (v : X) → i < length lengths → view v ≡ [] → more ≡ tracks ++ v ∷ []
+    → map view tracks ≡ empty_tracks (take i lengths) → map view more ≡ empty_tracks (take (i + 1) lengths)
+empty_more view lengths i tracks more v lt none grown so =
+    ap (map view) grown ∙ map-append view tracks (v ∷ [])
+    ∙ ap (λ (l : List Standing). map view tracks ++ l ∷ []) none
+    ∙ ap (λ (l : List (List Standing)). l ++ [] ∷ []) so
+    ∙ sym (map-append (λ (n : ℕ). []) (take i lengths) (get_or lengths i 0 ∷ []))
+    ∙ ap empty_tracks (sym (take_more lengths i 0 lt))

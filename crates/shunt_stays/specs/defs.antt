@@ -1,4 +1,4 @@
 -- The definitions of this crate.
 pub mod Events
 pub mod Run
-pub mod Crossing
+pub mod Crossings

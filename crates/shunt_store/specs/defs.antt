@@ -1,6 +1,6 @@
 -- The definitions of this crate.
 pub mod Files
-pub mod Noting
+pub mod Notes
 pub mod Causes
 pub mod Errors
 pub mod Table

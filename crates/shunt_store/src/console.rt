@@ -1,10 +1,11 @@
 // A sink over the standard output.
-ghost use Rattle.std.specs.Prelude.{◌≡◌, ◌<◌, ◌≤◌, ◌++◌, [], Some, IfOk, OnErr, IsErrOf, length, take};
+ghost use Rattle.std.specs.Prelude.{◌≡◌, ◌<◌, ◌≤◌, ◌++◌, [], Some, IfOk, OnErr, IsErrOf, length};
+ghost use Rattle.std.specs.Prelude.{take};
 ghost use Rattle.shunt_store.specs.defs.Files.{AddsFront};
 ghost use Rattle.shunt_store.specs.defs.Causes.{Counts, HasCause};
 
-use crate::counting::one_fault_more;
 use crate::errors::SinkError;
+use crate::fault_count::one_fault_more;
 use crate::noted::Noted;
 use crate::traits::Sink;
 use std::io;
@@ -41,9 +42,11 @@ impl<R: Print> Sink for ConsoleSink<'_, R> {
     fn write(&mut self, piece: &[u8]) -> Result<usize, SinkError>
         ensures bound { IfOk result (λ n. n ≤ length piece.now) }
         ensures some { IfOk result (λ n. 0 < length piece.now → 0 < n) }
-        ensures bytes { IfOk result (λ n. self.new.noted.bytes ≡ self.old.noted.bytes ++ take n piece.now) }
+        ensures bytes { IfOk result
+            (λ n. self.new.noted.bytes ≡ self.old.noted.bytes ++ take n piece.now) }
         ensures err { OnErr result (self.new.noted.bytes ≡ self.old.noted.bytes) }
-        ensures front { OnErr result (AddsFront piece.now self.old.noted.bytes self.new.noted.bytes) }
+        ensures front { OnErr result
+            (AddsFront piece.now self.old.noted.bytes self.new.noted.bytes) }
         ensures no_memory { IsErrOf result SinkError.Memory → ⊥ }
         ensures counts { Counts SinkError.Fault self.old.faults self.new.faults result }
         ensures cause { HasCause SinkError.Fault self.old.faults self.new.faults result }

@@ -1,13 +1,14 @@
 // A store over the files of the current folder.
-ghost use Rattle.std.specs.Prelude.{◌≡◌, ◌<◌, ◌≤◌, ◌++◌, None, Some, [], All, IfOk, OnOk, OnErr, IsErrOf, length, take, string_bytes};
+ghost use Rattle.std.specs.Prelude.{◌≡◌, ◌<◌, ◌≤◌, ◌++◌, None, Some, [], All, IfOk, OnOk, OnErr};
+ghost use Rattle.std.specs.Prelude.{IsErrOf, length, take, string_bytes};
 ghost use Rattle.shunt_store.specs.defs.Causes.{Counts, HasCause};
 ghost use Rattle.shunt_store.specs.defs.Files.{Closed, Writing, IsWriting, name_of, text_of};
 ghost use Rattle.shunt_store.specs.defs.Parts.{part_endings, EndsWith};
 ghost use Rattle.shunt_store.specs.defs.Disk.{stage_of_file, HasEndings};
 
-use crate::counting::one_fault_more;
-use crate::drafts::{Draft, begin, discard, settle, write_on};
+use crate::drafts::{FileDraft, begin, discard, settle, write_on};
 use crate::errors::StoreError;
+use crate::fault_count::one_fault_more;
 use crate::noted::NotedFiles;
 use crate::parts::free_endings;
 use crate::traits::Store;
@@ -17,10 +18,10 @@ use std::rt::Files as FileSystem;
 use std::{fs, mem};
 
 #[derive(Drop)]
-pub enum Doing<F, A: Allocator> {
+pub enum DiskState<F, A: Allocator> {
     Closed,
     Reading(F, Vec<u8, A>),
-    Writing(Vec<u8, A>, Draft<F, A>),
+    Writing(Vec<u8, A>, FileDraft<F, A>),
 }
 
 /// The files of the current folder. It doesn't tell what they hold, but what was read of them, and
@@ -34,7 +35,7 @@ pub struct DiskStore<'r, R: FileSystem + Alloc> {
     rt: &'r R,
     // How many endings stand behind the name of a file that is written beside another.
     endings: usize,
-    doing: Doing<R::File, R::A>,
+    doing: DiskState<R::File, R::A>,
     heard: NotedFiles,
     stored: NotedFiles,
     taken: u64,
@@ -55,7 +56,7 @@ impl<'r, R: FileSystem + Alloc> DiskStore<'r, R> {
         DiskStore {
             rt,
             endings: 1,
-            doing: Doing::Closed,
+            doing: DiskState::Closed,
             heard: NotedFiles::new(),
             stored: NotedFiles::new(),
             taken: 0,
@@ -72,7 +73,8 @@ impl<'r, R: FileSystem + Alloc> DiskStore<'r, R> {
         ensures taken { result.taken ≡ 0 }
         ensures handed { result.handed ≡ 0 }
         ensures faults { result.faults ≡ 0 }
-        ensures parts { All (λ word. EndsWith (string_bytes word) (part_endings result.endings) → ⊥) words.now }
+        ensures parts { All
+            (λ word. EndsWith (string_bytes word) (part_endings result.endings) → ⊥) words.now }
     {
         DiskStore {
             endings: free_endings(words),
@@ -101,7 +103,7 @@ impl<R: FileSystem + Alloc> Store for DiskStore<'_, R> {
         match fs::open(self.rt, name) {
             Ok(file) => {
                 self.heard.begin(name.as_bytes());
-                self.doing = Doing::Reading(file, owned);
+                self.doing = DiskState::Reading(file, owned);
                 self.taken = 0;
                 Ok(())
             }
@@ -114,7 +116,7 @@ impl<R: FileSystem + Alloc> Store for DiskStore<'_, R> {
 
     /// A Fault also where the count of the bytes taken could pass 2^64 - 1.
     fn read(&mut self, buf: &mut [u8]) -> Result<usize, StoreError> {
-        let Doing::Reading(file, _) = &mut self.doing else {
+        let DiskState::Reading(file, _) = &mut self.doing else {
             unreachable!();
         };
         let room = u64::MAX - self.taken;
@@ -146,7 +148,7 @@ impl<R: FileSystem + Alloc> Store for DiskStore<'_, R> {
         let owned = Vec::from_slice(self.rt.alloc(), name.as_bytes())?;
         match begin(self.rt, name, self.endings)? {
             Some(draft) => {
-                self.doing = Doing::Writing(owned, draft);
+                self.doing = DiskState::Writing(owned, draft);
                 Ok(())
             }
             None => {
@@ -161,7 +163,9 @@ impl<R: FileSystem + Alloc> Store for DiskStore<'_, R> {
         requires { IsWriting (stage_of_file self.old.doing) }
         ensures bound { IfOk result (λ n. n ≤ length piece.now) }
         ensures some { IfOk result (λ n. 0 < length piece.now → 0 < n) }
-        ensures bytes { IfOk result (λ n. stage_of_file self.new.doing ≡ Writing (name_of (stage_of_file self.old.doing)) (text_of (stage_of_file self.old.doing) ++ take n piece.now)) }
+        ensures bytes { IfOk result
+            (λ n. stage_of_file self.new.doing ≡ Writing (name_of (stage_of_file self.old.doing))
+            (text_of (stage_of_file self.old.doing) ++ take n piece.now)) }
         ensures err { OnErr result (stage_of_file self.new.doing ≡ stage_of_file self.old.doing) }
         ensures no_memory { IsErrOf result StoreError.Memory → ⊥ }
         ensures heard { self.new.heard.entries ≡ self.old.heard.entries }
@@ -171,7 +175,7 @@ impl<R: FileSystem + Alloc> Store for DiskStore<'_, R> {
         ensures counts { Counts StoreError.Fault self.old.faults self.new.faults result }
         ensures cause { HasCause StoreError.Fault self.old.faults self.new.faults result }
     {
-        let Doing::Writing(_, draft) = &mut self.doing else {
+        let DiskState::Writing(_, draft) = &mut self.doing else {
             unreachable!();
         };
         if let Some(n) = write_on(draft, piece) {
@@ -182,7 +186,7 @@ impl<R: FileSystem + Alloc> Store for DiskStore<'_, R> {
     }
 
     fn close_file(&mut self) -> Result<(), StoreError> {
-        if let Doing::Writing(name, draft) = mem::replace(&mut self.doing, Doing::Closed) {
+        if let DiskState::Writing(name, draft) = mem::replace(&mut self.doing, DiskState::Closed) {
             if !settle(self.rt, &draft) {
                 self.faults = one_fault_more(self.faults);
                 return Err(StoreError::Fault);
@@ -193,7 +197,7 @@ impl<R: FileSystem + Alloc> Store for DiskStore<'_, R> {
     }
 
     fn drop_file(&mut self) {
-        if let Doing::Writing(_, draft) = mem::replace(&mut self.doing, Doing::Closed) {
+        if let DiskState::Writing(_, draft) = mem::replace(&mut self.doing, DiskState::Closed) {
             discard(self.rt, &draft);
         }
     }

@@ -1,5 +1,6 @@
 // A file that is being written: beside the one that it is to replace, or in place.
-ghost use Rattle.std.specs.Prelude.{◌≡◌, ◌<◌, ◌≤◌, ◌++◌, [], length, take, IfOk, IfSome, IfNone, string_bytes};
+ghost use Rattle.std.specs.Prelude.{◌≡◌, ◌<◌, ◌≤◌, ◌++◌, [], length, take, IfOk, IfSome, IfNone};
+ghost use Rattle.std.specs.Prelude.{string_bytes};
 ghost use Rattle.shunt_store.specs.defs.Parts.{part_endings, EndsWith};
 
 use crate::noted::Noted;
@@ -23,7 +24,7 @@ pub struct Beside<A: Allocator> {
 
 /// Nothing is beside it if it is written in place.
 #[derive(Drop)]
-pub struct Draft<F, A: Allocator> {
+pub struct FileDraft<F, A: Allocator> {
     pub file: F,
     beside: Option<Beside<A>>,
     pub text: Noted,
@@ -31,20 +32,20 @@ pub struct Draft<F, A: Allocator> {
 
 // How a name is written: a device, a pipe, a folder, and what the system keeps are not replaced. What isn't there is.
 #[derive(Drop)]
-enum Way {
+enum WriteWay {
     InPlace,
     Anew,
     Over(Permissions),
 }
 
-fn way_of<R: FileSystem>(rt: &R, name: &str) -> Way {
+fn way_of<R: FileSystem>(rt: &R, name: &str) -> WriteWay {
     if name.starts_with("/dev/") || name.starts_with("/proc/") {
-        return Way::InPlace;
+        return WriteWay::InPlace;
     }
     match fs::metadata(rt, name) {
-        Ok(metadata) if metadata.is_file() => Way::Over(metadata.permissions()),
-        Ok(_) => Way::InPlace,
-        Err(_) => Way::Anew,
+        Ok(metadata) if metadata.is_file() => WriteWay::Over(metadata.permissions()),
+        Ok(_) => WriteWay::InPlace,
+        Err(_) => WriteWay::Anew,
     }
 }
 
@@ -85,9 +86,9 @@ fn places<R: FileSystem + Alloc>(
 }
 
 // An empty file beside another, whose permissions it has where that is there.
-fn create_part<R: FileSystem>(rt: &R, part: &str, way: Way) -> io::Result<R::File> {
+fn create_part<R: FileSystem>(rt: &R, part: &str, way: WriteWay) -> io::Result<R::File> {
     let file = fs::create(rt, part)?;
-    if let Way::Over(permissions) = way {
+    if let WriteWay::Over(permissions) = way {
         if let Err(e) = file.set_permissions(permissions) {
             let _ = fs::remove_file(rt, part);
             return Err(e);
@@ -101,14 +102,15 @@ pub fn begin<R: FileSystem + Alloc>(
     rt: &R,
     name: &str,
     endings: usize,
-) -> Result<Option<Draft<R::File, R::A>>, AllocError>
+) -> Result<Option<FileDraft<R::File, R::A>>, AllocError>
     ensures empty { IfOk result (λ draft. IfSome draft (λ d. d.text.bytes ≡ [])) }
-    ensures part { IfOk result (λ draft. IfSome draft (λ d. IfSome d.beside (λ b. EndsWith (string_bytes b.part) (part_endings endings)))) }
+    ensures part { IfOk result (λ draft. IfSome draft
+        (λ d. IfSome d.beside (λ b. EndsWith (string_bytes b.part) (part_endings endings)))) }
 {
     let way = way_of(rt, name);
-    if let Way::InPlace = way {
+    if let WriteWay::InPlace = way {
         return Ok(
-            fs::create(rt, name).ok().map(|file| Draft {
+            fs::create(rt, name).ok().map(|file| FileDraft {
                 file,
                 beside: None,
                 text: Noted::new(),
@@ -117,7 +119,7 @@ pub fn begin<R: FileSystem + Alloc>(
     }
     let beside = places(rt, name, endings)?;
     match create_part(rt, beside.part.as_str(), way) {
-        Ok(file) => Ok(Some(Draft {
+        Ok(file) => Ok(Some(FileDraft {
             file,
             beside: Some(beside),
             text: Noted::new(),
@@ -139,10 +141,11 @@ fn take_some<F: Write>(file: &mut F, piece: &[u8]) -> Option<usize>
 }
 
 /// Appends the front of the piece, as many bytes as it answers. None where nothing of it is taken.
-pub fn write_on<F: Write, A: Allocator>(draft: &mut Draft<F, A>, piece: &[u8]) -> Option<usize>
+pub fn write_on<F: Write, A: Allocator>(draft: &mut FileDraft<F, A>, piece: &[u8]) -> Option<usize>
     ensures bound { IfSome result (λ n. n ≤ length piece.now) }
     ensures some { IfSome result (λ n. 0 < length piece.now → 0 < n) }
-    ensures text { IfSome result (λ n. draft.new.text.bytes ≡ draft.old.text.bytes ++ take n piece.now) }
+    ensures text { IfSome result
+        (λ n. draft.new.text.bytes ≡ draft.old.text.bytes ++ take n piece.now) }
     ensures none { IfNone result (draft.new.text.bytes ≡ draft.old.text.bytes) }
 {
     let n = take_some(&mut draft.file, piece)?;
@@ -163,7 +166,7 @@ fn sync_folder<R: FileSystem>(rt: &R, target: Path<'_>) {
 
 /// Puts what was written in the place of what it is to replace, and returns whether that went through.
 /// Nothing stays beside it.
-pub fn settle<R: FileSystem + Alloc>(rt: &R, draft: &Draft<R::File, R::A>) -> bool {
+pub fn settle<R: FileSystem + Alloc>(rt: &R, draft: &FileDraft<R::File, R::A>) -> bool {
     let Some(beside) = &draft.beside else {
         return true;
     };
@@ -177,7 +180,7 @@ pub fn settle<R: FileSystem + Alloc>(rt: &R, draft: &Draft<R::File, R::A>) -> bo
 }
 
 /// Removes what was written beside what it was to replace. If that fails it stays there.
-pub fn discard<R: FileSystem + Alloc>(rt: &R, draft: &Draft<R::File, R::A>) {
+pub fn discard<R: FileSystem + Alloc>(rt: &R, draft: &FileDraft<R::File, R::A>) {
     if let Some(beside) = &draft.beside {
         let _ = fs::remove_file(rt, beside.part.as_str());
     }

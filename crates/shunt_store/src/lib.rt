@@ -2,20 +2,20 @@
 #![tactic(auto)]
 
 mod console;
-mod counting;
 mod disk;
 mod drafts;
 mod errors;
+mod fault_count;
 mod memory;
+mod memory_calls;
 mod memory_sink;
-mod moving;
 mod noted;
 mod parts;
-mod reading;
+mod reader;
 mod sure;
 mod table;
 mod traits;
-mod writing;
+mod writer;
 
 pub use console::ConsoleSink;
 pub use disk::DiskStore;
@@ -23,7 +23,7 @@ pub use errors::{ReadAllError, SinkError, StoreError};
 pub use memory::MemStore;
 pub use memory_sink::MemSink;
 pub use noted::{Noted, NotedFiles};
-pub use reading::read_all;
+pub use reader::read_all;
 pub use sure::{SureSink, SureStore};
 pub use traits::{Sink, Store};
-pub use writing::{append_all, print, write_all_to};
+pub use writer::{append_all, print, write_all_to};

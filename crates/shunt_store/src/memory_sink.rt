@@ -1,11 +1,12 @@
 // A sink in memory, in which chosen calls fail.
-ghost use Rattle.std.specs.Prelude.{◌≡◌, ◌<◌, ◌≤◌, ◌↔◌, [], ◌∷◌, ◌++◌, length, take, IsTrue, IfOk, IfErr, OnOk, OnErr, IsErrOf, Some, if◌then◌else◌};
+ghost use Rattle.std.specs.Prelude.{◌≡◌, ◌<◌, ◌≤◌, ◌↔◌, [], ◌∷◌, ◌++◌, length, take, IsTrue, IfOk};
+ghost use Rattle.std.specs.Prelude.{IfErr, OnOk, OnErr, IsErrOf, Some, if◌then◌else◌};
 ghost use Rattle.std.specs.Bool.{OnTrue};
 ghost use Rattle.shunt_store.specs.defs.Causes.{one_more, IsOneMore, Rose, Counts, HasCause};
 ghost use Rattle.shunt_store.specs.defs.Shown.{IsToFail, called, refused};
 
-use crate::counting::one_fault_more;
 use crate::errors::SinkError;
+use crate::fault_count::one_fault_more;
 use crate::traits::Sink;
 use std::alloc::{AllocError, Global};
 use std::marker::Model;
@@ -47,7 +48,8 @@ impl MemSink {
 
     /// The call of this number is to fail, counted from 1 over the trait's method.
     pub fn fail_at(&mut self, call: u64) -> Result<(), AllocError>
-        ensures ok { OnOk result (self.new ≡ record self.old { failing = self.old.failing ++ call ∷ [] }) }
+        ensures ok { OnOk result
+            (self.new ≡ record self.old { failing = self.old.failing ++ call ∷ [] }) }
         ensures err { OnErr result (self.new ≡ self.old) }
     {
         self.failing.push(call)?;
@@ -62,7 +64,8 @@ impl MemSink {
     }
 
     fn append(&mut self, piece: &[u8]) -> Result<(), AllocError>
-        ensures ok { OnOk result (self.new ≡ record self.old { bytes = self.old.bytes ++ piece.now }) }
+        ensures ok { OnOk result
+            (self.new ≡ record self.old { bytes = self.old.bytes ++ piece.now }) }
         ensures err { OnErr result (self.new ≡ self.old) }
     {
         self.bytes.extend_from_slice(piece)?;
@@ -75,7 +78,10 @@ impl MemSink {
         ensures rose { OnTrue result (Rose self.old.faults self.new.faults) }
         ensures counted { OnTrue result (IsOneMore self.old.faults self.new.faults) }
         ensures fails { IsTrue result ↔ IsToFail self.old }
-        ensures new { self.new ≡ record self.old { calls = one_more self.old.calls; faults = if result then one_more self.old.faults else self.old.faults } }
+        ensures new { self.new ≡ record self.old {
+          calls = one_more self.old.calls;
+          faults = if result then one_more self.old.faults else self.old.faults;
+        } }
     {
         self.calls = self.calls.saturating_add(1);
         let fails = self.failing.contains(&self.calls);
@@ -94,7 +100,8 @@ impl Sink for MemSink {
     /// Takes the whole piece.
     fn write(&mut self, piece: &[u8]) -> Result<usize, SinkError>
         ensures whole { IfOk result (λ n. n ≡ length piece.now) }
-        ensures ok { OnOk result (self.new ≡ record (called self.old) { bytes = self.old.bytes ++ piece.now }) }
+        ensures ok { OnOk result
+            (self.new ≡ record (called self.old) { bytes = self.old.bytes ++ piece.now }) }
         ensures err { IfErr result (λ e. self.new ≡ refused e self.old) }
         ensures exact { IsErrOf result SinkError.Fault ↔ IsToFail self.old }
         ensures counts { Counts SinkError.Fault self.old.faults self.new.faults result }

@@ -1,7 +1,7 @@
 // What was moved, as only clauses read it. It takes no memory, and its methods do nothing when they run.
 ghost use Rattle.std.specs.Prelude.{◌≡◌, ℕ, List, [], ◌∷◌, ◌++◌};
 ghost use Rattle.std.specs.Borrow.{ftrue};
-ghost use Rattle.shunt_store.specs.defs.Noting.{Entries, add_last};
+ghost use Rattle.shunt_store.specs.defs.Notes.{Entries, add_last};
 
 use std::marker::{Model, PhantomData};
 
@@ -66,7 +66,7 @@ impl NotedFiles {
     {}
 
     // The same of bytes that are at hand.
-    #[tactic(auto, using(crate::proofs::Noting::add_begun))]
+    #[tactic(auto, using(crate::proofs::NotedPieces::add_begun))]
     pub(crate) fn keep_bytes(&mut self, name: &[u8], bytes: &[u8])
         ensures { self.new.entries ≡ self.old.entries ++ (name.now, bytes.now) ∷ [] }
     {

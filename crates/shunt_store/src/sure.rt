@@ -1,12 +1,14 @@
 // A store and a sink in memory that never fault.
-ghost use Rattle.std.specs.Prelude.{◌≡◌, ◌≢◌, ◌+◌, ◌<◌, ◌≤◌, [], ◌∷◌, ◌++◌, length, take, IfOk, IsOk, OnOk, OnErr, IsErrOf, Some, option_map};
+ghost use Rattle.std.specs.Prelude.{◌≡◌, ◌≢◌, ◌+◌, ◌<◌, ◌≤◌, [], ◌∷◌, ◌++◌, length, take, IfOk};
+ghost use Rattle.std.specs.Prelude.{IsOk, OnOk, OnErr, IsErrOf, Some, option_map};
 ghost use Rattle.std.specs.FinMap as map;
 ghost use Rattle.shunt_store.specs.defs.Causes.{counted_on};
-ghost use Rattle.shunt_store.specs.defs.Noting.{add_last, stored_after};
-ghost use Rattle.shunt_store.specs.defs.Files.{Closed, Reading, Writing, IsReading, IsWriting, name_of, text_of, content, files_after, HandsOut};
+ghost use Rattle.shunt_store.specs.defs.Notes.{add_last, stored_after};
+ghost use Rattle.shunt_store.specs.defs.Files.{Closed, Reading, Writing, IsReading, IsWriting};
+ghost use Rattle.shunt_store.specs.defs.Files.{name_of, text_of, content, files_after, HandsOut};
 
 use crate::errors::{SinkError, StoreError};
-use crate::moving::hand_out;
+use crate::memory_calls::hand_out;
 use crate::noted::NotedFiles;
 use crate::table::{File, bytes_at, put};
 use crate::traits::{Sink, Store};
@@ -16,7 +18,7 @@ use std::mem;
 
 // What is read, by its name, or what is written, by its name and its bytes so far.
 #[derive(Drop)]
-pub enum Doing {
+pub enum SureState {
     Closed,
     Reading(Vec<u8>),
     Writing(Vec<u8>, Vec<u8>),
@@ -29,7 +31,7 @@ pub struct SureStore {
     files: Vec<File>,
     heard: NotedFiles,
     stored: NotedFiles,
-    doing: Doing,
+    doing: SureState,
     taken: usize,
     handed: u64,
 }
@@ -41,24 +43,31 @@ impl Model for SureStore {
 
     ghost coded = { coded_sure };
 
-    ghost use Rattle.shunt_store.specs.defs.Kept.{kept, IsSound};
+    ghost use Rattle.shunt_store.specs.defs.Kept.{kept, IsSoundSure};
 
     ghost view = { kept };
 
-    ghost invariant = { IsSound };
+    ghost invariant = { IsSoundSure };
 }
 
 impl SureStore {
     /// No files.
     pub fn new(alloc: Global) -> SureStore
-        ensures { result ≡ record { files = map.empty; heard = []; stored = []; stage = Closed; taken = 0; handed = 0 } }
+        ensures { result ≡ record {
+          files = map.empty;
+          heard = [];
+          stored = [];
+          stage = Closed;
+          taken = 0;
+          handed = 0;
+        } }
     {
         SureStore {
             alloc,
             files: Vec::new(alloc),
             heard: NotedFiles::new(),
             stored: NotedFiles::new(),
-            doing: Doing::Closed,
+            doing: SureState::Closed,
             taken: 0,
             handed: 0,
         }
@@ -67,10 +76,11 @@ impl SureStore {
     /// The file then holds exactly these bytes, whether it was there or not. Nothing may be open.
     pub fn put(&mut self, name: &str, bytes: &[u8]) -> Result<(), AllocError>
         requires { self.old.stage ≡ Closed }
-        ensures ok { OnOk result (self.new ≡ record self.old { files = map.insert self.old.files name.now bytes.now }) }
+        ensures ok { OnOk result
+            (self.new ≡ record self.old { files = map.insert self.old.files name.now bytes.now }) }
         ensures err { OnErr result (self.new ≡ self.old) }
     {
-        let Doing::Closed = self.doing else {
+        let SureState::Closed = self.doing else {
             unreachable!();
         };
         put(self.alloc, &mut self.files, name.as_bytes(), bytes)?;
@@ -102,13 +112,17 @@ impl Store for SureStore {
 
     fn open_file(&mut self, name: &str) -> Result<(), StoreError>
         requires { self.old.stage ≡ Closed }
-        ensures ok { OnOk result (self.new ≡ record self.old { stage = Reading name.now; taken = 0; heard = self.old.heard ++ (name.now, []) ∷ [] }) }
+        ensures ok { OnOk result (self.new ≡ record self.old {
+          stage = Reading name.now;
+          taken = 0;
+          heard = self.old.heard ++ (name.now, []) ∷ [];
+        }) }
         ensures handed { self.new.handed ≡ self.old.handed }
         ensures err { OnErr result (self.new ≡ self.old) }
         ensures never { IsErrOf result StoreError.Fault → ⊥ }
         ensures files { self.new.files ≡ self.old.files }
     {
-        self.doing = Doing::Reading(Vec::from_slice(self.alloc, name.as_bytes())?);
+        self.doing = SureState::Reading(Vec::from_slice(self.alloc, name.as_bytes())?);
         self.heard.begin(name.as_bytes());
         self.taken = 0;
         Ok(())
@@ -116,14 +130,20 @@ impl Store for SureStore {
 
     fn read(&mut self, buf: &mut [u8]) -> Result<usize, StoreError>
         requires { IsReading self.old.stage }
-        ensures bytes { IfOk result (λ n. HandsOut (content self.old.files (name_of self.old.stage)) self.old.taken n buf.new) }
+        ensures bytes { IfOk result (λ n. HandsOut
+            (content self.old.files (name_of self.old.stage)) self.old.taken n buf.new) }
         ensures bound { IfOk result (λ n. n ≤ length buf.new) }
-        ensures ok { IfOk result (λ n. self.new ≡ record self.old { taken = self.old.taken + n; handed = counted_on self.old.handed n; heard = add_last (take n buf.new) self.old.heard }) }
+        ensures ok { IfOk result (λ n. self.new
+            ≡ record self.old {
+              taken = self.old.taken + n;
+              handed = counted_on self.old.handed n;
+              heard = add_last (take n buf.new) self.old.heard;
+            }) }
         ensures always { IsOk result }
         ensures stage { self.new.stage ≡ self.old.stage }
         ensures files { self.new.files ≡ self.old.files }
     {
-        let Doing::Reading(name) = &self.doing else {
+        let SureState::Reading(name) = &self.doing else {
             unreachable!();
         };
         let bytes = bytes_at(&self.files, name).unwrap_or(&[]);
@@ -144,7 +164,7 @@ impl Store for SureStore {
         ensures handed { self.new.handed ≡ self.old.handed }
     {
         let name = Vec::from_slice(self.alloc, name.as_bytes())?;
-        self.doing = Doing::Writing(name, Vec::new(self.alloc));
+        self.doing = SureState::Writing(name, Vec::new(self.alloc));
         Ok(())
     }
 
@@ -160,7 +180,7 @@ impl Store for SureStore {
         ensures taken { self.new.taken ≡ self.old.taken }
         ensures handed { self.new.handed ≡ self.old.handed }
     {
-        let Doing::Writing(_, text) = &mut self.doing else {
+        let SureState::Writing(_, text) = &mut self.doing else {
             unreachable!();
         };
         text.extend_from_slice(piece)?;
@@ -169,14 +189,19 @@ impl Store for SureStore {
 
     fn close_file(&mut self) -> Result<(), StoreError>
         requires { self.old.stage ≢ Closed }
-        ensures ok { OnOk result (self.new ≡ record self.old { files = files_after self.old.stage self.old.files; stage = Closed; stored = stored_after self.old.stage self.old.stored }) }
+        ensures ok { OnOk result
+            (self.new ≡ record self.old {
+              files = files_after self.old.stage self.old.files;
+              stage = Closed;
+              stored = stored_after self.old.stage self.old.stored;
+            }) }
         ensures err { OnErr result (self.new ≡ record self.old { stage = Closed }) }
         ensures never { IsErrOf result StoreError.Fault → ⊥ }
         ensures closed { self.new.stage ≡ Closed }
         ensures taken { self.new.taken ≡ self.old.taken }
         ensures handed { self.new.handed ≡ self.old.handed }
     {
-        if let Doing::Writing(name, text) = mem::replace(&mut self.doing, Doing::Closed) {
+        if let SureState::Writing(name, text) = mem::replace(&mut self.doing, SureState::Closed) {
             put(self.alloc, &mut self.files, &name, &text)?;
             self.stored.keep_bytes(&name, &text);
         }
@@ -187,7 +212,7 @@ impl Store for SureStore {
         requires { IsWriting self.old.stage }
         ensures { self.new ≡ record self.old { stage = Closed } }
     {
-        self.doing = Doing::Closed;
+        self.doing = SureState::Closed;
     }
 }
 

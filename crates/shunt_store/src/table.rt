@@ -1,5 +1,6 @@
 // Files in a list, where the first of a name counts.
-ghost use Rattle.std.specs.Prelude.{◌≡◌, ◌≢◌, ◌<◌, ◌≤◌, ◌++◌, [], length, take, slice_index_or, Some, None, IfSome, IfNone, IfOk, OnOk, OnErr, option_map, All};
+ghost use Rattle.std.specs.Prelude.{◌≡◌, ◌≢◌, ◌<◌, ◌≤◌, ◌++◌, [], length, take, slice_index_or};
+ghost use Rattle.std.specs.Prelude.{Some, None, IfSome, IfNone, IfOk, OnOk, OnErr, option_map, All};
 ghost use Rattle.std.specs.FinMap as map;
 ghost use Rattle.shunt_store.specs.defs.Table.{files_of, names_of, name_at, IsPlaceOf, IsFirst};
 ghost use Rattle.shunt_store.specs.defs.Files.{content};
@@ -32,7 +33,8 @@ pub fn place_of(files: &[File], name: &[u8]) -> Option<usize>
 fn first_of(files: &[File], name: &[u8]) -> usize
     ensures within { result ≤ length files.now }
     ensures before { All (λ f. f.name.items ≢ name.now) (take result files.now) }
-    ensures here { (d : File) → result < length files.now → (slice_index_or files.now result d).name.items ≡ name.now }
+    ensures here { (d : File) → result < length files.now
+        → (slice_index_or files.now result d).name.items ≡ name.now }
 {
     for (i, file) in files.iter().enumerate() {
         if file.name.as_slice() == name {
@@ -63,7 +65,8 @@ pub fn bytes_at<'a>(files: &'a [File], name: &[u8]) -> Option<&'a [u8]>
 // Puts bytes into the file at a place.
 fn put_at(files: &mut Vec<File>, place: usize, bytes: Vec<u8>)
     requires { IsFirst files.old.items place }
-    ensures files { files_of files.new.items ≡ map.insert (files_of files.old.items) (name_at files.old.items place) bytes.items }
+    ensures files { files_of files.new.items
+        ≡ map.insert (files_of files.old.items) (name_at files.old.items place) bytes.items }
     ensures place { IsPlaceOf files.new.items (name_at files.old.items place) place }
 {
     files[place].bytes = bytes;
@@ -76,7 +79,8 @@ pub fn put(
     name: &[u8],
     bytes: &[u8],
 ) -> Result<usize, AllocError>
-    ensures ok { OnOk result (files_of files.new.items ≡ map.insert (files_of files.old.items) name.now bytes.now) }
+    ensures ok { OnOk result
+        (files_of files.new.items ≡ map.insert (files_of files.old.items) name.now bytes.now) }
     ensures place { IfOk result (λ place. IsPlaceOf files.new.items name.now place) }
     ensures err { OnErr result (files.new.items ≡ files.old.items) }
 {

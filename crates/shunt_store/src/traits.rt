@@ -1,7 +1,10 @@
 // The outside as the program sees it: files by name, and output.
-ghost use Rattle.std.specs.Prelude.{◌≡◌, ◌≢◌, ◌⊎◌, ℕ, ◌+◌, ◌<◌, ◌≤◌, ◌∷◌, ◌++◌, [], List, Option, length, take, IfOk, OnOk, OnErr, IfSome, IsErrOf};
-ghost use Rattle.shunt_store.specs.defs.Files.{Files, Stage, Closed, Reading, Writing, IsReading, IsWriting, name_of, text_of, content, files_after, HandsOut, BothTold, AddsFront};
-ghost use Rattle.shunt_store.specs.defs.Noting.{Entries, add_last, stored_after};
+ghost use Rattle.std.specs.Prelude.{◌≡◌, ◌≢◌, ◌⊎◌, ℕ, ◌+◌, ◌<◌, ◌≤◌, ◌∷◌, ◌++◌, [], List, Option};
+ghost use Rattle.std.specs.Prelude.{length, take, IfOk, OnOk, OnErr, IfSome, IsErrOf};
+ghost use Rattle.shunt_store.specs.defs.Files.{Files, Stage, Closed, Reading, Writing, IsReading};
+ghost use Rattle.shunt_store.specs.defs.Files.{IsWriting, name_of, text_of, content, files_after};
+ghost use Rattle.shunt_store.specs.defs.Files.{HandsOut, BothTold, AddsFront};
+ghost use Rattle.shunt_store.specs.defs.Notes.{Entries, add_last, stored_after};
 ghost use Rattle.shunt_store.specs.defs.Causes.{counted_on, Counts, HasCause};
 
 use crate::errors::{SinkError, StoreError};
@@ -40,9 +43,11 @@ pub trait Store {
         ensures ok { OnOk result ((stage self.new ≡ Reading name.now) × (taken self.new ≡ 0)) }
         ensures err { OnErr result (stage self.new ≡ Closed) }
         ensures handed { handed self.new ≡ handed self.old }
-        ensures none_taken { OnErr result ((taken self.new ≡ taken self.old) ⊎ (taken self.new ≡ 0)) }
+        ensures none_taken { OnErr result
+            ((taken self.new ≡ taken self.old) ⊎ (taken self.new ≡ 0)) }
         ensures files { told self.new ≡ told self.old }
-        ensures heard { OnOk result (BothTold (heard self.old) (heard self.new) (λ old new. new ≡ old ++ (name.now, []) ∷ [])) }
+        ensures heard { OnOk result (BothTold (heard self.old) (heard self.new)
+            (λ old new. new ≡ old ++ (name.now, []) ∷ [])) }
         ensures none_heard { OnErr result (heard self.new ≡ heard self.old) }
         ensures stored { stored self.new ≡ stored self.old }
         ensures counts { Counts StoreError.Fault (faults self.old) (faults self.new) result }
@@ -53,7 +58,8 @@ pub trait Store {
     fn read(&mut self, buf: &mut [u8]) -> Result<usize, StoreError>
         requires { IsReading (stage self.old) }
         ensures bound { IfOk result (λ n. n ≤ length buf.new) }
-        ensures bytes { IfOk result (λ n. IfSome (told self.old) (λ files. HandsOut (content files (name_of (stage self.old))) (taken self.old) n buf.new)) }
+        ensures bytes { IfOk result (λ n. IfSome (told self.old) (λ files. HandsOut
+            (content files (name_of (stage self.old))) (taken self.old) n buf.new)) }
         ensures taken { IfOk result (λ n. taken self.new ≡ taken self.old + n) }
         ensures err { OnErr result (taken self.new ≡ taken self.old) }
         ensures handed { IfOk result (λ n. handed self.new ≡ counted_on (handed self.old) n) }
@@ -61,7 +67,8 @@ pub trait Store {
         ensures no_memory { IsErrOf result StoreError.Memory → ⊥ }
         ensures stage { stage self.new ≡ stage self.old }
         ensures files { told self.new ≡ told self.old }
-        ensures heard { IfOk result (λ n. BothTold (heard self.old) (heard self.new) (λ old new. new ≡ add_last (take n buf.new) old)) }
+        ensures heard { IfOk result (λ n. BothTold (heard self.old) (heard self.new)
+            (λ old new. new ≡ add_last (take n buf.new) old)) }
         ensures none_heard { OnErr result (heard self.new ≡ heard self.old) }
         ensures stored { stored self.new ≡ stored self.old }
         ensures counts { Counts StoreError.Fault (faults self.old) (faults self.new) result }
@@ -86,7 +93,8 @@ pub trait Store {
         requires { IsWriting (stage self.old) }
         ensures bound { IfOk result (λ n. n ≤ length piece.now) }
         ensures some { IfOk result (λ n. 0 < length piece.now → 0 < n) }
-        ensures bytes { IfOk result (λ n. stage self.new ≡ Writing (name_of (stage self.old)) (text_of (stage self.old) ++ take n piece.now)) }
+        ensures bytes { IfOk result (λ n. stage self.new
+            ≡ Writing (name_of (stage self.old)) (text_of (stage self.old) ++ take n piece.now)) }
         ensures err { OnErr result (stage self.new ≡ stage self.old) }
         ensures files { told self.new ≡ told self.old }
         ensures taken { taken self.new ≡ taken self.old }
@@ -101,12 +109,14 @@ pub trait Store {
     fn close_file(&mut self) -> Result<(), StoreError>
         requires { stage self.old ≢ Closed }
         ensures closed { stage self.new ≡ Closed }
-        ensures ok { OnOk result (BothTold (told self.old) (told self.new) (λ old new. new ≡ files_after (stage self.old) old)) }
+        ensures ok { OnOk result (BothTold (told self.old) (told self.new)
+            (λ old new. new ≡ files_after (stage self.old) old)) }
         ensures err { OnErr result (told self.new ≡ told self.old) }
         ensures taken { taken self.new ≡ taken self.old }
         ensures handed { handed self.new ≡ handed self.old }
         ensures heard { heard self.new ≡ heard self.old }
-        ensures stored { OnOk result (BothTold (stored self.old) (stored self.new) (λ old new. new ≡ stored_after (stage self.old) old)) }
+        ensures stored { OnOk result (BothTold (stored self.old) (stored self.new)
+            (λ old new. new ≡ stored_after (stage self.old) old)) }
         ensures none_stored { OnErr result (stored self.new ≡ stored self.old) }
         ensures counts { Counts StoreError.Fault (faults self.old) (faults self.new) result }
         ensures cause { HasCause StoreError.Fault (faults self.old) (faults self.new) result };
@@ -136,8 +146,10 @@ pub trait Sink {
     fn write(&mut self, piece: &[u8]) -> Result<usize, SinkError>
         ensures bound { IfOk result (λ n. n ≤ length piece.now) }
         ensures some { IfOk result (λ n. 0 < length piece.now → 0 < n) }
-        ensures bytes { IfOk result (λ n. BothTold (told self.old) (told self.new) (λ old new. new ≡ old ++ take n piece.now)) }
-        ensures err { OnErr result (BothTold (told self.old) (told self.new) (AddsFront piece.now)) }
+        ensures bytes { IfOk result (λ n. BothTold (told self.old) (told self.new)
+            (λ old new. new ≡ old ++ take n piece.now)) }
+        ensures err { OnErr result
+            (BothTold (told self.old) (told self.new) (AddsFront piece.now)) }
         ensures counts { Counts SinkError.Fault (faults self.old) (faults self.new) result }
         ensures cause { HasCause SinkError.Fault (faults self.old) (faults self.new) result };
 }

@@ -1,10 +1,10 @@
 //! The commands on the throat and its drivers: `zones`, `drivers` and `roster`.
 #![tactic(auto)]
 
-mod passing;
-mod rostering;
-mod sharing;
+mod drivers;
+mod meetings;
+mod roster;
 
-pub use passing::Meetings;
-pub use rostering::Roster;
-pub use sharing::Drivers;
+pub use drivers::DriversCommand;
+pub use meetings::ZonesCommand;
+pub use roster::RosterCommand;

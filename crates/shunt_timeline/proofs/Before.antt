@@ -8,15 +8,17 @@ use Rattle.shunt_lists.specs.defs.Members.{In}
 use Rattle.shunt_base.specs.declared.keys.EventKey.{EventKey}
 use Rattle.shunt_base.specs.declared.keys.Stay.{Stay}
 use Rattle.shunt_base.specs.defs.Keys.{rank, IsKey, IsWellFormed, AreStays}
-use Rattle.shunt_stays.specs.defs.Crossing.{stands_at, load_at}
+use Rattle.shunt_stays.specs.defs.Crossings.{stands_at, load_at}
 use Rattle.shunt_stays.proofs.Halves.{formed}
-use Rattle.shunt_timeline.specs.declared.events.Event.{Event}
+use Rattle.shunt_timeline.specs.declared.events.StayEvent.{StayEvent}
 use Rattle.shunt_timeline.specs.defs.Levels.{key_of, at}
-use Rattle.shunt_timeline.specs.defs.Kept.{Ascends, IsKept, sum_on}
-use Rattle.shunt_timeline.proofs.Lists.{sum_alike, sum_zero, sum_some, sum_least, ascends_front, ascends_apart}
+use Rattle.shunt_timeline.specs.defs.Kept.{Ascends, IsKeptTrack, sum_on}
+use Rattle.shunt_timeline.proofs.Lists.{sum_zero, sum_some, sum_least, ascends_front, ascends_apart}
 use Rattle.shunt_timeline.proofs.Steps.{flag}
 use Rattle.shunt_timeline.proofs.Ranks.{key_in}
 use Rattle.shunt_timeline.proofs.Changes.{inside, stands_is, off_track, entry_at, leave_at}
+use Rattle.shunt_lists.proofs.Sums.{sum_alike}
+use Rattle.shunt_lists.proofs.Tests.{no_span as none}
 
 flag_some : (b : Bool) (n : ℕ) → 0 < cond b n 0 → (b ≡ true) × (0 < n)
 flag_some true n lt = (refl, lt)
@@ -29,7 +31,7 @@ flag_some_off false n lt = (refl, lt)
 one_of : (m n : ℕ) → 0 < flag (eqb m n) → m ≡ n
 one_of m n lt = eqb-true m n (flag_some (eqb m n) 1 lt).0
 
-module _ (stays : List Stay) (t : ℕ) (events : List Event) (a : AreStays stays) (k : IsKept stays t events) where
+module _ (stays : List Stay) (t : ℕ) (events : List StayEvent) (a : AreStays stays) (k : IsKeptTrack stays t events) where
   there : (f : Stay → ℕ) (s : Stay) → In s stays → s.track.0 ≡ t → 0 < f s → 0 < sum_on t f stays
   there f s h e lt =
       let least : cond (eqb s.track.0 t) (f s) 0 ≤ sum_on t f stays = sum_least (λ u. cond (eqb u.track.0 t) (f u) 0) stays s h in
@@ -37,7 +39,7 @@ module _ (stays : List Stay) (t : ℕ) (events : List Event) (a : AreStays stays
       omega arith
 
   -- each stay on the track has its entry and its leave among the events
-  pub has_entry : (s : Stay) → In s stays → s.track.0 ≡ t → (e : Event) × In e events × (e.enters ≡ true) × (at e ≡ rank s.enter)
+  pub has_entry : (s : Stay) → In s stays → s.track.0 ≡ t → (e : StayEvent) × In e events × (e.enters ≡ true) × (at e ≡ rank s.enter)
   has_entry s h on =
       let f : Stay → ℕ = λ u. flag (eqb (rank u.enter) (rank s.enter)) in
       let one : f s ≡ 1 = ap flag (eq-eqb (rank s.enter) (rank s.enter) refl) in
@@ -45,7 +47,7 @@ module _ (stays : List Stay) (t : ℕ) (events : List Event) (a : AreStays stays
       let p = flag_some r.0.enters (f r.0.stay) r.2 in
       (r.0, r.1, p.0, ap rank (entry_at r.0 p.0) ∙ one_of (rank r.0.stay.enter) (rank s.enter) p.1)
 
-  pub has_leave : (s : Stay) → In s stays → s.track.0 ≡ t → (e : Event) × In e events × (e.enters ≡ false) × (at e ≡ rank s.leave)
+  pub has_leave : (s : Stay) → In s stays → s.track.0 ≡ t → (e : StayEvent) × In e events × (e.enters ≡ false) × (at e ≡ rank s.leave)
   has_leave s h on =
       let f : Stay → ℕ = λ u. flag (eqb (rank u.leave) (rank s.leave)) in
       let one : f s ≡ 1 = ap flag (eq-eqb (rank s.leave) (rank s.leave) refl) in
@@ -53,18 +55,15 @@ module _ (stays : List Stay) (t : ℕ) (events : List Event) (a : AreStays stays
       let p = flag_some_off r.0.enters (f r.0.stay) r.2 in
       (r.0, r.1, p.0, ap rank (leave_at r.0 p.0) ∙ one_of (rank r.0.stay.leave) (rank s.leave) p.1)
 
-  formed_at : (e : Event) → In e events → IsWellFormed e.stay
+  formed_at : (e : StayEvent) → In e events → IsWellFormed e.stay
   formed_at e h = formed stays e.stay a (k.each e h).stay
 
 alike : (e l m n : ℕ) → (e ≤ n) ⊎ (m < e) → (l ≤ n) ⊎ (m < l) → n < m → (leb e n && ltb n l) ≡ (leb e m && ltb m l)
 alike e l m n p q lt = grind (arith, nat_tests)
 
-none : (e l m : ℕ) → m < e → (leb e m && ltb m l) ≡ false
-none e l m lt = grind (arith, nat_tests)
-
 -- two moments with no event of the track between them
-module _ (stays : List Stay) (t : ℕ) (D E : List Event) (a : AreStays stays) (k : IsKept stays t (D ++ E)) (m : EventKey) (q : IsKey m)
-    (before : (e : Event) → In e D → at e < rank m) (after : (e : Event) → In e E → rank m < at e) where
+module _ (stays : List Stay) (t : ℕ) (D E : List StayEvent) (a : AreStays stays) (k : IsKeptTrack stays t (D ++ E)) (m : EventKey) (q : IsKey m)
+    (before : (e : StayEvent) → In e D → at e < rank m) (after : (e : StayEvent) → In e E → rank m < at e) where
   -- none stands before the first event
   pub level_first : D ≡ [] → (count_by (stands_at t m) stays ≡ 0) × (load_at stays t m ≡ 0)
   level_first empty = (
@@ -72,8 +71,8 @@ module _ (stays : List Stay) (t : ℕ) (D E : List Event) (a : AreStays stays) (
     sum_zero (λ s. cond (stands_at t m s) s.length 0) stays (λ s h. ap (λ b. cond b s.length 0) (gone s h)),
   )
     where
-      all_after : (e : Event) → In e (D ++ E) → rank m < at e
-      all_after e h = after e (subst (λ (l : List Event). In e (l ++ E)) empty h)
+      all_after : (e : StayEvent) → In e (D ++ E) → rank m < at e
+      all_after e h = after e (subst (λ (l : List StayEvent). In e (l ++ E)) empty h)
 
       gone : (s : Stay) → In s stays → stands_at t m s ≡ false
       gone s h = ⊎_elim (λ on. let r = has_entry stays t (D ++ E) a k s h on in let lt = all_after r.0 r.1 in let is = r.3 in
@@ -81,7 +80,7 @@ module _ (stays : List Stay) (t : ℕ) (D E : List Event) (a : AreStays stays) (
           (λ off. off_track t m s off) (cases_eq s.track.0 t)
 
   -- what stands just after the last event before the moment stands at the moment
-  pub level_later : (front : List Event) (p : Event) → D ≡ front ++ p ∷ [] → (count_by (stands_at t m) stays ≡ p.standing) × (load_at stays t m ≡ p.load)
+  pub level_later : (front : List StayEvent) (p : StayEvent) → D ≡ front ++ p ∷ [] → (count_by (stands_at t m) stays ≡ p.standing) × (load_at stays t m ≡ p.load)
   level_later front p is = (
     sum_alike (λ s. flag (stands_at t m s)) (λ s. flag (stands_at t (key_of p) s)) stays (λ s h. ap flag (same s h)) ∙ sym (k.each p here).standing,
     sum_alike (λ s. cond (stands_at t m s) s.length 0) (λ s. cond (stands_at t (key_of p) s) s.length 0) stays (λ s h. ap (λ b. cond b s.length 0) (same s h))
@@ -94,16 +93,16 @@ module _ (stays : List Stay) (t : ℕ) (D E : List Event) (a : AreStays stays) (
       here : In p (D ++ E)
       here = in_left D E p last
 
-      highest : (e : Event) → In e D → at e ≤ at p
+      highest : (e : StayEvent) → In e D → at e ≤ at p
       highest e h = ⊎_elim
           (λ l. let lt : at e < at p = ascends_apart at front (p ∷ []) e p (subst (Ascends at) is (ascends_front at D E k.ascends)) l (inl refl) in omega arith)
           (λ r. ⊎_elim (λ e'. omega (arith, ap at e')) (λ no. absurd no) r)
           (in_cases front (p ∷ []) e (subst (In e) is h))
 
-      side : (e : Event) → In e (D ++ E) → (at e ≤ at p) ⊎ (rank m < at e)
+      side : (e : StayEvent) → In e (D ++ E) → (at e ≤ at p) ⊎ (rank m < at e)
       side e h = ⊎_elim (λ l. inl (highest e l)) (λ r. inr (after e r)) (in_cases D E e h)
 
-      moved : (n : ℕ) (e : Event) → at e ≡ n → (at e ≤ at p) ⊎ (rank m < at e) → (n ≤ at p) ⊎ (rank m < n)
+      moved : (n : ℕ) (e : StayEvent) → at e ≡ n → (at e ≤ at p) ⊎ (rank m < at e) → (n ≤ at p) ⊎ (rank m < n)
       moved n e is s = subst (λ z. (z ≤ at p) ⊎ (rank m < z)) is s
 
       same : (s : Stay) → In s stays → stands_at t m s ≡ stands_at t (key_of p) s

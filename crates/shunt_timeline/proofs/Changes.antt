@@ -1,7 +1,7 @@
 -- What one stay more changes at one event.
 use Rattle.std.proofs.Common.{◌≡◌, ◌≢◌, inr, ⊎_elim, ℕ, ◌+◌, ◌<◌, ◌≤◌, ltb, leb, eqb, Bool, true, false, cond, not, ◌&&◌, ◌||◌, List, ◌∷◌, refl, sym, ap, ◌∙◌, arith}
 use Rattle.std.specs.List.{count_by}
-use Rattle.std.specs.Ordering.{nat_cmp, is_le}
+use Rattle.std.specs.Ordering.{is_le}
 use Rattle.std.proofs.lemmas.Bool.{eqb-true, eq-eqb, cases_Bool, and_parts, false_from_ne_true}
 use Rattle.std.proofs.lemmas.Bool.Decides.{nat_tests}
 use Rattle.std.proofs.lemmas.List.Sums.{sum_by-cons}
@@ -12,17 +12,16 @@ use Rattle.shunt_base.specs.declared.keys.Stay.{Stay}
 use Rattle.shunt_base.specs.defs.Keys.{rank, IsKey, IsWellFormed}
 use Rattle.shunt_base.proofs.Ranks.{key_cmp_is}
 use Rattle.shunt_stays.specs.defs.Events.{key_before}
-use Rattle.shunt_stays.specs.defs.Crossing.{crosses, in_the_way, stands_at, load_at}
+use Rattle.shunt_stays.specs.defs.Crossings.{crosses, in_the_way, stands_at, load_at}
 use Rattle.shunt_stays.proofs.Halves.{before_is, ids_apart}
-use Rattle.shunt_timeline.specs.declared.events.Event.{Event}
+use Rattle.shunt_timeline.specs.declared.events.StayEvent.{StayEvent}
 use Rattle.shunt_timeline.specs.defs.Levels.{key_of, at, is_crossed, raised, lowered}
 use Rattle.shunt_timeline.specs.defs.Kept.{IsKeptAt}
 use Rattle.shunt_timeline.proofs.Steps.{flag}
 use Rattle.shunt_timeline.proofs.Numbers.{met}
 use Rattle.shunt_timeline.proofs.Ranks.{key_in}
-
-le_is : (a b : ℕ) → is_le (nat_cmp a b) ≡ leb a b
-le_is a b = grind (arith, nat_tests)
+use Rattle.shunt_lists.proofs.Tests.{off_right as and_false, no_span as out_before}
+use Rattle.shunt_lists.proofs.Orders.{le_is}
 
 -- stands at a moment
 abbrev pub inside : ℕ → Stay → Bool
@@ -46,17 +45,17 @@ crosses_ranks b c w v =
     (before_is b.leave c.leave w.leave_in v.leave_in)
 
 -- the key of an entry and of a leave
-pub entry_at : (e : Event) → e.enters ≡ true → key_of e ≡ e.stay.enter
+pub entry_at : (e : StayEvent) → e.enters ≡ true → key_of e ≡ e.stay.enter
 entry_at e t = ap (λ b. cond b e.stay.enter e.stay.leave) t
 
-pub leave_at : (e : Event) → e.enters ≡ false → key_of e ≡ e.stay.leave
+pub leave_at : (e : StayEvent) → e.enters ≡ false → key_of e ≡ e.stay.leave
 leave_at e t = ap (λ b. cond b e.stay.enter e.stay.leave) t
 
-pub key_id : (e : Event) → IsWellFormed e.stay → (key_of e).id ≡ e.stay.id
+pub key_id : (e : StayEvent) → IsWellFormed e.stay → (key_of e).id ≡ e.stay.id
 key_id e w = ⊎_elim (λ t. ap (λ (k : EventKey). k.id) (entry_at e t) ∙ w.enter_id) (λ t. ap (λ (k : EventKey). k.id) (leave_at e t) ∙ w.leave_id) (cases_Bool e.enters)
 
 -- keys of two ids are at two places
-pub apart : (e : Event) (k : EventKey) → IsWellFormed e.stay → IsKey k → e.stay.id ≢ k.id → at e ≢ rank k
+pub apart : (e : StayEvent) (k : EventKey) → IsWellFormed e.stay → IsKey k → e.stay.id ≢ k.id → at e ≢ rank k
 apart e k w q ne same = ne (sym (key_id e w) ∙ ids_apart (key_of e) k (key_in e w).id q.id same)
 
 -- what isn't of the same track
@@ -68,9 +67,6 @@ off_crossing b c ne = false_from_ne_true (crosses b c) (λ u. ne (eqb-true b.tra
 
 on : (m n : ℕ) (b : Bool) → m ≡ n → (eqb m n && b) ≡ b
 on m n b e = ap (λ x. x && b) (eq-eqb m n e)
-
-out_before : (a b m : ℕ) → m < a → (leb a m && ltb m b) ≡ false
-out_before a b m lt = grind (arith, nat_tests)
 
 out_after : (a b m : ℕ) → b ≤ m → (leb a m && ltb m b) ≡ false
 out_after a b m le = grind (arith, nat_tests)
@@ -102,10 +98,6 @@ late be bl xe xl o p le = ap (λ y. ltb be xe && (y && ((ltb xl bl && not o) || 
     and_false true = refl
     and_false false = refl
 
-and_false : (b : Bool) → (b && false) ≡ false
-and_false true = refl
-and_false false = refl
-
 -- who comes before x isn't crossed by it, nor is who comes once x has left
 pub crossed_not_yet : (x s : Stay) → IsWellFormed x → IsWellFormed s → rank s.enter ≤ rank x.enter → crosses x s ≡ false
 crossed_not_yet x s w v le = crosses_ranks x s w v ∙ ap (λ y. eqb x.track.0 s.track.0 && y) (early (rank x.enter) (rank x.leave) (rank s.enter) (rank s.leave) _ _ le)
@@ -125,7 +117,7 @@ load_one t k x stays = sum_by-cons (λ s. cond (stands_at t k s) s.length 0) x s
 flag_is : (b c : Bool) → b ≡ c → flag b ≡ flag c
 flag_is b c e = ap flag e
 
-module _ (stays : List Stay) (x : Stay) (t : ℕ) (e : Event) where
+module _ (stays : List Stay) (x : Stay) (t : ℕ) (e : StayEvent) where
   abbrev Crossings : List Stay → ℕ
   Crossings l = count_by (λ b. crosses b e.stay) l
 

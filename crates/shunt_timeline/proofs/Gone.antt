@@ -8,18 +8,19 @@ use Rattle.shunt_lists.proofs.Members.{all_in, in_place}
 use Rattle.shunt_base.specs.declared.keys.Stay.{Stay}
 use Rattle.shunt_base.specs.defs.Keys.{AreStays}
 use Rattle.shunt_stays.specs.defs.Run.{AreOnTracks}
-use Rattle.shunt_stays.specs.defs.Crossing.{pairs_in, overs_in}
-use Rattle.shunt_stays.proofs.Sorting.{stays_permuted}
+use Rattle.shunt_stays.specs.defs.Crossings.{pairs_in, overs_in}
+use Rattle.shunt_stays.proofs.SortedEvents.{stays_permuted}
 use Rattle.shunt_stays.proofs.Crossings.{pairs_permuted, overs_permuted}
-use Rattle.shunt_timeline.specs.declared.track.Track.{Track}
-use Rattle.shunt_timeline.specs.defs.Kept.{IsKept}
-use Rattle.shunt_timeline.specs.defs.Sound.{lengths_of, IsSound}
+use Rattle.shunt_timeline.specs.declared.track.TrackTimeline.{TrackTimeline}
+use Rattle.shunt_timeline.specs.defs.Kept.{IsKeptTrack}
+use Rattle.shunt_timeline.specs.defs.Sound.{lengths_of, IsSoundTrack}
 use Rattle.shunt_timeline.proofs.Others.{without, reordered}
 use Rattle.shunt_timeline.proofs.Ids.{ids_taken}
 use Rattle.shunt_timeline.proofs.Tracks.{at_set, lengths_set, length_lengths, length_at}
 
 -- a stay goes
-module _ (stays : List Stay) (tracks : List Track) (spare room pairs over : ℕ) (s : IsSound stays tracks spare room pairs over) (n : ℕ) (lt : n < length stays) (x : Stay)
+module _ (stays : List Stay) (tracks : List TrackTimeline) (spare room pairs over : ℕ) (s : IsSoundTrack stays tracks spare room pairs over) (n : ℕ) (lt : n < length stays)
+    (x : Stay)
     (x_is : x ≡ get_or stays n x) where
   perm : IsPermutation stays (x ∷ remove stays n)
   perm = IsPermutation-remove stays n x lt x_is
@@ -40,13 +41,13 @@ module _ (stays : List Stay) (tracks : List Track) (spare room pairs over : ℕ)
   pub fewer : length (remove stays n) < 65536
   fewer = let f = s.sound.few in omega (arith, length-remove stays n lt)
 
-  module _ (old : Track) (is : old ≡ get_or tracks x.track.0 old) where
-    pub kept_all : IsKept (x ∷ remove stays n) x.track.0 old.events.items
+  module _ (old : TrackTimeline) (is : old ≡ get_or tracks x.track.0 old) where
+    pub kept_all : IsKeptTrack (x ∷ remove stays n) x.track.0 old.events.items
     kept_all = reordered stays (x ∷ remove stays n) x.track.0 old.events.items perm
-        (subst (λ (t : Track). IsKept stays x.track.0 t.events.items) (sym is) (s.sound.kept x.track.0 old on_track))
+        (subst (λ (t : TrackTimeline). IsKeptTrack stays x.track.0 t.events.items) (sym is) (s.sound.kept x.track.0 old on_track))
 
     pub length_was : get_or (lengths_of tracks) x.track.0 0 ≡ old.length
-    length_was = length_at tracks x.track.0 old on_track ∙ ap (λ (t : Track). t.length) (sym is)
+    length_was = length_at tracks x.track.0 old on_track ∙ ap (λ (t : TrackTimeline). t.length) (sym is)
 
     module _ (p o : ℕ) (more_pairs : pairs_in (x ∷ remove stays n) ≡ pairs_in (remove stays n) + p)
         (more_over : overs_in (lengths_of tracks) (x ∷ remove stays n) ≡ overs_in (lengths_of tracks) (remove stays n) + o) where
@@ -62,27 +63,27 @@ module _ (stays : List Stay) (tracks : List Track) (spare room pairs over : ℕ)
       pub over_less : o ≤ over
       over_less = let e = over_were in omega arith
 
-      module _ (after : Track) (same : after.length ≡ old.length) (room_same : vec_capacity after.events ≡ vec_capacity old.events)
-          (kept : IsKept (remove stays n) x.track.0 after.events.items) where
+      module _ (after : TrackTimeline) (same : after.length ≡ old.length) (room_same : vec_capacity after.events ≡ vec_capacity old.events)
+          (kept : IsKeptTrack (remove stays n) x.track.0 after.events.items) where
         pub lengths_left : lengths_of (set tracks x.track.0 after) ≡ lengths_of tracks
-        lengths_left = lengths_set tracks x.track.0 after old on_track (same ∙ ap (λ (t : Track). t.length) is)
+        lengths_left = lengths_set tracks x.track.0 after old on_track (same ∙ ap (λ (t : TrackTimeline). t.length) is)
 
         count : length (remove stays n) + 1 ≡ length stays
         count = length-remove stays n lt
 
-        all_kept : (t : ℕ) (d : Track) → t < length (set tracks x.track.0 after) → IsKept (remove stays n) t (get_or (set tracks x.track.0 after) t d).events.items
-        all_kept = at_set (λ t z. IsKept (remove stays n) t z.events.items) tracks x.track.0 after on_track kept
+        all_kept : (t : ℕ) (d : TrackTimeline) → t < length (set tracks x.track.0 after) → IsKeptTrack (remove stays n) t (get_or (set tracks x.track.0 after) t d).events.items
+        all_kept = at_set (λ t z. IsKeptTrack (remove stays n) t z.events.items) tracks x.track.0 after on_track kept
             (λ t d l ne. without (remove stays n) x t (get_or tracks t d).events.items (λ e. ne (sym e))
             (reordered stays (x ∷ remove stays n) t (get_or tracks t d).events.items perm (s.sound.kept t d l)))
 
-        all_room : (t : ℕ) (d : Track) → t < length (set tracks x.track.0 after) → 2 * (length (remove stays n) + (spare + 1)) ≤ vec_capacity
+        all_room : (t : ℕ) (d : TrackTimeline) → t < length (set tracks x.track.0 after) → 2 * (length (remove stays n) + (spare + 1)) ≤ vec_capacity
             (get_or (set tracks x.track.0 after) t d).events
         all_room = at_set (λ t z. 2 * (length (remove stays n) + (spare + 1)) ≤ vec_capacity z.events) tracks x.track.0 after on_track
-            (let r : 2 * (length stays + spare) ≤ vec_capacity old.events = subst (λ (t : Track). 2 * (length stays + spare) ≤ vec_capacity t.events) (sym is)
+            (let r : 2 * (length stays + spare) ≤ vec_capacity old.events = subst (λ (t : TrackTimeline). 2 * (length stays + spare) ≤ vec_capacity t.events) (sym is)
             (s.sound.room x.track.0 old on_track) in let c = count in omega arith)
             (λ t d l ne. let r = s.sound.room t d l in let c = count in omega arith)
 
-        pub went : (room' : ℕ) → room' ≡ room → IsSound (remove stays n) (set tracks x.track.0 after) (spare + 1) room' (pairs - p) (over - o)
+        pub went : (room' : ℕ) → room' ≡ room → IsSoundTrack (remove stays n) (set tracks x.track.0 after) (spare + 1) room' (pairs - p) (over - o)
         went room' same_room = record {
           sound = record {
             formed = with_gone.2;

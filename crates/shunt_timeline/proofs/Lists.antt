@@ -1,15 +1,10 @@
 -- Lists that ascend, and sums over lists.
-use Rattle.std.proofs.Common.{◌≡◌, inl, inr, ⊎_elim, ℕ, zero, suc, ◌+◌, ◌*◌, ◌<◌, ◌≤◌, List, [], ◌∷◌, ◌++◌, length, get_or, take, drop, map, refl, sym, ap, arith, sum_by}
+use Rattle.std.proofs.Common.{◌≡◌, inl, inr, ⊎_elim, ℕ, zero, suc, ◌+◌, ◌<◌, ◌≤◌, List, [], ◌∷◌, ◌++◌, length, get_or, map, refl, ap, arith, sum_by}
 use Rattle.std.specs.List.{AllByRecursion}
 use Rattle.std.proofs.lemmas.List.Sums.{sum_by-cons}
 use Rattle.shunt_lists.proofs.Members.{all_in, all_from, in_place, in_left, in_right, in_cases}
 use Rattle.shunt_lists.specs.defs.Members.{In}
 use Rattle.shunt_timeline.specs.defs.Kept.{Ascends}
-
--- sums
-pub sum_alike : {X : Type 0} (f g : X → ℕ) (xs : List X) → ((x : X) → In x xs → f x ≡ g x) → sum_by f xs ≡ sum_by g xs
-sum_alike f g [] e = refl
-sum_alike f g (x ∷ xs) e = let first = e x (inl refl) in let rest = sum_alike f g xs (λ y h. e y (inr h)) in omega (arith, sum_by-cons f x xs, sum_by-cons g x xs)
 
 pub sum_plus : {X : Type 0} (f g h : X → ℕ) (xs : List X) → ((x : X) → In x xs → h x ≡ f x + g x) → sum_by h xs ≡ sum_by f xs + sum_by g xs
 sum_plus f g h [] e = refl
@@ -36,10 +31,6 @@ pub sum_least : {X : Type 0} (f : X → ℕ) (xs : List X) (x : X) → In x xs �
 sum_least f [] x h = absurd h
 sum_least f (y ∷ xs) x (inl e) = omega (arith, sum_by-cons f y xs, ap f e)
 sum_least f (y ∷ xs) x (inr h) = let r = sum_least f xs x h in omega (arith, sum_by-cons f y xs)
-
-pub sum_most : {X : Type 0} (f : X → ℕ) (n : ℕ) (xs : List X) → ((x : X) → In x xs → f x ≤ n) → sum_by f xs ≤ length xs * n
-sum_most f n [] h = omega arith
-sum_most f n (x ∷ xs) h = let r = sum_most f n xs (λ y i. h y (inr i)) in let o = h x (inl refl) in omega (arith, sum_by-cons f x xs)
 
 -- ascending lists
 pub ascends_front : {X : Type 0} (f : X → ℕ) (xs ys : List X) → Ascends f (xs ++ ys) → Ascends f xs
@@ -79,17 +70,3 @@ ascends_at f (x ∷ xs) zero zero d a le lt = omega arith
 ascends_at f (x ∷ xs) zero (suc j) d a le lt = let gt : f x < f (get_or xs j d) = all_in (λ y. f x < f y) xs (get_or xs j d) a.0 (in_place xs j d (omega arith)) in omega arith
 ascends_at f (x ∷ xs) (suc i) zero d a le lt = absurd (omega arith)
 ascends_at f (x ∷ xs) (suc i) (suc j) d a le lt = ascends_at f xs i j d a.1 (omega arith) (omega arith)
-
--- members of a front and of a rest, by their places
-pub in_take : {X : Type 0} (n : ℕ) (xs : List X) (x : X) → In x (take n xs) → (k : ℕ) × (k < n) × (k < length xs) × (get_or xs k x ≡ x)
-in_take zero xs x h = absurd h
-in_take (suc n) [] x h = absurd h
-in_take (suc n) (y ∷ xs) x (inl e) = (0, omega arith, omega arith, sym e)
-in_take (suc n) (y ∷ xs) x (inr h) = let r = in_take n xs x h in (suc r.0, let p = r.1 in omega arith, let p = r.2 in omega arith, r.3)
-
-pub in_drop : {X : Type 0} (n : ℕ) (xs : List X) (x : X) → In x (drop n xs) → (k : ℕ) × (n ≤ k) × (k < length xs) × (get_or xs k x ≡ x)
-in_drop zero [] x h = absurd h
-in_drop zero (y ∷ xs) x (inl e) = (0, omega arith, omega arith, sym e)
-in_drop zero (y ∷ xs) x (inr h) = let r = in_drop zero xs x h in (suc r.0, omega arith, let p = r.2 in omega arith, r.3)
-in_drop (suc n) [] x h = absurd h
-in_drop (suc n) (y ∷ xs) x h = let r = in_drop n xs x h in (suc r.0, let p = r.1 in omega arith, let p = r.2 in omega arith, r.3)

@@ -9,17 +9,17 @@ use Rattle.shunt_lists.specs.defs.Members.{In}
 use Rattle.shunt_base.specs.declared.keys.EventKey.{EventKey}
 use Rattle.shunt_base.specs.declared.keys.Stay.{Stay}
 use Rattle.shunt_base.specs.defs.Keys.{AreStays}
-use Rattle.shunt_stays.specs.defs.Crossing.{crosses, stands_at, load_at}
+use Rattle.shunt_stays.specs.defs.Crossings.{crosses, stands_at, load_at}
 use Rattle.shunt_stays.proofs.Halves.{formed}
-use Rattle.shunt_timeline.specs.declared.events.Event.{Event}
+use Rattle.shunt_timeline.specs.declared.events.StayEvent.{StayEvent}
 use Rattle.shunt_timeline.specs.defs.Levels.{key_of, IsSmall}
-use Rattle.shunt_timeline.specs.defs.Kept.{IsKept, sum_on}
-use Rattle.shunt_timeline.proofs.Lists.{sum_most}
+use Rattle.shunt_timeline.specs.defs.Kept.{IsKeptTrack, sum_on}
 use Rattle.shunt_timeline.proofs.Steps.{flag}
 use Rattle.shunt_timeline.proofs.Changes.{off_track, off_crossing, kept_aside, aside_kept}
+use Rattle.shunt_lists.proofs.Sums.{sum_at_most as sum_most}
 
 -- a track on which x isn't
-pub beside : (stays : List Stay) (x : Stay) (t : ℕ) (events : List Event) → x.track.0 ≢ t → IsKept stays t events → IsKept (x ∷ stays) t events
+pub beside : (stays : List Stay) (x : Stay) (t : ℕ) (events : List StayEvent) → x.track.0 ≢ t → IsKeptTrack stays t events → IsKeptTrack (x ∷ stays) t events
 beside stays x t events ne k = record {
   ascends = k.ascends;
   each = λ e h. let i = k.each e h in kept_aside stays x t e (off_track t (key_of e) x ne) (λ u. off_crossing x e.stay (λ s. ne (s ∙ i.track))) i;
@@ -30,7 +30,7 @@ beside stays x t events ne k = record {
     off : (f : Stay → ℕ) → cond (eqb x.track.0 t) (f x) 0 ≡ 0
     off f = ⊎_elim (λ u. absurd (ne (eqb-true x.track.0 t u))) (λ u. ap (λ b. cond b (f x) 0) u) (cases_Bool (eqb x.track.0 t))
 
-pub without : (stays : List Stay) (x : Stay) (t : ℕ) (events : List Event) → x.track.0 ≢ t → IsKept (x ∷ stays) t events → IsKept stays t events
+pub without : (stays : List Stay) (x : Stay) (t : ℕ) (events : List StayEvent) → x.track.0 ≢ t → IsKeptTrack (x ∷ stays) t events → IsKeptTrack stays t events
 without stays x t events ne k = record {
   ascends = k.ascends;
   each = λ e h. let i = k.each e h in aside_kept stays x t e (off_track t (key_of e) x ne) (λ u. off_crossing x e.stay (λ s. ne (s ∙ i.track)))
@@ -46,7 +46,7 @@ without stays x t events ne k = record {
 pub in_permuted : (stays others : List Stay) (s : Stay) → IsPermutation stays others → In s stays → In s others
 in_permuted stays others s p h = in_from others s (Contains-permutation stays others s p (in_to stays s h))
 
-pub reordered : (stays others : List Stay) (t : ℕ) (events : List Event) → IsPermutation stays others → IsKept stays t events → IsKept others t events
+pub reordered : (stays others : List Stay) (t : ℕ) (events : List StayEvent) → IsPermutation stays others → IsKeptTrack stays t events → IsKeptTrack others t events
 reordered stays others t events p k = record {
   ascends = k.ascends;
   each = λ e h. let i = k.each e h in record {
@@ -69,7 +69,7 @@ length_bound false n lt = omega arith
 pub load_bound : (stays : List Stay) (t : ℕ) (k : EventKey) → AreStays stays → load_at stays t k ≤ length stays * 2 ^ 32
 load_bound stays t k a = sum_most (λ s. cond (stands_at t k s) s.length 0) (2 ^ 32) stays (λ s h. length_bound (stands_at t k s) s.length (formed stays s a h).length_in)
 
-module _ (stays : List Stay) (t : ℕ) (events : List Event) (a : AreStays stays) (few : length stays ≤ 65536) (k : IsKept stays t events) where
+module _ (stays : List Stay) (t : ℕ) (events : List StayEvent) (a : AreStays stays) (few : length stays ≤ 65536) (k : IsKeptTrack stays t events) where
   one_flag : (b : Bool) → cond b 1 0 + cond b 0 1 ≡ 1
   one_flag true = refl
   one_flag false = refl
@@ -78,7 +78,7 @@ module _ (stays : List Stay) (t : ℕ) (events : List Event) (a : AreStays stays
   one_most true = omega arith
   one_most false = omega arith
 
-  all_ones : (es : List Event) → length es ≡ sum_by (λ e. cond e.enters 1 0) es + sum_by (λ e. cond e.enters 0 1) es
+  all_ones : (es : List StayEvent) → length es ≡ sum_by (λ e. cond e.enters 1 0) es + sum_by (λ e. cond e.enters 0 1) es
   all_ones [] = refl
   all_ones (e ∷ es) = let r = all_ones es in let o = one_flag e.enters in omega (arith, sum_by-cons (λ e. cond e.enters 1 0) e es, sum_by-cons (λ e. cond e.enters 0 1) e es)
 
@@ -92,7 +92,7 @@ module _ (stays : List Stay) (t : ℕ) (events : List Event) (a : AreStays stays
   count_small p = omega (arith, count_by-le-length p stays)
 
   -- the numbers of an event fit their types
-  pub small_kept : (e : Event) → In e events → IsSmall e
+  pub small_kept : (e : StayEvent) → In e events → IsSmall e
   small_kept e h =
       let i = k.each e h in record {
         crossings = ⊎_elim (λ u. let c = i.crossings u in let s = count_small (λ b. crosses b e.stay) in omega arith) (λ u. let c = i.none u in omega arith) (cases_Bool e.enters);

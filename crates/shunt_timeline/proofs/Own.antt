@@ -9,16 +9,17 @@ use Rattle.shunt_lists.specs.defs.Members.{In}
 use Rattle.shunt_base.specs.declared.keys.Stay.{Stay}
 use Rattle.shunt_base.specs.defs.Keys.{rank, IsWellFormed}
 use Rattle.shunt_stays.specs.defs.Events.{key_before}
-use Rattle.shunt_stays.specs.defs.Crossing.{crosses, stands_at}
+use Rattle.shunt_stays.specs.defs.Crossings.{crosses, stands_at}
 use Rattle.shunt_stays.proofs.Halves.{before_is, formed, ids_apart}
-use Rattle.shunt_timeline.specs.declared.events.Event.{Event}
+use Rattle.shunt_timeline.specs.declared.events.StayEvent.{StayEvent}
 use Rattle.shunt_timeline.specs.defs.Levels.{has_left, has_blocked}
 use Rattle.shunt_timeline.specs.defs.Kept.{sum_on}
-use Rattle.shunt_timeline.proofs.Lists.{sum_alike, sum_plus, sum_zero}
+use Rattle.shunt_timeline.proofs.Lists.{sum_plus, sum_zero}
 use Rattle.shunt_timeline.proofs.Steps.{flag}
 use Rattle.shunt_timeline.proofs.Numbers.{met, parts, covers, own_ways, standing_ways}
 use Rattle.shunt_timeline.proofs.Changes.{inside, stands_is, crosses_ranks}
-use Rattle.shunt_timeline.proofs.Coming.{Cut, and_flag, window, wx, inB, we, leave_rank, leave_none}
+use Rattle.shunt_timeline.proofs.ThreeParts.{Cut, and_flag, window, wx, inB, we, leave_rank, leave_none}
+use Rattle.shunt_lists.proofs.Sums.{sum_alike}
 
 no_part : (be bl xe xl : ℕ) → bl ≤ xe → parts be bl xe xl ≡ false
 no_part be bl xe xl le = grind (arith, nat_tests)
@@ -47,7 +48,7 @@ negated : (a b : Bool) → flag (not a && b) ≡ cond a 0 (flag b)
 negated true b = refl
 negated false b = refl
 
-module _ (stays : List Stay) (x : Stay) (A B C : List Event) (c : Cut stays x A B C) where
+module _ (stays : List Stay) (x : Stay) (A B C : List StayEvent) (c : Cut stays x A B C) where
   abbrev xe : ℕ
   xe = rank x.enter
 
@@ -80,8 +81,8 @@ module _ (stays : List Stay) (x : Stay) (A B C : List Event) (c : Cut stays x A 
   leaves_apart s h e = ids s h (sym ((wx stays x A B C c).leave_id) ∙ sym (ids_apart s.leave x.leave (ws s h).leave_in.id (wx stays x A B C c).leave_in.id e) ∙ (ws s h).leave_id)
 
   -- leaves among B are of stays that part
-  leaving : (p : Stay → Bool) (q : Event → Bool) → ((e : Event) → In e B → e.enters ≡ false → flag (q e) ≡ flag (part e.stay && p e.stay))
-      → ((e : Event) → In e B → e.enters ≡ true → flag (q e) ≡ 0) → count_by q B ≡ sum_on x.track.0 (λ s. flag (part s && p s)) stays
+  leaving : (p : Stay → Bool) (q : StayEvent → Bool) → ((e : StayEvent) → In e B → e.enters ≡ false → flag (q e) ≡ flag (part e.stay && p e.stay))
+      → ((e : StayEvent) → In e B → e.enters ≡ true → flag (q e) ≡ 0) → count_by q B ≡ sum_on x.track.0 (λ s. flag (part s && p s)) stays
   leaving p q is none =
       sum_alike (λ e. flag (q e)) g B (λ e h. ⊎_elim (λ t. none e h t ∙ sym (ap (λ b. cond b 0 (flag (part e.stay && p e.stay))) t))
       (λ t. is e h t ∙ sym (ap (λ b. cond b 0 (flag (part e.stay && p e.stay))) t)) (cases_Bool e.enters))
@@ -92,13 +93,13 @@ module _ (stays : List Stay) (x : Stay) (A B C : List Event) (c : Cut stays x A 
       (no_part_late (rank e.stay.enter) (rank e.stay.leave) xe xl (omega arith)))))
       ∙ c.kept.leaves (λ s. flag (part s && p s))
     where
-      g : Event → ℕ
+      g : StayEvent → ℕ
       g e = cond e.enters 0 (flag (part e.stay && p e.stay))
 
-      gone : (e : Event) → part e.stay ≡ false → flag (part e.stay && p e.stay) ≡ 0
+      gone : (e : StayEvent) → part e.stay ≡ false → flag (part e.stay && p e.stay) ≡ 0
       gone e f = ap (λ b. flag (b && p e.stay)) f
 
-  left_at : (e : Event) → In e B → e.enters ≡ false → has_left x e ≡ part e.stay
+  left_at : (e : StayEvent) → In e B → e.enters ≡ false → has_left x e ≡ part e.stay
   left_at e h t =
       let w = we stays x A B C c e (inB stays x A B C c e h) in
       let a = c.since e h in

@@ -8,7 +8,7 @@ use Rattle.std.proofs.lemmas.List.Edits.{map_over_more}
 use Rattle.shunt_lists.proofs.Members.{in_place}
 use Rattle.shunt_lists.specs.defs.Members.{In}
 use Rattle.shunt_base.specs.declared.keys.Stay.{Stay}
-use Rattle.shunt_timeline.specs.declared.events.Event.{Event}
+use Rattle.shunt_timeline.specs.declared.events.StayEvent.{StayEvent}
 use Rattle.shunt_timeline.specs.defs.Levels.{lowered, IsSmall}
 use Rattle.shunt_timeline.proofs.Lists.{sum_map}
 
@@ -58,7 +58,7 @@ pub flag_most : (b : Bool) → ◌≤◌ (cond b 1 0) 1
 flag_most true = omega arith
 flag_most false = omega arith
 
-pub small_lowered : (x : Stay) (e l : Event) → l ≡ lowered x e → IsSmall e → IsSmall l
+pub small_lowered : (x : Stay) (e l : StayEvent) → l ≡ lowered x e → IsSmall e → IsSmall l
 small_lowered x e l is h = subst IsSmall (sym is) (record {
   crossings = let p = h.crossings in omega arith;
   standing = let p = h.standing in omega arith;

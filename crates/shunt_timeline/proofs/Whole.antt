@@ -1,48 +1,32 @@
 -- Timelines as a whole.
-use Rattle.std.proofs.Common.{◌≡◌, ◌≢◌, inl, inr, ◌↔◌, ℕ, ◌+◌, ◌-◌, ◌*◌, ◌^◌, ◌<◌, ◌≤◌, ltb, Bool, false, not, cond, Result, List, [], ◌∷◌, length, get_or, set, take, drop, vec_len, vec_capacity, sym, subst, ap, ◌∙◌, arith, IsPermutation}
+use Rattle.std.proofs.Common.{◌≡◌, ◌≢◌, ℕ, ◌+◌, ◌-◌, ◌*◌, ◌^◌, ◌<◌, ◌≤◌, ltb, Bool, false, not, cond, Result, List, [], ◌∷◌, length, get_or, set, take, drop, vec_len, vec_capacity, sym, subst, ap, ◌∙◌, arith, IsPermutation}
 use Rattle.std.specs.List.{count_by, All, insert}
 use Rattle.std.specs.Result.{is_ok}
 use Rattle.std.proofs.lemmas.List.Edits.{length-insert}
 use Rattle.std.proofs.lemmas.List.Elements.{All-cons}
 use Rattle.std.proofs.lemmas.List.Sorted.{All-permutation, IsPermutation-insert}
-use Rattle.std.proofs.lemmas.List.Sums.{sum_by-cons, count_by-le-length}
+use Rattle.std.proofs.lemmas.List.Sums.{count_by-le-length}
 use Rattle.shunt_lists.proofs.Members.{all_from, in_to}
 use Rattle.shunt_lists.specs.defs.Members.{In}
 use Rattle.shunt_base.specs.declared.keys.Stay.{Stay}
 use Rattle.shunt_base.specs.defs.Keys.{AreStays, IsWellFormed}
-use Rattle.shunt_stays.specs.defs.Run.{AreOnTracks, GoesThrough}
-use Rattle.shunt_stays.specs.defs.Crossing.{crosses, load_after, pairs_in, overs_in}
+use Rattle.shunt_stays.specs.defs.Run.{AreOnTracks}
+use Rattle.shunt_stays.specs.defs.Crossings.{crosses, load_after, pairs_in, overs_in}
 use Rattle.shunt_stays.proofs.Halves.{formed}
-use Rattle.shunt_stays.proofs.Sorting.{stays_permuted}
-use Rattle.shunt_stays.proofs.Crossings.{through_clear, clear_through, no_pairs, no_overs, pairs_permuted, overs_permuted}
+use Rattle.shunt_stays.proofs.SortedEvents.{stays_permuted}
+use Rattle.shunt_stays.proofs.Crossings.{pairs_permuted, overs_permuted}
 use Rattle.shunt_cross.specs.declared.clash.Clash.{Clash}
 use Rattle.shunt_cross.specs.defs.Clashes.{clash_of}
-use Rattle.shunt_timeline.specs.declared.events.Event.{Event}
-use Rattle.shunt_timeline.specs.declared.track.Track.{Track}
-use Rattle.shunt_timeline.specs.defs.Kept.{IsKept}
-use Rattle.shunt_timeline.specs.defs.Sound.{lengths_of, AreSame, IsSound}
-use Rattle.shunt_timeline.proofs.Lists.{sum_most}
-use Rattle.shunt_timeline.proofs.Steps.{flag, flag_most}
+use Rattle.shunt_timeline.specs.declared.events.StayEvent.{StayEvent}
+use Rattle.shunt_timeline.specs.declared.track.TrackTimeline.{TrackTimeline}
+use Rattle.shunt_timeline.specs.defs.Kept.{IsKeptTrack}
+use Rattle.shunt_timeline.specs.defs.Sound.{lengths_of, AreSame, IsSoundTrack}
 use Rattle.shunt_timeline.proofs.Places.{in_rest}
-use Rattle.shunt_timeline.proofs.Coming.{not_itself}
+use Rattle.shunt_timeline.proofs.ThreeParts.{not_itself}
 use Rattle.shunt_timeline.proofs.Others.{beside, reordered, length_kept}
 use Rattle.shunt_timeline.proofs.Ids.{ids_put}
 use Rattle.shunt_timeline.proofs.Tracks.{at_set, lengths_set, length_lengths, length_at}
-
-pub through : (lengths : List ℕ) (stays : List Stay) (p o : ℕ) → AreStays stays → AreOnTracks lengths stays → p ≡ pairs_in stays → o ≡ overs_in lengths stays
-    → (p ≡ 0) × (o ≡ 0) ↔ GoesThrough lengths stays
-through lengths stays p o a on pairs over = (
-  λ k. clear_through lengths stays a on ((no_pairs stays).0 (sym pairs ∙ k.0)) ((no_overs lengths stays).0 (sym over ∙ k.1)),
-  λ go. let k = through_clear lengths stays a on go in (pairs ∙ (no_pairs stays).1 k.0, over ∙ (no_overs lengths stays).1 k.1),
-)
-
--- how many pairs and entries there may be
-count_below : {X : Type 0} (p : X → Bool) (xs : List X) (x : X) → In x xs → p x ≡ false → count_by p xs < length xs
-count_below p [] x h e = absurd h
-count_below p (y ∷ xs) x (inl s) e =
-    let none : flag (p y) ≡ 0 = ap flag (ap p (sym s) ∙ e) in
-    omega (arith, count_by-le-length p xs, sum_by-cons (λ z. flag (p z)) y xs)
-count_below p (y ∷ xs) x (inr h) e = let r = count_below p xs x h e in let o = flag_most (p y) in omega (arith, sum_by-cons (λ z. flag (p z)) y xs)
+use Rattle.shunt_lists.proofs.Sums.{count_below, sum_at_most as sum_most}
 
 times : (n k : ℕ) → n ≤ 65536 → k ≤ n * 65535 → k < 4294967296
 times n k le h = omega arith
@@ -58,7 +42,7 @@ all_members : {X : Type 0} (P : X → Type 0) (xs : List X) → All P xs → (x 
 all_members P xs all x h = let c = in_to xs x h in subst P c.2 (all c.0 x c.1)
 
 -- a stay comes
-module _ (stays : List Stay) (tracks : List Track) (spare room pairs over : ℕ) (s : IsSound stays tracks spare room pairs over) (x : Stay) (w : IsWellFormed x)
+module _ (stays : List Stay) (tracks : List TrackTimeline) (spare room pairs over : ℕ) (s : IsSoundTrack stays tracks spare room pairs over) (x : Stay) (w : IsWellFormed x)
     (on : x.track.0 < length (lengths_of tracks)) (new : All (λ u. u.id ≢ x.id) stays) (few : length stays < 65536) where
   pub with_new : AreStays (x ∷ stays)
   with_new = (w, all_from (λ u. x.id ≢ u.id) stays (λ u h e. all_members (λ v. v.id ≢ x.id) stays new u h (sym e)), s.sound.formed)
@@ -69,19 +53,19 @@ module _ (stays : List Stay) (tracks : List Track) (spare room pairs over : ℕ)
   few_more : length (x ∷ stays) ≤ 65536
   few_more = omega arith
 
-  module _ (old : Track) (is : old ≡ get_or tracks x.track.0 old) where
-    pub kept_at : IsKept stays x.track.0 old.events.items
-    kept_at = subst (λ (t : Track). IsKept stays x.track.0 t.events.items) (sym is) (s.sound.kept x.track.0 old within)
+  module _ (old : TrackTimeline) (is : old ≡ get_or tracks x.track.0 old) where
+    pub kept_at : IsKeptTrack stays x.track.0 old.events.items
+    kept_at = subst (λ (t : TrackTimeline). IsKeptTrack stays x.track.0 t.events.items) (sym is) (s.sound.kept x.track.0 old within)
 
     pub room_at : 0 < spare → vec_len old.events + 2 ≤ vec_capacity old.events
     room_at lt =
-        let r : 2 * (length stays + spare) ≤ vec_capacity old.events = subst (λ (t : Track). 2 * (length stays + spare) ≤ vec_capacity t.events) (sym is)
+        let r : 2 * (length stays + spare) ≤ vec_capacity old.events = subst (λ (t : TrackTimeline). 2 * (length stays + spare) ≤ vec_capacity t.events) (sym is)
         (s.sound.room x.track.0 old within) in
         let n = length_kept stays x.track.0 old.events.items s.sound.formed (omega arith) kept_at in
         omega (arith, old.events.ok.0)
 
     pub length_is : get_or (lengths_of tracks) x.track.0 0 ≡ old.length
-    length_is = length_at tracks x.track.0 old within ∙ ap (λ (t : Track). t.length) (sym is)
+    length_is = length_at tracks x.track.0 old within ∙ ap (λ (t : TrackTimeline). t.length) (sym is)
 
     module _ (p o : ℕ) (more_pairs : pairs_in (x ∷ stays) ≡ pairs_in stays + p) (more_over : overs_in (lengths_of tracks) (x ∷ stays)
         ≡ overs_in (lengths_of tracks) stays + o) where
@@ -95,10 +79,10 @@ module _ (stays : List Stay) (tracks : List Track) (spare room pairs over : ℕ)
       clash_more = ap (λ n. record { pairs = n + p; over = over + o }) s.pairs_are ∙ ap (λ n. record { pairs = n; over = over + o }) (sym more_pairs)
           ∙ ap (λ n. record { pairs = pairs_in (x ∷ stays); over = n + o }) s.over_are ∙ ap (λ n. record { pairs = pairs_in (x ∷ stays); over = n }) (sym more_over)
 
-      module _ (after : Track) (same : after.length ≡ old.length) (more : vec_capacity old.events ≤ vec_capacity after.events)
-          (kept : IsKept (x ∷ stays) x.track.0 after.events.items) where
+      module _ (after : TrackTimeline) (same : after.length ≡ old.length) (more : vec_capacity old.events ≤ vec_capacity after.events)
+          (kept : IsKeptTrack (x ∷ stays) x.track.0 after.events.items) where
         pub lengths_after : lengths_of (set tracks x.track.0 after) ≡ lengths_of tracks
-        lengths_after = lengths_set tracks x.track.0 after old within (same ∙ ap (λ (t : Track). t.length) is)
+        lengths_after = lengths_set tracks x.track.0 after old within (same ∙ ap (λ (t : TrackTimeline). t.length) is)
 
         module _ (n : ℕ) (bound : n ≤ length stays) (before : (u : Stay) → In u (take n stays) → u.id < x.id) (later : (u : Stay) → In u (drop n stays) → x.id ≤ u.id)
             (lt : 0 < spare) (room' : ℕ) (le : room ≤ room') where
@@ -111,20 +95,20 @@ module _ (stays : List Stay) (tracks : List Track) (spare room pairs over : ℕ)
           apart : (u : Stay) → In u (drop n stays) → x.id < u.id
           apart u h = let l = later u h in let ne = all_members (λ v. v.id ≢ x.id) stays new u (in_rest n stays u h) in omega arith
 
-          all_kept : (t : ℕ) (d : Track) → t < length (set tracks x.track.0 after) → IsKept (insert stays n x) t (get_or (set tracks x.track.0 after) t d).events.items
-          all_kept = at_set (λ t z. IsKept (insert stays n x) t z.events.items) tracks x.track.0 after within
+          all_kept : (t : ℕ) (d : TrackTimeline) → t < length (set tracks x.track.0 after) → IsKeptTrack (insert stays n x) t (get_or (set tracks x.track.0 after) t d).events.items
+          all_kept = at_set (λ t z. IsKeptTrack (insert stays n x) t z.events.items) tracks x.track.0 after within
               (reordered (x ∷ stays) (insert stays n x) x.track.0 after.events.items perm kept)
               (λ t d l ne. reordered (x ∷ stays) (insert stays n x) t (get_or tracks t d).events.items perm
               (beside stays x t (get_or tracks t d).events.items (λ e. ne (sym e)) (s.sound.kept t d l)))
 
-          all_room : (t : ℕ) (d : Track) → t < length (set tracks x.track.0 after)
+          all_room : (t : ℕ) (d : TrackTimeline) → t < length (set tracks x.track.0 after)
               → 2 * (length (insert stays n x) + (spare - 1)) ≤ vec_capacity (get_or (set tracks x.track.0 after) t d).events
           all_room = at_set (λ t z. 2 * (length (insert stays n x) + (spare - 1)) ≤ vec_capacity z.events) tracks x.track.0 after within
-              (let r : 2 * (length stays + spare) ≤ vec_capacity old.events = subst (λ (t : Track). 2 * (length stays + spare) ≤ vec_capacity t.events) (sym is)
+              (let r : 2 * (length stays + spare) ≤ vec_capacity old.events = subst (λ (t : TrackTimeline). 2 * (length stays + spare) ≤ vec_capacity t.events) (sym is)
               (s.sound.room x.track.0 old within) in let c = count in omega arith)
               (λ t d l ne. let r = s.sound.room t d l in let c = count in omega arith)
 
-          pub came : IsSound (insert stays n x) (set tracks x.track.0 after) (spare - 1) room' (pairs + p) (over + o)
+          pub came : IsSoundTrack (insert stays n x) (set tracks x.track.0 after) (spare - 1) room' (pairs + p) (over + o)
           came = record {
             sound = record {
               formed = stays_permuted (x ∷ stays) (insert stays n x) with_new perm;
@@ -146,18 +130,21 @@ module _ (stays : List Stay) (tracks : List Track) (spare room pairs over : ℕ)
           }
 
 -- the same with more room
-pub roomier : (stays stays' : List Stay) (tracks tracks' : List Track) (spare spare' room room' pairs over : ℕ) → IsSound stays tracks spare room pairs over → stays' ≡ stays
+pub roomier : (stays stays' : List Stay) (tracks tracks' : List TrackTimeline) (spare spare' room room' pairs over : ℕ) → IsSoundTrack stays tracks spare room pairs over
+    → stays' ≡ stays
     → AreSame tracks tracks'
-    → length stays + spare' ≤ room' → length stays + spare' < 2 ^ 62 → ((t : ℕ) (d : Track) → t < length tracks'
-    → 2 * (length stays + spare') ≤ vec_capacity (get_or tracks' t d).events) → IsSound stays' tracks' spare' room' pairs over
-roomier stays stays' tracks tracks' spare spare' room room' pairs over s is same fits small rooms = subst (λ (l : List Stay). IsSound l tracks' spare' room' pairs over) (sym is)
+    → length stays + spare' ≤ room' → length stays + spare' < 2 ^ 62 → ((t : ℕ) (d : TrackTimeline) → t < length tracks'
+    → 2 * (length stays + spare') ≤ vec_capacity (get_or tracks' t d).events) → IsSoundTrack stays' tracks' spare' room' pairs over
+roomier stays stays' tracks tracks' spare spare' room room' pairs over s is same fits small rooms = subst (λ (l : List Stay). IsSoundTrack l tracks' spare' room' pairs over)
+    (sym is)
     (record {
       sound = record {
         formed = s.sound.formed;
         placed = subst (λ (l : List ℕ). AreOnTracks l stays) (sym same.lengths) s.sound.placed;
         sorted = s.sound.sorted;
         few = s.sound.few;
-        kept = λ t d lt. let l : t < length tracks = omega (arith, same.count) in subst (λ (es : List Event). IsKept stays t es) (sym (same.events t d l)) (s.sound.kept t d l);
+        kept = λ t d lt. let l : t < length tracks = omega (arith, same.count) in subst (λ (es : List StayEvent). IsKeptTrack stays t es) (sym (same.events t d l))
+            (s.sound.kept t d l);
         room = rooms;
       };
       fits = fits;
@@ -166,8 +153,8 @@ roomier stays stays' tracks tracks' spare spare' room room' pairs over s is same
       over_are = s.over_are ∙ ap (λ l. overs_in l stays) (sym same.lengths);
     })
 
-pub still_room : (stays : List Stay) (tracks tracks' : List Track) (spare room pairs over : ℕ) → IsSound stays tracks spare room pairs over → AreSame tracks tracks'
-    → (t : ℕ) (d : Track) → t < length tracks' → 2 * (length stays + spare) ≤ vec_capacity (get_or tracks' t d).events
+pub still_room : (stays : List Stay) (tracks tracks' : List TrackTimeline) (spare room pairs over : ℕ) → IsSoundTrack stays tracks spare room pairs over → AreSame tracks tracks'
+    → (t : ℕ) (d : TrackTimeline) → t < length tracks' → 2 * (length stays + spare) ≤ vec_capacity (get_or tracks' t d).events
 still_room stays tracks tracks' spare room pairs over s same t d lt = let l : t < length tracks = omega
     (arith, same.count) in let r = same.room t d l in let q = s.sound.room t d l in omega arith
 

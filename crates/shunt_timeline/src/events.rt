@@ -1,10 +1,13 @@
 // The entries and leaves on one track in key order, each with what stands there just after it.
-ghost use Rattle.std.specs.Prelude.{◌≡◌, ℕ, ◌+◌, ◌-◌, ◌≤◌, ◌<◌, ◌++◌, Bool, List, if◌then◌else◌, length, map, count_by, slice_index_or, take, drop, vec_len, vec_capacity, ◌∷◌};
+ghost use Rattle.std.specs.Prelude.{◌≡◌, ℕ, ◌+◌, ◌-◌, ◌≤◌, ◌<◌, ◌++◌, Bool, List, if◌then◌else◌};
+ghost use Rattle.std.specs.Prelude.{length, map, count_by, slice_index_or, take, drop, vec_len};
+ghost use Rattle.std.specs.Prelude.{vec_capacity, ◌∷◌};
 ghost use Rattle.std.specs.List.{All};
 ghost use Rattle.shunt_lists.specs.defs.Members.{In};
 ghost use Rattle.shunt_base.specs.defs.Keys.{IsKey, IsWellFormed};
 ghost use Rattle.shunt_stays.specs.defs.Events.{key_before};
-ghost use Rattle.shunt_timeline.specs.defs.Levels.{key_of, at, is_crossed, gets_over, has_left, has_blocked, raised, lowered, IsSmall, IsPlace};
+ghost use Rattle.shunt_timeline.specs.defs.Levels.{key_of, at, is_crossed, gets_over, has_left};
+ghost use Rattle.shunt_timeline.specs.defs.Levels.{has_blocked, raised, lowered, IsSmall, IsPlace};
 ghost use Rattle.shunt_timeline.specs.defs.Kept.{Ascends};
 
 use shunt_base::{EventKey, Stay, compare_keys};
@@ -13,7 +16,7 @@ use std::cmp::Ordering;
 
 /// An entry of a stay or its leave.
 #[derive(Clone, Copy, Debug)]
-pub struct Event {
+pub struct StayEvent {
     pub stay: Stay,
     pub enters: bool,
     /// At an entry, how many stays cross this one by having come before it.
@@ -26,7 +29,7 @@ pub struct Event {
 
 /// What stands on a track.
 #[derive(Clone, Copy, Debug)]
-pub struct Level {
+pub struct TrackLoad {
     pub standing: u32,
     pub load: u64,
 }
@@ -50,7 +53,7 @@ fn is_before(first: EventKey, second: EventKey) -> bool
     compare_keys(first, second) == Ordering::Less
 }
 
-impl Event {
+impl StayEvent {
     pub fn key(&self) -> EventKey
         ensures { result ≡ key_of self.now }
     {
@@ -87,12 +90,12 @@ impl Event {
         self.has_left(stay) && self.stay.side_out == stay.side_in
     }
 
-    fn raised(&self, stay: &Stay) -> Event
+    fn raised(&self, stay: &Stay) -> StayEvent
         requires { IsSmall self.now }
         ensures { result ≡ raised stay.now self.now }
     {
         let length = stay.length;
-        Event {
+        StayEvent {
             stay: self.stay,
             enters: self.enters,
             crossings: self.crossings + u32::from(self.is_crossed_by(stay)),
@@ -101,10 +104,10 @@ impl Event {
         }
     }
 
-    fn lowered(&self, stay: &Stay) -> Event
+    fn lowered(&self, stay: &Stay) -> StayEvent
         ensures { result ≡ lowered stay.now self.now }
     {
-        Event {
+        StayEvent {
             stay: self.stay,
             enters: self.enters,
             crossings: self
@@ -129,16 +132,19 @@ impl Met {
     }
 
     // With what the stay meets at one event more.
-    fn with(self, event: &Event, stay: &Stay, room: u32) -> Met
+    fn with(self, event: &StayEvent, stay: &Stay, room: u32) -> Met
         requires small { IsSmall event.now }
         requires crossed { self.crossed < 131072 }
         requires over { self.over < 131072 }
         requires left { self.left < 131072 }
         requires blocked { self.blocked < 131072 }
-        ensures crossed { result.crossed ≡ self.crossed + (if is_crossed stay.now event.now then 1 else 0) }
-        ensures over { result.over ≡ self.over + (if gets_over stay.now room event.now then 1 else 0) }
+        ensures crossed { result.crossed ≡ self.crossed
+            + (if is_crossed stay.now event.now then 1 else 0) }
+        ensures over { result.over ≡ self.over
+            + (if gets_over stay.now room event.now then 1 else 0) }
         ensures left { result.left ≡ self.left + (if has_left stay.now event.now then 1 else 0) }
-        ensures blocked { result.blocked ≡ self.blocked + (if has_blocked stay.now event.now then 1 else 0) }
+        ensures blocked { result.blocked ≡ self.blocked
+            + (if has_blocked stay.now event.now then 1 else 0) }
     {
         Met {
             crossed: self.crossed + u32::from(event.is_crossed_by(stay)),
@@ -150,9 +156,9 @@ impl Met {
 }
 
 /// How many events come before a key, by binary search.
-pub fn place(events: &[Event], key: EventKey) -> usize
+pub fn place(events: &[StayEvent], key: EventKey) -> usize
     requires ascends { Ascends at events.now }
-    requires formed { (e : Event) → In e events.now → IsWellFormed e.stay }
+    requires formed { (e : StayEvent) → In e events.now → IsWellFormed e.stay }
     requires key { IsKey key }
     ensures { IsPlace events.now key result }
 {
@@ -160,27 +166,29 @@ pub fn place(events: &[Event], key: EventKey) -> usize
 }
 
 /// What stands just before the event at a place.
-pub fn level_before(events: &[Event], place: usize) -> Level
+pub fn level_before(events: &[StayEvent], place: usize) -> TrackLoad
     requires { place ≤ length events.now }
     ensures first { place ≡ 0 → (result.standing ≡ 0) × (result.load ≡ 0) }
-    ensures later { (d : Event) → 0 < place → (result.standing ≡ (slice_index_or events.now (place - 1) d).standing) × (result.load ≡ (slice_index_or events.now (place - 1) d).load) }
+    ensures later { (d : StayEvent) → 0 < place
+        → (result.standing ≡ (slice_index_or events.now (place - 1) d).standing)
+        × (result.load ≡ (slice_index_or events.now (place - 1) d).load) }
 {
     if place == 0 {
-        return Level {
+        return TrackLoad {
             standing: 0,
             load: 0,
         };
     }
     let event = events[place - 1];
-    Level {
+    TrackLoad {
         standing: event.standing,
         load: event.load,
     }
 }
 
 /// What a stay would meet at these events, all of them between its entry and its leave.
-pub fn meet(events: &[Event], stay: &Stay, room: u32) -> Met
-    requires small { (e : Event) → In e events.now → IsSmall e }
+pub fn meet(events: &[StayEvent], stay: &Stay, room: u32) -> Met
+    requires small { (e : StayEvent) → In e events.now → IsSmall e }
     requires few { length events.now ≤ 131072 }
     ensures crossed { result.crossed ≡ count_by (is_crossed stay.now) events.now }
     ensures over { result.over ≡ count_by (gets_over stay.now room) events.now }
@@ -195,8 +203,8 @@ pub fn meet(events: &[Event], stay: &Stay, room: u32) -> Met
 }
 
 /// Lets a stay stand at all of these events too.
-pub fn raise(events: &mut [Event], stay: &Stay, room: u32) -> Met
-    requires small { (e : Event) → In e events.old → IsSmall e }
+pub fn raise(events: &mut [StayEvent], stay: &Stay, room: u32) -> Met
+    requires small { (e : StayEvent) → In e events.old → IsSmall e }
     requires few { length events.old ≤ 131072 }
     ensures events { events.new ≡ map (raised stay.now) events.old }
     ensures crossed { result.crossed ≡ count_by (is_crossed stay.now) events.old }
@@ -213,8 +221,8 @@ pub fn raise(events: &mut [Event], stay: &Stay, room: u32) -> Met
 }
 
 /// Lets a stay stand at these events no more, and says what it met there.
-pub fn lower(events: &mut [Event], stay: &Stay, room: u32) -> Met
-    requires small { (e : Event) → In e events.old → IsSmall e }
+pub fn lower(events: &mut [StayEvent], stay: &Stay, room: u32) -> Met
+    requires small { (e : StayEvent) → In e events.old → IsSmall e }
     requires few { length events.old ≤ 131072 }
     ensures events { events.new ≡ map (lowered stay.now) events.old }
     ensures crossed { result.crossed ≡ count_by (is_crossed stay.now) events.new }

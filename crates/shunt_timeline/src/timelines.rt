@@ -1,5 +1,8 @@
 //! The clash of stays, kept while stays come and go.
-ghost use Rattle.std.specs.Prelude.{◌≡◌, ◌≢◌, ◌↔◌, ℕ, ◌+◌, ◌*◌, ◌^◌, ◌<◌, ◌≤◌, max, List, [], ◌∷◌, Option, Some, None, length, map, take, drop, slice_index_or, vec_len, vec_capacity, IsPermutation, IfOk, OnOk, OnErr, IfSome, OnSome, IfNone};
+ghost use Rattle.std.specs.Prelude.{◌≡◌, ◌≢◌, ◌↔◌, ℕ, ◌+◌, ◌*◌, ◌^◌, ◌<◌, ◌≤◌, max, List, [], ◌∷◌};
+ghost use Rattle.std.specs.Prelude.{Option, Some, None, length, map, take, drop, slice_index_or};
+ghost use Rattle.std.specs.Prelude.{vec_len, vec_capacity, IsPermutation, IfOk, OnOk, OnErr};
+ghost use Rattle.std.specs.Prelude.{IfSome, OnSome, IfNone};
 ghost use Rattle.std.specs.List.{All};
 ghost use Rattle.shunt_lists.specs.defs.Members.{In};
 ghost use Rattle.shunt_base.specs.declared.keys.Stay.{Stay};
@@ -9,9 +12,9 @@ ghost use Rattle.shunt_cross.specs.defs.Clashes.{clash_of};
 ghost use Rattle.shunt_timeline.specs.defs.Holdings.{Holding};
 ghost use Rattle.shunt_timeline.specs.defs.Kept.{Ascends};
 ghost use Rattle.shunt_timeline.specs.defs.Sound.{lengths_of, AreSame};
-ghost use Rattle.shunt_timeline.specs.declared.track.Track.{Track};
+ghost use Rattle.shunt_timeline.specs.declared.track.TrackTimeline.{TrackTimeline};
 
-use crate::track::Track;
+use crate::track::TrackTimeline;
 use shunt_base::Stay;
 use shunt_cross::Clash;
 use std::alloc::{AllocError, Global};
@@ -27,7 +30,7 @@ use std::marker::Model;
 pub struct Timelines {
     // By ascending id.
     stays: Vec<Stay>,
-    tracks: Vec<Track>,
+    tracks: Vec<TrackTimeline>,
     spare: usize,
     pairs: u32,
     over: u32,
@@ -42,11 +45,13 @@ impl Model for Timelines {
 
     ghost Value = { Holding };
 
-    ghost use Rattle.shunt_timeline.specs.defs.Sound.{lengths_of, IsSound};
+    ghost use Rattle.shunt_timeline.specs.defs.Sound.{lengths_of, IsSoundTrack};
 
-    ghost view = { λ t. record { stays = t.stays.items; lengths = lengths_of t.tracks.items; spare = t.spare } };
+    ghost view = { λ t.
+        record { stays = t.stays.items; lengths = lengths_of t.tracks.items; spare = t.spare } };
 
-    ghost invariant = { λ t. IsSound t.stays.items t.tracks.items t.spare (vec_capacity t.stays) t.pairs t.over };
+    ghost invariant = { λ t. IsSoundTrack t.stays.items t.tracks.items t.spare
+        (vec_capacity t.stays) t.pairs t.over };
 }
 
 // How many stays have lower ids, by binary search.
@@ -62,7 +67,8 @@ fn place_of(stays: &[Stay], id: u32) -> usize
 // If the stay of an id is.
 fn find(stays: &[Stay], id: u32) -> Option<usize>
     requires { Ascends (λ s. s.id) stays.now }
-    ensures some { IfSome result (λ i. (i < length stays.now) × ((d : Stay) → (slice_index_or stays.now i d).id ≡ id)) }
+    ensures some { IfSome result
+        (λ i. (i < length stays.now) × ((d : Stay) → (slice_index_or stays.now i d).id ≡ id)) }
     ensures none { IfNone result (All (λ s. s.id ≢ id) stays.now) }
 {
     let place = place_of(stays, id);
@@ -76,13 +82,14 @@ fn find(stays: &[Stay], id: u32) -> Option<usize>
 }
 
 // Tracks of these lengths, each without events.
-fn empty_tracks(alloc: Global, lengths: &[u32]) -> Result<Vec<Track>, AllocError>
+fn empty_tracks(alloc: Global, lengths: &[u32]) -> Result<Vec<TrackTimeline>, AllocError>
     ensures lengths { IfOk result (λ tracks. lengths_of tracks.items ≡ lengths.now) }
-    ensures empty { IfOk result (λ tracks. (t : ℕ) (d : Track) → t < length tracks.items → (slice_index_or tracks.items t d).events.items ≡ []) }
+    ensures empty { IfOk result (λ tracks. (t : ℕ) (d : TrackTimeline) → t < length tracks.items
+        → (slice_index_or tracks.items t d).events.items ≡ []) }
 {
     let mut tracks = Vec::new(alloc);
     for length in lengths {
-        tracks.push(Track {
+        tracks.push(TrackTimeline {
             length: *length,
             events: Vec::new(alloc),
         })?;
@@ -91,9 +98,10 @@ fn empty_tracks(alloc: Global, lengths: &[u32]) -> Result<Vec<Track>, AllocError
 }
 
 // Room for that many events on each track. Err is want of memory.
-fn reserve_events(tracks: &mut Vec<Track>, most: usize) -> Result<(), AllocError>
+fn reserve_events(tracks: &mut Vec<TrackTimeline>, most: usize) -> Result<(), AllocError>
     ensures same { AreSame tracks.old.items tracks.new.items }
-    ensures ok { OnOk result ((t : ℕ) (d : Track) → t < length tracks.new.items → most ≤ vec_capacity (slice_index_or tracks.new.items t d).events) }
+    ensures ok { OnOk result ((t : ℕ) (d : TrackTimeline) → t < length tracks.new.items
+        → most ≤ vec_capacity (slice_index_or tracks.new.items t d).events) }
 {
     for index in 0..tracks.len() {
         tracks[index].reserve(most)?;
@@ -180,7 +188,8 @@ impl Timelines {
 
     /// The stay of an id goes. None exactly when there is none, and then nothing changes. It takes no memory.
     pub fn remove(&mut self, id: u32) -> Option<Stay>
-        ensures some { IfSome result (λ stay. (stay.id ≡ id) × IsPermutation (stay ∷ self.new.stays) self.old.stays × (self.new.spare ≡ self.old.spare + 1)) }
+        ensures some { IfSome result (λ stay. (stay.id ≡ id) × IsPermutation
+            (stay ∷ self.new.stays) self.old.stays × (self.new.spare ≡ self.old.spare + 1)) }
         ensures none { result ≡ None ↔ All (λ s. s.id ≢ id) self.old.stays }
         ensures gone { All (λ s. s.id ≢ id) self.new.stays }
         ensures count { OnSome result (length self.new.stays + 1 ≡ length self.old.stays) }
@@ -202,7 +211,8 @@ impl Timelines {
     /// It takes no memory.
     pub fn clash(&self) -> Clash
         ensures equals { result ≡ clash_of self.now.lengths self.now.stays }
-        ensures through { (result.pairs ≡ 0) × (result.over ≡ 0) ↔ GoesThrough self.now.lengths self.now.stays }
+        ensures through { (result.pairs ≡ 0) × (result.over ≡ 0)
+            ↔ GoesThrough self.now.lengths self.now.stays }
         ensures formed { AreStays self.now.stays }
         ensures placed { AreOnTracks self.now.lengths self.now.stays }
         ensures few { length self.now.stays ≤ 65536 }

@@ -15,8 +15,8 @@ use Rattle.shunt_rows.specs.defs.Records.{at}
 use Rattle.shunt_rows.specs.defs.Checks.{Judged, answer, ◌>>=◌, says as only}
 use Rattle.shunt_rows.specs.defs.Fields.{is_word}
 use Rattle.shunt_rows.specs.defs.Formats.{reading}
-use Rattle.shunt_rows.proofs.Holding.{says, answered, hold_first, next, in_either}
-use Rattle.shunt_rows.proofs.Keeping.{formed}
+use Rattle.shunt_rows.proofs.Answered.{says, answered, hold_first, next, in_either}
+use Rattle.shunt_rows.proofs.KeptStates.{formed}
 use Rattle.shunt_rows.proofs.Named.{distinct_push, same_name}
 use Rattle.shunt_rows.proofs.Spelled.{there, within, minute_small}
 use Rattle.shunt_instance.specs.declared.records.Station.{Station}

@@ -18,7 +18,7 @@ use Rattle.shunt_rows.specs.defs.Records.{at}
 use Rattle.shunt_rows.specs.defs.Checks.{answer}
 use Rattle.shunt_rows.specs.defs.Fields.{is_within}
 use Rattle.shunt_rows.specs.defs.Formats.{reads, reading}
-use Rattle.shunt_rows.proofs.Holding.{passes_on}
+use Rattle.shunt_rows.proofs.Answered.{passes_on}
 use Rattle.shunt_rows.proofs.Named.{by_name, not_before, of_middle}
 use Rattle.shunt_rows.proofs.Sections.{section, section_then, all_read}
 use Rattle.shunt_rows.proofs.Spelled.{in_range}

@@ -1,14 +1,12 @@
 -- The tables of a timetable stand in order.
-use Rattle.std.proofs.Common.{ℕ, zero, suc, ◌+◌, ◌*◌, ◌-◌, ◌≤◌, ◌&&◌, List, [], ◌++◌, length, refl, sym, subst, arith}
+use Rattle.std.proofs.Common.{ℕ, zero, suc, ◌+◌, ◌*◌, ◌-◌, ◌≤◌, ◌&&◌, List, [], length, refl, arith}
 use Rattle.std.specs.Prelude.{codes}
-use Rattle.std.proofs.lemmas.List.{append-nil}
-use Rattle.shunt_rows.specs.defs.Checks.{Check}
 use Rattle.shunt_rows.specs.defs.Fields.{is_word}
 use Rattle.shunt_instance.specs.defs.Words.{unit_count}
 use Rattle.shunt_rows.specs.defs.FirstFault.{HasChecksInOrder, Tells}
 use Rattle.shunt_instance.specs.declared.records.Station.{Station}
 use Rattle.shunt_instance.specs.declared.records.Train.{Train}
-use Rattle.shunt_rows.proofs.InOrder.{in_if, no_word_up, Ascends, none_left, one_before}
+use Rattle.shunt_rows.proofs.InOrder.{in_if, no_word_up, Ascends, none_left, one_before, whole_up}
 use Rattle.shunt_rows.proofs.Readings.{tells}
 use Rattle.shunt_timetable.specs.defs.TimetableFormat.{Listed, first_of, unit_of, units_from, standing_of, moving_of, stand_of, arrive_of, depart_of, may_stand, later_of, timetable_format}
 
@@ -30,10 +28,6 @@ standing_up station trains row = record { up = (units_up station (unit_count tra
 moving_up : (station : Station) (trains : List Train) (row : List (List ℕ)) → Ascends 13 (moving_of station trains row).checks
 unfolding moving_of
 moving_up station trains row = record { up = (units_up station (unit_count trains) _ row 5 (length row - 4) 54 (omega arith)).up }
-
--- behind a train's checks there are no more
-whole_up : (least : ℕ) (checks : List Check) → Ascends least checks → Ascends least (checks ++ [])
-whole_up least checks up = subst (Ascends least) (sym (append-nil checks)) up
 
 stand_up : (station : Station) (s : Listed) (row : List (List ℕ)) → HasChecksInOrder (stand_of station s row)
 unfolding stand_of

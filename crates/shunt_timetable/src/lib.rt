@@ -2,8 +2,8 @@
 #![tactic(auto)]
 
 pub mod laws;
-mod reading;
-mod writing;
+mod reader;
+mod writer;
 
-pub use reading::read_timetable;
-pub use writing::write_timetable;
+pub use reader::read_timetable;
+pub use writer::write_timetable;

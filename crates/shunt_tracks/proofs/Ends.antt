@@ -5,10 +5,10 @@ use Rattle.std.proofs.lemmas.Bool.{eq-eqb, ne_eqb}
 use Rattle.shunt_stays.specs.defs.Events.{Move}
 use Rattle.shunt_stays.specs.defs.Run.{Standing, without, without_last, load, left}
 use Rattle.shunt_stays.proofs.Steps.{load_kept, leaves_is}
-use Rattle.shunt_tracks.specs.declared.blocks.Block.{Block}
+use Rattle.shunt_tracks.specs.declared.blocks.ListedBlock.{ListedBlock}
 use Rattle.shunt_tracks.specs.defs.Blocks.{standing, blocks_of}
 
-pub last_taken : (id : ℕ) (blocks : List Block) (k : ℕ) (d : Block) → k + 1 ≡ length blocks → (get_or blocks k d).id ≡ id
+pub last_taken : (id : ℕ) (blocks : List ListedBlock) (k : ℕ) (d : ListedBlock) → k + 1 ≡ length blocks → (get_or blocks k d).id ≡ id
     → without_last id (blocks_of blocks) ≡ Some (blocks_of (take k blocks))
 last_taken id [] k d n e = absurd (omega arith)
 last_taken id (b ∷ []) zero d n e = ap (λ t. cond t (Some []) None) (eq-eqb b.id id e)
@@ -16,7 +16,7 @@ last_taken id (b ∷ []) (suc k) d n e = absurd (omega arith)
 last_taken id (b ∷ c ∷ blocks) zero d n e = absurd (omega arith)
 last_taken id (b ∷ c ∷ blocks) (suc k) d n e = ap (option_map (λ (others : List Standing). standing b ∷ others)) (last_taken id (c ∷ blocks) k d (omega arith) e)
 
-pub last_other : (id : ℕ) (blocks : List Block) (k : ℕ) (d : Block) → k + 1 ≡ length blocks → (get_or blocks k d).id ≢ id → without_last id (blocks_of blocks) ≡ None
+pub last_other : (id : ℕ) (blocks : List ListedBlock) (k : ℕ) (d : ListedBlock) → k + 1 ≡ length blocks → (get_or blocks k d).id ≢ id → without_last id (blocks_of blocks) ≡ None
 last_other id [] k d n e = absurd (omega arith)
 last_other id (b ∷ []) zero d n e = ap (λ t. cond t (Some []) None) (ne_eqb b.id id e)
 last_other id (b ∷ []) (suc k) d n e = absurd (omega arith)

@@ -1,3 +1,3 @@
 mod Ends
-mod Sorting
+mod SortedDues
 mod Turns

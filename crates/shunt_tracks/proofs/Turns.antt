@@ -1,8 +1,8 @@
 -- One event of the run, as the loop does it.
-use Rattle.std.proofs.Common.{◌≡◌, ⊎_elim, ℕ, zero, suc, ◌+◌, ◌<◌, ◌≤◌, List, [], ◌∷◌, ◌++◌, length, get_or, set, take, drop, map, Result, Ok, Err, refl, sym, subst, ap, ◌∙◌, arith}
+use Rattle.std.proofs.Common.{◌≡◌, ⊎_elim, ℕ, ◌+◌, ◌<◌, ◌≤◌, List, [], ◌∷◌, ◌++◌, length, get_or, set, drop, map, Result, Ok, Err, refl, sym, subst, ap, ◌∙◌, arith}
 use Rattle.std.specs.List.{All}
 use Rattle.std.proofs.lemmas.Bool.{cases_eq}
-use Rattle.std.proofs.lemmas.List.{map-append, take_more, drop_more, length-set, map-set, get_or-map, get_or-set_same, get_or-set_other}
+use Rattle.std.proofs.lemmas.List.{drop_more, length-set, map-set, get_or-map, get_or-set_same, get_or-set_other}
 use Rattle.std.proofs.lemmas.List.{append_assoc}
 use Rattle.shunt_stays.specs.defs.Events.{Move}
 use Rattle.shunt_stays.specs.defs.Run.{Standing, Stop, Through, run, moved, load, ◌>>=◌, empty_tracks}
@@ -18,6 +18,7 @@ use Rattle.shunt_tracks.specs.declared.run.Ran.TheVariants as ran
 use Rattle.shunt_tracks.specs.defs.Dues.{move_of}
 use Rattle.shunt_tracks.specs.defs.Blocks.{Does, Fit}
 use Rattle.shunt_tracks.specs.defs.Answer.{event_of, step_of, answer}
+use Rattle.shunt_stays.proofs.Tracks.{none_at}
 
 -- what is answered after these steps
 abbrev pub after : List Step → Ran → Ran
@@ -85,22 +86,7 @@ pub within : (lengths : List ℕ) (dues : List Due) (i u n : ℕ) (z : Due) → 
     → n ≡ length lengths → u < n
 within lengths dues i u n z on lt at e = let below = on i z lt in omega arith
 
--- empty tracks
-none_at : (lengths : List ℕ) (k : ℕ) → get_or (empty_tracks lengths) k [] ≡ []
-none_at [] k = refl
-none_at (n ∷ lengths) zero = refl
-none_at (n ∷ lengths) (suc k) = none_at lengths k
-
 pub fit_empty : {X : Type 0} (view : X → List Standing) (lengths : List ℕ) (tracks : List X) → map view tracks ≡ empty_tracks lengths → Fit view lengths tracks
 fit_empty view lengths tracks e = λ k d lt.
     let none : view (get_or tracks k d) ≡ [] = sym (get_or-map view tracks k d [] lt) ∙ ap (λ (l : List (List Standing)). get_or l k []) e ∙ none_at lengths k in
     omega (arith, ap load none)
-
-pub empty_more : {X : Type 0} (view : X → List Standing) (lengths : List ℕ) (i : ℕ) (tracks more : List X) (v : X) → i < length lengths → view v ≡ [] → more ≡ tracks ++ v ∷ []
-    → map view tracks ≡ empty_tracks (take i lengths) → map view more ≡ empty_tracks (take (i + 1) lengths)
-empty_more view lengths i tracks more v lt none grown so =
-    ap (map view) grown ∙ map-append view tracks (v ∷ [])
-    ∙ ap (λ (l : List Standing). map view tracks ++ l ∷ []) none
-    ∙ ap (λ (l : List (List Standing)). l ++ [] ∷ []) so
-    ∙ sym (map-append (λ (n : ℕ). []) (take i lengths) (get_or lengths i 0 ∷ []))
-    ∙ ap empty_tracks (sym (take_more lengths i 0 lt))

@@ -10,7 +10,7 @@ use shunt_base::Side;
 use std::alloc::AllocError;
 
 #[derive(Clone, Copy, Debug, PartialEq, Eq)]
-pub(crate) struct Block {
+pub(crate) struct ListedBlock {
     pub(crate) id: u32,
     pub(crate) length: u32,
 }
@@ -23,7 +23,7 @@ pub(crate) enum Did {
     Over(u64),
 }
 
-fn put(side: Side, block: Block, blocks: &mut Vec<Block>) -> Result<(), AllocError>
+fn put(side: Side, block: ListedBlock, blocks: &mut Vec<ListedBlock>) -> Result<(), AllocError>
     ensures { OnOk result (blocks.new.items ≡ placed side block blocks.old.items) }
 {
     match side {
@@ -33,8 +33,9 @@ fn put(side: Side, block: Block, blocks: &mut Vec<Block>) -> Result<(), AllocErr
     Ok(())
 }
 
-fn take_first(id: u32, blocks: &mut Vec<Block>) -> bool
-    ensures out { OnTrue result (without Side.A id (blocks_of blocks.old.items) ≡ Some (blocks_of blocks.new.items)) }
+fn take_first(id: u32, blocks: &mut Vec<ListedBlock>) -> bool
+    ensures out { OnTrue result
+        (without Side.A id (blocks_of blocks.old.items) ≡ Some (blocks_of blocks.new.items)) }
     ensures blocked { OnFalse result (without Side.A id (blocks_of blocks.old.items) ≡ None) }
 {
     if blocks.is_empty() || blocks[0].id != id {
@@ -44,8 +45,9 @@ fn take_first(id: u32, blocks: &mut Vec<Block>) -> bool
     true
 }
 
-fn take_last(id: u32, blocks: &mut Vec<Block>) -> bool
-    ensures out { OnTrue result (without Side.B id (blocks_of blocks.old.items) ≡ Some (blocks_of blocks.new.items)) }
+fn take_last(id: u32, blocks: &mut Vec<ListedBlock>) -> bool
+    ensures out { OnTrue result
+        (without Side.B id (blocks_of blocks.old.items) ≡ Some (blocks_of blocks.new.items)) }
     ensures blocked { OnFalse result (without Side.B id (blocks_of blocks.old.items) ≡ None) }
 {
     let count = blocks.len();
@@ -59,8 +61,9 @@ fn take_last(id: u32, blocks: &mut Vec<Block>) -> bool
     true
 }
 
-fn take(side: Side, id: u32, blocks: &mut Vec<Block>) -> bool
-    ensures out { OnTrue result (without side id (blocks_of blocks.old.items) ≡ Some (blocks_of blocks.new.items)) }
+fn take(side: Side, id: u32, blocks: &mut Vec<ListedBlock>) -> bool
+    ensures out { OnTrue result
+        (without side id (blocks_of blocks.old.items) ≡ Some (blocks_of blocks.new.items)) }
     ensures blocked { OnFalse result (without side id (blocks_of blocks.old.items) ≡ None) }
 {
     match side {
@@ -69,30 +72,31 @@ fn take(side: Side, id: u32, blocks: &mut Vec<Block>) -> bool
     }
 }
 
-fn load(blocks: &[Block]) -> u64
+fn load(blocks: &[ListedBlock]) -> u64
     requires { total (blocks_of blocks.now) < 2 ^ 64 }
     ensures { result ≡ total (blocks_of blocks.now) }
 {
     blocks.iter().map(|block| u64::from(block.length)).sum()
 }
 
-fn load_with(length: u32, blocks: &[Block]) -> u64
+fn load_with(length: u32, blocks: &[ListedBlock]) -> u64
     requires { total (blocks_of blocks.now) < 2 ^ 32 }
     ensures { result ≡ length + total (blocks_of blocks.now) }
 {
     u64::from(length) + load(blocks)
 }
 
-fn enter(room: u32, due: &Due, blocks: &mut Vec<Block>) -> Result<Did, AllocError>
+fn enter(room: u32, due: &Due, blocks: &mut Vec<ListedBlock>) -> Result<Did, AllocError>
     requires enters { due.now.key.enters ≡ true }
     requires fit { total (blocks_of blocks.old.items) ≤ room }
-    ensures { IfOk result (λ d. Does d (move_of due.now) room (blocks_of blocks.old.items) (blocks_of blocks.new.items)) }
+    ensures { IfOk result (λ d. Does d (move_of due.now) room (blocks_of blocks.old.items)
+        (blocks_of blocks.new.items)) }
 {
     let load = load_with(due.length, blocks);
     if load > u64::from(room) {
         return Ok(Did::Over(load));
     }
-    let block = Block {
+    let block = ListedBlock {
         id: due.key.id,
         length: due.length,
     };
@@ -100,10 +104,11 @@ fn enter(room: u32, due: &Due, blocks: &mut Vec<Block>) -> Result<Did, AllocErro
     Ok(Did::Moved(load))
 }
 
-fn leave(room: u32, due: &Due, blocks: &mut Vec<Block>) -> Did
+fn leave(room: u32, due: &Due, blocks: &mut Vec<ListedBlock>) -> Did
     requires leaves { due.now.key.enters ≡ false }
     requires fit { total (blocks_of blocks.old.items) ≤ room }
-    ensures { Does result (move_of due.now) room (blocks_of blocks.old.items) (blocks_of blocks.new.items) }
+    ensures { Does result (move_of due.now) room (blocks_of blocks.old.items)
+        (blocks_of blocks.new.items) }
 {
     if !take(due.side, due.key.id, blocks) {
         return Did::Blocked;
@@ -111,9 +116,10 @@ fn leave(room: u32, due: &Due, blocks: &mut Vec<Block>) -> Did
     Did::Moved(load(blocks))
 }
 
-pub(crate) fn done(room: u32, due: &Due, blocks: &mut Vec<Block>) -> Result<Did, AllocError>
+pub(crate) fn done(room: u32, due: &Due, blocks: &mut Vec<ListedBlock>) -> Result<Did, AllocError>
     requires { total (blocks_of blocks.old.items) ≤ room }
-    ensures { IfOk result (λ d. Does d (move_of due.now) room (blocks_of blocks.old.items) (blocks_of blocks.new.items)) }
+    ensures { IfOk result (λ d. Does d (move_of due.now) room (blocks_of blocks.old.items)
+        (blocks_of blocks.new.items)) }
 {
     if due.key.enters {
         return enter(room, due, blocks);

@@ -8,13 +8,13 @@ ghost use Rattle.shunt_tracks.specs.defs.Dues.{dues_of, entry_due, leave_due, mo
 use shunt_base::{EventKey, Side, Stay, TrackId};
 use std::alloc::{AllocError, Global};
 
-// An entry or a leave. They are sorted by their keys, as the key stands first.
+/// An entry or a leave, with its track, its side and the length of its block in dm. They are sorted by their keys, as the key stands first.
 #[derive(Clone, Copy, Debug, PartialEq, Eq, PartialOrd, Ord)]
-pub(crate) struct Due {
-    pub(crate) key: EventKey,
-    pub(crate) track: TrackId,
-    pub(crate) side: Side,
-    pub(crate) length: u32,
+pub struct Due {
+    pub key: EventKey,
+    pub track: TrackId,
+    pub side: Side,
+    pub length: u32,
 }
 
 fn entry_of(stay: &Stay) -> Due
@@ -50,7 +50,8 @@ fn all_dues(alloc: Global, stays: &[Stay]) -> Result<Vec<Due>, AllocError>
     Ok(all)
 }
 
-pub(crate) fn sorted_dues(alloc: Global, stays: &[Stay]) -> Result<Vec<Due>, AllocError>
+/// The entries and leaves of stays, in the order of their keys. Err is want of memory.
+pub fn sorted_dues(alloc: Global, stays: &[Stay]) -> Result<Vec<Due>, AllocError>
     requires { AreStays stays.now }
     ensures { IfOk result (λ v. map move_of v.items ≡ in_order stays.now) }
 {

@@ -6,5 +6,6 @@ mod dues;
 mod run;
 pub mod sequence;
 
+pub use dues::{Due, sorted_dues};
 pub use run::{Event, Ran, Step, run_lists};
 pub use sequence::Sequence;

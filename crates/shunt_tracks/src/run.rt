@@ -7,7 +7,7 @@ ghost use Rattle.shunt_tracks.specs.defs.Dues.{move_of};
 ghost use Rattle.shunt_tracks.specs.defs.Blocks.{blocks_of, Fit};
 ghost use Rattle.shunt_tracks.specs.defs.Answer.{answer, event_of as told};
 
-use crate::blocks::{Block, Did, done};
+use crate::blocks::{Did, ListedBlock, done};
 use crate::dues::{Due, sorted_dues};
 use shunt_base::{EventKey, Side, Stay, TrackId};
 use shunt_lists::Items;
@@ -56,12 +56,13 @@ fn run_dues(
     alloc: Global,
     lengths: &[u32],
     dues: &[Due],
-    tracks: &mut Vec<Vec<Block>>,
+    tracks: &mut Vec<Vec<ListedBlock>>,
 ) -> Result<Ran, AllocError>
     requires sizes { length tracks.old.items ≡ length lengths.now }
     requires on { All (λ d. d.track.0 < length lengths.now) dues.now }
     requires fit { Fit (λ v. blocks_of v.items) lengths.now tracks.old.items }
-    ensures { IfOk result (λ r. r ≡ answer (run lengths.now (map move_of dues.now) (map (λ v. blocks_of v.items) tracks.old.items))) }
+    ensures { IfOk result (λ r. r ≡ answer
+        (run lengths.now (map move_of dues.now) (map (λ v. blocks_of v.items) tracks.old.items))) }
 {
     let mut steps = Vec::new(alloc);
     for due in dues {
@@ -76,7 +77,7 @@ fn run_dues(
     Ok(Ran::Through(Items::from_vec(steps)))
 }
 
-fn empty(alloc: Global, lengths: &[u32]) -> Result<Vec<Vec<Block>>, AllocError>
+fn empty(alloc: Global, lengths: &[u32]) -> Result<Vec<Vec<ListedBlock>>, AllocError>
     ensures { IfOk result (λ v. map (λ w. blocks_of w.items) v.items ≡ empty_tracks lengths.now) }
 {
     let mut tracks = Vec::new(alloc);

@@ -1,5 +1,6 @@
 //! The ids of the blocks on one track, from its A end to its B end.
-ghost use Rattle.std.specs.Prelude.{◌≡◌, ◌≢◌, ◌≤◌, ◌<◌, ℕ, [], List, length, vec_capacity, IfOk, OnOk, OnErr};
+ghost use Rattle.std.specs.Prelude.{◌≡◌, ◌≢◌, ◌≤◌, ◌<◌, ℕ, [], List, length, vec_capacity, IfOk};
+ghost use Rattle.std.specs.Prelude.{OnOk, OnErr};
 ghost use Rattle.shunt_stays.specs.defs.Run.{put};
 ghost use Rattle.shunt_tracks.specs.defs.Sequences.{Ids};
 

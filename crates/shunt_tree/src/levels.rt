@@ -9,7 +9,7 @@ const PATIENCE: u64 = 300;
 /// The work at a level, of whose bounds this is the last: how many nodes it took, what share of it is done, and whether its nodes aren't lifted
 /// any more.
 #[derive(Clone, Copy, Drop)]
-pub(crate) struct Level {
+pub(crate) struct NodeLevel {
     pub last: i64,
     nodes: u64,
     done: u64,
@@ -21,10 +21,10 @@ pub(crate) fn share_of(nodes: u64) -> u64 {
     WHOLE_WORK / nodes.max(1)
 }
 
-impl Level {
+impl NodeLevel {
     /// The work at a level up to a bound, of which nothing is done.
-    pub(crate) fn up_to(last: i64) -> Level {
-        Level {
+    pub(crate) fn up_to(last: i64) -> NodeLevel {
+        NodeLevel {
             last,
             nodes: 0,
             done: 0,

@@ -1,14 +1,14 @@
 //! Proposals of trees of partial plans, best first, with cases of their own at nodes. What they bound is another's to judge.
 #![tactic(auto)]
 
-mod growing;
+mod growth;
 mod levels;
-mod lifting;
+mod lifts;
 mod nodes;
-mod opening;
-mod proposing;
-mod standing;
+mod occupancy;
+mod open_choices;
+mod proposal;
 mod tree;
 
-pub use proposing::propose;
+pub use proposal::propose;
 pub use tree::{Proposed, ProposedTree};

@@ -1,5 +1,4 @@
 // The nodes of a tree while it grows.
-use crate::opening::Opened;
 use shunt_ascent::Fixed;
 use shunt_blocks::Block;
 use std::alloc::{AllocError, Global};
@@ -23,14 +22,14 @@ pub(crate) struct Open {
 
 /// Cases at a node: one, or two of which the first speaks of fewer unparked blocks.
 #[derive(Clone, Copy)]
-pub(crate) struct Pair<'a> {
+pub(crate) struct CasePair<'a> {
     pub first: Option<&'a Fixed>,
     pub last: &'a Fixed,
 }
 
 /// A partial plan, or a whole one.
 #[derive(Drop)]
-pub(crate) struct Node {
+pub(crate) struct TreeNode {
     pub above: usize,
     pub depth: usize,
     /// How many units are uncovered, and what its blocks cost.
@@ -81,10 +80,10 @@ impl Sums {
     }
 }
 
-impl Node {
+impl TreeNode {
     /// A root, where cases come to some sums.
-    pub(crate) fn root(alloc: Global, units_left: usize, paid: i64, sums: Sums) -> Node {
-        Node {
+    pub(crate) fn root(alloc: Global, units_left: usize, paid: i64, sums: Sums) -> TreeNode {
+        TreeNode {
             above: 0,
             depth: 0,
             units_left,
@@ -114,8 +113,8 @@ impl Node {
         open: &Open,
         cost: i64,
         share: u64,
-    ) -> Node {
-        Node {
+    ) -> TreeNode {
+        TreeNode {
             above: place,
             depth: self.depth.saturating_add(1),
             units_left: self.units_left.saturating_sub(open.block.n as usize),
@@ -138,7 +137,7 @@ impl Node {
     }
 }
 
-impl Node {
+impl TreeNode {
     /// Its next choices are found. The first ones, which no case of its own bounds yet, say what the inherited cases bound.
     pub(crate) fn open(&mut self, opened: Opened) {
         self.key = self.key.max(opened.least);
@@ -163,7 +162,7 @@ impl Node {
 }
 
 /// The first case at a node, its own or that of the nearest node above; None where there is one case.
-pub(crate) fn first_at(nodes: &[Node], place: usize) -> Option<&Fixed> {
+pub(crate) fn first_at(nodes: &[TreeNode], place: usize) -> Option<&Fixed> {
     let mut at = place;
     for _ in 0..nodes.len() {
         let node = nodes.get(at)?;
@@ -179,7 +178,7 @@ pub(crate) fn first_at(nodes: &[Node], place: usize) -> Option<&Fixed> {
 }
 
 /// The last case at a node, its own or that of the nearest node above.
-pub(crate) fn last_at(nodes: &[Node], place: usize) -> Option<&Fixed> {
+pub(crate) fn last_at(nodes: &[TreeNode], place: usize) -> Option<&Fixed> {
     let mut at = place;
     for _ in 0..nodes.len() {
         let node = nodes.get(at)?;
@@ -198,7 +197,7 @@ pub(crate) fn last_at(nodes: &[Node], place: usize) -> Option<&Fixed> {
 pub(crate) fn path_to(
     alloc: Global,
     start: &[Block],
-    nodes: &[Node],
+    nodes: &[TreeNode],
     place: usize,
 ) -> Result<Vec<Block>, AllocError> {
     let back = way_up(alloc, nodes, place)?;
@@ -210,7 +209,7 @@ pub(crate) fn path_to(
 }
 
 // The blocks of a node and of those above, from it on.
-fn way_up(alloc: Global, nodes: &[Node], place: usize) -> Result<Vec<Block>, AllocError> {
+fn way_up(alloc: Global, nodes: &[TreeNode], place: usize) -> Result<Vec<Block>, AllocError> {
     let mut blocks = Vec::new(alloc);
     let mut at = place;
     for _ in 0..nodes.len() {
@@ -224,4 +223,13 @@ fn way_up(alloc: Global, nodes: &[Node], place: usize) -> Result<Vec<Block>, All
         at = node.above;
     }
     Ok(blocks)
+}
+
+/// Choices of a range that bound little, the least last, with the least bound of all, which is at most the cost, and that of those that weren't
+/// kept, which is the greatest number where there are none.
+#[derive(Drop)]
+pub(crate) struct Opened {
+    pub choices: Vec<Open>,
+    pub least: i64,
+    pub beyond: i64,
 }

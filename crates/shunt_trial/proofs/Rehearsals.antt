@@ -10,8 +10,8 @@ use Rattle.shunt_instance.specs.defs.Wellformed.{IsStation, IsTimetable}
 use Rattle.shunt_instance.specs.defs.Instance.{Night, IsInstance, night_of}
 use Rattle.shunt_instance.proofs.Orders.{night_is, closed}
 use Rattle.shunt_matching.specs.defs.Nights.{HasMatching}
-use Rattle.shunt_station.specs.defs.Stating.{station_format}
-use Rattle.shunt_station.specs.defs.Writing.{ReadsAsStation}
+use Rattle.shunt_station.specs.defs.StatedStations.{station_format}
+use Rattle.shunt_station.specs.defs.WrittenRows.{ReadsAsStation}
 use Rattle.shunt_timetable.specs.defs.TimetableFormat.{timetable_format}
 use Rattle.shunt_timetable.proofs.Plain.{timetable_read}
 use Rattle.shunt_plan.specs.declared.records.Plan.{Plan}

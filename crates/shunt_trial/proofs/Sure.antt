@@ -1,10 +1,9 @@
 -- Replies over files that are accepted, in a store that never fails.
 use Rattle.std.proofs.Common.{◌≡◌, ◌∙◌, ℕ, ◌<◌, List, [], ◌∷◌, ◌++◌, length, map, Option, Some, None, Result, Ok, Err, refl, subst, sym, ap, inl, inr, arith, Bool, true, false}
-use Rattle.std.specs.FinMap as finmap
 use Rattle.std.specs.Result.{IsErrOf}
 use Rattle.std.specs.Prelude.{◌⊎◌, ◌↔◌, ◌==◌, if◌then◌else◌}
 use Rattle.shunt_store.specs.defs.Files.{Files, content}
-use Rattle.shunt_store.specs.defs.Noting.{Entries}
+use Rattle.shunt_store.specs.defs.Notes.{Entries}
 use Rattle.shunt_store.specs.defs.Causes.{Rose, HasCause}
 use Rattle.shunt_instance.specs.defs.Instance.{Night, IsInstance}
 use Rattle.shunt_blocks.specs.declared.records.Block.{Block}
@@ -29,11 +28,11 @@ use Rattle.shunt_inputs.specs.declared.answers.Answer.{Answer}
 use Rattle.shunt_inputs.specs.declared.answers.FileText.{FileText}
 use Rattle.shunt_inputs.specs.declared.answers.Outcome.{Outcome}
 use Rattle.shunt_inputs.specs.declared.answers.Outcome.TheVariants as outcome
-use Rattle.shunt_inputs.specs.declared.loading.Halt.{Halt}
-use Rattle.shunt_inputs.specs.declared.loading.Halt.TheVariants as halt
+use Rattle.shunt_inputs.specs.declared.file_loader.Halt.{Halt}
+use Rattle.shunt_inputs.specs.declared.file_loader.Halt.TheVariants as halt
 use Rattle.shunt_inputs.specs.defs.Inputs.{Agrees, stated_night, stated_plans, stated_certificate, plans_in, then_stated}
 use Rattle.shunt_inputs.specs.defs.Replies.{Reply, Decided, pair_of, refusal, reply_of}
-use Rattle.shunt_inputs.specs.defs.Writes.{written, with_first, Known, known, HasFirst, Leads}
+use Rattle.shunt_inputs.specs.defs.Writes.{written, with_first, Known, known, HasFirst, LeavesOne}
 use Rattle.shunt_inputs.proofs.Held.{decided_over}
 use Rattle.shunt_inputs.proofs.Stated.{parted}
 use Rattle.shunt_judging.specs.defs.Audited.{IsAudited, audit_outcome}
@@ -42,6 +41,8 @@ use Rattle.shunt_planning.specs.defs.Planned.{IsPlanned, IsSought, search_outcom
 use Rattle.shunt_planning.specs.defs.Begun.{IsPlannedOver}
 use Rattle.shunt_planning.proofs.Sought.{usable_none}
 use Rattle.shunt_trial.specs.defs.Rehearsed.{IsNightIn, with_both, AreFit, IsProvedIn, IsSure}
+use Rattle.shunt_blocks.proofs.Held.{keeps_none}
+use Rattle.shunt_inputs.proofs.FirstFiles.{written-append}
 
 -- ---- no faults
 
@@ -63,10 +64,6 @@ not_input cost bound e = at (bound == cost) e
 
 -- ---- the plan of a night that has a matching
 
-written-append : (ws vs : List (List ℕ × List ℕ)) (a : Files) → written (ws ++ vs) a ≡ written vs (written ws a)
-written-append [] vs a = refl
-written-append (w ∷ ws) vs a = written-append ws vs (finmap.insert a w.0 w.1)
-
 module _ (files : Files) (s t : List ℕ) (most : ℕ) (p k : List ℕ) (night : Night) (is : IsNightIn s t files night) where
   sought : (r : Reply) → IsSought most p k night r → IsPlanned [] most p k night r
   sought r (inl found) = found.1
@@ -79,7 +76,7 @@ module _ (files : Files) (s t : List ℕ) (most : ℕ) (p k : List ℕ) (night :
       sought r (subst (λ x. Decided x (IsSought most p k) r) ok h.2)
 
   pub plan_sure : (stored : Option Entries) (new : Known) (r : Result Answer Halt) → (IsErrOf r halt.Fault → ⊥)
-      → Leads (IsPlannedOver (Some files) s t most p k) (known (Some files) stored) new r → IsSure r
+      → LeavesOne (IsPlannedOver (Some files) s t most p k) (known (Some files) stored) new r → IsSure r
   plan_sure stored new (Ok a) fault leads = tt
   plan_sure stored new (Err (halt.Input text)) fault leads =
       let plan = planned_over (with_first leads.first (refusal text.items)) leads.reply in
@@ -89,11 +86,11 @@ module _ (files : Files) (s t : List ℕ) (most : ℕ) (p k : List ℕ) (night :
 
   -- it was written behind its certificate, and told
   pub plan_found : (before now : Option Entries) (mid after : Files) (r : Result Answer Halt) (a : Answer) → r ≡ Ok a
-      → Leads (IsPlannedOver (Some files) s t most p k) (known (Some files) before) (known (Some mid) now) r → after ≡ written (map pair_of a.writes.items) mid
+      → LeavesOne (IsPlannedOver (Some files) s t most p k) (known (Some files) before) (known (Some mid) now) r → after ≡ written (map pair_of a.writes.items) mid
       → (plan : Plan) × (c : Certificate) × AreFit night most plan c × (after ≡ with_both p k night plan c files) × (a.text.items ≡ plan_of plan c.bound (length c.nodes))
   plan_found before now mid after r a ok leads put =
       let led : HasFirst (IsPlannedOver (Some files) s t most p k) (known (Some files) before) (known (Some mid) now) (reply_of a) = subst
-      (λ (x : Result Answer Halt). Leads (IsPlannedOver (Some files) s t most p k) (known (Some files) before) (known (Some mid) now) x) ok leads in
+      (λ (x : Result Answer Halt). LeavesOne (IsPlannedOver (Some files) s t most p k) (known (Some files) before) (known (Some mid) now) x) ok leads in
       let found = planned_over (with_first led.first (reply_of a)) led.reply in
       let wrote : mid ≡ written led.first files = led.files in (
         found.plan,
@@ -141,7 +138,8 @@ module _ (files : Files) (s t p k : List ℕ) (x : Checkable) (is : IsProvedIn s
   audited r (fs, same, told) = subst (λ (y : Result (Night × Plan) (List ℕ)). Decided y IsAudited r) its_plan
       (subst (λ (f : Files). Decided (plans_in s t p f) IsAudited r) (sym same) told)
 
-  pub audit_keeps : (now : Files) (before after : Option Entries) (r : Result Answer Halt) → Leads AuditedOver (known (Some files) before) (known (Some now) after) r → now ≡ files
+  pub audit_keeps : (now : Files) (before after : Option Entries) (r : Result Answer Halt) → LeavesOne AuditedOver (known (Some files) before) (known (Some now) after) r
+      → now ≡ files
   audit_keeps now before after (Ok a) leads =
       let its = audited (with_first leads.first (reply_of a)) leads.reply in
       unwritten files now leads.first (none_first leads.first (reply_of a).writes (ap (λ (r : Reply). r.writes) its.reply)) leads.files
@@ -151,7 +149,7 @@ module _ (files : Files) (s t p k : List ℕ) (x : Checkable) (is : IsProvedIn s
   audit_keeps now before after (Err halt.Fault) leads = cc (leads.0)
   audit_keeps now before after (Err halt.Memory) leads = cc (leads.0)
 
-  pub audit_sure : (old new : Known) (r : Result Answer Halt) → (IsErrOf r halt.Fault → ⊥) → Leads AuditedOver old new r → IsSure r
+  pub audit_sure : (old new : Known) (r : Result Answer Halt) → (IsErrOf r halt.Fault → ⊥) → LeavesOne AuditedOver old new r → IsSure r
   audit_sure old new (Ok a) fault leads = tt
   audit_sure old new (Err (halt.Input text)) fault leads =
       let its = audited (with_first leads.first (refusal text.items)) leads.reply in
@@ -159,10 +157,10 @@ module _ (files : Files) (s t p k : List ℕ) (x : Checkable) (is : IsProvedIn s
   audit_sure old new (Err halt.Fault) fault leads = absurd (fault refl)
   audit_sure old new (Err halt.Memory) fault leads = tt
 
-  pub audit_told : FoundNone → (old new : Known) (r : Result Answer Halt) (a : Answer) → r ≡ Ok a → Leads AuditedOver old new r
+  pub audit_told : FoundNone → (old new : Known) (r : Result Answer Halt) (a : Answer) → r ≡ Ok a → LeavesOne AuditedOver old new r
       → a.text.items ≡ findings_of x.night [] (total_cost x.night x.plan.blocks)
   audit_told law old new r a ok leads =
-      let led : HasFirst AuditedOver old new (reply_of a) = subst (λ (y : Result Answer Halt). Leads AuditedOver old new y) ok leads in
+      let led : HasFirst AuditedOver old new (reply_of a) = subst (λ (y : Result Answer Halt). LeavesOne AuditedOver old new y) ok leads in
       let its = audited (with_first led.first (reply_of a)) led.reply in
       let same = only_plan x.night x.plan its.findings is.in_range.blocks its.told.in_order its.told.exactly in
       let none = (law x.night x.plan is.formed is.in_range.blocks).1 (is.proved.feasible, is.proved.states) in
@@ -178,9 +176,6 @@ Judges = (night : Night) (pins : List Block) (plan : Plan) (c : Certificate) (v 
 no_input_told : (v : Verdict) → outcome.Input ≡ check_outcome v → ⊥
 no_input_told (verdict.Accepted bound) e = let h : outcome.Input ≡ outcome.Done = e in cc
 no_input_told (verdict.Rejected row reason) e = let h : outcome.Input ≡ outcome.Findings = e in cc
-
-keeps_none : (blocks : List Block) → Keeps blocks []
-keeps_none blocks = λ i d lt. absurd (omega (arith, lt))
 
 -- it accepts with the certificate's bound
 bound_told : (x : Checkable) (v : Verdict) → IsVerdict x.night [] x.plan x.certificate v → Accepts v → v ≡ verdict.Accepted x.certificate.bound
@@ -201,7 +196,8 @@ module _ (files : Files) (s t p k : List ℕ) (x : Checkable) (is : IsProvedIn s
       let all : Decided (check_in s t p k fs) IsChecked r = decided_over (plans_in s t p fs) (λ y. stated_certificate y.0 (content fs k)) made IsChecked r told in
       subst (λ (y : Result Checkable (List ℕ)). Decided y IsChecked r) is.stated (subst (λ (f : Files). Decided (check_in s t p k f) IsChecked r) (sym same) all)
 
-  pub check_keeps : (now : Files) (before after : Option Entries) (r : Result Answer Halt) → Leads CheckedOver (known (Some files) before) (known (Some now) after) r → now ≡ files
+  pub check_keeps : (now : Files) (before after : Option Entries) (r : Result Answer Halt) → LeavesOne CheckedOver (known (Some files) before) (known (Some now) after) r
+      → now ≡ files
   check_keeps now before after (Ok a) leads =
       let its = checked (with_first leads.first (reply_of a)) leads.reply in
       unwritten files now leads.first (none_first leads.first (reply_of a).writes (ap (λ (r : Reply). r.writes) its.reply)) leads.files
@@ -211,7 +207,7 @@ module _ (files : Files) (s t p k : List ℕ) (x : Checkable) (is : IsProvedIn s
   check_keeps now before after (Err halt.Fault) leads = cc (leads.0)
   check_keeps now before after (Err halt.Memory) leads = cc (leads.0)
 
-  pub check_sure : (old new : Known) (r : Result Answer Halt) → (IsErrOf r halt.Fault → ⊥) → Leads CheckedOver old new r → IsSure r
+  pub check_sure : (old new : Known) (r : Result Answer Halt) → (IsErrOf r halt.Fault → ⊥) → LeavesOne CheckedOver old new r → IsSure r
   check_sure old new (Ok a) fault leads = tt
   check_sure old new (Err (halt.Input text)) fault leads =
       let its = checked (with_first leads.first (refusal text.items)) leads.reply in
@@ -219,10 +215,10 @@ module _ (files : Files) (s t p k : List ℕ) (x : Checkable) (is : IsProvedIn s
   check_sure old new (Err halt.Fault) fault leads = absurd (fault refl)
   check_sure old new (Err halt.Memory) fault leads = tt
 
-  pub check_told : Judges → (old new : Known) (r : Result Answer Halt) (a : Answer) → r ≡ Ok a → Leads CheckedOver old new r
+  pub check_told : Judges → (old new : Known) (r : Result Answer Halt) (a : Answer) → r ≡ Ok a → LeavesOne CheckedOver old new r
       → a.text.items ≡ verdict_of x.night x.certificate (verdict.Accepted x.certificate.bound)
   check_told law old new r a ok leads =
-      let led : HasFirst CheckedOver old new (reply_of a) = subst (λ (y : Result Answer Halt). Leads CheckedOver old new y) ok leads in
+      let led : HasFirst CheckedOver old new (reply_of a) = subst (λ (y : Result Answer Halt). LeavesOne CheckedOver old new y) ok leads in
       let its = checked (with_first led.first (reply_of a)) led.reply in
       let accepts = (law x.night [] x.plan x.certificate its.verdict is.formed is.in_range (keeps_none x.plan.blocks) is.statable (λ e. usable_none x.night) its.told).1
       is.proved in

@@ -1,9 +1,9 @@
 //! The command `trial`: a night that is made of a number, planned, checked and audited over files in memory.
 #![tactic(auto)]
 
-mod holding;
-mod rehearsing;
-mod telling;
-mod trying;
+mod first_line;
+mod rehearsal;
+mod trial;
+mod trial_files;
 
-pub use trying::reply_to_trial;
+pub use trial::reply_to_trial;

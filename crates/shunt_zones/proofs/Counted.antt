@@ -6,8 +6,8 @@ use Rattle.std.specs.List.{range_with_len}
 use Rattle.std.proofs.lemmas.List.{drop_more}
 use Rattle.std.proofs.lemmas.List.FromFn.{map-range_with_len_more}
 use Rattle.shunt_zones.specs.declared.records.ZoneLoad.{ZoneLoad}
-use Rattle.shunt_zones.specs.declared.passing.Passing.{Passing}
-use Rattle.shunt_zones.specs.defs.Loading.{minutes_over, times, greatest, most_of, busiest_of, load_of}
+use Rattle.shunt_zones.specs.declared.passages.Passing.{Passing}
+use Rattle.shunt_zones.specs.defs.Loads.{minutes_over, times, greatest, most_of, busiest_of, load_of}
 
 max_more : (a b c : ℕ) → max (max a b) c ≡ max a (max b c)
 max_more a b c = grind arith

@@ -3,7 +3,6 @@ use Rattle.std.proofs.Common.{◌≡◌, ◌≢◌, ℕ, ◌+◌, ◌&&◌, true
 use Rattle.std.specs.Prelude.{Ok, bytes_eq, All, ◌==◌, position, codes}
 use Rattle.std.specs.Option.{unwrap_or}
 use Rattle.std.proofs.lemmas.Bool.{ltb-true, not-true, and_from}
-use Rattle.std.proofs.lemmas.Bool.Decides.{nat_tests}
 use Rattle.std.proofs.lemmas.List.Elements.{All-nil, All-push, All-weaker}
 use Rattle.std.proofs.lemmas.List.Quantifiers.{position-Some}
 use Rattle.shunt_lists.proofs.Lists.{no_pairs}
@@ -15,17 +14,18 @@ use Rattle.shunt_rows.specs.defs.Records.{at}
 use Rattle.shunt_rows.specs.defs.Checks.{answer}
 use Rattle.shunt_rows.specs.defs.Fields.{is_word, side_in}
 use Rattle.shunt_rows.specs.defs.Formats.{reading}
-use Rattle.shunt_rows.proofs.Holding.{says, in_either}
-use Rattle.shunt_rows.proofs.Keeping.{formed}
+use Rattle.shunt_rows.proofs.Answered.{says, in_either}
+use Rattle.shunt_rows.proofs.KeptStates.{formed}
 use Rattle.shunt_rows.proofs.Named.{plain_push, same_name}
 use Rattle.shunt_rows.proofs.Spelled.{there}
 use Rattle.shunt_instance.specs.declared.records.Station.{Station}
 use Rattle.shunt_zones.specs.declared.records.Over.{Over}
 use Rattle.shunt_zones.specs.declared.records.Zones.{Zones}
 use Rattle.shunt_zones.specs.declared.ways.Way.{Way}
-use Rattle.shunt_zones.specs.defs.ZonesFormat.{way_from, way_in, over_way, is_same, stands, no_zones, first_of, zone_of, over_in, over_of, later_of, zones_format, IsOver, IsZones}
+use Rattle.shunt_zones.specs.defs.ZonesFormat.{way_from, way_in, over_way, is_same, stands, no_zones, first_of, zone_of, over_in, over_of, later_of, zones_format, IsOverWay, IsZones}
+use Rattle.shunt_lists.proofs.Tests.{same_number}
 
-more_zones : (s : Station) (zones : ℕ) (o : Over) → IsOver s zones o → IsOver s (zones + 1) o
+more_zones : (s : Station) (zones : ℕ) (o : Over) → IsOverWay s zones o → IsOverWay s (zones + 1) o
 more_zones s zones o is = record { platform = is.platform; track = is.track; route = is.route; zone = let lt = is.zone in omega (arith, lt) }
 
 zone_formed : (s : Station) (n : ℕ) (z t : Zones) (row : List (List ℕ)) → IsZones s z → answer n (zone_of z row) ≡ Ok t → IsZones s t
@@ -37,8 +37,9 @@ zone_formed s n z t row f e =
     let new = name.1 in
     let less = ltb-true (length z.names) 64 room.0 in
     let longer : length (z.names ++ at row 2 ∷ []) ≡ length z.names + 1 = length-append z.names (at row 2 ∷ []) in
-    let over : All (IsOver s (length (z.names ++ at row 2 ∷ []))) z.over =
-    subst (λ k. All (IsOver s k) z.over) (sym longer) (All-weaker (IsOver s (length z.names)) (IsOver s (length z.names + 1)) (more_zones s (length z.names)) z.over f.over) in
+    let over : All (IsOverWay s (length (z.names ++ at row 2 ∷ []))) z.over =
+    subst (λ k. All (IsOverWay s k) z.over) (sym longer) (All-weaker (IsOverWay s (length z.names)) (IsOverWay s (length z.names + 1))
+    (more_zones s (length z.names)) z.over f.over) in
     let next : Zones = record z { names = z.names ++ at row 2 ∷ [] } in
     let is : IsZones s next = record {
       few = omega (arith, less, longer);
@@ -48,9 +49,6 @@ zone_formed s n z t row f e =
       over_differ = f.over_differ;
     } in
     subst (IsZones s) all.1 is
-
-same_number : (k : ℕ) → (k == k) ≡ true
-same_number k = grind (arith, nat_tests)
 
 same_itself : (o p : Over) → p ≡ o → is_same o p ≡ true
 same_itself o p e =
@@ -72,7 +70,7 @@ over_formed s n z t row f e =
     let number = position (λ x. bytes_eq x (at row 5)) z.names in
     let way : Way = way_from (unwrap_or platform 0) (unwrap_or track 0) (side_in row 4).value in
     let o : Over = over_way way (unwrap_or number 0) in
-    let is : IsOver s (length z.names) o = record {
+    let is : IsOverWay s (length z.names) o = record {
       platform = (position-Some (λ x. bytes_eq x (at row 2)) s.platforms (unwrap_or platform 0) [] (there 0 platform p.0)).0;
       track = (position-Some (λ x. bytes_eq x.name (at row 3)) s.tracks (unwrap_or track 0) (record { name = []; length = 0; side_a = true; side_b = true }) (there 0 track k.0)).0;
       route = route.0;
@@ -83,7 +81,7 @@ over_formed s n z t row f e =
       few = f.few;
       names = f.names;
       names_differ = f.names_differ;
-      over = All-push (IsOver s (length z.names)) z.over o f.over is;
+      over = All-push (IsOverWay s (length z.names)) z.over o f.over is;
       over_differ = plain_push (is_same o) z.over o (same_itself o) f.over_differ (not-true _ new.0);
     } in
     subst (IsZones s) all.1 grown
@@ -95,7 +93,7 @@ later_formed s n z t row f =
     (in_either n (is_word row (codes "over")) _ _ t (IsZones s t) (λ w. over_formed s n z t row f) (λ e. absurd cc))
 
 none_formed : (s : Station) → IsZones s no_zones
-none_formed s = record { few = omega arith; names = All-nil IsName; names_differ = no_pairs (λ m n. m ≢ n); over = All-nil (IsOver s 0); over_differ = no_pairs (λ m n. m ≢ n) }
+none_formed s = record { few = omega arith; names = All-nil IsName; names_differ = no_pairs (λ m n. m ≢ n); over = All-nil (IsOverWay s 0); over_differ = no_pairs (λ m n. m ≢ n) }
 
 first_formed : (s : Station) (z : Zones) (row : List (List ℕ)) → answer 1 (first_of row) ≡ Ok z → IsZones s z
 unfolding first_of

@@ -1,7 +1,7 @@
 -- Each two moves that meet, in words.
-use Rattle.std.proofs.Common.{◌≡◌, ◌≢◌, ◌⊎◌, inl, inr, ⊎_elim, ◌↔◌, ℕ, ◌<◌, ◌≤◌, Bool, true, false, not, ◌&&◌, ◌||◌, min, List, [], ◌∷◌, map, filter, refl, sym, subst, ap, ◌∙◌, arith}
+use Rattle.std.proofs.Common.{◌≡◌, ◌≢◌, ◌⊎◌, inl, inr, ⊎_elim, ◌↔◌, ℕ, ◌<◌, ◌≤◌, Bool, true, false, not, min, List, [], ◌∷◌, map, filter, refl, sym, subst, ap, ◌∙◌, arith}
 use Rattle.std.specs.Prelude.{◌==◌, Option, Some, None, if◌then◌else◌}
-use Rattle.std.specs.List.{filter_map, cons_option}
+use Rattle.std.specs.List.{filter_map}
 use Rattle.std.specs.Option.{option_map}
 use Rattle.std.proofs.lemmas.Bool.{cases_lt, eqb-true, eq-eqb, not-true, and_from}
 use Rattle.std.proofs.lemmas.Option.{none-some}
@@ -16,25 +16,11 @@ use Rattle.shunt_zones.specs.declared.records.Zones.{Zones}
 use Rattle.shunt_zones.specs.declared.records.Meet.{Meet}
 use Rattle.shunt_zones.specs.defs.Moves.{moves_of}
 use Rattle.shunt_zones.specs.defs.Passed.{zones_of, has_zone, passing_of, passings_of}
-use Rattle.shunt_zones.specs.defs.Meeting.{is_one_train, may_meet, least_of, shared_zone, meet_of, meets_among, meets_in, Before, MeetIn}
+use Rattle.shunt_zones.specs.defs.Meetings.{is_one_train, may_meet, least_of, shared_zone, meet_of, meets_among, meets_in, Before, MeetIn}
+use Rattle.shunt_lists.proofs.Options.{some_same, of_some, to_some}
+use Rattle.shunt_lists.proofs.Tests.{alike_is, first_true, second_true, both_true, is_alike, or_cases as either_true}
 
 -- ---- tests
-
-either_true : (a b : Bool) → (a || b) ≡ true → (a ≡ true) ⊎ (b ≡ true)
-either_true true b e = inl refl
-either_true false b e = inr e
-
-first_true : (a b : Bool) → a ≡ true → (a || b) ≡ true
-first_true true b e = refl
-first_true false b e = absurd cc
-
-second_true : (a b : Bool) → b ≡ true → (a || b) ≡ true
-second_true true b e = refl
-second_true false b e = e
-
-both_true : (a b : Bool) → (a && b) ≡ true → (a ≡ true) × (b ≡ true)
-both_true true b e = (refl, e)
-both_true false b e = absurd cc
 
 not_from : (a : Bool) → (a ≡ true → ⊥) → not a ≡ true
 not_from true no_way = absurd (no_way refl)
@@ -79,9 +65,6 @@ least_cases : (zones : List ℕ) → ((least_of zones ≡ None) × (zones ≡ []
 least_cases [] = inl (refl, refl)
 least_cases (x ∷ zones) = ⊎_elim (λ none. inr (x, alone x zones none.0 none.1)) (λ some. inr (min x some.0, with_one x some.0 zones some.1)) (least_cases zones)
 
-some_same : {Y : Type 0} (y z : Y) → Some y ≡ Some z → y ≡ z
-some_same y z e = cc
-
 is_least : (zones : List ℕ) (z : ℕ) → least_of zones ≡ Some z → In z zones × ((y : ℕ) → In y zones → z ≤ y)
 is_least zones z e =
     ⊎_elim (λ none. absurd (none-some z (sym none.0 ∙ e)))
@@ -112,18 +95,6 @@ is_shared own other z s =
 
 abbrev MayMeet : EventKey → EventKey → Type 0
 MayMeet k l = (k.minute ≡ l.minute) × (k.enters ≡ l.enters → k.train ≢ l.train)
-
-alike_is : (a b : Bool) → (if a then b else not b) ≡ true → a ≡ b
-alike_is true true e = refl
-alike_is true false e = absurd cc
-alike_is false true e = absurd cc
-alike_is false false e = refl
-
-is_alike : (a b : Bool) → a ≡ b → (if a then b else not b) ≡ true
-is_alike true true e = refl
-is_alike true false e = absurd cc
-is_alike false true e = absurd cc
-is_alike false false e = refl
 
 may_is : (k l : EventKey) → may_meet k l ≡ true → MayMeet k l
 may_is k l e =
@@ -168,28 +139,6 @@ is_met night zones e f z in_z =
     ∙ ap (option_map (meet e f)) (is_shared (zones_of night zones e) (zones_of night zones f) z (in_z.first, in_z.second, in_z.least))
 
 -- ---- the meets of a list of moves
-
-option_in : {Y : Type 0} (o : Option Y) (ys : List Y) (y : Y) → In y (cons_option o ys) → (o ≡ Some y) ⊎ In y ys
-option_in None ys y i = inr i
-option_in (Some z) ys y (inl e) = inl (ap Some (sym e))
-option_in (Some z) ys y (inr i) = inr i
-
-option_first : {Y : Type 0} (o : Option Y) (ys : List Y) (y : Y) → o ≡ Some y → In y (cons_option o ys)
-option_first None ys y e = absurd (none-some y e)
-option_first (Some z) ys y e = inl (some_same y z (sym e))
-
-option_rest : {Y : Type 0} (o : Option Y) (ys : List Y) (y : Y) → In y ys → In y (cons_option o ys)
-option_rest None ys y i = i
-option_rest (Some z) ys y i = inr i
-
-of_some : {X Y : Type 0} (h : X → Option Y) (xs : List X) (y : Y) → In y (filter_map h xs) → (x : X) × In x xs × (h x ≡ Some y)
-of_some h [] y i = absurd i
-of_some h (x ∷ xs) y i = ⊎_elim (λ e. (x, inl refl, e)) (λ later. let r = of_some h xs y later in (r.0, inr r.1, r.2)) (option_in (h x) (filter_map h xs) y i)
-
-to_some : {X Y : Type 0} (h : X → Option Y) (xs : List X) (x : X) (y : Y) → In x xs → h x ≡ Some y → In y (filter_map h xs)
-to_some h [] x y i e = absurd i
-to_some h (z ∷ xs) x y (inl same) e = option_first (h z) (filter_map h xs) y (ap h (sym same) ∙ e)
-to_some h (z ∷ xs) x y (inr i) e = option_rest (h z) (filter_map h xs) y (to_some h xs x y i e)
 
 abbrev Meets : Night → Zones → List Event → Meet → Type 0
 Meets night zones moves m = Before m.first m.second moves × MeetIn night zones m.first m.second m.zone

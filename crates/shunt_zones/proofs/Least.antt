@@ -6,10 +6,10 @@ use Rattle.std.proofs.lemmas.Bool.{cases_Bool, cond-true, cond-false}
 use Rattle.std.proofs.lemmas.List.{append_assoc, drop_more, take_all, length-drop}
 use Rattle.shunt_lists.proofs.Members.{filter_yes, filter_no}
 use Rattle.shunt_zones.specs.declared.records.Meet.{Meet}
-use Rattle.shunt_zones.specs.declared.passing.Passing.{Passing}
+use Rattle.shunt_zones.specs.declared.passages.Passing.{Passing}
 use Rattle.shunt_zones.specs.defs.Passed.{has_zone}
 use Rattle.shunt_blocks.specs.defs.Least.{lesser}
-use Rattle.shunt_zones.specs.defs.Meeting.{least_of, meet_of, meets_among}
+use Rattle.shunt_zones.specs.defs.Meetings.{least_of, meet_of, meets_among}
 
 min_more : (a b c : ℕ) → min (min a b) c ≡ min a (min b c)
 min_more a b c = grind arith

@@ -5,7 +5,7 @@ mod Least
 pub mod Ordered
 mod Parts
 pub mod Plain
-pub mod Rising
+pub mod RisingMinutes
 pub mod RoundTrip
 mod Same
 pub mod Tables

@@ -1,85 +1,34 @@
 -- The moves of blocks in key order, and that they are the night's.
-use Rattle.std.proofs.Common.{◌≡◌, ℕ, ◌+◌, ◌*◌, ◌<◌, ◌≤◌, Bool, true, false, List, [], ◌∷◌, length, get_or, map, refl, sym, subst, ap, ◌∙◌, arith, Ordering, IsPermutation}
-use Rattle.std.specs.Prelude.{All, Option, Some, None, filter, not, cond, if◌then◌else◌}
-use Rattle.std.specs.List.{flat_map, filter_map, cons_option}
-use Rattle.std.specs.List.Sorted.{IsSorted}
-use Rattle.std.specs.Ordering.{is_lt, ordering_then}
-use Rattle.std.specs.declared.cmp.Ordering.TheVariants.{Less, Equal, Greater}
-use Rattle.std.proofs.lemmas.List.{get_or-map, length-map}
-use Rattle.std.proofs.lemmas.List.Concat.{flat_map-cons}
+use Rattle.std.proofs.Common.{◌≡◌, ℕ, ◌<◌, ◌≤◌, Bool, true, false, List, [], ◌∷◌, length, get_or, map, refl, sym, subst, ap, ◌∙◌, arith}
+use Rattle.std.specs.Prelude.{All, Some, filter, not, cond}
+use Rattle.std.proofs.lemmas.List.{length-map}
 use Rattle.std.proofs.lemmas.List.Elements.{All-filter}
-use Rattle.std.proofs.lemmas.List.Sorted.{IsPermutation-map}
-use Rattle.std.proofs.lemmas.Option.{none-some}
-use Rattle.shunt_lists.proofs.Members.{in_place, in_to, of_map}
+use Rattle.shunt_lists.proofs.Members.{in_place, of_map, each_one}
 use Rattle.shunt_lists.specs.defs.Members.{In}
 use Rattle.shunt_base.specs.declared.keys.Stay.{Stay}
-use Rattle.shunt_base.specs.defs.Keys.{AreStays, key_cmp}
-use Rattle.shunt_stays.specs.defs.Events.{Move, entry_of, leave_of, moves_of, key_before, insert_by_key, in_order}
+use Rattle.shunt_base.specs.defs.Keys.{AreStays}
+use Rattle.shunt_stays.specs.defs.Events.{Move, entry_of, leave_of, in_order}
 use Rattle.shunt_stays.proofs.Halves.{Half, move_of as half_move, halves_of, of_stay, in_order_is}
-use Rattle.shunt_stays.proofs.Sorting.{sorted_is}
+use Rattle.shunt_stays.proofs.SortedEvents.{events_long}
 use Rattle.shunt_instance.specs.declared.records.Train.{Train}
 use Rattle.shunt_instance.specs.declared.records.Origin.TheVariants as origin
 use Rattle.shunt_instance.specs.defs.Instance.{Night, IsInstance, IsOrderedNight}
 use Rattle.shunt_instance.proofs.Orders.{opened}
 use Rattle.shunt_blocks.specs.declared.records.Block.{Block}
 use Rattle.shunt_blocks.specs.declared.records.Park.{Park}
-use Rattle.shunt_blocks.specs.defs.Shapes.{shape_of, IsOnTrack, IsWithinTrains, IsInRange}
-use Rattle.shunt_blocks.specs.defs.Standing.{is_too_soon, parked_stay, stay_with, stay_of}
+use Rattle.shunt_blocks.specs.defs.Shapes.{IsWithinTrains, IsInRange}
+use Rattle.shunt_blocks.specs.defs.Stays.{parked_stay, stay_of}
 use Rattle.shunt_blocks.specs.defs.Lists.{AreInRange, stays_of}
 use Rattle.shunt_tracks.specs.declared.run.Event.{Event}
 use Rattle.shunt_tracks.specs.defs.Answer.{event_of}
-use Rattle.shunt_zones.specs.declared.moves.Due.{Due}
-use Rattle.shunt_zones.specs.defs.Dues.{move_of, dues_of}
+use Rattle.shunt_tracks.specs.declared.dues.Due.{Due}
+use Rattle.shunt_tracks.specs.defs.Dues.{move_of}
 use Rattle.shunt_zones.specs.declared.records.Zones.{Zones}
-use Rattle.shunt_zones.specs.declared.passing.Passing.{Passing}
+use Rattle.shunt_zones.specs.declared.passages.Passing.{Passing}
 use Rattle.shunt_zones.specs.defs.Moves.{events_of, is_of_standing, IsMoveOf, moves_of as moves_in}
 use Rattle.shunt_zones.specs.defs.Passed.{passing_of, passings_of}
-
--- ---- what is due, sorted by its keys
-
-abbrev by_key : Move → Move → Ordering
-by_key m n = key_cmp m.key n.key
-
-pub first_less : (o rest : Ordering) → is_lt (ordering_then o rest) ≡ false → is_lt o ≡ false
-first_less Less rest e = e
-first_less Equal rest e = refl
-first_less Greater rest e = refl
-
-moves_are : (stays : List Stay) → map move_of (flat_map dues_of stays) ≡ moves_of stays
-moves_are [] = refl
-moves_are (s ∷ stays) =
-    ap (map move_of) (flat_map-cons dues_of s stays)
-    ∙ ap (λ (l : List Move). entry_of s ∷ leave_of s ∷ l) (moves_are stays)
-    ∙ sym (flat_map-cons (λ (z : Stay). entry_of z ∷ leave_of z ∷ []) s stays)
-
-sorted_map : (cmp : Due → Due → Ordering) (dues : List Due) → ((d e : Due) → is_lt (cmp d e) ≡ false → is_lt (key_cmp d.key e.key) ≡ false) → IsSorted cmp dues
-    → IsSorted by_key (map move_of dues)
-sorted_map cmp dues finer s = λ k m low high.
-    let z : Due = record { key = m.key; track = m.track; side = m.side; length = m.length } in
-    let lt : k + 1 < length dues = omega (arith, length-map dues move_of) in
-    let here : get_or (map move_of dues) k m ≡ move_of (get_or dues k z) = get_or-map move_of dues k z m (omega arith) in
-    let next : get_or (map move_of dues) (k + 1) m ≡ move_of (get_or dues (k + 1) z) = get_or-map move_of dues (k + 1) z m lt in
-    ap (λ (n : Move). is_lt (by_key n (get_or (map move_of dues) k m))) next
-    ∙ ap (λ (n : Move). is_lt (by_key (move_of (get_or dues (k + 1) z)) n)) here
-    ∙ finer (get_or dues (k + 1) z) (get_or dues k z) (s k z low lt)
-
-pub sorted_moves : (cmp : Due → Due → Ordering) (stays : List Stay) (dues sorted : List Due) → AreStays stays
-    → ((d e : Due) → is_lt (cmp d e) ≡ false → is_lt (key_cmp d.key e.key) ≡ false) → dues ≡ flat_map dues_of stays → IsPermutation dues sorted → IsSorted cmp sorted
-    → map move_of sorted ≡ in_order stays
-sorted_moves cmp stays dues sorted a finer e p s =
-    sorted_is stays (map move_of sorted) a (subst (λ (l : List Move). IsPermutation l (map move_of sorted)) (ap (map move_of) e ∙ moves_are stays)
-    (IsPermutation-map move_of dues sorted p)) (sorted_map cmp sorted finer s)
-
--- ---- the stay of a block
-
-stands_when : (soon : Bool) (t s : Stay) → (if soon then None else Some t) ≡ Some s → s ≡ t
-stands_when true t s e = absurd (none-some _ e)
-stands_when false t s e = cc
-
-stay_is : (night : Night) (b : Block) (o : Option Park) (s : Stay) → IsOnTrack night.station o → stay_with night b o ≡ Some s
-    → (k : Park) × (k.track.0 < length night.station.tracks) × (s ≡ parked_stay night b k)
-stay_is night b None s on e = absurd (none-some _ e)
-stay_is night b (Some k) s on e = (k, on, stands_when (is_too_soon night (shape_of b)) (parked_stay night b k) s e)
+use Rattle.shunt_lists.proofs.Options.{few_some}
+use Rattle.shunt_blocks.proofs.StaysOf.{stay_is}
 
 -- ---- its entry and leave are moves of the night
 
@@ -99,9 +48,6 @@ half_is night b (s, true) f w e = let p = stay_is night b b.park s w.track e in 
     (entry_is night b p.0 f w p.1)
 half_is night b (s, false) f w e = let p = stay_is night b b.park s w.track e in subst (λ (t : Stay). IsMoveOf night (event_of (leave_of t))) (sym p.2)
     (leave_is night b p.0 f w p.1)
-
-each_one : {X : Type 0} (P : X → Type 0) (xs : List X) (x : X) → All P xs → In x xs → P x
-each_one P xs x all i = let c = in_to xs x i in subst P c.2 (all c.0 x c.1)
 
 -- what the laws of blocks say of stays
 pub record StayLaws : Type 0 where
@@ -124,27 +70,6 @@ events_of_night laws night blocks is range = λ k d lt.
     subst (IsMoveOf night) (sym r.2) (event_is laws night blocks is range r.0 r.1)
 
 -- ---- how many there are
-
-either_long : {X : Type 0} (b : Bool) (xs ys : List X) (n : ℕ) → length xs ≡ n → length ys ≡ n → length (if b then xs else ys) ≡ n
-either_long true xs ys n e f = e
-either_long false xs ys n e f = f
-
-inserted_long : (m : Move) (moves : List Move) → length (insert_by_key m moves) ≡ length moves + 1
-inserted_long m [] = refl
-inserted_long m (n ∷ moves) = either_long (key_before m.key n.key) (m ∷ n ∷ moves) (n ∷ insert_by_key m moves) (length (n ∷ moves) + 1) (omega arith)
-    (omega (arith, inserted_long m moves))
-
-events_long : (stays : List Stay) → length (in_order stays) ≡ 2 * length stays
-events_long [] = refl
-events_long (s ∷ stays) = omega (arith, inserted_long (entry_of s) (insert_by_key (leave_of s) (in_order stays)), inserted_long (leave_of s) (in_order stays), events_long stays)
-
-option_few : {Y : Type 0} (o : Option Y) (ys : List Y) → length (cons_option o ys) ≤ length ys + 1
-option_few None ys = omega arith
-option_few (Some y) ys = omega arith
-
-few_some : {X Y : Type 0} (h : X → Option Y) (xs : List X) → length (filter_map h xs) ≤ length xs
-few_some h [] = omega arith
-few_some h (x ∷ xs) = omega (arith, option_few (h x) (filter_map h xs), few_some h xs)
 
 pub few_events : (night : Night) (blocks : List Block) → AreInRange night blocks → length (events_of night blocks) ≤ 800
 unfolding events_of

@@ -5,7 +5,7 @@ use Rattle.shunt_rows.specs.declared.fault.RowFault.{RowFault}
 use Rattle.shunt_rows.specs.defs.Checks.{Judged, answer, says}
 use Rattle.shunt_rows.specs.defs.Checks as judging
 use Rattle.shunt_rows.specs.defs.Fields.{is_within, fields_in}
-use Rattle.shunt_rows.proofs.Holding.{passes_on}
+use Rattle.shunt_rows.proofs.Answered.{passes_on}
 use Rattle.shunt_rows.proofs.Joins.{part_ok, part_err}
 use Rattle.shunt_instance.specs.declared.records.Station.{Station}
 use Rattle.shunt_zones.specs.declared.records.Over.{Over}

@@ -19,7 +19,7 @@ use Rattle.shunt_rows.specs.defs.Records.{records_of, text_of_rows, ReadsBack}
 use Rattle.shunt_rows.specs.defs.Written.{Written}
 use Rattle.shunt_rows.specs.defs.Records.{text_of_row}
 use Rattle.shunt_rows.proofs.Again.{again}
-use Rattle.shunt_rows.proofs.Holding.{holding}
+use Rattle.shunt_rows.proofs.Answered.{holding}
 use Rattle.shunt_rows.proofs.Named.{by_name, not_before, of_middle, fewer}
 use Rattle.shunt_rows.proofs.Plain.{side_read}
 use Rattle.shunt_rows.proofs.Sections.{section, section_then, all_read}
@@ -31,7 +31,7 @@ use Rattle.shunt_instance.specs.defs.Wellformed.{IsStation}
 use Rattle.shunt_instance.proofs.Found.{found_there}
 use Rattle.shunt_zones.specs.declared.records.Over.{Over}
 use Rattle.shunt_zones.specs.declared.records.Zones.{Zones}
-use Rattle.shunt_zones.specs.defs.ZonesFormat.{has_route, way_from, way_in, over_way, is_same, stands, first_of, zone_of, over_in, over_of, later_of, zones_format, IsOver, IsZones}
+use Rattle.shunt_zones.specs.defs.ZonesFormat.{has_route, way_from, way_in, over_way, is_same, stands, first_of, zone_of, over_in, over_of, later_of, zones_format, IsOverWay, IsZones}
 use Rattle.shunt_zones.specs.defs.ZonesRows.{head_row, zone_row, over_row, rows_of, ReadsAsZones}
 use Rattle.shunt_zones.proofs.Plain.{zones_plain}
 
@@ -84,7 +84,7 @@ over_read : (s : Station) (z : Zones) → IsStation s → IsZones s z → (n : �
     → answer n (later_of s (partial z.names xs) (over_row s z.names y)) ≡ Ok (partial z.names (xs ++ y ∷ []))
 unfolding later_of over_of way_in over_in stands is_within
 over_read s z f g n xs y zs e =
-    let is = of_middle (IsOver s (length z.names)) z.over xs zs y g.over e in
+    let is = of_middle (IsOverWay s (length z.names)) z.over xs zs y g.over e in
     let p = found_name s.platforms y.platform.0 f.platform_names is.platform in
     let t = found_named (λ (u : Track). u.name) s.tracks y.track.0 some_track f.track_names is.track in
     let q = side_read y.side in

@@ -2,20 +2,20 @@
 #![tactic(auto)]
 
 pub mod laws;
-mod loading;
-mod meeting;
+mod meetings;
 mod moves;
 mod overs;
-mod passing;
-mod reading;
+mod passages;
+mod reader;
 mod records;
 mod ways;
-mod writing;
+mod writer;
+mod zone_loads;
 
-pub use loading::loads;
-pub use meeting::meets;
+pub use meetings::meets;
 pub use moves::moves_of;
-pub use reading::read_zones;
+pub use reader::read_zones;
 pub use records::{Meet, Over, ZoneLoad, Zones};
 pub use ways::{KnownStation, Way};
-pub use writing::write_zones;
+pub use writer::write_zones;
+pub use zone_loads::loads;

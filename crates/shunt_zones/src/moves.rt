@@ -1,6 +1,5 @@
 // The moves of a plan.
 ghost use Rattle.std.specs.Prelude.{◌≡◌, ◌≤◌, ◌<◌, ◌*◌, All, map, filter, not, length, IfOk};
-ghost use Rattle.std.specs.List.{flat_map};
 ghost use Rattle.shunt_base.specs.defs.Keys.{AreStays};
 ghost use Rattle.shunt_stays.specs.defs.Events.{in_order};
 ghost use Rattle.shunt_instance.specs.defs.Words.{is_standing};
@@ -8,46 +7,16 @@ ghost use Rattle.shunt_blocks.specs.defs.Shapes.{IsInRange};
 ghost use Rattle.shunt_blocks.specs.defs.Lists.{AreInRange, stays_of};
 ghost use Rattle.shunt_plan.specs.defs.Plans.{IsPlanInRange};
 ghost use Rattle.shunt_tracks.specs.defs.Answer.{event_of as told};
-ghost use Rattle.shunt_zones.specs.defs.Dues.{move_of, entry_due, leave_due, dues_of};
-ghost use Rattle.shunt_zones.specs.defs.Moves.{events_of, moves_of, trains_of, train_of, is_of_standing, IsMoveOf};
+ghost use Rattle.shunt_tracks.specs.defs.Dues.{move_of};
+ghost use Rattle.shunt_zones.specs.defs.Moves.{events_of, moves_of, trains_of, train_of};
+ghost use Rattle.shunt_zones.specs.defs.Moves.{is_of_standing, IsMoveOf};
 
-use shunt_base::{ArrId, DepId, EventKey, Side, Stay, TrackId};
-use shunt_blocks::{Block, laws, stay};
+use shunt_base::{ArrId, DepId, EventKey};
+use shunt_blocks::{Block, laws, stays_of};
 use shunt_instance::{Instance, Origin, Train};
 use shunt_plan::Plan;
-use shunt_tracks::Event;
+use shunt_tracks::{Due, Event, sorted_dues};
 use std::alloc::{AllocError, Global};
-
-// An entry or a leave. They are sorted by their keys, as the key stands first.
-#[derive(Clone, Copy, Debug, PartialEq, Eq, PartialOrd, Ord)]
-struct Due {
-    key: EventKey,
-    track: TrackId,
-    side: Side,
-    length: u32,
-}
-
-fn entry_of(stay: &Stay) -> Due
-    ensures { result ≡ entry_due stay.now }
-{
-    Due {
-        key: stay.enter,
-        track: stay.track,
-        side: stay.side_in,
-        length: stay.length,
-    }
-}
-
-fn leave_of(stay: &Stay) -> Due
-    ensures { result ≡ leave_due stay.now }
-{
-    Due {
-        key: stay.leave,
-        track: stay.track,
-        side: stay.side_out,
-        length: stay.length,
-    }
-}
 
 fn event_of(due: &Due) -> Event
     ensures { result ≡ told (move_of due.now) }
@@ -59,30 +28,14 @@ fn event_of(due: &Due) -> Event
     }
 }
 
-// The entries and leaves of the stays of these blocks.
+// The entries and leaves of the stays of these blocks, in the order of their keys.
 fn dues_in(alloc: Global, instance: &Instance, blocks: &[Block]) -> Result<Vec<Due>, AllocError>
-    requires { All (IsInRange instance.now) blocks.now }
-    ensures { IfOk result (λ v. v.items ≡ flat_map dues_of (stays_of instance.now blocks.now)) }
-{
-    let mut dues = Vec::new(alloc);
-    for block in blocks {
-        if let Some(stay) = stay(instance, block) {
-            dues.push(entry_of(&stay))?;
-            dues.push(leave_of(&stay))?;
-        }
-    }
-    Ok(dues)
-}
-
-// The same in the order of their keys.
-fn sorted_dues(alloc: Global, instance: &Instance, blocks: &[Block]) -> Result<Vec<Due>, AllocError>
     requires each { All (IsInRange instance.now) blocks.now }
     requires stays { AreStays (stays_of instance.now blocks.now) }
     ensures { IfOk result (λ v. map move_of v.items ≡ in_order (stays_of instance.now blocks.now)) }
 {
-    let mut dues = dues_in(alloc, instance, blocks)?;
-    dues.sort_unstable();
-    Ok(dues)
+    let stays = stays_of(alloc, instance, blocks)?;
+    sorted_dues(alloc, &stays)
 }
 
 fn events_from(alloc: Global, dues: &[Due]) -> Result<Vec<Event>, AllocError>
@@ -106,7 +59,7 @@ fn events_of(alloc: Global, instance: &Instance, blocks: &[Block]) -> Result<Vec
     // The calls tell that the night is well formed, and what its stays are.
     instance.station();
     laws::stays_of_blocks();
-    let dues = sorted_dues(alloc, instance, blocks)?;
+    let dues = dues_in(alloc, instance, blocks)?;
     events_from(alloc, &dues)
 }
 
@@ -146,7 +99,8 @@ fn but_standing(
     events: &[Event],
 ) -> Result<Vec<Event>, AllocError>
     requires { All (IsMoveOf instance.now) events.now }
-    ensures { IfOk result (λ v. v.items ≡ filter (λ e. not (is_of_standing instance.now e.key)) events.now) }
+    ensures { IfOk result
+        (λ v. v.items ≡ filter (λ e. not (is_of_standing instance.now e.key)) events.now) }
 {
     let mut moves = Vec::new(alloc);
     for event in events {

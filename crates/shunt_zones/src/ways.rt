@@ -92,7 +92,8 @@ impl<'r> Model for KnownStation<'r> {
 
     ghost view = { λ k. k.station.now };
 
-    ghost invariant = { λ k. (k.platforms ≡ k.station.now.platforms) × (k.tracks ≡ k.station.now.tracks) × IsStation k.station.now };
+    ghost invariant = { λ k. (k.platforms ≡ k.station.now.platforms)
+        × (k.tracks ≡ k.station.now.tracks) × IsStation k.station.now };
 }
 
 impl<'r> KnownStation<'r> {

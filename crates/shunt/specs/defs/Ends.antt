@@ -2,11 +2,11 @@
 use Rattle.std.specs.Prelude.{◌≡◌, ◌⊎◌, ℕ, List, [], ◌++◌, Option, None, Some}
 use Rattle.shunt_store.specs.defs.Files.{Files, BothTold, AddsFront}
 use Rattle.shunt_store.specs.defs.Causes.{Rose}
-use Rattle.shunt_store.specs.defs.Noting.{Entries}
+use Rattle.shunt_store.specs.defs.Notes.{Entries}
 use Rattle.shunt_inputs.specs.declared.answers.Outcome.{Outcome}
 use Rattle.shunt_inputs.specs.declared.answers.Outcome.TheVariants as outcome
-use Rattle.shunt.specs.declared.running.Status.{Status}
-use Rattle.shunt.specs.declared.running.Status.TheVariants as status
+use Rattle.shunt.specs.declared.status.Status.{Status}
+use Rattle.shunt.specs.declared.status.Status.TheVariants as status
 use Rattle.shunt_inputs.specs.defs.Writes.{written, Known, known, WritesSome}
 use Rattle.shunt_inputs.specs.defs.Views.{HeardIn}
 use Rattle.shunt.specs.defs.Calls.{Call}

@@ -2,13 +2,13 @@
 use Rattle.std.specs.Prelude.{ℕ, zero, suc, ◌==◌, nat_le, nat_lt, Bool, not, is_some, ◌&&◌, slice_index, List, [], ◌∷◌, ◌++◌, if◌then◌else◌}
 use Rattle.std.specs.List.{flat_map}
 use Rattle.shunt_base.specs.declared.keys.Stay.{Stay}
-use Rattle.shunt_stays.specs.defs.Crossing.{crosses, load_after}
+use Rattle.shunt_stays.specs.defs.Crossings.{crosses, load_after}
 use Rattle.shunt_instance.specs.defs.Instance.{Night, unit_total, position_total}
 use Rattle.shunt_blocks.specs.declared.records.Block.{Block}
 use Rattle.shunt_blocks.specs.defs.Shapes.{shape_of}
 use Rattle.shunt_blocks.specs.defs.Ways.{way_in, way_out}
 use Rattle.shunt_blocks.specs.defs.Blocks.{type_fault}
-use Rattle.shunt_blocks.specs.defs.Standing.{is_too_soon}
+use Rattle.shunt_blocks.specs.defs.Stays.{is_too_soon}
 use Rattle.shunt_blocks.specs.defs.Lists.{times_unit, times_position, track_lengths, stays_of}
 use Rattle.shunt_audit.specs.declared.types.Finding.{Finding}
 use Rattle.shunt_audit.specs.declared.types.Finding.TheVariants.{UnitBare, UnitTwice, PlaceBare, PlaceTwice, WrongType, TooSoon, NoRouteIn, NoRouteOut, Crossing, TooLong}

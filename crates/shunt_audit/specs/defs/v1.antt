@@ -3,10 +3,10 @@ use Rattle.std.specs.Prelude.{◌≡◌, ◌<◌, ◌≤◌, IsTrue, List}
 use Rattle.shunt_instance.specs.defs.Instance.{Night, unit_total, position_total}
 use Rattle.shunt_blocks.specs.declared.records.Block.{Block}
 use Rattle.shunt_blocks.specs.defs.Shapes.{shape_of}
-use Rattle.shunt_blocks.specs.defs.Standing.{is_too_soon}
+use Rattle.shunt_blocks.specs.defs.Stays.{is_too_soon}
 use Rattle.shunt_blocks.specs.defs.Lists.{times_unit, times_position, track_lengths, stays_of}
 use Rattle.shunt_blocks.specs.defs.v1.{HasTwoTypes, LacksRouteIn, LacksRouteOut}
-use Rattle.shunt_stays.specs.defs.Crossing.{Crosses}
+use Rattle.shunt_stays.specs.defs.Crossings.{Crosses}
 use Rattle.shunt_audit.specs.declared.types.Finding.{Finding}
 use Rattle.shunt_audit.specs.declared.types.Finding.TheVariants.{UnitBare, UnitTwice, PlaceBare, PlaceTwice, WrongType, TooSoon, NoRouteIn, NoRouteOut, Crossing, TooLong, StatedCost}
 use Rattle.shunt_audit.specs.defs.Findings.{HasBlock, HasStay, IsOver}

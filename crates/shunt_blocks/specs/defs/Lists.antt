@@ -11,7 +11,7 @@ use Rattle.shunt_blocks.specs.declared.records.Block.{Block}
 use Rattle.shunt_blocks.specs.defs.Shapes.{shape_of, unit_from, position_from, IsWithinTrains, IsInRange}
 use Rattle.shunt_blocks.specs.defs.Blocks.{IsBlock}
 use Rattle.shunt_blocks.specs.defs.Costs.{block_cost}
-use Rattle.shunt_blocks.specs.defs.Standing.{stay_of}
+use Rattle.shunt_blocks.specs.defs.Stays.{stay_of}
 
 -- whether `HasUnit` holds
 abbrev pub has_unit : Night → Shape → ℕ → Bool

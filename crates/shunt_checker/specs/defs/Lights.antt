@@ -10,7 +10,7 @@ use Rattle.shunt_blocks.specs.declared.records.Park.{Park}
 use Rattle.shunt_blocks.specs.defs.Shapes.{IsPair}
 use Rattle.shunt_blocks.specs.defs.Blocks.{IsOption, IsParkable}
 use Rattle.shunt_blocks.specs.defs.Costs.{cost_with}
-use Rattle.shunt_blocks.specs.defs.Standing.{shape_length}
+use Rattle.shunt_blocks.specs.defs.Stays.{shape_length}
 use Rattle.shunt_choices.specs.defs.Paths.{Masks}
 use Rattle.shunt_choices.specs.defs.Choices.{Choice as PathChoice}
 use Rattle.shunt_prices.specs.defs.Prices.{track_length, price_part_with}

@@ -16,7 +16,7 @@ use Rattle.shunt_prices.specs.defs.Bounds.{case_sum, unparked_in}
 use Rattle.shunt_proof.specs.declared.records.Node.{Node}
 use Rattle.shunt_proof.specs.declared.records.Version.{Version}
 use Rattle.shunt_proof.specs.defs.Nodes.{AreNodes}
-use Rattle.shunt_checker.specs.declared.missing.Branch.{Branch}
+use Rattle.shunt_checker.specs.declared.missed_choices.Branch.{Branch}
 use Rattle.shunt_checker.specs.defs.Children.{HasChild, said}
 use Rattle.shunt_checker.specs.defs.Lows.{IsLowBy}
 

@@ -30,8 +30,8 @@ JudgesChild night c k path best r = (start : List Block) → path ≡ path_at ni
     → Passes night start c k 4 r
 
 -- where the first is the path of a node's parent, the second is the node's
-abbrev pub Leads : Night → Certificate → ℕ → List Block → List Block → Type 0
-Leads night c k old new = (start : List Block) → old ≡ path_at night start c.nodes (parent c.nodes k) → new ≡ path_at night start c.nodes k
+abbrev pub LeadsDown : Night → Certificate → ℕ → List Block → List Block → Type 0
+LeadsDown night c k old new = (start : List Block) → old ≡ path_at night start c.nodes (parent c.nodes k) → new ≡ path_at night start c.nodes k
 
 -- the reason that is told first, or that nothing is wrong
 abbrev pub FindsReason : Night → List Block → Certificate → ℕ → Option Reason → Type 0

@@ -14,7 +14,7 @@ use Rattle.shunt_stacks.specs.defs.Fillings.{gain}
 use Rattle.shunt_stacks.specs.defs.Bounds.{IsStackSum}
 use Rattle.shunt_recount.specs.defs.Recounts.{IsRecountOf}
 use Rattle.shunt_proof.specs.defs.Nodes.{AreNodes}
-use Rattle.shunt_checker.specs.declared.sums.Tally.{Tally}
+use Rattle.shunt_checker.specs.declared.sums.StackedSum.{StackedSum}
 use Rattle.shunt_checker.specs.declared.omissions.Stacked.{Stacked}
 
 -- it fits a signed number of 64 bits
@@ -23,7 +23,7 @@ pub record IsInWord (z : ℤ) : Type 0 where
   pub high : z ≤ℤ pos 9223372036854775807
 
 -- the sum with stacks at a path of the case with a number, and what the stacks gain there
-pub record IsTally (night : Night) (path : List Block) (cases : List Case) (k : ℕ) (t : Tally) : Type 0 where
+pub record IsTally (night : Night) (path : List Block) (cases : List Case) (k : ℕ) (t : StackedSum) : Type 0 where
   pub sum : IsStackSum night path cases k t.sum
   pub small : IsWithin 4050000000000000000 t.sum
   pub counted : IsRecountOf night path (case_at cases k) t.counted

@@ -21,7 +21,7 @@ pub record IsSoundBefore (night : Night) (start : List Block) (plan : Plan) (c :
   pub of_nodes : (j : ℕ) → j < k → IsNodeSound night start c j
 
 -- nothing is wrong with the plan and all nodes, and the certificate has the plan's cost
-pub record IsSound (night : Night) (start : List Block) (plan : Plan) (c : Certificate) : Type 0 where
+pub record IsSoundVerdict (night : Night) (start : List Block) (plan : Plan) (c : Certificate) : Type 0 where
   pub before : IsSoundBefore night start plan c (length c.nodes)
   pub cost : c.cost ≡ total_cost night plan.blocks
 
@@ -53,7 +53,7 @@ IsFirstReason night start plan c row r = IsOfPlan night plan row r ⊎ (IsOfNode
 
 -- accepted with the certificate's bound where nothing is wrong, else rejected with the first reason
 abbrev pub Answers : Night → List Block → Plan → Certificate → Verdict → Type 0
-Answers night start plan c (verdict.Accepted bound) = (bound ≡ c.bound) × IsSound night start plan c
+Answers night start plan c (verdict.Accepted bound) = (bound ≡ c.bound) × IsSoundVerdict night start plan c
 Answers night start plan c (verdict.Rejected row r) = IsFirstReason night start plan c row r
 
 -- the verdict on a certificate whose root's path is the pins

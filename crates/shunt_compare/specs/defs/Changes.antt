@@ -14,7 +14,7 @@ abbrev pub placement_of : Night → Block → ℕ → Placement
 placement_of night b u = record { position = position_from night (shape_of b) + (u - unit_from night (shape_of b)); park = b.park }
 
 -- a plan does this with a unit: one of its blocks has the unit and does so
-pub record IsPlaced (night : Night) (blocks : List Block) (u : ℕ) (placement : Placement) : Type 0 where
+pub record IsPlacement (night : Night) (blocks : List Block) (u : ℕ) (placement : Placement) : Type 0 where
   pub block : Block
   pub there : In block blocks
   pub has : has_unit night (shape_of block) u ≡ true
@@ -22,8 +22,8 @@ pub record IsPlaced (night : Night) (blocks : List Block) (u : ℕ) (placement :
 
 -- a plan did this with a unit, another one does that, and its position or its option differs
 pub record IsChange (night : Night) (was now : List Block) (c : Change) : Type 0 where
-  pub before : IsPlaced night was c.unit c.was
-  pub after : IsPlaced night now c.unit c.now
+  pub before : IsPlacement night was c.unit c.was
+  pub after : IsPlacement night now c.unit c.now
   pub differs : c.was ≢ c.now
 
 -- of the values with a number below n, in the order of their numbers, exactly those of which this is true

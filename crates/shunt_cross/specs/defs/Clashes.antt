@@ -1,7 +1,7 @@
 -- Clashes of stays.
 use Rattle.std.specs.Prelude.{ℕ, List}
 use Rattle.shunt_base.specs.declared.keys.Stay.{Stay}
-use Rattle.shunt_stays.specs.defs.Crossing.{pairs_in, overs_in}
+use Rattle.shunt_stays.specs.defs.Crossings.{pairs_in, overs_in}
 use Rattle.shunt_tracks.specs.declared.run.Ran.{Ran}
 use Rattle.shunt_tracks.specs.declared.run.Ran.TheVariants.{Through, Blocked, Over}
 use Rattle.shunt_cross.specs.declared.clash.Clash.{Clash}

@@ -6,7 +6,7 @@ use Rattle.shunt_instance.specs.defs.Words.{train_at, is_standing}
 use Rattle.shunt_instance.specs.defs.Instance.{Night}
 use Rattle.shunt_blocks.specs.declared.records.Block.{Block}
 use Rattle.shunt_blocks.specs.defs.Shapes.{shape_of}
-use Rattle.shunt_blocks.specs.defs.Standing.{is_too_soon}
+use Rattle.shunt_blocks.specs.defs.Stays.{is_too_soon}
 use Rattle.shunt_blocks.specs.defs.Lists.{RunsThrough}
 use Rattle.shunt_audit.specs.declared.types.Finding.{Finding}
 use Rattle.shunt_audit.specs.declared.types.Finding.TheVariants as finding

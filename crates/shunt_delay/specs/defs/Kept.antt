@@ -5,12 +5,12 @@ use Rattle.shunt_lists.specs.defs.Below.{all_below}
 use Rattle.shunt_lists.specs.defs.Members.{In}
 use Rattle.shunt_base.specs.declared.keys.Stay.{Stay}
 use Rattle.shunt_base.specs.defs.Keys.{AreStays}
-use Rattle.shunt_stays.specs.defs.Crossing.{crosses, load_after}
+use Rattle.shunt_stays.specs.defs.Crossings.{crosses, load_after}
 use Rattle.shunt_instance.specs.defs.Instance.{Night, ready}
 use Rattle.shunt_blocks.specs.declared.records.Shape.{Shape}
 use Rattle.shunt_blocks.specs.declared.records.Block.{Block}
 use Rattle.shunt_blocks.specs.defs.Shapes.{shape_of, unit_from}
-use Rattle.shunt_blocks.specs.defs.Standing.{leave_minute, is_too_soon}
+use Rattle.shunt_blocks.specs.defs.Stays.{leave_minute, is_too_soon}
 use Rattle.shunt_blocks.specs.defs.Lists.{AreInRange, track_lengths, stays_of}
 use Rattle.shunt_timeline.specs.defs.Holdings.{Holding}
 use Rattle.shunt_audit.specs.declared.types.Finding.{Finding}
@@ -60,7 +60,7 @@ pub record Hold (before after : Holding) : Type 0 where
   pub room : after.spare + length after.stays ≡ before.spare + length before.stays
 
 -- a feasible plan's blocks, by ascending id
-pub record IsReady (night : Night) (blocks : List Block) : Type 0 where
+pub record AreReadyBlocks (night : Night) (blocks : List Block) : Type 0 where
   pub in_range : AreInRange night blocks
   pub sorted : by_id blocks ≡ blocks
   pub feasible : StaysFeasible night blocks

@@ -5,7 +5,7 @@ use Rattle.shunt_instance.specs.declared.records.Station.{Station}
 use Rattle.shunt_sheet.specs.declared.records.Order.{Order}
 use Rattle.shunt_sheet.specs.declared.records.Followed.{Followed}
 use Rattle.shunt_sheet.specs.declared.records.Followed.TheVariants as answers
-use Rattle.shunt_sheet.specs.defs.Following.{followed}
+use Rattle.shunt_sheet.specs.defs.FollowedOrders.{followed}
 use Rattle.shunt_report.specs.defs.SheetTexts.{followed_of}
 use Rattle.shunt_inputs.specs.declared.answers.Outcome.{Outcome}
 use Rattle.shunt_inputs.specs.declared.answers.Outcome.TheVariants as outcome

@@ -16,12 +16,12 @@ use Rattle.shunt_drivers.specs.declared.records.Takes.{Takes}
 use Rattle.shunt_drivers.specs.declared.records.Crew.{Crew}
 
 -- what the records so far state: the minutes of ways, and those of every other move where their record was read
-pub record Draft : Type 0 where
+pub record CrewDraft : Type 0 where
   pub takes : List Takes
   pub other : Option ℕ
 
 -- what is known of a crew before its records
-abbrev pub no_crew : Draft
+abbrev pub no_crew : CrewDraft
 no_crew = record { takes = []; other = None }
 
 -- the way that minutes are stated of
@@ -41,7 +41,7 @@ unfoldable pub stands : List Takes → Way → Bool
 stands takes w = list_any (is_over w) takes
 
 -- `crew,1`
-unfoldable pub first_of : List (List ℕ) → Judged Draft
+unfoldable pub first_of : List (List ℕ) → Judged CrewDraft
 first_of row = first_in (codes "crew") no_crew row
 
 -- MINUTES at field 5 over a way, none of which stand over it already
@@ -52,7 +52,7 @@ takes_in takes way row = do
   says (takes_over way minutes)
 
 -- `takes,PLATFORM,TRACK,SIDE,MINUTES`; the three once
-unfoldable pub takes_of : Station → Draft → List (List ℕ) → Judged Draft
+unfoldable pub takes_of : Station → CrewDraft → List (List ℕ) → Judged CrewDraft
 takes_of s d row = do
   _ ← fields_in row 5 5
   way ← way_in s row
@@ -60,7 +60,7 @@ takes_of s d row = do
   says record d { takes = d.takes ++ t ∷ [] }
 
 -- `else,MINUTES`, once
-unfoldable pub else_of : Draft → List (List ℕ) → Judged Draft
+unfoldable pub else_of : CrewDraft → List (List ℕ) → Judged CrewDraft
 else_of d row = do
   _ ← fields_in row 2 2
   _ ← must (is_none d.other) 1 kinds.Repeat
@@ -68,18 +68,18 @@ else_of d row = do
   says record d { other = Some minutes }
 
 -- a later record, by its word
-unfoldable pub later_of : Station → Draft → List (List ℕ) → Judged Draft
+unfoldable pub later_of : Station → CrewDraft → List (List ℕ) → Judged CrewDraft
 later_of s d row =
     if is_word row (codes "takes") then takes_of s d row
     else if is_word row (codes "else") then else_of d row
     else no_word d
 
 -- the crew that the records state
-abbrev pub crew_of : Draft → Crew
+abbrev pub crew_of : CrewDraft → Crew
 crew_of d = record { takes = d.takes; other = unwrap_or d.other 0 }
 
 -- the crew file: no record is the last one, and `else` has to be there
-abbrev pub crew_format : Station → Format Draft Crew
+abbrev pub crew_format : Station → Format CrewDraft Crew
 crew_format s = record { first = first_of; later = later_of s; has_ended = λ d. false; is_whole = λ d. is_some d.other; value = crew_of }
 
 -- a number of minutes from 1 to 120

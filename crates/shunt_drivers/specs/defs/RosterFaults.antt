@@ -6,13 +6,13 @@ use Rattle.shunt_lists.specs.defs.Members.{In}
 use Rattle.shunt_instance.specs.defs.Instance.{Night}
 use Rattle.shunt_plan.specs.declared.records.Plan.{Plan}
 use Rattle.shunt_tracks.specs.declared.run.Event.{Event}
-use Rattle.shunt_zones.specs.defs.Meeting.{Before}
+use Rattle.shunt_zones.specs.defs.Meetings.{Before}
 use Rattle.shunt_zones.specs.defs.Moves.{moves_of}
 use Rattle.shunt_drivers.specs.declared.records.Crew.{Crew}
 use Rattle.shunt_drivers.specs.declared.records.Duty.{Duty}
 use Rattle.shunt_drivers.specs.declared.records.RosterFault.{RosterFault}
 use Rattle.shunt_drivers.specs.declared.records.RosterFault.TheVariants as faults
-use Rattle.shunt_drivers.specs.declared.judging.Task.{Task}
+use Rattle.shunt_drivers.specs.declared.faults.Task.{Task}
 use Rattle.shunt_drivers.specs.defs.RosterFormat.{is_one, name_of, named_by}
 use Rattle.shunt_drivers.specs.defs.Spans.{span_of}
 use Rattle.shunt_drivers.specs.defs.Shared.{HasDuty, Overlap, IsSharingOf}

@@ -3,10 +3,10 @@ use Rattle.std.specs.Prelude.{◌≡◌, ℕ, ◌≤◌, true, All, List, map, l
 use Rattle.shunt_lists.specs.defs.Members.{In, AreDistinct}
 use Rattle.shunt_instance.specs.defs.Instance.{Night}
 use Rattle.shunt_tracks.specs.declared.run.Event.{Event}
-use Rattle.shunt_zones.specs.defs.Meeting.{Before}
+use Rattle.shunt_zones.specs.defs.Meetings.{Before}
 use Rattle.shunt_drivers.specs.declared.records.Crew.{Crew}
 use Rattle.shunt_drivers.specs.declared.records.Duty.{Duty}
-use Rattle.shunt_drivers.specs.defs.Sharing.{runs_at, IsBusy}
+use Rattle.shunt_drivers.specs.defs.SharedMoves.{runs_at, IsBusy}
 use Rattle.shunt_drivers.specs.defs.RosterFormat.{name_of, named_by}
 use Rattle.shunt_drivers.specs.defs.Spans.{span_of, spans_of}
 

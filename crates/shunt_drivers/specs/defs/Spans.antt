@@ -10,7 +10,7 @@ use Rattle.shunt_tracks.specs.declared.run.Event.{Event}
 use Rattle.shunt_zones.specs.defs.Moves.{train_of}
 use Rattle.shunt_drivers.specs.declared.records.Takes.{Takes}
 use Rattle.shunt_drivers.specs.declared.records.Crew.{Crew}
-use Rattle.shunt_drivers.specs.declared.sharing.Span.{Span}
+use Rattle.shunt_drivers.specs.declared.shares.MoveSpan.{MoveSpan}
 
 -- whether minutes are those between a train's platform and a side of a track
 abbrev pub is_between : Origin → TrackId → Side → Takes → Bool
@@ -22,9 +22,9 @@ abbrev pub minutes_of : Night → Crew → Event → ℕ
 minutes_of night crew e = unwrap_or (option_map (λ t. t.minutes) (find (is_between (train_of night e.key).origin e.track e.side) crew.takes)) crew.other
 
 -- a move runs from its minute on, up to the minute that is that many minutes later, which isn't counted
-abbrev pub span_of : Night → Crew → Event → Span
+abbrev pub span_of : Night → Crew → Event → MoveSpan
 span_of night crew e = record { start = e.key.minute; end = e.key.minute + minutes_of night crew e }
 
 -- when these moves run, in their order
-abbrev pub spans_of : Night → Crew → List Event → List Span
+abbrev pub spans_of : Night → Crew → List Event → List MoveSpan
 spans_of night crew moves = map (span_of night crew) moves

@@ -8,14 +8,14 @@ use Rattle.shunt_blocks.specs.declared.records.Park.{Park}
 use Rattle.shunt_blocks.specs.defs.Shapes.{AreRunsWithin, unit_from, position_from}
 use Rattle.shunt_blocks.specs.defs.Blocks.{IsOption}
 use Rattle.shunt_blocks.specs.defs.Costs.{cost_with}
-use Rattle.shunt_blocks.specs.defs.Standing.{shape_length}
+use Rattle.shunt_blocks.specs.defs.Stays.{shape_length}
 use Rattle.shunt_choices.specs.defs.Paths.{Masks}
 use Rattle.shunt_choices.specs.defs.Choices.{IsFreeShape}
 use Rattle.shunt_prices.specs.defs.Sums.{sum_z_below}
 use Rattle.shunt_prices.specs.defs.Prices.{price_part_with}
 use Rattle.shunt_prices.specs.defs.Cases.{HasRoom}
-use Rattle.shunt_dual.specs.declared.refitting.Ask.{Ask}
-use Rattle.shunt_dual.specs.declared.asking.Demand.{Demand}
+use Rattle.shunt_dual.specs.declared.unit_values.Ask.{Ask}
+use Rattle.shunt_dual.specs.declared.shape_demands.Demand.{Demand}
 
 -- what charges by track take of an option
 abbrev pub charge_at : List ℕ → Option Park → ℕ

@@ -10,7 +10,7 @@ use Rattle.shunt_prices.specs.defs.Limits.{ArePrices, AreApart, AreDuals}
 use Rattle.shunt_prices.specs.defs.Cases.{DualsHold}
 use Rattle.shunt_prices.specs.defs.Bounds.{duals_sum}
 use Rattle.shunt_prices.specs.defs.Steps.{is_by_length, is_length_price, AreRefitted, IsPriceStep}
-use Rattle.shunt_dual.specs.declared.raising.Step.{Step}
+use Rattle.shunt_dual.specs.declared.price_raises.RaisedStep.{RaisedStep}
 
 -- the price of kind length for a track and a train
 abbrev pub price_at : ℕ → ℕ → ℕ → Price
@@ -31,7 +31,7 @@ parts_of [] = []
 parts_of (price ∷ prices) = if is_by_length price.kind then parts_of prices else price ∷ parts_of prices
 
 -- duals with the same values of positions and the same prices of parts
-pub record Keeps (old new : Duals) : Type 0 where
+pub record KeepsDuals (old new : Duals) : Type 0 where
   pub beta : new.beta ≡ old.beta
   pub parts : parts_of new.prices ≡ parts_of old.prices
 
@@ -56,15 +56,15 @@ pub record AreRefit (night : Night) (path : List Block) (old new : Duals) (risen
 -- the same with the price for a track and a train risen before
 pub record IsRaise (night : Night) (path : List Block) (by track train : ℕ) (old new : Duals) (gain : ℤ) : Type 0 where
   pub good : AreGood night path new
-  pub kept : Keeps old new
+  pub kept : KeepsDuals old new
   pub refitted : AreRefitted night path (unit_total night) (record old { prices = raised_by by track train old.prices }) new
   pub sum : duals_sum night path new ≡ duals_sum night path old +ℤ gain
   pub small : IsWithin 4000000000000000000 gain
 
 -- such duals, or none where the prices leave their limits
-abbrev pub IsTried : Night → List Block → ℕ → ℕ → ℕ → Duals → Option Step → Type 0
-IsTried night path by track train old None = ArePrices night (raised_by by track train old.prices) → ⊥
-IsTried night path by track train old (Some step) = IsRaise night path by track train old step.duals step.gain
+abbrev pub IsTriedRaise : Night → List Block → ℕ → ℕ → ℕ → Duals → Option RaisedStep → Type 0
+IsTriedRaise night path by track train old None = ArePrices night (raised_by by track train old.prices) → ⊥
+IsTriedRaise night path by track train old (Some step) = IsRaise night path by track train old step.duals step.gain
 
 -- no price step for a track and a train has a higher sum
 abbrev pub NoneHigher : Night → List Block → ℕ → ℕ → Duals → Type 0
@@ -74,18 +74,18 @@ NoneHigher night path track train old = (new : Duals) (step : IsPriceStep night 
 -- duals as they were, where no step for a track and a train has a higher sum, or others with a higher sum
 pub record AreImproved (night : Night) (path : List Block) (track train : ℕ) (old new : Duals) : Type 0 where
   pub good : AreGood night path new
-  pub kept : Keeps old new
+  pub kept : KeepsDuals old new
   pub either : ((new ≡ old) × NoneHigher night path track train old) ⊎ (duals_sum night path old <ℤ duals_sum night path new)
 
 -- duals with a higher sum
 pub record AreHigher (night : Night) (path : List Block) (old new : Duals) : Type 0 where
   pub good : AreGood night path new
-  pub kept : Keeps old new
+  pub kept : KeepsDuals old new
   pub higher : duals_sum night path old <ℤ duals_sum night path new
 
 -- after that many pairs of track and train: the given duals, for which no step so far has a higher sum, or others with a higher sum
 pub record AreSwept (night : Night) (path : List Block) (given : Duals) (k : ℕ) (now : Duals) : Type 0 where
   pub good : AreGood night path now
-  pub kept : Keeps given now
+  pub kept : KeepsDuals given now
   pub either : ((now ≡ given) × ((i : ℕ) → i < k → NoneHigher night path (i / length night.arrive) (i % length night.arrive) given))
       ⊎ (duals_sum night path given <ℤ duals_sum night path now)

@@ -2,7 +2,7 @@
 use Rattle.std.specs.Prelude.{◌≡◌, ℕ, zero, suc, ◌+◌, ◌≤◌, Bool, true, false, ℤ, pos, ◌+ℤ◌, ◌-ℤ◌, ◌≤ℤ◌, All, List, slice_set, slice_index_or}
 use Rattle.shunt_prices.specs.defs.Sums.{sum_z_below, IsWithin}
 use Rattle.shunt_prices.specs.defs.Limits.{IsValue}
-use Rattle.shunt_dual.specs.declared.refitting.Ask.{Ask}
+use Rattle.shunt_dual.specs.declared.unit_values.Ask.{Ask}
 
 -- what the units of an ask come to
 abbrev pub run_of : List ℤ → Ask → ℤ

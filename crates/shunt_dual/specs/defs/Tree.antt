@@ -22,7 +22,7 @@ pub record IsEnd (n c : ℕ) (owner distance when : List ℕ) : Type 0 where
   pub least : (b : ℕ) → b ≤ n → at when b ≡ n + 1 → at distance c ≤ at distance b
 
 -- one column after a row was tried: as it was, or nearer by that row
-abbrev pub IsTried : (r own base row debt distance way new_distance new_way : ℕ) → Type 0
-IsTried r own base row debt distance way new_distance new_way =
+abbrev pub IsTriedRow : (r own base row debt distance way new_distance new_way : ℕ) → Type 0
+IsTriedRow r own base row debt distance way new_distance new_way =
     ((new_distance ≡ distance) × (new_way ≡ way) × (distance + own ≤ base + (row + debt)))
     ⊎ ((new_distance < distance) × (new_way ≡ r) × (new_distance + own ≡ base + (row + debt)))

@@ -11,15 +11,15 @@ use Rattle.shunt_blocks.specs.declared.records.Block.{Block}
 use Rattle.shunt_blocks.specs.declared.records.Park.{Park}
 use Rattle.shunt_blocks.specs.defs.Blocks.{IsOption, IsParkable}
 use Rattle.shunt_blocks.specs.defs.Costs.{cost_with}
-use Rattle.shunt_blocks.specs.defs.Standing.{shape_length}
+use Rattle.shunt_blocks.specs.defs.Stays.{shape_length}
 use Rattle.shunt_choices.specs.defs.Paths.{Masks, masks_of}
 use Rattle.shunt_choices.specs.defs.Choices.{IsFreeShape}
 use Rattle.shunt_prices.specs.defs.Prices.{track_length, price_part_with}
 use Rattle.shunt_prices.specs.defs.Cases.{duals_over, weight_with, HasRoom, HoldsInCase}
 use Rattle.shunt_stacks.specs.defs.Stacks.{stack_of}
 use Rattle.shunt_stacks.specs.defs.Cases.{HoldsBesideStacks}
-use Rattle.shunt_dual.specs.declared.holding.Asked.{Asked}
-use Rattle.shunt_dual.specs.declared.holding.Asked.TheVariants.{Every, BesideStacks}
+use Rattle.shunt_dual.specs.declared.feasibility.Asked.{Asked}
+use Rattle.shunt_dual.specs.declared.feasibility.Asked.TheVariants.{Every, BesideStacks}
 
 -- whether an option is among those that are asked: each one is, or each that is of no stack
 abbrev pub IsAsked : Asked → Option Park → Type 0

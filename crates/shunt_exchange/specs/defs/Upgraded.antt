@@ -4,7 +4,7 @@ use Rattle.shunt_store.specs.defs.Files.{Files, content}
 use Rattle.shunt_rows.specs.defs.Records.{text_of_rows}
 use Rattle.shunt_instance.specs.declared.records.Station.{Station}
 use Rattle.shunt_instance.specs.declared.records.Timetable.{Timetable}
-use Rattle.shunt_station.specs.defs.Writing as station_rows
+use Rattle.shunt_station.specs.defs.WrittenRows as station_rows
 use Rattle.shunt_timetable.specs.defs.WrittenRows as timetable_rows
 use Rattle.shunt_inputs.specs.declared.answers.Outcome.TheVariants as outcome
 use Rattle.shunt_inputs.specs.defs.Inputs.{stated_station, stated_timetable, then_stated}

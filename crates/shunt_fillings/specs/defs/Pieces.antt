@@ -12,7 +12,7 @@ use Rattle.shunt_blocks.specs.defs.Blocks.{IsOption}
 use Rattle.shunt_prices.specs.defs.Sums.{IsWithin}
 use Rattle.shunt_prices.specs.defs.Prices.{track_length}
 use Rattle.shunt_prices.specs.defs.Limits.{IsCase}
-use Rattle.shunt_dual.specs.declared.offering.Offer.{Offer}
+use Rattle.shunt_dual.specs.declared.case_offers.Offer.{Offer}
 use Rattle.shunt_dual.specs.defs.Offers.{offered}
 use Rattle.shunt_stacks.specs.defs.Stacks.{Stack as OneStack, both_sides, blocks_of}
 use Rattle.shunt_stacks.specs.defs.Fillings.{gain}

@@ -58,13 +58,13 @@ abbrev pub row_cmp : RowKey → RowKey → Ordering
 row_cmp k l = ordering_then (nat_cmp k.end l.end) (nat_cmp k.room l.room)
 
 -- each of these is the greatest gain before an event y with this room: from y itself on, from the event before it on, and so on
-abbrev pub AreBefore : List Span → List Span → ℕ → ℕ → List (Option ℤ) → Type 0
-AreBefore fixed free y room gains = (back : ℕ) → back < length gains → back ≤ y → IsGain fixed free (y - back) y room (slice_index_or gains back None)
+abbrev pub AreGainsBefore : List Span → List Span → ℕ → ℕ → List (Option ℤ) → Type 0
+AreGainsBefore fixed free y room gains = (back : ℕ) → back < length gains → back ≤ y → IsGain fixed free (y - back) y room (slice_index_or gains back None)
 
 -- all of these, from y itself down to the first event
 pub record IsRow (fixed free : List Span) (y room : ℕ) (gains : List (Option ℤ)) : Type 0 where
   pub long : length gains ≡ y + 1
-  pub each : AreBefore fixed free y room gains
+  pub each : AreGainsBefore fixed free y room gains
 
 -- each row that is known is that of its end and its room
 abbrev pub AreRows : {A : Type 0} → List Span → List Span → BTreeMap RowKey (Vec (Option ℤ) A) → Type 0

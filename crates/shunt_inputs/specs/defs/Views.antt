@@ -2,7 +2,7 @@
 use Rattle.std.specs.Prelude.{◌≡◌, ◌⊎◌, ℕ, List, ◌++◌, map, take, Option, Some, None}
 use Rattle.std.specs.List.{AllByRecursion}
 use Rattle.shunt_store.specs.defs.Files.{Files, BothTold, content}
-use Rattle.shunt_store.specs.defs.Noting.{Entries}
+use Rattle.shunt_store.specs.defs.Notes.{Entries}
 
 -- these files hold what was heard between two moments, name by name
 abbrev pub HeardIn : Option Entries → Option Entries → Files → Type 0

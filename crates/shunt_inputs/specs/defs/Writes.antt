@@ -2,10 +2,10 @@
 use Rattle.std.specs.Prelude.{◌≡◌, ℕ, List, [], ◌∷◌, ◌++◌, take, Option, Result, Ok, Err}
 use Rattle.std.specs.FinMap as map
 use Rattle.shunt_store.specs.defs.Files.{Files, BothTold}
-use Rattle.shunt_store.specs.defs.Noting.{Entries}
+use Rattle.shunt_store.specs.defs.Notes.{Entries}
 use Rattle.shunt_inputs.specs.declared.answers.Answer.{Answer}
-use Rattle.shunt_inputs.specs.declared.loading.Halt.{Halt}
-use Rattle.shunt_inputs.specs.declared.loading.Halt.TheVariants as halt
+use Rattle.shunt_inputs.specs.declared.file_loader.Halt.{Halt}
+use Rattle.shunt_inputs.specs.declared.file_loader.Halt.TheVariants as halt
 use Rattle.shunt_inputs.specs.defs.Replies.{Reply, refusal, reply_of}
 
 -- the files after these were written one after the other
@@ -43,8 +43,8 @@ pub record HasFirst (P : Reply → Type 0) (old new : Known) (rest : Reply) : Ty
   pub stored : BothTold old.stored new.stored (λ a b. b ≡ a ++ first)
 
 -- what a step leaves that is to give one of these replies: what is left of it, or all files as they were
-abbrev pub Leads : (Reply → Type 0) → Known → Known → Result Answer Halt → Type 0
-Leads P old new (Ok a) = HasFirst P old new (reply_of a)
-Leads P old new (Err (halt.Input text)) = HasFirst P old new (refusal text.items)
-Leads P old new (Err halt.Fault) = Stays old new
-Leads P old new (Err halt.Memory) = Stays old new
+abbrev pub LeavesOne : (Reply → Type 0) → Known → Known → Result Answer Halt → Type 0
+LeavesOne P old new (Ok a) = HasFirst P old new (reply_of a)
+LeavesOne P old new (Err (halt.Input text)) = HasFirst P old new (refusal text.items)
+LeavesOne P old new (Err halt.Fault) = Stays old new
+LeavesOne P old new (Err halt.Memory) = Stays old new

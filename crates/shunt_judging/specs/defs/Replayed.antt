@@ -18,8 +18,8 @@ use Rattle.shunt_moves.specs.declared.types.MoveError.TheVariants as errors
 use Rattle.shunt_moves.specs.defs.States.{State}
 use Rattle.shunt_moves.specs.defs.Edits.{edit}
 use Rattle.shunt_moves.specs.defs.Benches.{Bench, started, after_edit, after_undo, after_redo}
-use Rattle.shunt_report.specs.declared.turns.Outcome.{Outcome}
-use Rattle.shunt_report.specs.declared.turns.Outcome.TheVariants as outcome
+use Rattle.shunt_report.specs.declared.turns.TurnOutcome.{TurnOutcome}
+use Rattle.shunt_report.specs.declared.turns.TurnOutcome.TheVariants as outcome
 use Rattle.shunt_report.specs.defs.TurnTexts.{turn_line}
 use Rattle.shunt_inputs.specs.defs.Inputs.{then_stated, stated_plans, stated_edits}
 use Rattle.shunt_inputs.specs.defs.Replies.{Reply}
@@ -52,7 +52,7 @@ after_turns bench [] = bench
 after_turns bench (t ∷ ts) = after_turns (after_turn bench t) ts
 
 -- how an edit ends; it is never refused for want of memory
-abbrev pub edit_outcome : Result State MoveError → Outcome
+abbrev pub edit_outcome : Result State MoveError → TurnOutcome
 edit_outcome (Ok next) = outcome.Ok
 edit_outcome (Err errors.NoBlock) = outcome.NoBlock
 edit_outcome (Err errors.BadCount) = outcome.BadCount
@@ -63,18 +63,18 @@ edit_outcome (Err errors.IdsSpent) = outcome.IdsSpent
 edit_outcome (Err errors.Memory) = outcome.Nothing
 
 -- how a step to the first of these states ends
-abbrev pub step_outcome : List State → Outcome
+abbrev pub step_outcome : List State → TurnOutcome
 step_outcome [] = outcome.Nothing
 step_outcome (s ∷ states) = outcome.Ok
 
 -- how a turn ends
-abbrev pub turn_outcome : Bench → Turn → Outcome
+abbrev pub turn_outcome : Bench → Turn → TurnOutcome
 turn_outcome bench (turns.Edit e) = edit_outcome (edit bench.night bench.present e)
 turn_outcome bench turns.Undo = step_outcome bench.past
 turn_outcome bench turns.Redo = step_outcome bench.undone
 
 -- the line of a turn that ended so and left these blocks: how many findings they have, and what they cost
-abbrev pub line_with : ℕ → Outcome → Night → List Block → List ℕ
+abbrev pub line_with : ℕ → TurnOutcome → Night → List Block → List ℕ
 line_with number ended night blocks = turn_line number ended (length (findings_in night blocks)) (total_cost night blocks)
 
 -- the line of a turn
@@ -111,12 +111,12 @@ replay_lines x = lines_from 1 (bench_of x) x.turns
 -- ---- what a workbench answers
 
 -- its answer tells that an edit ended so, and isn't want of memory
-abbrev pub TellsEdit : Result (Unit {0}) MoveError → Outcome → Type 0
+abbrev pub TellsEdit : Result (Unit {0}) MoveError → TurnOutcome → Type 0
 TellsEdit (Ok done) ended = ended ≡ outcome.Ok
 TellsEdit (Err error) ended = (error ≢ errors.Memory) × (ended ≡ edit_outcome (Err error))
 
 -- how an undo or a redo ended that was answered so
-abbrev pub step_told : {E : Type 0} → Result (Unit {0}) E → Outcome
+abbrev pub step_told : {E : Type 0} → Result (Unit {0}) E → TurnOutcome
 step_told (Ok done) = outcome.Ok
 step_told (Err nothing) = outcome.Nothing
 

@@ -1,7 +1,7 @@
 -- The numbers of the statuses.
 use Rattle.std.specs.Prelude.{◌≡◌, ℕ}
-use Rattle.shunt.specs.declared.running.Status.{Status}
-use Rattle.shunt.specs.declared.running.Status.TheVariants as status
+use Rattle.shunt.specs.declared.status.Status.{Status}
+use Rattle.shunt.specs.declared.status.Status.TheVariants as status
 use Rattle.shunt.specs.defs.Calls.{Call}
 use Rattle.shunt.specs.defs.Ends.{Seen, Ends}
 

@@ -15,8 +15,8 @@ use Rattle.shunt_instance.specs.declared.records.Origin.TheVariants as origin
 use Rattle.shunt_instance.specs.declared.records.Train.{Train}
 use Rattle.shunt_instance.specs.declared.records.Timetable.{Timetable}
 use Rattle.shunt_instance.specs.defs.Words.{train_at}
-use Rattle.shunt_make.specs.declared.stations.Way.{Way}
-use Rattle.shunt_make.specs.defs.Drawing.{next, after, drawn, drawn_for}
+use Rattle.shunt_make.specs.declared.stations.OpenWay.{OpenWay}
+use Rattle.shunt_make.specs.defs.Draws.{next, after, drawn, drawn_for}
 
 -- a letter and a number in decimals
 abbrev pub numbered : ℕ → ℕ → List ℕ
@@ -50,22 +50,22 @@ abbrev pub tracks_of : ℕ → ℕ → List Track
 tracks_of x units = drawn_for track_of x (range_with_len 1 (track_count units))
 
 -- the ways from a platform to the sides at which a track is open, A first
-abbrev pub open_ways : PlatformId → TrackId → Track → List Way
+abbrev pub open_ways : PlatformId → TrackId → Track → List OpenWay
 open_ways p id t =
     cond t.side_a (record { platform = p; track = id; side = A } ∷ []) []
     ++ cond t.side_b (record { platform = p; track = id; side = B } ∷ []) []
 
 -- the same for each of these tracks, of which the first has the number k
-abbrev pub ways_from : PlatformId → ℕ → List Track → List Way
+abbrev pub ways_from : PlatformId → ℕ → List Track → List OpenWay
 ways_from p k [] = []
 ways_from p k (t ∷ tracks) = open_ways p (record { 0 = k }) t ++ ways_from p (k + 1) tracks
 
 -- the ways from each platform, to each track, by each open side
-abbrev pub ways_of : List Track → List Way
+abbrev pub ways_of : List Track → List OpenWay
 ways_of tracks = ways_from (record { 0 = 0 }) 0 tracks ++ ways_from (record { 0 = 1 }) 0 tracks
 
 -- the route along a way: it costs one more than a draw below 20 gives
-abbrev pub route_of : Way → ℕ → Route
+abbrev pub route_of : OpenWay → ℕ → Route
 route_of w x = record { platform = w.platform; track = w.track; side = w.side; cost = 1 + drawn x 20 }
 
 -- the station, drawn from the state x on: first its tracks, then its routes

@@ -4,8 +4,8 @@ use Rattle.shunt_instance.specs.defs.Instance.{Night}
 use Rattle.shunt_instance.specs.defs.Matching.{IsMatching, IsMatchingOfRest, unit_entries, position_entries}
 use Rattle.shunt_matching.specs.declared.types.Shortage.{Shortage}
 use Rattle.shunt_matching.specs.declared.types.Shortage.TheVariants.{Balance, ByMinute}
-use Rattle.shunt_matching.specs.declared.pairing.MatchError.{MatchError}
-use Rattle.shunt_matching.specs.declared.pairing.MatchError.TheVariants.{Short, Memory}
+use Rattle.shunt_matching.specs.declared.pairs.MatchError.{MatchError}
+use Rattle.shunt_matching.specs.declared.pairs.MatchError.TheVariants.{Short, Memory}
 use Rattle.shunt_matching.specs.defs.Counts.{first_fit_of}
 use Rattle.shunt_matching.specs.defs.Shortages.{IsFirstShortage}
 

@@ -10,7 +10,7 @@ use Rattle.shunt_plan.specs.declared.edits.Edit.TheVariants as edits
 use Rattle.shunt_audit.specs.defs.Listed.{insert_by_id}
 use Rattle.shunt_moves.specs.declared.types.MoveError.{MoveError}
 use Rattle.shunt_moves.specs.declared.types.MoveError.TheVariants as errors
-use Rattle.shunt_moves.specs.declared.exchange.Pair.{Pair}
+use Rattle.shunt_moves.specs.declared.exchange.BlockPair.{BlockPair}
 use Rattle.shunt_moves.specs.declared.exchange.Exchange.{Exchange}
 use Rattle.shunt_moves.specs.defs.States.{State, IsState, block_with, without_block}
 use Rattle.shunt_moves.specs.defs.Edits.{continues, front_of, rest_of, are_runs_within, is_on_track}
@@ -41,7 +41,7 @@ abbrev pub flipped : Exchange → ℕ → Exchange
 flipped x next = record { gone = record { first = x.come.second; second = x.come.first }; come = record { first = x.gone.second; second = x.gone.first }; next = next }
 
 -- it leads from the one state to the other, block by block
-pub record Leads (night : Night) (x : Exchange) (s t : State) : Type 0 where
+pub record LeadsOn (night : Night) (x : Exchange) (s t : State) : Type 0 where
   pub one : List Block
   pub both : List Block
   pub new : List Block
@@ -61,17 +61,17 @@ trail s (x ∷ exchanges) = exchanged x s ∷ trail (exchanged x s) exchanges
 -- each of them leads from the state of the one before
 abbrev pub AllLead : Night → State → List Exchange → Type 0
 AllLead night s [] = Unit {0}
-AllLead night s (x ∷ exchanges) = Leads night x s (exchanged x s) × AllLead night (exchanged x s) exchanges
+AllLead night s (x ∷ exchanges) = LeadsOn night x s (exchanged x s) × AllLead night (exchanged x s) exchanges
 
 -- ---- edits as exchanges
 
-abbrev pub none : Pair
+abbrev pub none : BlockPair
 none = record { first = None; second = None }
 
-abbrev pub one : Block → Pair
+abbrev pub one : Block → BlockPair
 one b = record { first = Some b; second = None }
 
-abbrev pub two : Block → Block → Pair
+abbrev pub two : Block → Block → BlockPair
 two b c = record { first = Some b; second = Some c }
 
 infixl 10 ◌>>=◌
@@ -144,7 +144,7 @@ planned night s (edits.Join first second) = joining s first second
 
 -- a refusal and an exchange that agree: both refuse for one reason, or the exchange leads to the state that is made
 abbrev pub Agrees : Night → State → State → Option MoveError → Result Exchange MoveError → Type 0
-Agrees night s t None (Ok x) = Leads night x s t
+Agrees night s t None (Ok x) = LeadsOn night x s t
 Agrees night s t None (Err error) = ⊥
 Agrees night s t (Some error) (Ok x) = ⊥
 Agrees night s t (Some error) (Err other) = error ≡ other

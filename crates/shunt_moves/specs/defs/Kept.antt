@@ -8,7 +8,7 @@ use Rattle.shunt_blocks.specs.declared.records.Block.{Block}
 use Rattle.shunt_blocks.specs.defs.Shapes.{shape_of, IsInRange}
 use Rattle.shunt_blocks.specs.defs.Blocks.{type_fault}
 use Rattle.shunt_blocks.specs.defs.Costs.{block_cost}
-use Rattle.shunt_blocks.specs.defs.Standing.{is_too_soon}
+use Rattle.shunt_blocks.specs.defs.Stays.{is_too_soon}
 use Rattle.shunt_blocks.specs.defs.Lists.{times_unit, times_position, track_lengths, stays_of, total_cost}
 use Rattle.shunt_timeline.specs.defs.Holdings.{Holding}
 use Rattle.shunt_audit.specs.defs.Listed.{lacks_way_in, lacks_way_out}
@@ -88,7 +88,7 @@ pub record Standing : Type 0 where
   pub state : State
 
 -- the blocks ascend in range, their stays are on the timelines, which have room for 400, and each unit, each position and each fault is counted
-pub record IsKept (night : Night) (blocks : List Block) (held : Holding) (units places : Times) (faults : Faults) : Type 0 where
+pub record IsKeptState (night : Night) (blocks : List Block) (held : Holding) (units places : Times) (faults : Faults) : Type 0 where
   pub ascend : Ascend blocks
   pub each : All (IsInRange night) blocks
   pub few : length blocks ≤ 400

@@ -6,11 +6,11 @@ use Rattle.shunt_blocks.specs.declared.records.Block.{Block}
 use Rattle.shunt_blocks.specs.defs.Lists.{track_lengths}
 use Rattle.shunt_sheet.specs.declared.records.Order.{Order}
 use Rattle.shunt_sheet.specs.defs.Orders.{orders_in}
-use Rattle.shunt_page.specs.declared.standing.Stood.{Stood}
+use Rattle.shunt_page.specs.declared.occupancy.Stood.{Stood}
 use Rattle.shunt_page.specs.declared.records.OrderRow.{OrderRow}
 use Rattle.shunt_page.specs.declared.records.TrainTold.{TrainTold}
 use Rattle.shunt_page.specs.defs.Told.{units_told, arrive_told, depart_told}
-use Rattle.shunt_page.specs.defs.Standing.{after, load_on, beside}
+use Rattle.shunt_page.specs.defs.Occupancy.{after, load_on, beside}
 
 -- the train with which a block comes or goes
 abbrev pub train_of : Night → Order → Block → TrainTold

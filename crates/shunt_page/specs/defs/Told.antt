@@ -8,7 +8,7 @@ use Rattle.shunt_instance.specs.defs.Instance.{Night, unit_at}
 use Rattle.shunt_blocks.specs.declared.records.Block.{Block}
 use Rattle.shunt_blocks.specs.declared.records.Park.{Park}
 use Rattle.shunt_blocks.specs.defs.Shapes.{shape_of, unit_from}
-use Rattle.shunt_blocks.specs.defs.Standing.{stay_of}
+use Rattle.shunt_blocks.specs.defs.Stays.{stay_of}
 use Rattle.shunt_picture.specs.defs.Marks.{origin_name}
 use Rattle.shunt_page.specs.declared.records.UnitTold.{UnitTold}
 use Rattle.shunt_page.specs.declared.records.TrainTold.{TrainTold}

@@ -4,7 +4,7 @@ use Rattle.shunt_base.specs.declared.ids.Side.{Side}
 use Rattle.shunt_base.specs.declared.ids.Side.TheVariants.{A, B}
 use Rattle.shunt_base.specs.declared.keys.Stay.{Stay}
 use Rattle.shunt_picture.specs.declared.svg.Area.{Area}
-use Rattle.shunt_picture.specs.declared.records.Kind.{Kind}
+use Rattle.shunt_picture.specs.declared.records.LegendType.{LegendType}
 use Rattle.shunt_picture.specs.declared.records.Told.{Told}
 use Rattle.shunt_picture.specs.declared.records.Bar.{Bar}
 use Rattle.shunt_picture.specs.declared.records.Lane.{Lane}
@@ -55,7 +55,7 @@ stay_words track s = codes "\n" ++ track ++ codes " by " ++ side_word s.side_in 
     ++ codes " by " ++ side_word s.side_out ++ codes "</title>\n"
 
 -- what is shown while one points at a bar
-unfoldable pub title_of : List Kind → List ℕ → Told → Stay → List ℕ
+unfoldable pub title_of : List LegendType → List ℕ → Told → Stay → List ℕ
 title_of kinds track t s = group_text t ++ told_words kinds t ++ stay_words track s
 
 -- its rectangle
@@ -63,9 +63,9 @@ unfoldable pub shape_of : Area → Told → List ℕ
 shape_of a t = rectangle (bar_class t.faults) (colour t.kinds) a
 
 -- a bar at a place
-unfoldable pub bar_in : List Kind → List ℕ → Area → Bar → List ℕ
+unfoldable pub bar_in : List LegendType → List ℕ → Area → Bar → List ℕ
 bar_in kinds track a b = title_of kinds track b.told b.stay ++ shape_of a b.told ++ corner_in a b.stay.side_in ++ corner_out a b.stay.side_out ++ bar_words a b.told
     ++ codes "</g>\n"
 
-unfoldable pub bar_text : ℕ → List Kind → Lane → Bar → List ℕ
+unfoldable pub bar_text : ℕ → List LegendType → Lane → Bar → List ℕ
 bar_text from kinds lane b = bar_in kinds lane.head.name (area_of from lane b) b

@@ -1,8 +1,8 @@
 -- How lanes are drawn.
 use Rattle.std.specs.Prelude.{ℕ, ◌+◌, ◌-◌, ◌*◌, ◌/◌, ◌%◌, min, max, Bool, List, [], ◌++◌, codes, decimal, if◌then◌else◌}
 use Rattle.std.specs.List.{flat_map}
-use Rattle.shunt_picture.specs.declared.records.Kind.{Kind}
-use Rattle.shunt_picture.specs.declared.records.Level.{Level}
+use Rattle.shunt_picture.specs.declared.records.LegendType.{LegendType}
+use Rattle.shunt_picture.specs.declared.records.LoadLevel.{LoadLevel}
 use Rattle.shunt_picture.specs.declared.records.Lane.{Lane}
 use Rattle.shunt_picture.specs.defs.Svg.{rectangle, stroke, words_at}
 use Rattle.shunt_picture.specs.defs.Words.{x_of}
@@ -21,7 +21,7 @@ abbrev pub level_height : ℕ → ℕ → ℕ
 level_height room load = (min load (2 * room) * 14) / max room 1
 
 -- from a minute on the load is drawn at its height
-abbrev pub level_text : ℕ → Lane → Level → List ℕ
+abbrev pub level_text : ℕ → Lane → LoadLevel → List ℕ
 level_text from l v = codes "H" ++ decimal (x_of from v.minute) ++ codes "V" ++ decimal (base_of l - level_height l.head.length v.load)
 
 -- the track's length as a line, over the line where its load is 0
@@ -63,5 +63,5 @@ head_text l = words_at (codes "name") 7 6 (l.top + 12) l.head.name ++ words_at (
 unfoldable pub ground_text : ℕ → Lane → List ℕ
 ground_text right l = rectangle (codes "lane") (l.track.0 % 2) (record { x = 0; y = l.top; width = right; height = rows_high l + 32 })
 
-unfoldable pub lane_text : ℕ → ℕ → List Kind → Lane → List ℕ
+unfoldable pub lane_text : ℕ → ℕ → List LegendType → Lane → List ℕ
 lane_text from right kinds l = ground_text right l ++ load_text from right l ++ head_text l ++ flat_map (bar_text from kinds l) l.bars

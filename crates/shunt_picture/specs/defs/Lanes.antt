@@ -5,8 +5,8 @@ use Rattle.shunt_base.specs.defs.Keys.{key_cmp}
 use Rattle.shunt_instance.specs.defs.Instance.{Night}
 use Rattle.shunt_blocks.specs.declared.records.Block.{Block}
 use Rattle.shunt_audit.specs.declared.types.Finding.{Finding}
-use Rattle.shunt_picture.specs.declared.standing.Standing.{Standing}
-use Rattle.shunt_picture.specs.declared.rows.Seat.{Seat}
+use Rattle.shunt_picture.specs.declared.track_stays.Standing.{Standing}
+use Rattle.shunt_picture.specs.declared.rows.StaySeat.{StaySeat}
 use Rattle.shunt_picture.specs.declared.records.Bar.{Bar}
 use Rattle.shunt_picture.specs.declared.records.Lane.{Lane}
 use Rattle.shunt_picture.specs.defs.Svg.{wide}
@@ -16,7 +16,7 @@ use Rattle.shunt_picture.specs.defs.Levels.{levels_of}
 use Rattle.shunt_picture.specs.defs.Rows.{standings_on, IsBeyond, IsRowAmong}
 
 -- the bar of a stay in its row
-abbrev pub bar_of : Night → List Finding → Seat → Bar
+abbrev pub bar_of : Night → List Finding → StaySeat → Bar
 bar_of night findings s = record { block = s.standing.block; stay = s.standing.stay; row = s.row; told = told_of night findings s.standing.block }
 
 -- the stay that a bar shows

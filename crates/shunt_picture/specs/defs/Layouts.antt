@@ -1,6 +1,6 @@
 -- Where the parts of a picture stand.
 use Rattle.std.specs.Prelude.{◌≡◌, All, ℕ, ◌+◌, ◌-◌, ◌*◌, ◌/◌, ◌<◌, ◌≤◌, min, max, List, [], ◌∷◌, length, fold, slice_index, slice_index_or}
-use Rattle.shunt_picture.specs.declared.records.Kind.{Kind}
+use Rattle.shunt_picture.specs.declared.records.LegendType.{LegendType}
 use Rattle.shunt_picture.specs.declared.records.TrainMark.{TrainMark}
 use Rattle.shunt_picture.specs.declared.records.Loose.{Loose}
 use Rattle.shunt_picture.specs.declared.records.Lane.{Lane}
@@ -11,7 +11,7 @@ use Rattle.shunt_picture.specs.defs.LaneTexts.{rows_high}
 use Rattle.shunt_picture.specs.defs.PictureTexts.{right_of, title_words, bars_note, marks_note}
 
 -- how much room the entry of a type takes, with its colour, and that of a loose block
-abbrev pub kind_width : Kind → ℕ
+abbrev pub kind_width : LegendType → ℕ
 kind_width k = 38 + wide 7 k.words
 
 abbrev pub loose_width : Loose → ℕ

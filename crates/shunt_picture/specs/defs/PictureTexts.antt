@@ -2,7 +2,7 @@
 use Rattle.std.specs.Prelude.{ℕ, ◌+◌, ◌-◌, ◌*◌, ◌/◌, ◌%◌, ◌==◌, length, min, max, nat_le, Bool, true, false, slice_index_or, List, [], ◌∷◌, ◌++◌, codes, decimal, Option, if◌then◌else◌}
 use Rattle.std.specs.List.{flat_map, range_with_len}
 use Rattle.shunt_base.specs.declared.ids.TypeId.{TypeId}
-use Rattle.shunt_picture.specs.declared.records.Kind.{Kind}
+use Rattle.shunt_picture.specs.declared.records.LegendType.{LegendType}
 use Rattle.shunt_picture.specs.declared.records.TrainMark.{TrainMark}
 use Rattle.shunt_picture.specs.declared.records.Loose.{Loose}
 use Rattle.shunt_picture.specs.declared.records.Picture.{Picture}
@@ -99,13 +99,13 @@ swatch_text x y number = rectangle (codes "bar k") (colour (number ∷ [])) (rec
     ++ words_at (codes "on") 7 (x + 5) y (letter number ∷ [])
 
 -- a type at a place: its colour with its letter, its name and its length
-unfoldable pub kind_in : ℕ → ℕ → TypeId → Kind → List ℕ
+unfoldable pub kind_in : ℕ → ℕ → TypeId → LegendType → List ℕ
 kind_in x y number kind = swatch_text x y number ++ words_at (codes "label") 7 (x + 24) y kind.words
 
-unfoldable pub kind_text : ℕ → ℕ → ℕ → Kind → List ℕ
+unfoldable pub kind_text : ℕ → ℕ → ℕ → LegendType → List ℕ
 kind_text room columns entry kind = kind_in (entry_x room columns entry) (entry_y columns 52 entry) (kind_number entry) kind
 
-abbrev pub kinds_text : ℕ → ℕ → List Kind → List ℕ
+abbrev pub kinds_text : ℕ → ℕ → List LegendType → List ℕ
 kinds_text room columns kinds = each_from (kind_text room columns) 0 kinds
 
 -- where an hour stands
@@ -148,10 +148,10 @@ unfoldable pub train_when : Bool → TrainMark → List ℕ
 train_when arrives t = when_word arrives t.stands ++ t.name ++ codes " " ++ time_text t.minute ++ codes " " ++ t.place
 
 -- a unit or position with its type
-unfoldable pub seat_line : List Kind → ℕ → TypeId → List ℕ
+unfoldable pub seat_line : List LegendType → ℕ → TypeId → List ℕ
 seat_line kinds k kind = codes "\n" ++ decimal (k + 1) ++ codes " " ++ kind_name kinds kind
 
-abbrev pub seat_lines : List Kind → List TypeId → List ℕ
+abbrev pub seat_lines : List LegendType → List TypeId → List ℕ
 seat_lines kinds seats = each_from (seat_line kinds) 0 seats
 
 -- places one after the other
@@ -169,20 +169,20 @@ wrong_line words places = if length places == 0 then [] else words ++ numbers_te
 unfoldable pub train_wrong : List ℕ → List ℕ → List ℕ
 train_wrong bare twice = wrong_line (codes "\nin no block") bare ++ wrong_line (codes "\nin two blocks") twice ++ codes "</title>\n"
 
-unfoldable pub train_title : List Kind → Bool → TrainMark → List ℕ
+unfoldable pub train_title : List LegendType → Bool → TrainMark → List ℕ
 train_title kinds arrives t = train_group arrives t.name ++ train_when arrives t ++ seat_lines kinds t.kinds ++ train_wrong t.bare t.twice
 
 -- a train at a place
-unfoldable pub train_in : List Kind → ℕ → ℕ → Bool → TrainMark → List ℕ
+unfoldable pub train_in : List LegendType → ℕ → ℕ → Bool → TrainMark → List ℕ
 train_in kinds x y arrives t = train_title kinds arrives t ++ tick_text x y ++ words_at (codes "label") 7 (x + 3) (y + 11) t.words
     ++ words_at (codes "mark") 7 (x + 3 + wide 7 t.words) (y + 11) t.marks ++ codes "</g>\n"
 
 -- a train at its minute
-unfoldable pub train_text : List Kind → ℕ → ℕ → Bool → TrainMark → List ℕ
+unfoldable pub train_text : List LegendType → ℕ → ℕ → Bool → TrainMark → List ℕ
 train_text kinds from y arrives t = train_in kinds (x_of from t.minute) y arrives t
 
 -- trains one after the other in their rows
-abbrev pub trains_text : List Kind → ℕ → ℕ → Bool → List ℕ → List TrainMark → List ℕ
+abbrev pub trains_text : List LegendType → ℕ → ℕ → Bool → List ℕ → List TrainMark → List ℕ
 trains_text kinds from top arrives rows trains = each_from (λ entry t. train_text kinds from (top + 12 * slice_index_or rows entry 0) arrives t) 0 trains
 
 -- what is shown while one points at a loose block
@@ -192,7 +192,7 @@ loose_times enter leave = codes " " ++ time_text enter ++ codes " " ++ time_text
 unfoldable pub loose_where : Option (List ℕ) → ℕ → ℕ → List ℕ
 loose_where track enter leave = codes "\nnot on a track" ++ track_words track ++ loose_times enter leave
 
-unfoldable pub loose_title : List Kind → Loose → List ℕ
+unfoldable pub loose_title : List LegendType → Loose → List ℕ
 loose_title kinds l = group_text l.told ++ told_words kinds l.told ++ loose_where l.track l.enter l.leave
 
 -- its colour
@@ -200,14 +200,14 @@ unfoldable pub loose_mark : ℕ → ℕ → List TypeId → List ℕ
 loose_mark x y kinds = rectangle (codes "bar k") (colour kinds) (record { x = x; y = y - 10; width = 10; height = 11 })
 
 -- a loose block at a place
-unfoldable pub loose_in : List Kind → ℕ → ℕ → Loose → List ℕ
+unfoldable pub loose_in : List LegendType → ℕ → ℕ → Loose → List ℕ
 loose_in kinds x y l = loose_title kinds l ++ loose_mark x y l.told.kinds ++ words_at (codes "mark") 7 (x + 15) y l.marks
     ++ words_at (codes "label") 7 (x + 15 + wide 7 l.marks) y l.words ++ codes "</g>\n"
 
-unfoldable pub loose_text : List Kind → ℕ → ℕ → ℕ → ℕ → Loose → List ℕ
+unfoldable pub loose_text : List LegendType → ℕ → ℕ → ℕ → ℕ → Loose → List ℕ
 loose_text kinds room columns top entry l = loose_in kinds (entry_x room columns entry) (entry_y columns top entry) l
 
-abbrev pub looses_text : List Kind → ℕ → ℕ → ℕ → List Loose → List ℕ
+abbrev pub looses_text : List LegendType → ℕ → ℕ → ℕ → List Loose → List ℕ
 looses_text kinds room columns top looses = each_from (loose_text kinds room columns top) 0 looses
 
 -- the names of the lines above the lanes and of the list below them

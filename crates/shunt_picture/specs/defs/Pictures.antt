@@ -8,7 +8,7 @@ use Rattle.shunt_instance.specs.defs.Instance.{Night}
 use Rattle.shunt_blocks.specs.defs.Lists.{total_cost}
 use Rattle.shunt_plan.specs.declared.records.Plan.{Plan}
 use Rattle.shunt_audit.specs.defs.Plans.{plan_findings}
-use Rattle.shunt_picture.specs.declared.records.Kind.{Kind}
+use Rattle.shunt_picture.specs.declared.records.LegendType.{LegendType}
 use Rattle.shunt_picture.specs.declared.records.Picture.{Picture}
 use Rattle.shunt_picture.specs.defs.Words.{kind_words}
 use Rattle.shunt_picture.specs.defs.Told.{looses_of}
@@ -16,7 +16,7 @@ use Rattle.shunt_picture.specs.defs.Marks.{arrive_mark, depart_mark}
 use Rattle.shunt_picture.specs.defs.Lanes.{IsLaneOf}
 
 -- a type in the legend
-abbrev pub kind_of : UnitType → Kind
+abbrev pub kind_of : UnitType → LegendType
 kind_of t = record { name = t.name; length = t.length; words = kind_words t.name t.length }
 
 -- the lesser of a minute and that of a train that doesn't stand

@@ -6,7 +6,7 @@ use Rattle.shunt_instance.specs.defs.Words.{train_at, track_names}
 use Rattle.shunt_instance.specs.defs.Instance.{Night}
 use Rattle.shunt_blocks.specs.declared.records.Block.{Block}
 use Rattle.shunt_blocks.specs.declared.records.Park.{Park}
-use Rattle.shunt_blocks.specs.defs.Standing.{stay_of, block_length}
+use Rattle.shunt_blocks.specs.defs.Stays.{stay_of, block_length}
 use Rattle.shunt_blocks.specs.defs.Costs.{block_cost}
 use Rattle.shunt_audit.specs.declared.types.Finding.{Finding}
 use Rattle.shunt_audit.specs.declared.types.Finding.TheVariants.{UnitBare, UnitTwice, PlaceBare, PlaceTwice, WrongType, TooSoon, NoRouteIn, NoRouteOut, Crossing, TooLong, StatedCost}

@@ -4,7 +4,7 @@ use Rattle.std.specs.List.{flat_map}
 use Rattle.shunt_base.specs.declared.ids.TypeId.{TypeId}
 use Rattle.shunt_base.specs.declared.ids.Side.{Side}
 use Rattle.shunt_base.specs.declared.ids.Side.TheVariants.{A, B}
-use Rattle.shunt_picture.specs.declared.records.Kind.{Kind}
+use Rattle.shunt_picture.specs.declared.records.LegendType.{LegendType}
 use Rattle.shunt_picture.specs.declared.records.Told.{Told}
 
 -- where a minute stands in a picture that begins at an hour: two pixels for each minute
@@ -60,11 +60,11 @@ unfoldable pub kind_words : List ℕ → ℕ → List ℕ
 kind_words name length = name ++ codes " " ++ decimal length ++ codes " dm"
 
 -- the name of a type in the legend
-abbrev pub kind_name : List Kind → TypeId → List ℕ
+abbrev pub kind_name : List LegendType → TypeId → List ℕ
 kind_name kinds kind = if nat_lt kind.0 (length kinds) then slice_index_or (map (λ k. k.name) kinds) kind.0 [] else []
 
 -- a unit with its type, and the position to which it goes
-unfoldable pub unit_line : List Kind → Told → ℕ → TypeId → List ℕ
+unfoldable pub unit_line : List LegendType → Told → ℕ → TypeId → List ℕ
 unit_line kinds t k kind = codes "\n" ++ t.arr ++ codes " " ++ decimal (t.p + k) ++ codes " " ++ kind_name kinds kind ++ codes " to " ++ t.dep ++ codes " " ++ decimal (t.q + k)
 
 -- the long words where there is room for that many bytes, else the short ones, else none
@@ -76,7 +76,7 @@ abbrev pub each_from : {X : Type 0} → (ℕ → X → List ℕ) → ℕ → Lis
 each_from text k [] = []
 each_from text k (x ∷ xs) = text k x ++ each_from text (k + 1) xs
 
-abbrev pub unit_lines : List Kind → Told → List ℕ
+abbrev pub unit_lines : List LegendType → Told → List ℕ
 unit_lines kinds t = each_from (unit_line kinds t) 0 t.kinds
 
 -- the group of a block, by its id and its trains
@@ -93,5 +93,5 @@ unfoldable pub group_text : Told → List ℕ
 group_text t = group_id t.id ++ group_block t.id ++ group_trains t.arr t.dep
 
 -- a block's length and cost, its units and its findings
-unfoldable pub told_words : List Kind → Told → List ℕ
+unfoldable pub told_words : List LegendType → Told → List ℕ
 told_words kinds t = codes "block " ++ decimal t.id ++ codes ", " ++ decimal t.length ++ codes " dm, cost " ++ decimal t.cost ++ unit_lines kinds t ++ fault_lines t.faults

@@ -14,8 +14,8 @@ use Rattle.shunt_planning.specs.defs.Planned.{IsPinned, IsSought, certificate_fi
 use Rattle.shunt_planning.specs.defs.Improved.{IsImproved, in_hand_in}
 
 -- the reply is such an answer over what the files hold, where that is told, or else over some contents of all files
-abbrev pub IsOver : {X : Type 0} → Option Files → (Files → Result X (List ℕ)) → (X → Reply → Type 0) → Reply → Type 0
-IsOver told in_files P r = (files : Files) × Agrees told files × Decided (in_files files) P r
+abbrev pub IsOverTold : {X : Type 0} → Option Files → (Files → Result X (List ℕ)) → (X → Reply → Type 0) → Reply → Type 0
+IsOverTold told in_files P r = (files : Files) × Agrees told files × Decided (in_files files) P r
 
 -- the night that the station file and the timetable file of these names state
 abbrev pub night_in : List ℕ → List ℕ → Files → Result Night (List ℕ)
@@ -23,15 +23,15 @@ night_in s t files = stated_night (content files s) (content files t)
 
 -- the reply is the answer of `plan`
 abbrev pub IsPlannedOver : Option Files → List ℕ → List ℕ → ℕ → List ℕ → List ℕ → Reply → Type 0
-IsPlannedOver told s t most p k r = IsOver told (night_in s t) (IsSought most p k) r
+IsPlannedOver told s t most p k r = IsOverTold told (night_in s t) (IsSought most p k) r
 
 -- the reply is the answer of `pinned`
 abbrev pub IsPinnedOver : Option Files → List ℕ → List ℕ → List ℕ → ℕ → List ℕ → List ℕ → Reply → Type 0
-IsPinnedOver told s t i most p k r = IsOver told (pinned_in s t i) (IsPinned most p k) r
+IsPinnedOver told s t i most p k r = IsOverTold told (pinned_in s t i) (IsPinned most p k) r
 
 -- the reply is the answer of `improve`
 abbrev pub IsImprovedOver : Option Files → List ℕ → List ℕ → List ℕ → List ℕ → ℕ → List ℕ → List ℕ → Reply → Type 0
-IsImprovedOver told s t i h most p k r = IsOver told (in_hand_in s t i h) (IsImproved most p k) r
+IsImprovedOver told s t i h most p k r = IsOverTold told (in_hand_in s t i h) (IsImproved most p k) r
 
 -- what a search found: with its nodes the certificate whose text was written whole under this name and isn't stored yet, which meets
 -- the eight conditions with the plan

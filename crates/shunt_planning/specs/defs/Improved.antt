@@ -57,7 +57,7 @@ abbrev pub IsImproved : ℕ → List ℕ → List ℕ → Pinned × Plan → Rep
 IsImproved most p k x r = IsUnusable x.0.instance x.0.pins r ⊎ (AreUsable x.0.instance x.0.pins × IsImprovedBeside x.0.pins x.1 most p k x.0.instance r)
 
 -- the pins are usable, and the plan in hand is feasible, states its cost and keeps them
-pub record IsReady (x : Pinned × Plan) : Type 0 where
+pub record IsInHand (x : Pinned × Plan) : Type 0 where
   pub usable : AreUsable x.0.instance x.0.pins
   pub clean : IsClean (x.0.instance, x.1)
   pub keeps : Keeps x.1.blocks x.0.pins

@@ -9,7 +9,7 @@ use Rattle.shunt_blocks.specs.declared.records.Park.{Park}
 use Rattle.shunt_blocks.specs.defs.Shapes.{shape_of, unit_from, position_from}
 use Rattle.shunt_blocks.specs.defs.Blocks.{IsOption}
 use Rattle.shunt_blocks.specs.defs.Costs.{cost_with}
-use Rattle.shunt_blocks.specs.defs.Standing.{shape_length}
+use Rattle.shunt_blocks.specs.defs.Stays.{shape_length}
 use Rattle.shunt_choices.specs.defs.Paths.{Masks, masks_of}
 use Rattle.shunt_choices.specs.defs.Choices.{IsFreeShape}
 use Rattle.shunt_prices.specs.defs.Sums.{sum_z_below}

@@ -9,7 +9,7 @@ use Rattle.shunt_blocks.specs.declared.records.Shape.{Shape}
 use Rattle.shunt_blocks.specs.declared.records.Block.{Block}
 use Rattle.shunt_blocks.specs.declared.records.Park.{Park}
 use Rattle.shunt_blocks.specs.defs.Shapes.{shape_of}
-use Rattle.shunt_blocks.specs.defs.Standing.{shape_length, leave_minute}
+use Rattle.shunt_blocks.specs.defs.Stays.{shape_length, leave_minute}
 use Rattle.shunt_blocks.specs.defs.Lists.{track_lengths}
 
 -- the length of the track with a number

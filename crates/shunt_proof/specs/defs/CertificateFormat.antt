@@ -30,13 +30,13 @@ use Rattle.shunt_proof.specs.declared.heads.HeadDuals.{HeadDuals}
 use Rattle.shunt_proof.specs.declared.heads.HeadDuals.TheVariants as words
 use Rattle.shunt_proof.specs.declared.heads.Head.{Head}
 use Rattle.shunt_proof.specs.declared.values.Limits.{Limits}
-use Rattle.shunt_proof.specs.declared.draft.Place.{Place}
-use Rattle.shunt_proof.specs.declared.draft.Place.TheVariants as places
+use Rattle.shunt_proof.specs.declared.draft.LastRead.{LastRead}
+use Rattle.shunt_proof.specs.declared.draft.LastRead.TheVariants as places
 use Rattle.shunt_proof.specs.defs.Numbers.{version_with, newest}
 
 -- ---- what the records so far state
 
-pub record Draft : Type 0 where
+pub record CertificateDraft : Type 0 where
   pub version : Version
   -- the nodes that are whole
   pub nodes : List Node
@@ -44,7 +44,7 @@ pub record Draft : Type 0 where
   pub begun : ℕ
   pub cases : ℕ
   -- what was read last
-  pub place : Place
+  pub place : LastRead
   -- the record of the last node
   pub head : Head
   -- of a node that isn't whole, the case before the last one, where there is one, and the last one, as far as it was read
@@ -65,7 +65,7 @@ abbrev pub no_head : Head
 no_head = record { depth = 0; choice = None; kind = shows.Whole; duals = words.Bare }
 
 -- nothing but the version, after the first record
-abbrev pub empty : Version → Draft
+abbrev pub empty : Version → CertificateDraft
 empty version = record { version = version; nodes = []; begun = 0; cases = 0; place = places.Start; head = no_head; before = None; now = no_case; cost = 0; bound = 0 }
 
 -- the cases of a node
@@ -78,20 +78,20 @@ abbrev pub node_of : Head → NodeDuals → Node
 node_of h d = record { depth = h.depth; choice = h.choice; kind = h.kind; duals = d }
 
 -- where the last node may have all its cases, it is whole
-abbrev pub ends_node : Place → Bool
+abbrev pub ends_node : LastRead → Bool
 ends_node places.Beta = true
 ends_node _ = false
 
-unfoldable pub settled : Draft → Draft
+unfoldable pub settled : CertificateDraft → CertificateDraft
 settled d = if ends_node d.place then record d { nodes = d.nodes ++ node_of d.head (duals.New (cases_of d.before d.now)) ∷ []; before = None; now = no_case } else d
 
 -- one more node: it is whole where its duals aren't its own
-abbrev pub with_head : Draft → Head → HeadDuals → Draft
+abbrev pub with_head : CertificateDraft → Head → HeadDuals → CertificateDraft
 with_head d h words.New = record d { begun = d.begun + 1; place = places.New; head = h }
 with_head d h words.Same = record d { nodes = d.nodes ++ node_of h duals.Same ∷ []; begun = d.begun + 1; place = places.Node; head = h }
 with_head d h words.Bare = record d { nodes = d.nodes ++ node_of h duals.Bare ∷ []; begun = d.begun + 1; place = places.Node; head = h }
 
-unfoldable pub with_node : Draft → Head → Draft
+unfoldable pub with_node : CertificateDraft → Head → CertificateDraft
 with_node d h = with_head (settled d) h h.duals
 
 -- ---- the record of a node
@@ -165,12 +165,12 @@ child_in night begun last row = do
   says (with_choice node park)
 
 -- the first node, and a later one
-unfoldable pub root_of : Draft → List (List ℕ) → Judged Draft
+unfoldable pub root_of : CertificateDraft → List (List ℕ) → Judged CertificateDraft
 root_of d row = do
   h ← root_in d.begun row
   says (with_node d h)
 
-unfoldable pub child_of : Night → Draft → List (List ℕ) → Judged Draft
+unfoldable pub child_of : Night → CertificateDraft → List (List ℕ) → Judged CertificateDraft
 child_of night d row = do
   h ← child_in night d.begun d.head row
   says (with_node d h)
@@ -224,19 +224,19 @@ second_limits_in cases row = do
   says record { to = to; multiplier = multiplier }
 
 -- one more case of the last node
-abbrev pub with_case : Draft → Limits → Draft
+abbrev pub with_case : CertificateDraft → Limits → CertificateDraft
 with_case d l = record d { cases = d.cases + 1; place = places.Case; now = case_with l.to l.multiplier }
 
-unfoldable pub first_case_of : Draft → List (List ℕ) → Judged Draft
+unfoldable pub first_case_of : CertificateDraft → List (List ℕ) → Judged CertificateDraft
 first_case_of d row = do
   l ← first_limits_in d.cases row
   says (with_case d l)
 
 -- one more behind it
-abbrev pub with_second : Draft → Limits → Draft
+abbrev pub with_second : CertificateDraft → Limits → CertificateDraft
 with_second d l = with_case (record d { before = Some d.now }) l
 
-unfoldable pub second_case_of : Draft → List (List ℕ) → Judged Draft
+unfoldable pub second_case_of : CertificateDraft → List (List ℕ) → Judged CertificateDraft
 second_case_of d row = do
   l ← second_limits_in d.cases row
   says (with_second d l)
@@ -247,10 +247,10 @@ alpha_in night row = do
   _ ← fields_in row (unit_total night + 1) (unit_total night + 1)
   values_in row 2 (unit_total night)
 
-abbrev pub with_alpha : Draft → List ℤ → Draft
+abbrev pub with_alpha : CertificateDraft → List ℤ → CertificateDraft
 with_alpha d values = record d { place = places.Alpha; now = record d.now { duals = record d.now.duals { alpha = values } } }
 
-unfoldable pub alpha_of : Night → Draft → List (List ℕ) → Judged Draft
+unfoldable pub alpha_of : Night → CertificateDraft → List (List ℕ) → Judged CertificateDraft
 alpha_of night d row = do
   values ← alpha_in night row
   says (with_alpha d values)
@@ -263,10 +263,10 @@ lone_alpha_in night cases row = do
   values_in row 2 (unit_total night)
 
 -- the one case that begins so
-abbrev pub with_lone : Draft → List ℤ → Draft
+abbrev pub with_lone : CertificateDraft → List ℤ → CertificateDraft
 with_lone d values = with_alpha (with_case d (record { to = 160; multiplier = pos 0 })) values
 
-unfoldable pub lone_alpha_of : Night → Draft → List (List ℕ) → Judged Draft
+unfoldable pub lone_alpha_of : Night → CertificateDraft → List (List ℕ) → Judged CertificateDraft
 lone_alpha_of night d row = do
   values ← lone_alpha_in night d.cases row
   says (with_lone d values)
@@ -277,10 +277,10 @@ beta_in night row = do
   _ ← fields_in row (position_total night + 1) (position_total night + 1)
   values_in row 2 (position_total night)
 
-abbrev pub with_beta : Draft → List ℤ → Draft
+abbrev pub with_beta : CertificateDraft → List ℤ → CertificateDraft
 with_beta d values = record d { place = places.Beta; now = record d.now { duals = record d.now.duals { beta = values } } }
 
-unfoldable pub beta_of : Night → Draft → List (List ℕ) → Judged Draft
+unfoldable pub beta_of : Night → CertificateDraft → List (List ℕ) → Judged CertificateDraft
 beta_of night d row = do
   values ← beta_in night row
   says (with_beta d values)
@@ -332,15 +332,15 @@ part_in night prices row = do
   value ← worth_in row 5
   says record { kind = counts.Parts r; track = track; train = train; value = value }
 
-abbrev pub with_price : Draft → Price → Draft
+abbrev pub with_price : CertificateDraft → Price → CertificateDraft
 with_price d price = record d { now = record d.now { duals = record d.now.duals { prices = d.now.duals.prices ++ price ∷ [] } } }
 
-unfoldable pub price_of : Night → Draft → List (List ℕ) → Judged Draft
+unfoldable pub price_of : Night → CertificateDraft → List (List ℕ) → Judged CertificateDraft
 price_of night d row = do
   price ← price_in night d.now.duals.prices row
   says (with_price d price)
 
-unfoldable pub part_of : Night → Draft → List (List ℕ) → Judged Draft
+unfoldable pub part_of : Night → CertificateDraft → List (List ℕ) → Judged CertificateDraft
 part_of night d row = do
   price ← part_in night d.now.duals.prices row
   says (with_price d price)
@@ -361,10 +361,10 @@ end_in begun row = do
   _ ← must (nodes == begun) 4 kinds.Limit
   says (cost, bound)
 
-unfoldable pub with_end : Draft → ℕ × ℕ → Draft
+unfoldable pub with_end : CertificateDraft → ℕ × ℕ → CertificateDraft
 with_end d end = record (settled d) { place = places.End; cost = end.0; bound = end.1 }
 
-unfoldable pub end_of : Draft → List (List ℕ) → Judged Draft
+unfoldable pub end_of : CertificateDraft → List (List ℕ) → Judged CertificateDraft
 end_of d row = do
   end ← end_in d.begun row
   says (with_end d end)
@@ -372,23 +372,23 @@ end_of d row = do
 -- ---- the words that may stand
 
 -- behind a whole node: one more node, or the end
-unfoldable pub after_node : Night → Draft → List (List ℕ) → Judged Draft
+unfoldable pub after_node : Night → CertificateDraft → List (List ℕ) → Judged CertificateDraft
 after_node night d row = if is_word row (codes "node") then child_of night d row else if is_word row (codes "end") then end_of d row else no_word d
 
 -- behind a case: the second one where its TO isn't 160, else what may stand behind a whole node
-unfoldable pub after_case : Night → Draft → List (List ℕ) → Judged Draft
+unfoldable pub after_case : Night → CertificateDraft → List (List ℕ) → Judged CertificateDraft
 after_case night d row = if d.now.to == 160 then after_node night d row else if is_word row (codes "case") then second_case_of d row else no_word d
 
 -- behind `beta` and prices: a price, or what may follow the case
-unfoldable pub after_beta : Night → Draft → List (List ℕ) → Judged Draft
+unfoldable pub after_beta : Night → CertificateDraft → List (List ℕ) → Judged CertificateDraft
 after_beta night d row = if is_word row (codes "price") then price_of night d row else if is_word row (codes "part") then part_of night d row else after_case night d row
 
 -- behind a node with duals of its own
-unfoldable pub after_new : Night → Draft → List (List ℕ) → Judged Draft
+unfoldable pub after_new : Night → CertificateDraft → List (List ℕ) → Judged CertificateDraft
 after_new night d row = if is_word row (codes "case") then first_case_of d row else if is_word row (codes "alpha") then lone_alpha_of night d row else no_word d
 
 -- a later record, by what was read last
-abbrev pub at_place : Night → Draft → Place → List (List ℕ) → Judged Draft
+abbrev pub at_place : Night → CertificateDraft → LastRead → List (List ℕ) → Judged CertificateDraft
 at_place night d places.Start row = if is_word row (codes "node") then root_of d row else no_word d
 at_place night d places.Node row = after_node night d row
 at_place night d places.New row = after_new night d row
@@ -397,7 +397,7 @@ at_place night d places.Alpha row = if is_word row (codes "beta") then beta_of n
 at_place night d places.Beta row = after_beta night d row
 at_place night d places.End row = no_word d
 
-unfoldable pub later_of : Night → Draft → List (List ℕ) → Judged Draft
+unfoldable pub later_of : Night → CertificateDraft → List (List ℕ) → Judged CertificateDraft
 later_of night d row = at_place night d d.place row
 
 -- `certificate,VERSION`
@@ -408,20 +408,20 @@ version_in row = do
   number ← number_in row 2 1 newest
   says (version_with number)
 
-unfoldable pub first_of : List (List ℕ) → Judged Draft
+unfoldable pub first_of : List (List ℕ) → Judged CertificateDraft
 first_of row = do
   version ← version_in row
   says (empty version)
 
 -- the last record was read
-abbrev pub ended : Place → Bool
+abbrev pub ended : LastRead → Bool
 ended places.End = true
 ended _ = false
 
 -- the certificate that the records state
-abbrev pub certificate_of : Draft → Certificate
+abbrev pub certificate_of : CertificateDraft → Certificate
 certificate_of d = record { version = d.version; nodes = d.nodes; cost = d.cost; bound = d.bound }
 
 -- the certificate's file: its `end` record is there, and the last
-abbrev pub certificate_format : Night → Format Draft Certificate
+abbrev pub certificate_format : Night → Format CertificateDraft Certificate
 certificate_format night = record { first = first_of; later = later_of night; has_ended = λ d. ended d.place; is_whole = λ d. ended d.place; value = certificate_of }

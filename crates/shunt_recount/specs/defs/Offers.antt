@@ -9,7 +9,7 @@ use Rattle.shunt_instance.specs.defs.Instance.{Night}
 use Rattle.shunt_blocks.specs.declared.records.Shape.{Shape}
 use Rattle.shunt_blocks.specs.declared.records.Block.{Block}
 use Rattle.shunt_blocks.specs.defs.Shapes.{AreRunsWithin, IsPair, unit_from}
-use Rattle.shunt_blocks.specs.defs.Standing.{shape_length}
+use Rattle.shunt_blocks.specs.defs.Stays.{shape_length}
 use Rattle.shunt_blocks.specs.defs.Blocks.{IsOption}
 use Rattle.shunt_choices.specs.defs.Paths.{Masks}
 use Rattle.shunt_choices.specs.defs.Choices.{IsFreeShape}

@@ -1,10 +1,10 @@
 -- The printed line of a turn of edits.
 use Rattle.std.specs.Prelude.{ℕ, List, ◌++◌, codes, decimal}
-use Rattle.shunt_report.specs.declared.turns.Outcome.{Outcome}
-use Rattle.shunt_report.specs.declared.turns.Outcome.TheVariants as outcome
+use Rattle.shunt_report.specs.declared.turns.TurnOutcome.{TurnOutcome}
+use Rattle.shunt_report.specs.declared.turns.TurnOutcome.TheVariants as outcome
 
 -- the word for how a turn ended
-abbrev pub outcome_word : Outcome → List ℕ
+abbrev pub outcome_word : TurnOutcome → List ℕ
 outcome_word outcome.Ok = codes "ok"
 outcome_word outcome.NoBlock = codes "no-block"
 outcome_word outcome.BadCount = codes "bad-count"
@@ -15,5 +15,5 @@ outcome_word outcome.IdsSpent = codes "ids-spent"
 outcome_word outcome.Nothing = codes "nothing"
 
 -- `NUMBER OUTCOME findings F cost C`
-unfoldable pub turn_line : ℕ → Outcome → ℕ → ℕ → List ℕ
+unfoldable pub turn_line : ℕ → TurnOutcome → ℕ → ℕ → List ℕ
 turn_line number ended total cost = decimal number ++ codes " " ++ outcome_word ended ++ codes " findings " ++ decimal total ++ codes " cost " ++ decimal cost ++ codes "\n"

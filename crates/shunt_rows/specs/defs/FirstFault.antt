@@ -8,8 +8,8 @@ use Rattle.shunt_rows.specs.defs.Checks.{Check, Judged}
 use Rattle.shunt_rows.specs.defs.Formats.{Format, judged, state_after, reading}
 
 -- the order of faults: by record, then field, then kind
-abbrev pub IsBefore : RowFault → RowFault → Type 0
-IsBefore e f = (e.row < f.row) ⊎ ((e.row ≡ f.row) × ((e.field < f.field) ⊎ ((e.field ≡ f.field) × (kind_number e.kind < kind_number f.kind))))
+abbrev pub IsEarlierFault : RowFault → RowFault → Type 0
+IsEarlierFault e f = (e.row < f.row) ⊎ ((e.row ≡ f.row) × ((e.field < f.field) ⊎ ((e.field ≡ f.field) × (kind_number e.kind < kind_number f.kind))))
 
 -- a check of this field and kind fails
 abbrev pub Finds : List Check → ℕ → RowKind → Type 0
@@ -50,7 +50,7 @@ Holds f rows fault = AtRecord f rows fault ⊎ AtEnd f rows fault
 -- the first fault is the least of all that hold
 pub record IsFirst {S V : Type 0} (f : Format S V) (rows : List (List (List ℕ))) (fault : RowFault) : Type 0 where
   pub holds : Holds f rows fault
-  pub least : (other : RowFault) → Holds f rows other → (other ≡ fault) ⊎ IsBefore fault other
+  pub least : (other : RowFault) → Holds f rows other → (other ≡ fault) ⊎ IsEarlierFault fault other
 
 -- what records say together
 abbrev pub said : {S V : Type 0} → Format S V → List (List (List ℕ)) → Option V

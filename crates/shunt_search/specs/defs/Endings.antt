@@ -11,7 +11,7 @@ use Rattle.shunt_proof.specs.declared.records.Version.{Version}
 use Rattle.shunt_proof.specs.declared.records.Version.TheVariants.{Prices}
 use Rattle.shunt_proof.specs.declared.records.Certificate.{Certificate}
 use Rattle.shunt_proof.specs.defs.Certificates.{IsCertificate}
-use Rattle.shunt_search.specs.declared.walking.Pending.{Pending}
+use Rattle.shunt_search.specs.declared.walk_stack.Pending.{Pending}
 use Rattle.shunt_search.specs.defs.Conditions.{IsAboveAssignment, AreSpent, MeetConditions, IsBoundForPlans}
 
 -- the least of the low bound and the bounds of the children that are left

@@ -11,7 +11,7 @@ use Rattle.shunt_proof.specs.declared.records.Version.{Version}
 use Rattle.shunt_proof.specs.defs.Nodes.{AreStatable}
 use Rattle.shunt_proof.specs.defs.Trees.{duals_at}
 use Rattle.shunt_proof.specs.defs.Versions.{HoldIn, IsBoundIn, ReachesIn}
-use Rattle.shunt_search.specs.declared.rooting.Root.{Root}
+use Rattle.shunt_search.specs.declared.root_bounds.Root.{Root}
 
 -- the bound of a path by cases of a version is at least this
 abbrev pub IsAbove : Version → Night → List Block → List Case → ℕ → Type 0

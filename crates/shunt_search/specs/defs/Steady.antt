@@ -12,8 +12,8 @@ use Rattle.shunt_proof.specs.declared.records.Version.{Version}
 use Rattle.shunt_proof.specs.defs.Nodes.{node_at}
 use Rattle.shunt_proof.specs.defs.Trees.{parent, path_at, duals_at}
 use Rattle.shunt_proof.specs.defs.Versions.{IsStepBoundIn, StepReachesIn}
-use Rattle.shunt_search.specs.declared.walking.Pending.{Pending}
-use Rattle.shunt_search.specs.defs.Walking.{kept, goal_of}
+use Rattle.shunt_search.specs.declared.walk_stack.Pending.{Pending}
+use Rattle.shunt_search.specs.defs.WalkStates.{kept, goal_of}
 
 -- some cases are no worse at a path than others: by them each choice there that gives a partial plan has at least the bound that the
 -- others give the path as one with a block more than another, or at least a cost

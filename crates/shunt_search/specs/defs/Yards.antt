@@ -12,7 +12,7 @@ use Rattle.shunt_proof.specs.declared.records.Version.{Version}
 use Rattle.shunt_proof.specs.defs.Versions.{IsStepBoundIn, StepReachesIn}
 use Rattle.shunt_search.specs.declared.yard.Yard.{Yard}
 use Rattle.shunt_search.specs.declared.children.Child.{Child}
-use Rattle.shunt_search.specs.defs.Polishing.{Stand}
+use Rattle.shunt_search.specs.defs.Polish.{Stand}
 
 -- the path is the night's, the timelines have the stay of each of its blocks, with the block's place as id, and there is room for one
 -- of each unit

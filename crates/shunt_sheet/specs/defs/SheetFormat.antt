@@ -11,9 +11,9 @@ use Rattle.shunt_rows.specs.defs.Formats.{Format}
 use Rattle.shunt_instance.specs.declared.records.Station.{Station}
 use Rattle.shunt_plan.specs.defs.BlockRecords.{first_in}
 use Rattle.shunt_sheet.specs.declared.records.Order.{Order}
-use Rattle.shunt_sheet.specs.declared.reading.Entered.{Entered}
-use Rattle.shunt_sheet.specs.declared.reading.Named.{Named}
-use Rattle.shunt_sheet.specs.declared.reading.Place.{Place}
+use Rattle.shunt_sheet.specs.declared.reader.Entered.{Entered}
+use Rattle.shunt_sheet.specs.declared.reader.StatedMove.{StatedMove}
+use Rattle.shunt_sheet.specs.declared.reader.StatedPlace.{StatedPlace}
 
 -- whether an order is the entry, or the leave, of the block with an id
 abbrev pub is_of : Bool → ℕ → Order → Bool
@@ -42,11 +42,11 @@ unfoldable pub has_entered : List Order → Bool → ℕ → Bool
 has_entered orders enters id = enters || is_some (entry_in id orders)
 
 -- whether this is the length of a leave's entry
-unfoldable pub keeps_length : List Order → Named → ℕ → Bool
+unfoldable pub keeps_length : List Order → StatedMove → ℕ → Bool
 keeps_length orders m long = m.enters || keeps (λ e. e.length == long) (entry_in m.id orders)
 
 -- whether this is the track of a leave's entry
-unfoldable pub keeps_track : List Order → Named → ℕ → Bool
+unfoldable pub keeps_track : List Order → StatedMove → ℕ → Bool
 keeps_track orders m track = m.enters || keeps (λ e. e.track.0 == track) (entry_in m.id orders)
 
 -- the minute of the last of these orders, or 0
@@ -67,7 +67,7 @@ start_in orders row = do
   says minute
 
 -- `MOVE,ID` at fields 3 and 4, behind these orders: each block enters at most once, and leaves at most once after it
-unfoldable pub move_in : List Order → List (List ℕ) → Judged Named
+unfoldable pub move_in : List Order → List (List ℕ) → Judged StatedMove
 move_in orders row = do
   enters ← found true (enters_of (at row 3)) 3 kinds.Kind
   id ← found 0 (decimal_of (at row 4)) 4 kinds.Number
@@ -77,7 +77,7 @@ move_in orders row = do
   says record { enters = enters; id = id }
 
 -- `LENGTH,TRACK,SIDE` from field 5 on: in a leave the length and the track are those of its entry
-unfoldable pub place_in : Station → List Order → Named → List (List ℕ) → Judged Place
+unfoldable pub place_in : Station → List Order → StatedMove → List (List ℕ) → Judged StatedPlace
 place_in s orders m row = do
   long ← number_in row 5 1 40000
   _ ← must (keeps_length orders m long) 5 kinds.Limit
@@ -86,7 +86,7 @@ place_in s orders m row = do
   side ← side_in row 7
   says record { length = long; track = record { 0 = track }; side = side }
 
-abbrev pub order_by : ℕ → Named → Place → Order
+abbrev pub order_by : ℕ → StatedMove → StatedPlace → Order
 order_by minute m p = record { minute = minute; enters = m.enters; id = m.id; length = p.length; track = p.track; side = p.side }
 
 -- `order,MINUTE,MOVE,ID,LENGTH,TRACK,SIDE` behind these orders

@@ -6,7 +6,7 @@ use Rattle.shunt_instance.specs.defs.Words.{train_at}
 use Rattle.shunt_instance.specs.defs.Instance.{Night, unit_at, position_at, unit_total, position_total}
 use Rattle.shunt_blocks.specs.declared.records.Block.{Block}
 use Rattle.shunt_blocks.specs.defs.Shapes.{shape_of, unit_from, position_from}
-use Rattle.shunt_blocks.specs.defs.Standing.{block_length}
+use Rattle.shunt_blocks.specs.defs.Stays.{block_length}
 use Rattle.shunt_blocks.specs.defs.Pins.{without_id}
 use Rattle.shunt_choices.specs.defs.Paths.{masks_of}
 use Rattle.shunt_prices.specs.defs.Cases.{IsFreeBlock, HasRoom}

@@ -29,8 +29,8 @@ pub record IsSpan (s : Span) : Type 0 where
   pub leaves : s.until < s.past
 
 -- the one has left when the other comes
-abbrev pub IsBefore : Span → Span → Type 0
-IsBefore s t = s.past ≤ t.from
+abbrev pub IsEarlierSpan : Span → Span → Type 0
+IsEarlierSpan s t = s.past ≤ t.from
 
 -- the one comes and goes while the other stands
 abbrev pub IsInside : Span → Span → Type 0
@@ -38,7 +38,7 @@ IsInside s t = (t.inside ≤ s.from) × (s.past ≤ t.until)
 
 -- they are nested or apart
 abbrev pub AreNested : Span → Span → Type 0
-AreNested s t = (IsBefore s t ⊎ IsBefore t s) ⊎ (IsInside s t ⊎ IsInside t s)
+AreNested s t = (IsEarlierSpan s t ⊎ IsEarlierSpan t s) ⊎ (IsInside s t ⊎ IsInside t s)
 
 -- each two of these are
 abbrev pub AreAllNested : List Span → Type 0

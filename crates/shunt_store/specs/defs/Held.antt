@@ -5,7 +5,7 @@ use Rattle.shunt_store.specs.declared.errors.StoreError.{StoreError}
 use Rattle.shunt_store.specs.declared.errors.StoreError.TheVariants as store
 use Rattle.shunt_store.specs.defs.Causes.{one_more}
 use Rattle.shunt_store.specs.defs.Files.{Files, Stage, coded_files, coded_stage}
-use Rattle.shunt_store.specs.defs.Noting.{Entries, coded_entries}
+use Rattle.shunt_store.specs.defs.Notes.{Entries, coded_entries}
 
 -- its files, what was read of them, what they were made to hold,
 -- the numbers of the calls that are to fail, how many calls and how many faults there were,

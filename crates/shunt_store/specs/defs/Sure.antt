@@ -2,7 +2,7 @@
 use Rattle.std.specs.Prelude.{ℕ, refl}
 use Rattle.std.specs.Coded.{Coded, code_by, coded×, coded_ℕ}
 use Rattle.shunt_store.specs.defs.Files.{Files, Stage, coded_files, coded_stage}
-use Rattle.shunt_store.specs.defs.Noting.{Entries, coded_entries}
+use Rattle.shunt_store.specs.defs.Notes.{Entries, coded_entries}
 
 -- its files, what was read of them, what they were made to hold, what it is doing,
 -- and how many bytes were taken of the open file and in all

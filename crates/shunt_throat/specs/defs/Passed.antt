@@ -8,8 +8,8 @@ use Rattle.shunt_plan.specs.declared.records.Plan.{Plan}
 use Rattle.shunt_report.specs.defs.ZonesTexts.{zones_of}
 use Rattle.shunt_tracks.specs.declared.run.Event.{Event}
 use Rattle.shunt_zones.specs.declared.records.Meet.{Meet}
-use Rattle.shunt_zones.specs.defs.Loading.{loads_in}
-use Rattle.shunt_zones.specs.defs.Meeting.{Before, MeetIn, meets_in}
+use Rattle.shunt_zones.specs.defs.Loads.{loads_in}
+use Rattle.shunt_zones.specs.defs.Meetings.{Before, MeetIn, meets_in}
 use Rattle.shunt_zones.specs.defs.Moves.{moves_of}
 use Rattle.shunt_zones.specs.declared.records.Zones.{Zones as ThroatZones}
 use Rattle.shunt_inputs.specs.defs.Inputs.{then_stated, stated_plans, stated_zones}

@@ -3,10 +3,10 @@ use Rattle.std.specs.Prelude.{◌≡◌, ℕ, ◌<◌, ◌==◌, true, false, su
 use Rattle.std.specs.List.{AllByRecursion}
 use Rattle.shunt_lists.specs.defs.Members.{In}
 use Rattle.shunt_base.specs.declared.keys.Stay.{Stay}
-use Rattle.shunt_stays.specs.defs.Crossing.{crosses, stands_at, load_at}
+use Rattle.shunt_stays.specs.defs.Crossings.{crosses, stands_at, load_at}
 use Rattle.shunt_base.specs.declared.keys.EventKey.{EventKey}
-use Rattle.shunt_timeline.specs.declared.events.Event.{Event}
-use Rattle.shunt_timeline.specs.declared.events.Level.{Level}
+use Rattle.shunt_timeline.specs.declared.events.StayEvent.{StayEvent}
+use Rattle.shunt_timeline.specs.declared.events.TrackLoad.{TrackLoad}
 use Rattle.shunt_timeline.specs.defs.Levels.{key_of, at}
 
 -- each is below all that follow
@@ -15,7 +15,7 @@ Ascends f [] = Unit {0}
 Ascends f (x ∷ xs) = AllByRecursion (λ y. f x < f y) xs × Ascends f xs
 
 -- an event is of one of these stays on track t; it knows how many stays cross it by coming before it, and what stands just after it
-pub record IsKeptAt (stays : List Stay) (t : ℕ) (e : Event) : Type 0 where
+pub record IsKeptAt (stays : List Stay) (t : ℕ) (e : StayEvent) : Type 0 where
   pub stay : In e.stay stays
   pub track : e.stay.track.0 ≡ t
   pub crossings : e.enters ≡ true → e.crossings ≡ count_by (λ b. crosses b e.stay) stays
@@ -28,13 +28,13 @@ abbrev pub sum_on : ℕ → (Stay → ℕ) → List Stay → ℕ
 sum_on t f stays = sum_by (λ s. if s.track.0 == t then f s else 0) stays
 
 -- the events are in key order, and among them are one entry and one leave of each stay on track t: what is added up over the ones or the others is what is added up over the stays
-pub record IsKept (stays : List Stay) (t : ℕ) (events : List Event) : Type 0 where
+pub record IsKeptTrack (stays : List Stay) (t : ℕ) (events : List StayEvent) : Type 0 where
   pub ascends : Ascends at events
-  pub each : (e : Event) → In e events → IsKeptAt stays t e
+  pub each : (e : StayEvent) → In e events → IsKeptAt stays t e
   pub entries : (f : Stay → ℕ) → sum_by (λ e. if e.enters then f e.stay else 0) events ≡ sum_on t f stays
   pub leaves : (f : Stay → ℕ) → sum_by (λ e. if e.enters then 0 else f e.stay) events ≡ sum_on t f stays
 
 -- what stands on track t just after the moment of a key
-pub record IsLevel (stays : List Stay) (t : ℕ) (k : EventKey) (level : Level) : Type 0 where
+pub record IsLevel (stays : List Stay) (t : ℕ) (k : EventKey) (level : TrackLoad) : Type 0 where
   pub standing : level.standing ≡ count_by (stands_at t k) stays
   pub load : level.load ≡ load_at stays t k

@@ -3,24 +3,24 @@ use Rattle.std.specs.Prelude.{◌≡◌, ℕ, ◌+◌, ◌*◌, ◌^◌, ◌<◌
 use Rattle.shunt_base.specs.declared.keys.Stay.{Stay}
 use Rattle.shunt_base.specs.defs.Keys.{AreStays}
 use Rattle.shunt_stays.specs.defs.Run.{AreOnTracks}
-use Rattle.shunt_stays.specs.defs.Crossing.{pairs_in, overs_in}
-use Rattle.shunt_timeline.specs.declared.track.Track.{Track}
-use Rattle.shunt_timeline.specs.defs.Kept.{Ascends, IsKept}
+use Rattle.shunt_stays.specs.defs.Crossings.{pairs_in, overs_in}
+use Rattle.shunt_timeline.specs.declared.track.TrackTimeline.{TrackTimeline}
+use Rattle.shunt_timeline.specs.defs.Kept.{Ascends, IsKeptTrack}
 
-abbrev pub lengths_of : List Track → List ℕ
+abbrev pub lengths_of : List TrackTimeline → List ℕ
 lengths_of tracks = map (λ t. t.length) tracks
 
 -- each track keeps the stays on it, and has room for an entry and a leave of each stay that is there or may come
-pub record AreSound (stays : List Stay) (tracks : List Track) (spare : ℕ) : Type 0 where
+pub record AreSound (stays : List Stay) (tracks : List TrackTimeline) (spare : ℕ) : Type 0 where
   pub formed : AreStays stays
   pub placed : AreOnTracks (lengths_of tracks) stays
   pub sorted : Ascends (λ s. s.id) stays
   pub few : length stays ≤ 65536
-  pub kept : (t : ℕ) (d : Track) → t < length tracks → IsKept stays t (slice_index_or tracks t d).events.items
-  pub room : (t : ℕ) (d : Track) → t < length tracks → 2 * (length stays + spare) ≤ vec_capacity (slice_index_or tracks t d).events
+  pub kept : (t : ℕ) (d : TrackTimeline) → t < length tracks → IsKeptTrack stays t (slice_index_or tracks t d).events.items
+  pub room : (t : ℕ) (d : TrackTimeline) → t < length tracks → 2 * (length stays + spare) ≤ vec_capacity (slice_index_or tracks t d).events
 
 -- the totals are those of a fresh count, and there is room for the stays that may come
-pub record IsSound (stays : List Stay) (tracks : List Track) (spare room pairs over : ℕ) : Type 0 where
+pub record IsSoundTrack (stays : List Stay) (tracks : List TrackTimeline) (spare room pairs over : ℕ) : Type 0 where
   pub sound : AreSound stays tracks spare
   pub fits : length stays + spare ≤ room
   pub small : length stays + spare < 2 ^ 62
@@ -28,8 +28,8 @@ pub record IsSound (stays : List Stay) (tracks : List Track) (spare room pairs o
   pub over_are : over ≡ overs_in (lengths_of tracks) stays
 
 -- tracks of the same lengths and events, with no less room
-pub record AreSame (before after : List Track) : Type 0 where
+pub record AreSame (before after : List TrackTimeline) : Type 0 where
   pub count : length after ≡ length before
   pub lengths : lengths_of after ≡ lengths_of before
-  pub events : (t : ℕ) (d : Track) → t < length before → (slice_index_or after t d).events.items ≡ (slice_index_or before t d).events.items
-  pub room : (t : ℕ) (d : Track) → t < length before → vec_capacity (slice_index_or before t d).events ≤ vec_capacity (slice_index_or after t d).events
+  pub events : (t : ℕ) (d : TrackTimeline) → t < length before → (slice_index_or after t d).events.items ≡ (slice_index_or before t d).events.items
+  pub room : (t : ℕ) (d : TrackTimeline) → t < length before → vec_capacity (slice_index_or before t d).events ≤ vec_capacity (slice_index_or after t d).events

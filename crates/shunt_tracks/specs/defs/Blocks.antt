@@ -3,16 +3,16 @@ use Rattle.std.specs.Prelude.{◌≡◌, ◌≤◌, ℕ, List, map, Ok, Err, sli
 use Rattle.shunt_stays.specs.defs.Events.{Move}
 use Rattle.shunt_stays.specs.defs.Run.{Standing, moved, load}
 use Rattle.shunt_stays.specs.defs.Run.Stop.{Blocked, Over}
-use Rattle.shunt_tracks.specs.declared.blocks.Block.{Block}
+use Rattle.shunt_tracks.specs.declared.blocks.ListedBlock.{ListedBlock}
 use Rattle.shunt_tracks.specs.declared.blocks.Did.{Did}
 use Rattle.shunt_tracks.specs.declared.blocks.Did.TheVariants as did
 
 -- a block of the code, as one that stands on a track
-abbrev pub standing : Block → Standing
+abbrev pub standing : ListedBlock → Standing
 standing b = record { id = b.id; length = b.length }
 
 -- the blocks of a track from A to B
-abbrev pub blocks_of : List Block → List Standing
+abbrev pub blocks_of : List ListedBlock → List Standing
 blocks_of blocks = map standing blocks
 
 -- what came of a move

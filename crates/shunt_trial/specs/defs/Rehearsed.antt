@@ -11,8 +11,8 @@ use Rattle.shunt_plan.specs.defs.Plans.{IsPlanInRange}
 use Rattle.shunt_proof.specs.declared.records.Certificate.{Certificate}
 use Rattle.shunt_proof.specs.defs.Certificates.{IsCertificate}
 use Rattle.shunt_search.specs.defs.Conditions.{MeetConditions}
-use Rattle.shunt_inputs.specs.declared.loading.Halt.{Halt}
-use Rattle.shunt_inputs.specs.declared.loading.Halt.TheVariants as halt
+use Rattle.shunt_inputs.specs.declared.file_loader.Halt.{Halt}
+use Rattle.shunt_inputs.specs.declared.file_loader.Halt.TheVariants as halt
 use Rattle.shunt_inputs.specs.defs.Inputs.{stated_night}
 use Rattle.shunt_judging.specs.defs.Checked.{Checkable, check_in, IsProved}
 use Rattle.shunt_planning.specs.defs.Planned.{certificate_file, plan_file}

@@ -4,7 +4,7 @@ use Rattle.shunt_rows.specs.defs.Records.{text_of_rows}
 use Rattle.shunt_instance.specs.declared.records.Station.{Station}
 use Rattle.shunt_instance.specs.declared.records.Timetable.{Timetable}
 use Rattle.shunt_instance.specs.defs.Instance.{Night, night_of}
-use Rattle.shunt_station.specs.defs.Writing as station_rows
+use Rattle.shunt_station.specs.defs.WrittenRows as station_rows
 use Rattle.shunt_timetable.specs.defs.WrittenRows as timetable_rows
 use Rattle.shunt_blocks.specs.defs.Lists.{total_cost}
 use Rattle.shunt_plan.specs.declared.records.Plan.{Plan}

@@ -11,7 +11,7 @@ use Rattle.shunt_blocks.specs.declared.records.Block.{Block}
 use Rattle.shunt_tracks.specs.declared.run.Event.{Event}
 use Rattle.shunt_zones.specs.declared.records.Over.{Over}
 use Rattle.shunt_zones.specs.declared.records.Zones.{Zones}
-use Rattle.shunt_zones.specs.declared.passing.Passing.{Passing}
+use Rattle.shunt_zones.specs.declared.passages.Passing.{Passing}
 use Rattle.shunt_zones.specs.defs.Moves.{train_of, moves_of}
 
 -- whether a zone lies over the way between a train's platform and a side of a track

@@ -88,7 +88,7 @@ abbrev pub zones_format : Station → Format Zones Zones
 zones_format s = record { first = first_of; later = later_of s; has_ended = λ z. false; is_whole = λ z. true; value = λ z. z }
 
 -- a zone with that many names lies over a way of the station
-pub record IsOver (s : Station) (zones : ℕ) (o : Over) : Type 0 where
+pub record IsOverWay (s : Station) (zones : ℕ) (o : Over) : Type 0 where
   pub platform : o.platform.0 < length s.platforms
   pub track : o.track.0 < length s.tracks
   pub route : IsTrue (has_route s (record { platform = o.platform; track = o.track; side = o.side }))
@@ -99,5 +99,5 @@ pub record IsZones (s : Station) (z : Zones) : Type 0 where
   pub few : length z.names ≤ 64
   pub names : All IsName z.names
   pub names_differ : AreDistinct z.names
-  pub over : All (IsOver s (length z.names)) z.over
+  pub over : All (IsOverWay s (length z.names)) z.over
   pub over_differ : AreDistinct z.over

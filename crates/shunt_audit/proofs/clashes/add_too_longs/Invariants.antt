@@ -1,6 +1,6 @@
 use Rattle.std.specs.List.{flat_map}
 use Rattle.std.proofs.Common.{◌≡◌, ◌++◌, take}
-use Rattle.shunt_stays.specs.defs.Crossing.{load_after}
+use Rattle.shunt_stays.specs.defs.Crossings.{load_after}
 use Rattle.shunt_blocks.specs.defs.Lists.{track_lengths}
 use Rattle.shunt_audit.specs.defs.Listed.{too_long_at}
 use Rattle.shunt_audit.proofs.clashes.add_too_longs.Given as goal

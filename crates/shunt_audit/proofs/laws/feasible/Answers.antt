@@ -1,4 +1,4 @@
-use Rattle.shunt_audit.proofs.Standing.{BlockLaws}
+use Rattle.shunt_audit.proofs.BlockStays.{BlockLaws}
 use Rattle.shunt_audit.proofs.Feasible.{none_where_feasible}
 use Rattle.shunt_audit.proofs.laws.feasible.Goals as goal
 

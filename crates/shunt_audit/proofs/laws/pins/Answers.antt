@@ -1,4 +1,4 @@
-use Rattle.shunt_audit.proofs.Standing.{BlockLaws}
+use Rattle.shunt_audit.proofs.BlockStays.{BlockLaws}
 use Rattle.shunt_audit.proofs.Pinned.{PlaceLaws, none_where_usable}
 use Rattle.shunt_audit.proofs.laws.pins.Goals as goal
 

@@ -1,4 +1,4 @@
-use Rattle.shunt_audit.proofs.Standing.{BlockLaws}
+use Rattle.shunt_audit.proofs.BlockStays.{BlockLaws}
 use Rattle.shunt_audit.proofs.Stated.{plan_exactly, plan_ordered, only_plan, plan_none}
 use Rattle.shunt_audit.proofs.laws.plan_findings.Goals as goal
 

@@ -1,4 +1,4 @@
-use Rattle.shunt_blocks.proofs.Opening.{one_cost}
+use Rattle.shunt_blocks.proofs.OpeningCosts.{one_cost}
 use Rattle.shunt_blocks.proofs.Singles.{any_singles}
 use Rattle.shunt_blocks.proofs.laws.one_opening_cost.Goals as goal
 

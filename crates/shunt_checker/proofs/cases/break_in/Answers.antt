@@ -2,7 +2,7 @@ use Rattle.std.proofs.Common.{sym, subst}
 use Rattle.shunt_checker.specs.defs.Asked.{HoldsBy}
 use Rattle.shunt_checker.specs.defs.Firsts.{Finds}
 use Rattle.shunt_checker.specs.defs.Breaks.{IsBreakIn, BreakBefore}
-use Rattle.shunt_checker.proofs.Breaking.{broken_in}
+use Rattle.shunt_checker.proofs.Breaks.{broken_in}
 use Rattle.shunt_checker.proofs.Kept.{kept, unbroken_in}
 use Rattle.shunt_checker.proofs.cases.break_in.Goals as goal
 

@@ -6,11 +6,11 @@ use Rattle.shunt_blocks.specs.defs.Lists.{RunsThrough, placed}
 use Rattle.shunt_proof.specs.defs.Nodes.{FitsChoice}
 use Rattle.shunt_proof.specs.defs.Trees.{depth_at}
 use Rattle.shunt_proof.specs.defs.Versions.{IsStepBoundIn}
-use Rattle.shunt_checker.specs.defs.NodeSteps.{Leads}
+use Rattle.shunt_checker.specs.defs.NodeSteps.{LeadsDown}
 use Rattle.shunt_checker.proofs.Seen.{seen_word}
-use Rattle.shunt_checker.proofs.Judging.{on_none}
+use Rattle.shunt_checker.proofs.NodeFindings.{on_none}
 use Rattle.shunt_checker.proofs.Placed.{there_told, led, twice_told, child_judged}
-use Rattle.shunt_checker.proofs.Stepping.{had, longer_than}
+use Rattle.shunt_checker.proofs.Steps.{had, longer_than}
 use Rattle.shunt_checker.proofs.descent.child_fault.Goals as goal
 
 pub unreachable-requires : goal.unreachable-requires
@@ -57,7 +57,7 @@ step_bound-requires-clause-more c = (c.args.path.now.blocks, had c.in_ok-misplac
 
 pub returns-clause-leads : goal.returns-clause-leads
 returns-clause-leads c =
-    on_none c.lean_reason.result _ (subst (Leads c.args.instance.now c.args.certificate.now c.args.k c.args.path.now.blocks) (sym c.step_bound.ensures.kept)
+    on_none c.lean_reason.result _ (subst (LeadsDown c.args.instance.now c.args.certificate.now c.args.k c.args.path.now.blocks) (sym c.step_bound.ensures.kept)
     (led c.args.instance.now c.args.certificate.now c.args.k c.args.path.now.blocks c.there_fault.new.path.blocks c.in_ok-misplaced.misplaced c.in_default-misplaced.is
     c.in_ok-misplaced.ensures.leads))
 

@@ -4,7 +4,7 @@ use Rattle.shunt_blocks.specs.declared.records.Block.{Block}
 use Rattle.shunt_blocks.specs.defs.Blocks.{IsBlockButId}
 use Rattle.shunt_proof.specs.defs.Trees.{choice_from}
 use Rattle.shunt_checker.proofs.Placed.{not_there, leads, not_through, all_there}
-use Rattle.shunt_checker.proofs.Stepping.{longer_each}
+use Rattle.shunt_checker.proofs.Steps.{longer_each}
 use Rattle.shunt_checker.proofs.descent.there_fault.Goals as goal
 
 pub returns-then-not-there-clause-found : goal.returns-then-not-there-clause-found

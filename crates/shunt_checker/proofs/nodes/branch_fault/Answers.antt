@@ -4,7 +4,7 @@ use Rattle.shunt_proof.specs.defs.Versions.{IsStepBoundIn}
 use Rattle.shunt_checker.specs.defs.Misses.{IsMissed}
 use Rattle.shunt_checker.proofs.Seen.{seen_word}
 use Rattle.shunt_checker.proofs.Lowness.{step_laws}
-use Rattle.shunt_checker.proofs.Branching.{missed_choice, missed_free, none_next, none_missed, first_missed}
+use Rattle.shunt_checker.proofs.BranchReasons.{missed_choice, missed_free, none_next, none_missed, first_missed}
 use Rattle.shunt_checker.proofs.nodes.branch_fault.Goals as goal
 
 pub missed_at-requires-clause-next : goal.missed_at-requires-clause-next

@@ -3,9 +3,9 @@ use Rattle.std.proofs.Common.{◌<◌, ℕ, length, subst, sym, ◌∙◌}
 use Rattle.std.proofs.lemmas.Int.{to_z-of_z}
 use Rattle.shunt_blocks.specs.defs.Shapes.{AreRunsWithin, IsOnTrack, IsWithinTrains}
 use Rattle.shunt_choices.specs.defs.Choices.{Choice as PathChoice}
-use Rattle.shunt_checker.proofs.Opened.{got, got_is}
-use Rattle.shunt_checker.proofs.Judging.{told_is}
+use Rattle.shunt_checker.proofs.NodeFindings.{told_is}
 use Rattle.shunt_checker.proofs.nodes.break_reason.Goals as goal
+use Rattle.shunt_prices.proofs.Counts.{got, got_is}
 
 pub get-case-requires : goal.get-case-requires
 get-case-requires c = subst (λ (m : ℕ). m < length c.args.cases.now) (sym c.case_in.ensures) c.requires.there

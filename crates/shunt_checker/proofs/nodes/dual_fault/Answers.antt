@@ -1,7 +1,8 @@
 use Rattle.std.proofs.Common.{◌∙◌}
-use Rattle.shunt_checker.proofs.Nexts.{masks_fit}
-use Rattle.shunt_checker.proofs.Judging.{on_option, unbroken, is_break, broke}
+use Rattle.shunt_checker.proofs.NodeFindings.{unbroken, is_break, broke}
 use Rattle.shunt_checker.proofs.nodes.dual_fault.Goals as goal
+use Rattle.shunt_blocks.proofs.Shapes.{on_track as on_option}
+use Rattle.shunt_choices.proofs.Trails.{masks_fit}
 
 pub first_break-requires-clause-covered : goal.first_break-requires-clause-covered
 first_break-requires-clause-covered c = masks_fit c.args.instance.now c.args.path.now c.covered.result.now c.covered.ensures c.requires.path

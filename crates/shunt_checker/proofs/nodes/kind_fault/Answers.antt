@@ -1,4 +1,4 @@
-use Rattle.shunt_checker.proofs.Judging.{kind_wrong, kind_right}
+use Rattle.shunt_checker.proofs.NodeFindings.{kind_wrong, kind_right}
 use Rattle.shunt_checker.proofs.nodes.kind_fault.Goals as goal
 
 pub returns-then-is_other_kind : goal.returns-then-is_other_kind

@@ -1,7 +1,7 @@
 use Rattle.std.proofs.Common.{subst, sym}
 use Rattle.shunt_proof.specs.defs.Versions.{IsBoundIn}
 use Rattle.shunt_checker.proofs.Seen.{seen_word}
-use Rattle.shunt_checker.proofs.Judging.{leaf_judged}
+use Rattle.shunt_checker.proofs.NodeFindings.{leaf_judged}
 use Rattle.shunt_checker.proofs.nodes.leaf_fault.Goals as goal
 
 pub returns : goal.returns

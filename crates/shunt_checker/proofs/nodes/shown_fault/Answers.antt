@@ -2,8 +2,8 @@ use Rattle.std.specs.Prelude.{IfNone}
 use Rattle.std.proofs.Common.{◌≡◌, refl, sym, ◌∙◌}
 use Rattle.std.proofs.lemmas.Result.{IfOk-weaker}
 use Rattle.shunt_checker.specs.defs.NodeSteps.{Judges}
-use Rattle.shunt_checker.proofs.Judging.{told, joined, on_none}
-use Rattle.shunt_checker.proofs.Stepping.{ok_always}
+use Rattle.shunt_checker.proofs.NodeFindings.{told, joined, on_none}
+use Rattle.shunt_checker.proofs.Steps.{ok_always}
 use Rattle.shunt_checker.proofs.nodes.shown_fault.Goals as goal
 
 pub unreachable-requires : goal.unreachable-requires

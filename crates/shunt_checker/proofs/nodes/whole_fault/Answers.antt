@@ -1,4 +1,4 @@
-use Rattle.shunt_checker.proofs.Judging.{whole_judged}
+use Rattle.shunt_checker.proofs.NodeFindings.{whole_judged}
 use Rattle.shunt_checker.proofs.nodes.whole_fault.Goals as goal
 
 pub returns : goal.returns

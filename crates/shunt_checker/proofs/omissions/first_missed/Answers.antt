@@ -6,8 +6,9 @@ use Rattle.shunt_checker.specs.defs.Firsts.{Finds}
 use Rattle.shunt_checker.specs.defs.Searches.{IsOneAt}
 use Rattle.shunt_checker.specs.defs.Misses.{IsMissed}
 use Rattle.shunt_checker.specs.defs.NodeFaults.{EarlierChoice}
-use Rattle.shunt_checker.proofs.Nexts.{next_in, masks_fit}
+use Rattle.shunt_checker.proofs.Nexts.{next_in}
 use Rattle.shunt_checker.proofs.omissions.first_missed.Goals as goal
+use Rattle.shunt_choices.proofs.Trails.{masks_fit}
 
 pub found_at-requires-clause-covered : goal.found_at-requires-clause-covered
 found_at-requires-clause-covered c = masks_fit c.args.instance.now c.args.branch.now.path.now c.covered.result.now c.covered.ensures c.requires.branch.path

@@ -4,7 +4,7 @@ use Rattle.shunt_choices.specs.defs.Paths.{Masks}
 use Rattle.shunt_choices.specs.defs.Choices.{chosen}
 use Rattle.shunt_prices.specs.defs.Cases.{IsFreeBlock}
 use Rattle.shunt_checker.proofs.Seen.{seen_lone}
-use Rattle.shunt_checker.proofs.Stepping.{within_all}
+use Rattle.shunt_checker.proofs.Steps.{within_all}
 use Rattle.shunt_checker.proofs.Lonely.{near}
 use Rattle.shunt_checker.proofs.omissions.is_near.Goals as goal
 

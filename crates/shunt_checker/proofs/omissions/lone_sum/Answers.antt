@@ -1,8 +1,8 @@
 use Rattle.std.proofs.Common.{arith}
 use Rattle.std.proofs.lemmas.Int.{ints}
-use Rattle.shunt_checker.proofs.Opened.{got, got_is}
 use Rattle.shunt_checker.proofs.Lonely.{lone_is}
 use Rattle.shunt_checker.proofs.omissions.lone_sum.Goals as goal
+use Rattle.shunt_prices.proofs.Counts.{got, got_is}
 
 pub weight_of-weight-requires-clause-case : goal.weight_of-weight-requires-clause-case
 weight_of-weight-requires-clause-case c = got_is c.args.instance.now c.args.cases.now c.args.k c.get-case.result.now c.get-case.ensures c.requires.there c.requires.cases

@@ -5,8 +5,8 @@ use Rattle.shunt_blocks.specs.declared.records.Shape.{Shape}
 use Rattle.shunt_blocks.specs.defs.Shapes.{shape_of}
 use Rattle.shunt_prices.specs.defs.Limits.{case_at}
 use Rattle.shunt_prices.specs.defs.Cases.{duals_over, weight}
-use Rattle.shunt_checker.proofs.Opened.{got}
 use Rattle.shunt_checker.proofs.sums.gain_in.Goals as goal
+use Rattle.shunt_prices.proofs.Counts.{got}
 
 pub returns-clause-exact : goal.returns-clause-exact
 returns-clause-exact c =

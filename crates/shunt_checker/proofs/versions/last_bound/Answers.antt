@@ -5,7 +5,7 @@ use Rattle.shunt_choices.specs.defs.Paths.{Trail}
 use Rattle.shunt_stacks.specs.defs.Bounds.{IsChoiceBound}
 use Rattle.shunt_proof.specs.declared.records.Version.TheVariants.{Stacks}
 use Rattle.shunt_proof.specs.defs.Versions.{IsStepBoundIn}
-use Rattle.shunt_checker.proofs.Stepping.{front_runs, front_each, last_in, last_free, last_next, bound_of_last}
+use Rattle.shunt_checker.proofs.Steps.{front_runs, front_each, last_in, last_free, last_next, bound_of_last}
 use Rattle.shunt_checker.proofs.versions.last_bound.Goals as goal
 
 pub unreachable-requires : goal.unreachable-requires

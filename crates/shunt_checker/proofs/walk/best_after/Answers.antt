@@ -3,7 +3,7 @@ use Rattle.shunt_blocks.specs.defs.Lists.{total_cost}
 use Rattle.shunt_proof.specs.declared.records.NodeKind.TheVariants.{Whole}
 use Rattle.shunt_proof.specs.defs.Nodes.{node_at}
 use Rattle.shunt_checker.proofs.Looked.{against}
-use Rattle.shunt_checker.proofs.Walking.{best_kept, best_whole}
+use Rattle.shunt_checker.proofs.Descents.{best_kept, best_whole}
 use Rattle.shunt_checker.proofs.walk.best_after.Goals as goal
 
 pub returns-then-not-is_whole-clause-exact : goal.returns-then-not-is_whole-clause-exact

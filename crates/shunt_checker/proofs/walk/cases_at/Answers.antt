@@ -4,7 +4,7 @@ use Rattle.shunt_proof.specs.declared.records.Node.{Node}
 use Rattle.shunt_proof.specs.defs.Nodes.{node_at}
 use Rattle.shunt_proof.specs.defs.Trees.{duals_at}
 use Rattle.shunt_checker.specs.defs.Walks.{AreOwn}
-use Rattle.shunt_checker.proofs.Walking.{are_own, one_list}
+use Rattle.shunt_checker.proofs.Descents.{are_own, one_list}
 use Rattle.shunt_checker.proofs.walk.cases_at.Goals as goal
 
 pub own_cases-requires-clause-there : goal.own_cases-requires-clause-there

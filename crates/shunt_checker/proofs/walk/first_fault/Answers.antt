@@ -6,7 +6,7 @@ use Rattle.shunt_blocks.specs.defs.Pins.{opening_cost}
 use Rattle.shunt_proof.specs.defs.Trees.{depth_at}
 use Rattle.shunt_checker.specs.declared.walk.Frame.{Frame}
 use Rattle.shunt_checker.specs.defs.Walks.{IsWalk}
-use Rattle.shunt_checker.proofs.Walking.{first_frames, walked, fault_settled, none_settled}
+use Rattle.shunt_checker.proofs.Descents.{first_frames, walked, fault_settled, none_settled}
 use Rattle.shunt_checker.proofs.walk.first_fault.Goals as goal
 
 pub loop-k-init : goal.loop-k-init

@@ -9,9 +9,10 @@ use Rattle.shunt_checker.specs.defs.NodeSteps.{Judges}
 use Rattle.shunt_checker.specs.defs.Walks.{IsAtNode, IsOwner, Settles, front_of}
 use Rattle.shunt_checker.proofs.Looked.{against}
 use Rattle.shunt_checker.proofs.Versioned.{hold_longer}
-use Rattle.shunt_checker.proofs.Accepting.{unbroken}
-use Rattle.shunt_checker.proofs.Walking.{later, root_at, root_bare, root_from, settled, both_ok, came_down, child_told, child_passed, child_at, hold_below, branch_whole}
+use Rattle.shunt_checker.proofs.Acceptance.{unbroken}
+use Rattle.shunt_checker.proofs.Descents.{later, root_at, root_bare, root_from, settled, both_ok, came_down, child_told, child_passed, child_at, hold_below}
 use Rattle.shunt_checker.proofs.walk.node_fault.Goals as goal
+use Rattle.shunt_proof.proofs.Depths.{branch_goes as branch_whole}
 
 pub returns-then-is_root : goal.returns-then-is_root
 returns-then-is_root g c =

@@ -5,7 +5,7 @@ use Rattle.shunt_prices.specs.defs.Limits.{AreCases}
 use Rattle.shunt_proof.specs.declared.records.NodeKind.TheVariants.{Whole}
 use Rattle.shunt_checker.specs.defs.NodeSteps.{Judges}
 use Rattle.shunt_checker.proofs.Looked.{against}
-use Rattle.shunt_checker.proofs.Judging.{told, joined, on_none}
+use Rattle.shunt_checker.proofs.NodeFindings.{told, joined, on_none}
 use Rattle.shunt_checker.proofs.walk.own_fault.Goals as goal
 
 pub whole_fault-requires-clause-kind : goal.whole_fault-requires-clause-kind

@@ -3,8 +3,9 @@ use Rattle.shunt_proof.specs.declared.records.NodeDuals.TheVariants.{Same}
 use Rattle.shunt_proof.specs.defs.Nodes.{node_at, FitsNode}
 use Rattle.shunt_proof.specs.defs.Trees.{duals_at, parent}
 use Rattle.shunt_checker.proofs.Looked.{against}
-use Rattle.shunt_checker.proofs.Walking.{duals_from, own_is, same_is, same_deep, handed_down, root_flat, branch_whole}
+use Rattle.shunt_checker.proofs.Descents.{duals_from, own_is, same_is, same_deep, handed_down, root_flat}
 use Rattle.shunt_checker.proofs.walk.owner_of.Goals as goal
+use Rattle.shunt_proof.proofs.Depths.{branch_goes as branch_whole}
 
 pub frame_above-requires-clause-deep : goal.frame_above-requires-clause-deep
 frame_above-requires-clause-deep c =

@@ -8,10 +8,10 @@ use Rattle.shunt_blocks.specs.declared.records.Block.{Block}
 use Rattle.shunt_blocks.specs.defs.Blocks.{IsBlockButId}
 use Rattle.shunt_prices.specs.defs.Limits.{AreCases}
 use Rattle.shunt_proof.specs.defs.Trees.{depth_at, duals_at, parent}
-use Rattle.shunt_checker.specs.defs.NodeSteps.{JudgesChild, Leads}
+use Rattle.shunt_checker.specs.defs.NodeSteps.{JudgesChild, LeadsDown}
 use Rattle.shunt_checker.specs.defs.Walks.{IsOwner}
-use Rattle.shunt_checker.proofs.Walking.{branch_whole}
 use Rattle.shunt_checker.proofs.walk.parent_fault.Goals as goal
+use Rattle.shunt_proof.proofs.Depths.{branch_goes as branch_whole}
 
 pub overflow_add-left : goal.overflow_add-left
 overflow_add-left c =
@@ -51,7 +51,7 @@ returns-clause-leads c =
     let exact = c.depth_at-above.ensures.exact in
     let pins = c.pins.ensures in
     let long : c.pins.result + (c.depth_at-above.result - 1) ≡ c.args.path.now.pins + (depth_at c.args.certificate.now.nodes c.args.k - 1) = omega (arith, exact, pins) in
-    subst (λ (bs : List Block). IfOk c.child_fault.result (λ r. IfNone r (Leads c.args.instance.now c.args.certificate.now c.args.k bs c.child_fault.new.path.blocks)))
+    subst (λ (bs : List Block). IfOk c.child_fault.result (λ r. IfNone r (LeadsDown c.args.instance.now c.args.certificate.now c.args.k bs c.child_fault.new.path.blocks)))
     (c.shorten.ensures.blocks ∙ ap (λ (n : ℕ). take n c.args.path.now.blocks) long) c.child_fault.ensures.leads
 
 pub child_fault-requires-clause-pins : goal.child_fault-requires-clause-pins

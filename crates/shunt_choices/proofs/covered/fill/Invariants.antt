@@ -1,5 +1,5 @@
 use Rattle.std.proofs.Common.{◌≡◌, length}
-use Rattle.shunt_choices.specs.defs.Filling.{filled}
+use Rattle.shunt_choices.specs.defs.EntryRuns.{filled}
 use Rattle.shunt_choices.proofs.covered.fill.Given as goal
 
 abbrev pub invariant-loop-k : goal.invariant-loop-k

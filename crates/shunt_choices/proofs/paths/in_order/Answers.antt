@@ -1,7 +1,7 @@
 use Rattle.std.proofs.Common.{rules}
 use Rattle.std.proofs.lemmas.List.Sorted.{answers_always, All-permutation}
 use Rattle.shunt_blocks.specs.defs.Shapes.{IsInRange}
-use Rattle.shunt_choices.proofs.Rising.{in_order_again, share_nothing}
+use Rattle.shunt_choices.proofs.SortedBlocks.{in_order_again, share_nothing}
 use Rattle.shunt_choices.proofs.paths.in_order.Goals as goal
 
 pub returns-clause-order : goal.returns-clause-order

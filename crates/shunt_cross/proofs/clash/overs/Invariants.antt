@@ -1,6 +1,6 @@
 use Rattle.std.proofs.Common.{◌≡◌, take}
 use Rattle.std.specs.Prelude.{nat_lt, slice_index, count_by}
-use Rattle.shunt_stays.specs.defs.Crossing.{load_after}
+use Rattle.shunt_stays.specs.defs.Crossings.{load_after}
 use Rattle.shunt_cross.proofs.clash.overs.Given as goal
 
 abbrev pub invariant-loop-stay : goal.invariant-loop-stay

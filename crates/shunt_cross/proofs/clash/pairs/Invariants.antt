@@ -1,6 +1,6 @@
 use Rattle.std.proofs.Common.{◌≡◌, take, sum_by}
 use Rattle.std.specs.List.{count_by}
-use Rattle.shunt_stays.specs.defs.Crossing.{crosses}
+use Rattle.shunt_stays.specs.defs.Crossings.{crosses}
 use Rattle.shunt_cross.proofs.clash.pairs.Given as goal
 
 abbrev pub invariant-loop-stay : goal.invariant-loop-stay

@@ -1,5 +1,5 @@
 use Rattle.std.proofs.Common.{◌≡◌, take}
-use Rattle.shunt_stays.specs.defs.Crossing.{load_at}
+use Rattle.shunt_stays.specs.defs.Crossings.{load_at}
 use Rattle.shunt_cross.proofs.loads.load_after.Given as goal
 
 abbrev pub invariant-loop-other : goal.invariant-loop-other

@@ -3,11 +3,11 @@ use Rattle.shunt_base.specs.declared.keys.Stay.{Stay}
 use Rattle.shunt_base.specs.defs.Keys.{AreStays}
 use Rattle.shunt_lists.specs.defs.Members.{In}
 use Rattle.shunt_lists.proofs.Members.{filter_from}
-use Rattle.shunt_stays.proofs.Sorting.{tracks_within}
+use Rattle.shunt_stays.proofs.SortedEvents.{tracks_within}
 use Rattle.shunt_blocks.specs.defs.Lists.{track_lengths, stays_of}
 use Rattle.std.specs.List.{filter}
 use Rattle.shunt_audit.specs.defs.Listed.{crossings, too_longs}
-use Rattle.shunt_audit.proofs.Standing.{few_stays}
+use Rattle.shunt_audit.proofs.BlockStays.{few_stays}
 use Rattle.shunt_delay.specs.defs.Late.{late}
 use Rattle.shunt_delay.specs.defs.Delays.{first}
 use Rattle.shunt_delay.proofs.Lately.{in_range_late}

@@ -3,7 +3,7 @@ use Rattle.std.proofs.Common.{◌≡◌, ◌+◌}
 use Rattle.shunt_lists.specs.defs.Below.{all_below}
 use Rattle.shunt_instance.specs.defs.Instance.{ready}
 use Rattle.shunt_blocks.specs.defs.Shapes.{shape_of, unit_from}
-use Rattle.shunt_blocks.specs.defs.Standing.{leave_minute}
+use Rattle.shunt_blocks.specs.defs.Stays.{leave_minute}
 use Rattle.shunt_delay.proofs.late.is_too_soon_by.Given as goal
 
 abbrev pub invariant-loop-k : goal.invariant-loop-k

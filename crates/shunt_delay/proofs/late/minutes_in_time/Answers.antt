@@ -2,7 +2,7 @@ use Rattle.std.proofs.Common.{◌≡◌, ◌-◌, ◌+◌, arith, ap}
 use Rattle.shunt_instance.specs.defs.Instance.{ready}
 use Rattle.shunt_blocks.specs.declared.records.Shape.{Shape}
 use Rattle.shunt_blocks.specs.defs.Shapes.{shape_of, unit_from}
-use Rattle.shunt_blocks.specs.defs.Standing.{leave_minute}
+use Rattle.shunt_blocks.specs.defs.Stays.{leave_minute}
 use Rattle.shunt_delay.proofs.InTime.{one_ready, own_in_time, other_in_time}
 use Rattle.shunt_delay.proofs.late.minutes_in_time.Goals as goal
 

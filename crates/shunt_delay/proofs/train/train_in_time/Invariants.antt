@@ -2,7 +2,7 @@ use Rattle.std.proofs.Common.{◌≡◌, ℕ, ◌≤◌, false, take}
 use Rattle.shunt_lists.specs.defs.Members.{In}
 use Rattle.shunt_blocks.specs.declared.records.Block.{Block}
 use Rattle.shunt_blocks.specs.defs.Shapes.{shape_of}
-use Rattle.shunt_blocks.specs.defs.Standing.{is_too_soon}
+use Rattle.shunt_blocks.specs.defs.Stays.{is_too_soon}
 use Rattle.shunt_delay.specs.defs.Late.{late}
 use Rattle.shunt_delay.proofs.train.train_in_time.Given as goal
 

@@ -1,6 +1,6 @@
 use Rattle.std.proofs.Common.{subst}
 use Rattle.std.specs.Prelude.{IfOk}
-use Rattle.shunt_rows.proofs.Keeping.{given}
+use Rattle.shunt_rows.proofs.KeptStates.{given}
 use Rattle.shunt_drivers.specs.defs.CrewFormat.{IsCrew}
 use Rattle.shunt_drivers.proofs.Formed.{crew_formed}
 use Rattle.shunt_drivers.proofs.crew.read_crew.Goals as goal

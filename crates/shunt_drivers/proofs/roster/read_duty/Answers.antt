@@ -1,6 +1,7 @@
 use Rattle.std.proofs.Common.{sym}
-use Rattle.shunt_drivers.proofs.Parts.{err_is, driver_fails, move_fails, duty_is}
+use Rattle.shunt_drivers.proofs.Parts.{driver_fails, move_fails, duty_is}
 use Rattle.shunt_drivers.proofs.roster.read_duty.Goals as goal
+use Rattle.shunt_rows.proofs.Answered.{err_is}
 
 pub returns-in_err-driver : goal.returns-in_err-driver
 returns-in_err-driver c = err_is c.from_residual.result _ _ c.from_residual.ensures.1

@@ -1,5 +1,5 @@
 use Rattle.std.proofs.Common.{arith}
-use Rattle.shunt_drivers.proofs.Spanning.{minutes_within}
+use Rattle.shunt_drivers.proofs.SpanCounts.{minutes_within}
 use Rattle.shunt_drivers.proofs.spans.span_of.Goals as goal
 
 pub overflow_add-result : goal.overflow_add-result

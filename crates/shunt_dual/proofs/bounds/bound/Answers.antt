@@ -2,7 +2,7 @@ use mir.Syntax.{w64}
 use Rattle.std.proofs.Common.{sym, subst, ◌∙◌}
 use Rattle.std.proofs.lemmas.Int.{to_z-of_z}
 use Rattle.shunt_prices.specs.defs.Bounds.{IsDualsBound}
-use Rattle.shunt_dual.proofs.Opening.{plain_bound}
+use Rattle.shunt_dual.proofs.LeastBounds.{plain_bound}
 use Rattle.shunt_dual.proofs.bounds.bound.Goals as goal
 
 pub returns : goal.returns

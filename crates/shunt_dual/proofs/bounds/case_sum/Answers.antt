@@ -2,10 +2,10 @@ use mir.Syntax.{w64}
 use mir.Val.{to_z, of_z}
 use Rattle.std.proofs.Common.{◌∙◌}
 use Rattle.std.proofs.lemmas.Int.{to_z-of_z}
-use Rattle.shunt_dual.proofs.Holds.{got_is}
-use Rattle.shunt_dual.proofs.Summed.{value_seen}
-use Rattle.shunt_dual.proofs.Opening.{case_sum_is}
+use Rattle.shunt_dual.proofs.LeastBounds.{case_sum_is}
 use Rattle.shunt_dual.proofs.bounds.case_sum.Goals as goal
+use Rattle.shunt_prices.proofs.Signed.{value_seen}
+use Rattle.shunt_prices.proofs.Counts.{got_is}
 
 pub returns-clause-exact : goal.returns-clause-exact
 returns-clause-exact c =

@@ -4,10 +4,10 @@ use Rattle.std.proofs.Common.{◌+◌, ap, sym, subst, arith}
 use Rattle.std.proofs.lemmas.Int.{ints, to_z-of_z}
 use Rattle.shunt_base.specs.declared.duals.Case.{Case}
 use Rattle.shunt_dual.specs.defs.Opened.{IsLeastBelow}
-use Rattle.shunt_dual.proofs.Holds.{got}
-use Rattle.shunt_dual.proofs.Charged.{below, not_below}
-use Rattle.shunt_dual.proofs.Opening.{closed, taken, kept}
+use Rattle.shunt_dual.proofs.LeastBounds.{closed, taken, kept}
 use Rattle.shunt_dual.proofs.bounds.improved.Goals as goal
+use Rattle.shunt_prices.proofs.Signed.{below, not_below}
+use Rattle.shunt_prices.proofs.Counts.{got}
 
 pub returns-then-unparked-get : goal.returns-then-unparked-get
 returns-then-unparked-get c =

@@ -1,8 +1,9 @@
 use Rattle.std.proofs.Common.{◌∙◌, sym, subst}
 use Rattle.shunt_prices.specs.defs.Sums.{IsWithin}
 use Rattle.shunt_prices.proofs.Sizes.{most_within}
-use Rattle.shunt_dual.proofs.Summed.{small_seen, product_seen, most_seen}
 use Rattle.shunt_dual.proofs.bounds.most_surcharge.Goals as goal
+use Rattle.shunt_prices.proofs.Signed.{small_seen, product_seen}
+use Rattle.shunt_prices.proofs.Counts.{most_seen}
 
 pub returns-clause-exact : goal.returns-clause-exact
 returns-clause-exact c =

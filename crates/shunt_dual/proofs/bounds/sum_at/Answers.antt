@@ -6,8 +6,11 @@ use Rattle.shunt_instance.specs.defs.Instance.{unit_total, position_total}
 use Rattle.shunt_choices.specs.defs.Paths.{masks_of}
 use Rattle.shunt_prices.specs.defs.Prices.{paid_at_most}
 use Rattle.shunt_prices.specs.defs.Bounds.{most_surcharge}
-use Rattle.shunt_dual.proofs.Summed.{value_seen, sum_is, weights_are, uncovered_is, units_long, places_long, as_many_units, as_many_places}
+use Rattle.shunt_dual.proofs.Summed.{weights_are}
 use Rattle.shunt_dual.proofs.bounds.sum_at.Goals as goal
+use Rattle.shunt_choices.proofs.Trails.{units_long, places_long, as_many_units, as_many_places}
+use Rattle.shunt_prices.proofs.Signed.{value_seen}
+use Rattle.shunt_prices.proofs.Counts.{uncovered_is, sum_is}
 
 pub uncovered_sum-alphas-requires-clause-covered : goal.uncovered_sum-alphas-requires-clause-covered
 uncovered_sum-alphas-requires-clause-covered c =

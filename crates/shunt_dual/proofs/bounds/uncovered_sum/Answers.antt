@@ -5,9 +5,9 @@ use Rattle.std.proofs.Common.{◌≡◌, ℕ, ℤ, get_or, subst, sym, arith}
 use Rattle.std.proofs.lemmas.Int.{ints}
 use Rattle.std.proofs.lemmas.List.{get_or_default}
 use Rattle.shunt_prices.specs.defs.Limits.{IsValue}
-use Rattle.shunt_dual.proofs.Charged.{one_more, within_more}
-use Rattle.shunt_dual.proofs.Summed.{joined, value_seen, either_value}
 use Rattle.shunt_dual.proofs.bounds.uncovered_sum.Goals as goal
+use Rattle.shunt_prices.proofs.Signed.{joined, either_value, value_seen}
+use Rattle.shunt_prices.proofs.Counts.{one_more, within_more}
 
 pub loop-u-preserved : goal.loop-u-preserved
 loop-u-preserved c =

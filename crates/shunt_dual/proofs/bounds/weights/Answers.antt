@@ -6,9 +6,9 @@ use Rattle.std.proofs.lemmas.Int.{ints}
 use Rattle.shunt_blocks.specs.declared.records.Block.{Block}
 use Rattle.shunt_prices.specs.defs.Cases.{weight}
 use Rattle.shunt_dual.specs.defs.Weighed.{case_of}
-use Rattle.shunt_dual.proofs.Charged.{sum_more, wider_more}
-use Rattle.shunt_dual.proofs.Summed.{joined}
 use Rattle.shunt_dual.proofs.bounds.weights.Goals as goal
+use Rattle.shunt_prices.proofs.Signed.{joined}
+use Rattle.shunt_prices.proofs.Counts.{sum_more, wider_more}
 
 no_block : Block
 no_block = record { id = 0; arr = record { 0 = 0 }; p = 0; n = 0; dep = record { 0 = 0 }; q = 0; park = None }

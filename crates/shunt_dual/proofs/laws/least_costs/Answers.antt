@@ -1,4 +1,4 @@
-use Rattle.shunt_dual.proofs.Paying.{most_cheapest, given_cheapest, small}
+use Rattle.shunt_dual.proofs.PaidShares.{most_cheapest, given_cheapest, small}
 use Rattle.shunt_dual.proofs.laws.least_costs.Goals as goal
 
 pub returns : goal.returns

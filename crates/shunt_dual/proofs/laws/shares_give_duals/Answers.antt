@@ -1,4 +1,4 @@
-use Rattle.shunt_dual.proofs.Paying.{duals_hold}
+use Rattle.shunt_dual.proofs.PaidShares.{duals_hold}
 use Rattle.shunt_dual.proofs.laws.shares_give_duals.Goals as goal
 
 pub returns : goal.returns

@@ -4,10 +4,10 @@ use Rattle.std.proofs.Common.{ℤ, sym, subst, arith, ◌∷◌, ◌++◌, []}
 use Rattle.std.proofs.lemmas.Int.{ints, to_z-of_z}
 use Rattle.shunt_prices.specs.defs.Limits.{case_at, from_of}
 use Rattle.shunt_prices.specs.defs.Bounds.{IsBoundOf, case_sum}
-use Rattle.shunt_dual.proofs.Holds.{got_is}
-use Rattle.shunt_dual.proofs.Summed.{value_seen}
 use Rattle.shunt_dual.proofs.Lengthened.{grown, sum_small, sum_there}
 use Rattle.shunt_dual.proofs.longer.bound_with.Goals as goal
+use Rattle.shunt_prices.proofs.Signed.{value_seen}
+use Rattle.shunt_prices.proofs.Counts.{got_is}
 
 pub bound_of-requires : goal.bound_of-requires
 bound_of-requires c =

@@ -4,11 +4,11 @@ use Rattle.std.proofs.Common.{◌+◌, ◌∷◌, ◌++◌, [], ap, sym, subst, 
 use Rattle.std.proofs.lemmas.Int.{ints, to_z-of_z}
 use Rattle.shunt_base.specs.declared.duals.Case.{Case}
 use Rattle.shunt_dual.specs.defs.Opened.{IsLeastBelow}
-use Rattle.shunt_dual.proofs.Holds.{got}
-use Rattle.shunt_dual.proofs.Charged.{below, not_below}
-use Rattle.shunt_dual.proofs.Opening.{closed, taken, kept}
+use Rattle.shunt_dual.proofs.LeastBounds.{closed, taken, kept}
 use Rattle.shunt_dual.proofs.Lengthened.{unparked_now, is_few, is_many}
 use Rattle.shunt_dual.proofs.longer.improved.Goals as goal
+use Rattle.shunt_prices.proofs.Signed.{below, not_below}
+use Rattle.shunt_prices.proofs.Counts.{got}
 
 pub returns-then-not-are_at_most : goal.returns-then-not-are_at_most
 returns-then-not-are_at_most c = λ path at free.

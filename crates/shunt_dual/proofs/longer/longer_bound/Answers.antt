@@ -2,7 +2,7 @@ use mir.Syntax.{w64}
 use Rattle.std.proofs.Common.{◌+◌, ◌-◌, ◌∷◌, ◌++◌, [], sym, subst, arith}
 use Rattle.std.proofs.lemmas.Int.{to_z-of_z}
 use Rattle.shunt_dual.specs.defs.Opened.{IsLeastBelow}
-use Rattle.shunt_dual.proofs.Opening.{last_first, all_of}
+use Rattle.shunt_dual.proofs.LeastBounds.{last_first, all_of}
 use Rattle.shunt_dual.proofs.longer.longer_bound.Goals as goal
 
 pub loop-k-init : goal.loop-k-init

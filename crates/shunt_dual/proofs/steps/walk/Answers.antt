@@ -1,5 +1,5 @@
 use Rattle.std.proofs.Common.{refl, arith}
-use Rattle.shunt_dual.proofs.Walking.{walk_step}
+use Rattle.shunt_dual.proofs.WalkBack.{walk_step}
 use Rattle.shunt_dual.proofs.steps.walk.Goals as goal
 
 pub back-smaller : goal.back-smaller

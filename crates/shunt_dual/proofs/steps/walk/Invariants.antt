@@ -1,5 +1,5 @@
 use Rattle.shunt_dual.specs.defs.Tables.{at}
-use Rattle.shunt_dual.proofs.Walking.{IsWalking}
+use Rattle.shunt_dual.proofs.WalkBack.{IsWalking}
 use Rattle.shunt_dual.proofs.steps.walk.Given as goal
 
 abbrev pub invariant-back : goal.invariant-back

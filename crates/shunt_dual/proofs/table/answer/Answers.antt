@@ -1,6 +1,6 @@
 use Rattle.std.proofs.Common.{subst, sym, ℕ, ◌≤◌, ◌≡◌}
 use Rattle.shunt_dual.specs.defs.Tables.{cost_at, top, total, IsPlace}
-use Rattle.shunt_dual.proofs.Ending.{all_placed, answered, no_less, unfilled}
+use Rattle.shunt_dual.proofs.LastRows.{all_placed, answered, no_less, unfilled}
 use Rattle.shunt_dual.proofs.table.answer.Goals as goal
 
 pub cost_of-total-requires-clause-place : goal.cost_of-total-requires-clause-place

@@ -1,6 +1,6 @@
 use Rattle.std.proofs.Common.{arith}
 use Rattle.shunt_dual.specs.defs.Tables.{cost_at, top}
-use Rattle.shunt_dual.proofs.Growing.{outside, slack, turn}
+use Rattle.shunt_dual.proofs.Turns.{outside, slack, turn}
 use Rattle.shunt_dual.proofs.table.grow.Goals as goal
 
 pub choose-c-requires-clause-some : goal.choose-c-requires-clause-some

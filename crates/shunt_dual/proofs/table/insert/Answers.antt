@@ -1,7 +1,7 @@
 use Rattle.shunt_dual.specs.defs.Tables.{cost_at, top}
 use Rattle.std.proofs.Common.{set, arith, get_or-set_same}
-use Rattle.shunt_dual.proofs.Shifting.{inserted}
-use Rattle.shunt_dual.proofs.Seating.{seated, seated_duals, opened, begun, no_root}
+use Rattle.shunt_dual.proofs.Shifts.{inserted}
+use Rattle.shunt_dual.proofs.Seats.{seated, seated_duals, opened, begun, no_root}
 use Rattle.shunt_dual.proofs.table.insert.Goals as goal
 
 pub returns-clause-duals : goal.returns-clause-duals

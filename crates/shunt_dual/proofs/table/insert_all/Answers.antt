@@ -1,6 +1,6 @@
 use Rattle.std.proofs.Common.{arith}
 use Rattle.shunt_dual.specs.defs.Tables.{cost_at, top}
-use Rattle.shunt_dual.proofs.Seating.{empty_paired, empty_duals, empty_root, empty_count}
+use Rattle.shunt_dual.proofs.Seats.{empty_paired, empty_duals, empty_root, empty_count}
 use Rattle.shunt_dual.proofs.table.insert_all.Goals as goal
 
 pub loop-k-init : goal.loop-k-init

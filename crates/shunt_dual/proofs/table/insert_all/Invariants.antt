@@ -1,6 +1,6 @@
 use Rattle.std.proofs.Common.{◌≡◌, ◌≢◌, ◌+◌}
 use Rattle.shunt_dual.specs.defs.Tables.{at, cost_at, times, top}
-use Rattle.shunt_dual.specs.defs.Pairing.{IsPaired, AreDuals}
+use Rattle.shunt_dual.specs.defs.Pairs.{IsPaired, AreDuals}
 use Rattle.shunt_dual.proofs.table.insert_all.Given as goal
 
 abbrev pub invariant-loop-k : goal.invariant-loop-k

@@ -1,6 +1,6 @@
 use Rattle.std.proofs.Common.{ℕ, ◌∙◌, arith}
 use Rattle.std.proofs.lemmas.List.{length-set}
-use Rattle.shunt_dual.proofs.Ending.{kept_whole, same_paired, same_duals}
+use Rattle.shunt_dual.proofs.LastRows.{kept_whole, same_paired, same_duals}
 use Rattle.shunt_dual.proofs.table.least_places.Goals as goal
 
 pub answer-requires-clause-paired : goal.answer-requires-clause-paired

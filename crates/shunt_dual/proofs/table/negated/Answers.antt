@@ -1,6 +1,6 @@
 use Rattle.std.proofs.Common.{arith}
 use Rattle.std.proofs.lemmas.Int.{ints}
-use Rattle.shunt_dual.proofs.Ending.{pushed}
+use Rattle.shunt_dual.proofs.LastRows.{pushed}
 use Rattle.shunt_dual.proofs.table.negated.Goals as goal
 
 pub loop-number-preserved : goal.loop-number-preserved

@@ -6,11 +6,11 @@ use Rattle.std.proofs.lemmas.Int.{ints, to_z-of_z}
 use Rattle.shunt_base.specs.declared.duals.Case.{Case}
 use Rattle.shunt_prices.specs.defs.Sums.{IsWithin}
 use Rattle.shunt_prices.specs.defs.Bounds.{IsBoundOf}
-use Rattle.shunt_dual.proofs.Holds.{got}
-use Rattle.shunt_dual.proofs.Charged.{below, not_below}
 use Rattle.shunt_fillings.specs.defs.Least.{IsLeastBelow}
 use Rattle.shunt_fillings.proofs.Opened.{closed, taken, kept}
 use Rattle.shunt_fillings.proofs.bounds.improved.Goals as goal
+use Rattle.shunt_prices.proofs.Signed.{below, not_below}
+use Rattle.shunt_prices.proofs.Counts.{got}
 
 pub returns-then-unparked-get : goal.returns-then-unparked-get
 returns-then-unparked-get c =

@@ -5,8 +5,8 @@ use Rattle.std.proofs.lemmas.Bool.{false≢true}
 use Rattle.shunt_dual.specs.defs.Offers.{offered}
 use Rattle.shunt_fillings.specs.defs.Pieces.{seen}
 use Rattle.shunt_fillings.proofs.Taken.{not_taken, poor}
-use Rattle.shunt_fillings.proofs.Listed.{none_more}
 use Rattle.shunt_fillings.proofs.candidates.add_candidate.Goals as goal
+use Rattle.shunt_lists.proofs.Lists.{append_nothing as none_more}
 
 pub returns-then-not-can_stand : goal.returns-then-not-can_stand
 returns-then-not-can_stand c = (

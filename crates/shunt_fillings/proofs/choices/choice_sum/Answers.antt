@@ -10,14 +10,14 @@ use Rattle.shunt_prices.specs.defs.Sums.{IsWithin}
 use Rattle.shunt_prices.specs.defs.Limits.{IsCase, case_at}
 use Rattle.shunt_stacks.specs.defs.Stacks.{Stack as OneStack, stacks}
 use Rattle.shunt_stacks.specs.defs.Bounds.{IsChoiceSum}
-use Rattle.shunt_dual.proofs.Holds.{got, got_is}
 use Rattle.shunt_fillings.specs.declared.ends.Stack.{Stack}
 use Rattle.shunt_fillings.specs.defs.Pieces.{seen, all_seen}
 use Rattle.shunt_fillings.specs.defs.Prospects.{IsProspect}
 use Rattle.shunt_fillings.proofs.Listed.{seen_in, zip_seen, zip_there}
-use Rattle.shunt_fillings.proofs.Tabled.{blocks_within}
 use Rattle.shunt_fillings.proofs.Chosen.{of_none, sum_of_none, sum_of_stack}
 use Rattle.shunt_fillings.proofs.choices.choice_sum.Goals as goal
+use Rattle.shunt_blocks.proofs.Shapes.{all_within as blocks_within}
+use Rattle.shunt_prices.proofs.Counts.{got, got_is}
 
 abbrev no_stack : Stack
 no_stack = record { track = record { 0 = 0 }; side = A }

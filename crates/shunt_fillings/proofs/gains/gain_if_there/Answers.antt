@@ -6,8 +6,11 @@ use Rattle.shunt_stacks.specs.defs.Numbers.{free_spans}
 use Rattle.shunt_gains.specs.defs.Events.{entry_of, leave_of, events_in}
 use Rattle.shunt_gains.specs.defs.Tables.{spans_of, IsGain}
 use Rattle.shunt_fillings.specs.defs.Pieces.{seen, blocks_in, fixed_of_stack, spans_with}
-use Rattle.shunt_fillings.proofs.Tabled.{blocks_within, all_within, little_gains, own_lists, small_lists, all_small, free_same, gain_tells, if_ok}
+use Rattle.shunt_fillings.proofs.Tabled.{all_within, little_gains, small_lists, all_small, free_same, gain_tells}
 use Rattle.shunt_fillings.proofs.gains.gain_if_there.Goals as goal
+use Rattle.shunt_lists.proofs.Options.{if_ok}
+use Rattle.shunt_blocks.proofs.Shapes.{all_within as blocks_within}
+use Rattle.shunt_stacks.proofs.Sums.{own_lists}
 
 pub fixed_pieces-requires-clause-within : goal.fixed_pieces-requires-clause-within
 fixed_pieces-requires-clause-within c = blocks_within c.args.instance.now c.args.path.now c.requires.each

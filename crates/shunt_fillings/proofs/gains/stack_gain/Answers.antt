@@ -4,8 +4,8 @@ use Rattle.std.proofs.Common.{◌≡◌, sym, subst, arith}
 use Rattle.std.proofs.lemmas.Int.{ints}
 use Rattle.shunt_stacks.specs.defs.Fillings.{IsStackGain}
 use Rattle.shunt_fillings.specs.defs.Pieces.{seen}
-use Rattle.shunt_fillings.proofs.Tabled.{blocks_within}
 use Rattle.shunt_fillings.proofs.gains.stack_gain.Goals as goal
+use Rattle.shunt_blocks.proofs.Shapes.{all_within as blocks_within}
 
 pub unreachable-requires : goal.unreachable-requires
 unreachable-requires c =

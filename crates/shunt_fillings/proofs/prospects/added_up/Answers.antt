@@ -3,9 +3,9 @@ use mir.Val.{to_z}
 use Rattle.std.proofs.Common.{◌≡◌, get_or, ap, arith}
 use Rattle.std.proofs.lemmas.Int.{ints}
 use Rattle.shunt_prices.specs.defs.Sums.{IsWithin}
-use Rattle.shunt_dual.proofs.Charged.{sum_more, wider_more}
 use Rattle.shunt_fillings.specs.declared.prospects.Prospect.{Prospect}
 use Rattle.shunt_fillings.proofs.prospects.added_up.Goals as goal
+use Rattle.shunt_prices.proofs.Counts.{sum_more, wider_more}
 
 pub prospects-preserved : goal.prospects-preserved
 prospects-preserved c =

@@ -10,12 +10,12 @@ use Rattle.shunt_prices.specs.defs.Sums.{sum_z, IsWithin}
 use Rattle.shunt_prices.specs.defs.Limits.{case_at}
 use Rattle.shunt_stacks.specs.defs.Stacks.{stacks}
 use Rattle.shunt_stacks.specs.defs.Fillings.{IsStackGain}
-use Rattle.shunt_dual.proofs.Holds.{got, got_is}
 use Rattle.shunt_fillings.specs.declared.prospects.Prospect.{Prospect}
 use Rattle.shunt_fillings.specs.defs.Prospects.{IsProspect}
 use Rattle.shunt_fillings.proofs.Listed.{zip_long, zip_map, zip_each}
 use Rattle.shunt_fillings.proofs.Summed.{total_same}
 use Rattle.shunt_fillings.proofs.prospects.outlook_of.Goals as goal
+use Rattle.shunt_prices.proofs.Counts.{got, got_is}
 
 pub prospects_in-requires-clause-case : goal.prospects_in-requires-clause-case
 prospects_in-requires-clause-case c = got_is c.args.scene.now.instance.now c.args.cases.now c.args.k c.get.result.now c.get.ensures c.requires.there c.requires.cases

@@ -6,9 +6,11 @@ use Rattle.shunt_gains.specs.declared.pieces.Piece.{Piece}
 use Rattle.shunt_gains.specs.defs.Tables.{span_of, spans_at, fixed_in, free_in}
 use Rattle.shunt_gains.proofs.Known.{in_row}
 use Rattle.shunt_gains.proofs.Small.{gain_small, seen}
-use Rattle.shunt_gains.proofs.Stepped.{left_with, turned, by_fixed, by_free, joined, if_ok}
+use Rattle.shunt_gains.proofs.Stepped.{left_with, turned, by_fixed, by_free}
 use Rattle.shunt_gains.proofs.Listed.{taken, here, enough, listed, some_there, none_there, some_long, none_long}
 use Rattle.shunt_gains.proofs.values.+values.Goals as goal
+use Rattle.shunt_lists.proofs.Options.{if_ok}
+use Rattle.shunt_stacks.proofs.Steps.{joined}
 
 pub greatest-with_piece-requires : goal.greatest-with_piece-requires
 greatest-with_piece-requires t c =

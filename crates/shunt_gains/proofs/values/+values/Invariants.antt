@@ -1,6 +1,6 @@
 use Rattle.std.proofs.Common.{◌≡◌, ℕ, ◌+◌, ◌*◌, ◌≤◌, length}
 use Rattle.shunt_stacks.specs.defs.Spans.{best, best_with}
-use Rattle.shunt_gains.specs.defs.Tables.{AreBefore, AreRows, fixed_in, free_in, spans_at}
+use Rattle.shunt_gains.specs.defs.Tables.{AreGainsBefore, AreRows, fixed_in, free_in, spans_at}
 use Rattle.shunt_gains.proofs.Stepped.{left_with, most_with}
 use Rattle.shunt_gains.proofs.values.+values.Given as goal
 
@@ -29,6 +29,6 @@ invariant-greatest-pieces l = record {
 abbrev pub invariant-filled-events : goal.invariant-filled-events
 invariant-filled-events l = record {
   rows : AreRows (fixed_in l.pieces) (free_in l.pieces) l.rows;
-  each : AreBefore (fixed_in l.pieces) (free_in l.pieces) l.key.end l.key.room l.row.items;
+  each : AreGainsBefore (fixed_in l.pieces) (free_in l.pieces) l.key.end l.key.room l.row.items;
   long : length l.row.items ≡ l.back + 1;
 }

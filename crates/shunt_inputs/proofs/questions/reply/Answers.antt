@@ -1,9 +1,9 @@
 use Rattle.std.proofs.Common.{Err}
-use Rattle.shunt_inputs.specs.defs.Reading.{names_in}
+use Rattle.shunt_inputs.specs.defs.ReadFiles.{names_in}
 use Rattle.shunt_inputs.specs.defs.Writes.{known}
 use Rattle.shunt_inputs.proofs.Heard.{heard_first, heard_memory}
-use Rattle.shunt_inputs.proofs.Leading.{leads_answer, leads_refused}
-use Rattle.shunt_inputs.proofs.Viewing.{hears_all}
+use Rattle.shunt_inputs.proofs.FirstFiles.{leads_answer, leads_refused}
+use Rattle.shunt_inputs.proofs.HeardSteps.{hears_all}
 use Rattle.shunt_inputs.proofs.questions.reply.Goals as goal
 
 pub returns-in_err-value-clause-leads : goal.returns-in_err-value-clause-leads

@@ -1,5 +1,5 @@
 use Rattle.std.proofs.Common.{◌≡◌, take}
-use Rattle.shunt_make.specs.defs.Drawing.{after, drawn_for}
+use Rattle.shunt_make.specs.defs.Draws.{after, drawn_for}
 use Rattle.shunt_make.specs.defs.Made.{route_of}
 use Rattle.shunt_make.proofs.stations.made_routes.Given as goal
 

@@ -1,6 +1,6 @@
 use Rattle.std.proofs.Common.{◌≡◌}
 use Rattle.std.specs.List.{range_with_len}
-use Rattle.shunt_make.specs.defs.Drawing.{after, drawn_for}
+use Rattle.shunt_make.specs.defs.Draws.{after, drawn_for}
 use Rattle.shunt_make.specs.defs.Made.{track_of}
 use Rattle.shunt_make.proofs.stations.made_tracks.Given as goal
 

@@ -1,6 +1,6 @@
 use Rattle.std.proofs.Common.{◌≡◌, ◌*◌, min, map}
 use Rattle.std.specs.List.{range_with_len}
-use Rattle.shunt_make.specs.defs.Drawing.{after}
+use Rattle.shunt_make.specs.defs.Draws.{after}
 use Rattle.shunt_make.specs.defs.Made.{arriving_of}
 use Rattle.shunt_make.proofs.trains.arriving_trains.Given as goal
 

@@ -1,8 +1,8 @@
-use Rattle.shunt_matching.proofs.Nights.{opened}
 use Rattle.shunt_instance.specs.defs.Matching.{unit_entries, position_entries}
 use Rattle.shunt_instance.proofs.Facts.{units_rise, positions_rise}
 use Rattle.shunt_matching.proofs.Decided.{fit_exists, one_exists, none_matches, only_one}
 use Rattle.shunt_matching.proofs.night.first_shortage.Goals as goal
+use Rattle.shunt_instance.proofs.Orders.{opened}
 
 pub returns-clause-none : goal.returns-clause-none
 returns-clause-none c = let night = c.args.instance.now in

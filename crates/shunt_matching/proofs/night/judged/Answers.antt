@@ -1,10 +1,10 @@
-use Rattle.shunt_matching.proofs.Nights.{opened}
 use Rattle.std.proofs.Common.{◌≡◌, length, ap, ◌∙◌}
 use Rattle.shunt_instance.specs.defs.Matching.{unit_entries, position_entries}
 use Rattle.shunt_matching.specs.defs.Counts.{count_by_minute}
 use Rattle.shunt_instance.proofs.Facts.{positions_rise}
 use Rattle.shunt_matching.proofs.Decided.{night_balanced, night_late}
 use Rattle.shunt_matching.proofs.night.judged.Goals as goal
+use Rattle.shunt_instance.proofs.Orders.{opened}
 
 pub first_late-requires : goal.first_late-requires
 first_late-requires c = positions_rise c.args.instance.now (opened c.args.instance.now c.station.ensures.formed)

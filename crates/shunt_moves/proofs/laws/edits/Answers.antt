@@ -1,5 +1,5 @@
 use Rattle.shunt_moves.proofs.Edited.{agrees, edit_kept}
-use Rattle.shunt_moves.proofs.Exchanging.{leads_to, leads_back}
+use Rattle.shunt_moves.proofs.Exchanges.{leads_to, leads_back}
 use Rattle.shunt_moves.proofs.laws.edits.Goals as goal
 
 pub returns-clause-kept : goal.returns-clause-kept

@@ -1,8 +1,9 @@
 use Rattle.std.proofs.Common.{◌∙◌, sym, ap, arith}
 use Rattle.std.proofs.lemmas.List.{get_or_default}
 use Rattle.shunt_blocks.specs.declared.records.Block.{Block}
-use Rattle.shunt_moves.proofs.Places.{found_at, not_found, within_or}
+use Rattle.shunt_moves.proofs.Places.{found_at, not_found}
 use Rattle.shunt_moves.proofs.present.find.Goals as goal
+use Rattle.shunt_lists.proofs.Tests.{strictly_below as within_or}
 
 pub returns-then-place-blocks : goal.returns-then-place-blocks
 returns-then-place-blocks c = sym (not_found c.args.blocks.now c.args.id c.place_of-place.result c.requires c.place_of-place.ensures.bound c.place_of-place.ensures.before

@@ -1,7 +1,8 @@
 use Rattle.std.proofs.Common.{◌++◌, codes, decimal, ap, ◌∙◌}
 use Rattle.shunt_page.specs.defs.RowTexts.{order_class, order_train}
-use Rattle.shunt_picture.proofs.Chained.{on_ok, add}
+use Rattle.shunt_picture.proofs.Chained.{add}
 use Rattle.shunt_page.proofs.row_texts.open_order.Goals as goal
+use Rattle.shunt_lists.proofs.Options.{on_ok}
 
 pub returns : goal.returns
 unfolding Rattle.shunt_page.specs.defs.RowTexts.order_open

@@ -1,6 +1,7 @@
 use Rattle.std.proofs.Common.{◌++◌, codes, decimal}
-use Rattle.shunt_picture.proofs.Chained.{on_ok, add}
+use Rattle.shunt_picture.proofs.Chained.{add}
 use Rattle.shunt_page.proofs.row_texts.push_fact.Goals as goal
+use Rattle.shunt_lists.proofs.Options.{on_ok}
 
 pub returns : goal.returns
 unfolding Rattle.shunt_page.specs.defs.RowTexts.fact_row

@@ -1,8 +1,8 @@
 use Rattle.std.proofs.Common.{◌≤◌, ◌-◌, ◌==◌, List, All, map, length, ap, sym, subst, ◌∙◌, arith}
 use Rattle.shunt_base.specs.declared.keys.Stay.{Stay}
 use Rattle.shunt_audit.specs.declared.types.Finding.{Finding}
-use Rattle.shunt_picture.specs.declared.standing.Standing.{Standing}
-use Rattle.shunt_picture.specs.declared.rows.Seat.{Seat}
+use Rattle.shunt_picture.specs.declared.track_stays.Standing.{Standing}
+use Rattle.shunt_picture.specs.declared.rows.StaySeat.{StaySeat}
 use Rattle.shunt_picture.specs.defs.Rows.{IsRowAmong}
 use Rattle.shunt_picture.specs.defs.Levels.{levels_of}
 use Rattle.shunt_picture.specs.defs.Lanes.{bar_of, first_of, last_of}
@@ -16,7 +16,7 @@ bars_of-requires c =
     c.deref.ensures.value c.in_ok-seats.ensures.same c.deref-3.ensures.value
 
 pub last_row-requires : goal.last_row-requires
-last_row-requires c = subst (λ (l : List Seat). All (λ s. IsRowAmong (length l) s.row) l) (sym c.deref-6.ensures.value) c.in_ok-seats.ensures.among
+last_row-requires c = subst (λ (l : List StaySeat). All (λ s. IsRowAmong (length l) s.row) l) (sym c.deref-6.ensures.value) c.in_ok-seats.ensures.among
 
 pub returns-clause-low : goal.returns-clause-low
 returns-clause-low c =
@@ -40,11 +40,11 @@ returns-clause-lane c =
     c.is_empty.ensures
     c.in_ok-seats.ensures.room
     (λ none. c.in_ok-seats.ensures.order (c.is_empty.ensures ∙ ap (λ (f : List Finding). length f == 0) none))
-    (subst (λ (l : List Seat). All (λ s. c.first_row.result ≤ s.row) l) c.deref-5.ensures.value c.first_row.ensures.least)
-    (subst (λ (l : List Seat). All (λ s. s.row ≤ c.last_row.result) l) c.deref-6.ensures.value c.last_row.ensures.greatest)
+    (subst (λ (l : List StaySeat). All (λ s. c.first_row.result ≤ s.row) l) c.deref-5.ensures.value c.first_row.ensures.least)
+    (subst (λ (l : List StaySeat). All (λ s. s.row ≤ c.last_row.result) l) c.deref-6.ensures.value c.last_row.ensures.greatest)
     c.in_ok-seats.ensures.among
-    (c.first_row.ensures.exact ∙ ap (λ (l : List Seat). first_of (map (λ s. s.row) l)) c.deref-5.ensures.value)
-    (c.last_row.ensures.exact ∙ ap (λ (l : List Seat). last_of (map (λ s. s.row) l)) c.deref-6.ensures.value)
+    (c.first_row.ensures.exact ∙ ap (λ (l : List StaySeat). first_of (map (λ s. s.row) l)) c.deref-5.ensures.value)
+    (c.last_row.ensures.exact ∙ ap (λ (l : List StaySeat). last_of (map (λ s. s.row) l)) c.deref-6.ensures.value)
     (c.in_ok-stays.ensures ∙ ap (λ (l : List Standing). map (λ s. s.stay) l) c.deref-2.ensures.value)
     (c.from_vec.ensures ∙ c.in_ok-bars.ensures ∙ ap (map (bar_of night findings)) c.deref-3.ensures.value)
     (c.from_vec-2.ensures ∙ c.in_ok-levels.ensures ∙ ap (λ (l : List Stay). levels_of l c.args.from (c.args.to - c.args.from)) c.deref-4.ensures.value)

@@ -1,5 +1,5 @@
 use Rattle.std.proofs.Common.{◌≡◌, IsTrue, All, AllPairs, length, map, take}
-use Rattle.shunt_picture.specs.defs.Rows.{AreApart, HaveRoom, ShowsOrder, IsRowAmong}
+use Rattle.shunt_picture.specs.defs.Rows.{AreRowsApart, HaveRoom, ShowsOrder, IsRowAmong}
 use Rattle.shunt_picture.proofs.Seated.{AreLate}
 use Rattle.shunt_picture.proofs.rows.seats_of.Given as goal
 
@@ -7,7 +7,7 @@ abbrev pub invariant-loop-standing : goal.invariant-loop-standing
 invariant-loop-standing l = record {
   count : length l.seats.items ≡ l.standing-index;
   same : map (λ s. s.standing) l.seats.items ≡ take l.standing-index l.standings;
-  apart : AllPairs AreApart l.seats.items;
+  apart : AllPairs AreRowsApart l.seats.items;
   room : AllPairs (HaveRoom l.from l.is_ordered) l.seats.items;
   order : IsTrue l.is_ordered → AllPairs ShowsOrder l.seats.items;
   late : AreLate l.from l.is_ordered l.seats.items;

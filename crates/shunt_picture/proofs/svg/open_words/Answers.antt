@@ -1,7 +1,8 @@
 use Rattle.std.proofs.Common.{◌++◌, codes}
 use Rattle.shunt_picture.specs.defs.Svg.{attribute}
-use Rattle.shunt_picture.proofs.Chained.{on_ok, add}
+use Rattle.shunt_picture.proofs.Chained.{add}
 use Rattle.shunt_picture.proofs.svg.open_words.Goals as goal
+use Rattle.shunt_lists.proofs.Options.{on_ok}
 
 pub returns : goal.returns
 unfolding Rattle.shunt_picture.specs.defs.Svg.opened

@@ -1,7 +1,8 @@
 use Rattle.std.proofs.Common.{◌++◌, codes}
 use Rattle.shunt_picture.specs.defs.PictureTexts.{wrong_line}
-use Rattle.shunt_picture.proofs.Chained.{on_ok, add}
+use Rattle.shunt_picture.proofs.Chained.{add}
 use Rattle.shunt_picture.proofs.train_texts.push_train_wrong.Goals as goal
+use Rattle.shunt_lists.proofs.Options.{on_ok}
 
 pub returns : goal.returns
 unfolding Rattle.shunt_picture.specs.defs.PictureTexts.train_wrong

@@ -1,6 +1,7 @@
 use Rattle.std.proofs.Common.{◌++◌, codes}
-use Rattle.shunt_picture.proofs.Chained.{on_ok, add}
+use Rattle.shunt_picture.proofs.Chained.{add}
 use Rattle.shunt_picture.proofs.words.push_group_trains.Goals as goal
+use Rattle.shunt_lists.proofs.Options.{on_ok}
 
 pub returns : goal.returns
 unfolding Rattle.shunt_picture.specs.defs.Words.group_trains

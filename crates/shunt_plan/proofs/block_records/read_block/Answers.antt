@@ -1,6 +1,7 @@
 use Rattle.std.proofs.Common.{sym}
-use Rattle.shunt_plan.proofs.Parts.{runs_fail, option_fails, block_is, err_is}
+use Rattle.shunt_plan.proofs.Parts.{runs_fail, option_fails, block_is}
 use Rattle.shunt_plan.proofs.block_records.read_block.Goals as goal
+use Rattle.shunt_rows.proofs.Answered.{err_is}
 
 pub returns-in_err-block : goal.returns-in_err-block
 returns-in_err-block c = err_is c.from_residual.result _ _ c.from_residual.ensures.1

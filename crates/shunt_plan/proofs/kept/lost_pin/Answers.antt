@@ -1,7 +1,8 @@
 use Rattle.std.proofs.Common.{refl}
 use Rattle.shunt_blocks.specs.defs.Pins.{IsKept}
-use Rattle.shunt_plan.proofs.Fronts.{first_lost, keeps_more, each_whole}
+use Rattle.shunt_plan.proofs.Fronts.{first_lost, keeps_more}
 use Rattle.shunt_plan.proofs.kept.lost_pin.Goals as goal
+use Rattle.shunt_lists.proofs.Lists.{each_whole}
 
 pub returns-then-not-is_kept-clause-some : goal.returns-then-not-is_kept-clause-some
 returns-then-not-is_kept-clause-some c = first_lost c.args.plan.now.blocks c.as_slice-blocks.result.now c.args.pins.now c.loop-pin.pin-index _ c.as_slice-blocks.ensures

@@ -1,4 +1,4 @@
-use Rattle.shunt_rows.proofs.Keeping.{given}
+use Rattle.shunt_rows.proofs.KeptStates.{given}
 use Rattle.shunt_plan.specs.defs.Plans.{IsPlanInRange}
 use Rattle.shunt_plan.proofs.Formed.{plan_formed}
 use Rattle.shunt_plan.proofs.plan.read_plan.Goals as goal

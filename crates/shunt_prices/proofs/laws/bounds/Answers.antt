@@ -1,7 +1,7 @@
 use Rattle.std.proofs.Common.{arith}
 use Rattle.std.proofs.lemmas.Int.{ints}
 use Rattle.shunt_prices.proofs.Signed.{round_up, bound_rises}
-use Rattle.shunt_prices.proofs.Rising.{one_bound}
+use Rattle.shunt_prices.proofs.RisingBounds.{one_bound}
 use Rattle.shunt_prices.proofs.Open.{has_bound}
 use Rattle.shunt_prices.proofs.laws.bounds.Goals as goal
 

@@ -1,6 +1,6 @@
 use Rattle.shunt_choices.proofs.Given.{PlaceLaws}
 use Rattle.shunt_prices.proofs.Capacity.{RunLaws}
-use Rattle.shunt_prices.proofs.Rising.{sums_rise, bounds_rise}
+use Rattle.shunt_prices.proofs.RisingBounds.{sums_rise, bounds_rise}
 use Rattle.shunt_prices.proofs.laws.bounds_rise.Goals as goal
 
 pub returns : goal.returns

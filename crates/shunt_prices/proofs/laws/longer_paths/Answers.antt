@@ -1,6 +1,6 @@
 use Rattle.shunt_choices.proofs.Given.{PlaceLaws}
 use Rattle.shunt_prices.proofs.Longer.{cases_stay, sum_step}
-use Rattle.shunt_prices.proofs.Rising.{was_open}
+use Rattle.shunt_prices.proofs.RisingBounds.{was_open}
 use Rattle.shunt_prices.proofs.laws.longer_paths.Goals as goal
 
 pub returns : goal.returns

@@ -1,4 +1,4 @@
-use Rattle.shunt_rows.proofs.Keeping.{given}
+use Rattle.shunt_rows.proofs.KeptStates.{given}
 use Rattle.shunt_proof.specs.defs.Certificates.{IsCertificate}
 use Rattle.shunt_proof.proofs.Formed.{certificate_formed}
 use Rattle.shunt_proof.proofs.draft.read_certificate.Goals as goal

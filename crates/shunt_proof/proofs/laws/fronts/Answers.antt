@@ -1,6 +1,6 @@
 use Rattle.shunt_proof.specs.declared.records.Version.TheVariants.{Prices}
 use Rattle.shunt_proof.proofs.Fronts.{node_front, nearest_front, parent_front, path_front, duals_front, best_front}
-use Rattle.shunt_proof.proofs.Growing.{front_nodes, placed_front, lean_front, listed_more, right_more}
+use Rattle.shunt_proof.proofs.LongerLists.{front_nodes, placed_front, lean_front, listed_more, right_more}
 use Rattle.shunt_proof.proofs.laws.fronts.Goals as goal
 
 pub returns : goal.returns

@@ -1,6 +1,6 @@
 use Rattle.std.proofs.Common.{[], ◌∷◌}
 use Rattle.shunt_proof.proofs.Fronts.{node_last}
-use Rattle.shunt_proof.proofs.Growing.{front_nodes, can_follow, last_fits, one_more, last_parent}
+use Rattle.shunt_proof.proofs.LongerLists.{front_nodes, can_follow, last_fits, one_more, last_parent}
 use Rattle.shunt_proof.proofs.Noted.{parent_in, last_path, last_duals, last_best, last_placed, last_lean}
 use Rattle.shunt_proof.proofs.laws.one_more.Goals as goal
 

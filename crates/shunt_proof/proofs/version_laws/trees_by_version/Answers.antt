@@ -1,5 +1,5 @@
 use Rattle.shunt_proof.proofs.Locally.{right_less, root_exactly}
-use Rattle.shunt_proof.proofs.Growing.{right_more, lean_more}
+use Rattle.shunt_proof.proofs.LongerLists.{right_more, lean_more}
 use Rattle.shunt_proof.proofs.Noted.{last_leans}
 use Rattle.shunt_proof.proofs.version_laws.trees_by_version.Goals as goal
 

@@ -6,9 +6,9 @@ use Rattle.shunt_blocks.specs.declared.records.Block.{Block}
 use Rattle.shunt_choices.specs.defs.Paths.{Masks}
 use Rattle.shunt_stacks.specs.defs.Fillings.{IsStackGain}
 use Rattle.shunt_recount.specs.defs.Offers.{stack_at, AreFreeShapes, IsCandidate, AreOffersOf}
-use Rattle.shunt_recount.proofs.Offered.{from_members}
-use Rattle.shunt_recount.proofs.Taking.{taken}
+use Rattle.shunt_recount.proofs.TakenOffers.{taken}
 use Rattle.shunt_recount.proofs.counts.count_of.Goals as goal
+use Rattle.shunt_lists.proofs.Members.{to_all as from_members}
 
 pub offers_for-requires-clause-candidates : goal.offers_for-requires-clause-candidates
 offers_for-requires-clause-candidates c = from_members (IsCandidate c.args.instance.now c.args.case.now) c.args.candidates.now (λ k i. (c.requires.candidates.2.each k i).0)

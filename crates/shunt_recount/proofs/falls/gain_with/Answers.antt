@@ -12,9 +12,10 @@ use Rattle.shunt_stacks.specs.defs.Numbers.{shares}
 use Rattle.shunt_recount.specs.declared.offers.Offer.{Offer}
 use Rattle.shunt_recount.specs.defs.Offers.{stack_at, AreOffersOf, blocks_in}
 use Rattle.shunt_recount.proofs.Spanned.{offers_within}
-use Rattle.shunt_recount.proofs.Taking.{left}
-use Rattle.shunt_recount.proofs.Added.{longer_each, longer_apart, if_moved}
+use Rattle.shunt_recount.proofs.TakenOffers.{left}
+use Rattle.shunt_recount.proofs.Added.{longer_each, longer_apart}
 use Rattle.shunt_recount.proofs.falls.gain_with.Goals as goal
+use Rattle.shunt_lists.proofs.Options.{if_ok as if_moved}
 
 pub apart_from-requires-clause-offers : goal.apart_from-requires-clause-offers
 apart_from-requires-clause-offers c =

@@ -3,7 +3,7 @@ use mir.Val.{to_z, of_z}
 use Rattle.std.proofs.Common.{◌≡◌, ◌∙◌, sym, subst, arith}
 use Rattle.std.proofs.lemmas.Int.{ints}
 use Rattle.shunt_base.specs.declared.duals.Case.{Case}
-use Rattle.shunt_choices.proofs.Given.{PlaceLaws, all_within}
+use Rattle.shunt_choices.proofs.Given.{PlaceLaws}
 use Rattle.shunt_prices.specs.defs.Prices.{track_length}
 use Rattle.shunt_stacks.specs.defs.Stacks.{blocks_of}
 use Rattle.shunt_stacks.specs.defs.Fillings.{IsStackGain}
@@ -11,8 +11,10 @@ use Rattle.shunt_stacks.specs.defs.Numbers.{fixed_spans, free_spans, entry_numbe
 use Rattle.shunt_recount.specs.defs.Visits.{spans_of}
 use Rattle.shunt_recount.specs.defs.Offers.{stack_at, blocks_in, offer_spans, AreOffersOf}
 use Rattle.shunt_recount.proofs.Spanned.{same_spans, offers_within, offers_small, all_small}
-use Rattle.shunt_recount.proofs.Gained.{moved_own, moved_small, tells}
+use Rattle.shunt_recount.proofs.Gained.{moved_small, tells}
 use Rattle.shunt_recount.proofs.gains.stack_gain.Goals as goal
+use Rattle.shunt_blocks.proofs.Shapes.{all_within}
+use Rattle.shunt_stacks.proofs.Sums.{own_lists as moved_own}
 
 pub free_visits-requires-clause-within : goal.free_visits-requires-clause-within
 free_visits-requires-clause-within c = offers_within c.args.instance.now c.args.blocks.now c.requires.offers.0 (stack_at c.args.end) c.args.offers.now c.requires.offers.2

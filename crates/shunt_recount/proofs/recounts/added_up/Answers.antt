@@ -4,8 +4,8 @@ use Rattle.std.proofs.Common.{get_or, arith}
 use Rattle.std.proofs.lemmas.Int.{ints}
 use Rattle.shunt_prices.specs.defs.Sums.{IsWithin}
 use Rattle.shunt_recount.specs.declared.counts.StackCount.{StackCount}
-use Rattle.shunt_recount.proofs.Summed.{sum_next, wider_next}
 use Rattle.shunt_recount.proofs.recounts.added_up.Goals as goal
+use Rattle.shunt_prices.proofs.Counts.{sum_more as sum_next, wider_more as wider_next}
 
 pub loop-k-preserved : goal.loop-k-preserved
 loop-k-preserved c =

@@ -4,7 +4,7 @@ use Rattle.shunt_instance.specs.declared.records.Unit.{Unit as TrainUnit}
 use Rattle.shunt_instance.specs.defs.Words.{train_at}
 use Rattle.shunt_instance.specs.defs.Instance.{unit_at}
 use Rattle.shunt_recount.specs.defs.Offers.{BeginsAt, HasUnits, GoesOn}
-use Rattle.shunt_recount.proofs.Listing.{units_of, one_more, all_there, of_unit, units_fit}
+use Rattle.shunt_recount.proofs.ShapeLists.{units_of, one_more, all_there, of_unit, units_fit}
 use Rattle.shunt_recount.proofs.shapes.add_at.Goals as goal
 
 pub loop-n-preserved : goal.loop-n-preserved

@@ -1,5 +1,5 @@
 use Rattle.shunt_recount.specs.defs.Offers.{GoesOn, BeginsAt}
-use Rattle.shunt_recount.proofs.Listing.{Below, units_of}
+use Rattle.shunt_recount.proofs.ShapeLists.{Below, units_of}
 use Rattle.shunt_recount.proofs.shapes.add_at.Given as goal
 
 abbrev pub invariant-loop-n : goal.invariant-loop-n

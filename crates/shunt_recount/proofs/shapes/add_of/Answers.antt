@@ -1,5 +1,5 @@
 use Rattle.shunt_recount.specs.defs.Offers.{HasUnits, GoesWith}
-use Rattle.shunt_recount.proofs.Listing.{train_of, one_more}
+use Rattle.shunt_recount.proofs.ShapeLists.{train_of, one_more}
 use Rattle.shunt_recount.proofs.shapes.add_of.Goals as goal
 
 pub loop-dep-preserved : goal.loop-dep-preserved

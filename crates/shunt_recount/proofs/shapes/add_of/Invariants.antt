@@ -1,5 +1,5 @@
 use Rattle.shunt_recount.specs.defs.Offers.{GoesOn, HasUnits}
-use Rattle.shunt_recount.proofs.Listing.{Below, train_of}
+use Rattle.shunt_recount.proofs.ShapeLists.{Below, train_of}
 use Rattle.shunt_recount.proofs.shapes.add_of.Given as goal
 
 abbrev pub invariant-loop-dep : goal.invariant-loop-dep

@@ -1,6 +1,6 @@
 use Rattle.std.proofs.Common.{◌≡◌, sym, subst}
 use Rattle.shunt_recount.specs.defs.Offers.{GoesOn}
-use Rattle.shunt_recount.proofs.Listing.{with_shape}
+use Rattle.shunt_recount.proofs.ShapeLists.{with_shape}
 use Rattle.shunt_recount.proofs.shapes.add_shape.Goals as goal
 
 pub returns-in_ok-push : goal.returns-in_ok-push

@@ -1,6 +1,6 @@
 use Rattle.std.proofs.Common.{◌≡◌}
 use Rattle.shunt_recount.specs.defs.Offers.{GoesWith}
-use Rattle.shunt_recount.proofs.Listing.{place_from, one_more, from_place}
+use Rattle.shunt_recount.proofs.ShapeLists.{place_from, one_more, from_place}
 use Rattle.shunt_recount.proofs.shapes.add_with.Goals as goal
 
 pub loop-q-preserved : goal.loop-q-preserved

@@ -1,5 +1,5 @@
 use Rattle.shunt_recount.specs.defs.Offers.{GoesOn, GoesWith}
-use Rattle.shunt_recount.proofs.Listing.{Below, place_from}
+use Rattle.shunt_recount.proofs.ShapeLists.{Below, place_from}
 use Rattle.shunt_recount.proofs.shapes.add_with.Given as goal
 
 abbrev pub invariant-loop-q : goal.invariant-loop-q

@@ -1,4 +1,4 @@
-use Rattle.shunt_recount.proofs.Listing.{next_unit}
+use Rattle.shunt_recount.proofs.ShapeLists.{next_unit}
 use Rattle.shunt_recount.proofs.shapes.all_shapes.Goals as goal
 
 pub loop-u-preserved : goal.loop-u-preserved

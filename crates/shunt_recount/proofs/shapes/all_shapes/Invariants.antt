@@ -1,6 +1,6 @@
 use Rattle.std.proofs.Common.{[]}
 use Rattle.shunt_recount.specs.defs.Offers.{GoesOn}
-use Rattle.shunt_recount.proofs.Listing.{BeginsBelow}
+use Rattle.shunt_recount.proofs.ShapeLists.{BeginsBelow}
 use Rattle.shunt_recount.proofs.shapes.all_shapes.Given as goal
 
 abbrev pub invariant-loop-u : goal.invariant-loop-u

@@ -6,8 +6,10 @@ use Rattle.shunt_stacks.specs.defs.Spans.{best, best_with, greater, greatest_of,
 use Rattle.shunt_recount.specs.declared.visits.Visit.{Visit}
 use Rattle.shunt_recount.specs.defs.Visits.{span_of, spans_of, fixed_in, free_in, IsBest}
 use Rattle.shunt_recount.proofs.Small.{gain_small, seen}
-use Rattle.shunt_recount.proofs.Stepped.{listed, none_listed, part_passed, part_empty, by_free, joined, if_ok}
+use Rattle.shunt_recount.proofs.Stepped.{listed, none_listed, part_passed, part_empty, by_free}
 use Rattle.shunt_recount.proofs.values.+values.Goals as goal
+use Rattle.shunt_lists.proofs.Options.{if_ok}
+use Rattle.shunt_stacks.proofs.Steps.{joined}
 
 pub greatest-with_visit-requires : goal.greatest-with_visit-requires
 greatest-with_visit-requires t c =

@@ -1,6 +1,7 @@
 use Rattle.shunt_recount.specs.defs.Visits.{spans_of, fixed_in, free_in, IsBest}
-use Rattle.shunt_recount.proofs.Stepped.{moved_best, agree_all, if_ok}
+use Rattle.shunt_recount.proofs.Stepped.{moved_best, agree_all}
 use Rattle.shunt_recount.proofs.values.greatest_gain.Goals as goal
+use Rattle.shunt_lists.proofs.Options.{if_ok}
 
 pub returns : goal.returns
 returns c =

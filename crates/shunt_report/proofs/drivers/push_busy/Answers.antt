@@ -1,5 +1,6 @@
-use Rattle.shunt_report.proofs.Lines.{on_ok, busy_written}
+use Rattle.shunt_report.proofs.Lines.{busy_written}
 use Rattle.shunt_report.proofs.drivers.push_busy.Goals as goal
+use Rattle.shunt_lists.proofs.Options.{on_ok}
 
 pub returns-in_ok-push-in-Some : goal.returns-in_ok-push-in-Some
 returns-in_ok-push-in-Some c = on_ok c.push_minute.result _ _ c.push_minute.ensures

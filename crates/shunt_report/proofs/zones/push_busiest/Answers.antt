@@ -1,5 +1,6 @@
-use Rattle.shunt_report.proofs.Lines.{on_ok, busiest_written}
+use Rattle.shunt_report.proofs.Lines.{busiest_written}
 use Rattle.shunt_report.proofs.zones.push_busiest.Goals as goal
+use Rattle.shunt_lists.proofs.Options.{on_ok}
 
 pub returns-in_ok-push-in-Some-2 : goal.returns-in_ok-push-in-Some-2
 returns-in_ok-push-in-Some-2 c = on_ok c.push_number.result _ _ c.push_number.ensures

@@ -1,4 +1,4 @@
-use Rattle.shunt_rows.proofs.Holding.{answered, says}
+use Rattle.shunt_rows.proofs.Answered.{answered, says}
 use Rattle.shunt_rows.proofs.laws.values_are_said.Goals as goal
 
 pub returns : goal.returns

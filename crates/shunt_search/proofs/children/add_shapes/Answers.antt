@@ -7,8 +7,9 @@ use Rattle.shunt_choices.specs.defs.Paths.{Masks, masks_of}
 use Rattle.shunt_choices.specs.defs.Choices.{choices_with, shapes_of}
 use Rattle.shunt_lists.proofs.Members.{all_from}
 use Rattle.shunt_search.specs.defs.Yards.{choice_of}
-use Rattle.shunt_search.proofs.Offered.{next_in, masks_are, next_shape, last_shape, none_yet}
+use Rattle.shunt_search.proofs.Offered.{masks_are, next_shape, last_shape, none_yet}
 use Rattle.shunt_search.proofs.children.add_shapes.Goals as goal
+use Rattle.shunt_choices.proofs.AtPaths.{next_in}
 
 pub shapes_from-shapes-requires-clause-covered : goal.shapes_from-shapes-requires-clause-covered
 shapes_from-shapes-requires-clause-covered c = masks_are c.args.instance.now c.args.path.now c.covered.result.now c.requires.path c.covered.ensures

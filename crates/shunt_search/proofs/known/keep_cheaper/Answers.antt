@@ -2,7 +2,7 @@ use Rattle.std.specs.Prelude.{All}
 use Rattle.std.proofs.Common.{◌≤◌, List, length, sym, subst}
 use Rattle.shunt_blocks.specs.declared.records.Block.{Block}
 use Rattle.shunt_blocks.specs.defs.Shapes.{IsWithinTrains}
-use Rattle.shunt_search.proofs.Yarding.{few_path}
+use Rattle.shunt_search.proofs.YardChanges.{few_path}
 use Rattle.shunt_search.proofs.known.keep_cheaper.Goals as goal
 
 pub path_cost-cost-requires-clause-within : goal.path_cost-cost-requires-clause-within

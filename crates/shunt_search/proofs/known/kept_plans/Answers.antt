@@ -3,8 +3,8 @@ use Rattle.std.proofs.lemmas.List.Sorted.{IsPermutation-sym}
 use Rattle.shunt_blocks.specs.declared.records.Block.{Block}
 use Rattle.shunt_blocks.specs.defs.Lists.{placed, total_cost}
 use Rattle.shunt_blocks.specs.defs.Pins.{Keeps}
-use Rattle.shunt_search.specs.declared.known.Known.{Known}
-use Rattle.shunt_search.specs.defs.Walking.{IsBest}
+use Rattle.shunt_search.specs.declared.known.KnownPlan.{KnownPlan}
+use Rattle.shunt_search.specs.defs.WalkStates.{IsBest}
 use Rattle.shunt_search.proofs.known.kept_plans.Goals as goal
 
 pub returns : goal.returns
@@ -19,6 +19,6 @@ returns c = λ night pins t old new formed of plan whole same best kept.
           (c.feasible_lists.ensures.cost night t.blocks);
     } in
     ⊎_elim
-    (λ e. subst (λ (k : Known). IsBest night pins k.blocks.items k.cost) (sym e) best)
+    (λ e. subst (λ (k : KnownPlan). IsBest night pins k.blocks.items k.cost) (sym e) best)
     (λ e. subst (λ (l : List Block). IsBest night pins l new.cost) (sym e.0) (subst (λ n. IsBest night pins (placed t.blocks) n) (sym e.1) placed_best))
     kept.is

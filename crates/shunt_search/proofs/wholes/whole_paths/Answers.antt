@@ -1,5 +1,5 @@
 use Rattle.shunt_choices.proofs.Given.{PlaceLaws}
-use Rattle.shunt_search.proofs.Covering.{covers_trail}
+use Rattle.shunt_search.proofs.WholePaths.{covers_trail}
 use Rattle.shunt_search.proofs.wholes.whole_paths.Goals as goal
 
 pub returns : goal.returns

@@ -1,6 +1,6 @@
 use Rattle.std.proofs.Common.{◌+◌, sym, subst, arith}
 use Rattle.shunt_blocks.specs.defs.Shapes.{IsWithinTrains}
-use Rattle.shunt_search.proofs.Yarding.{within_placed, none_at, few_at, next_at}
+use Rattle.shunt_search.proofs.YardChanges.{within_placed, none_at, few_at, next_at}
 use Rattle.shunt_search.proofs.yard.stand_placed.Goals as goal
 
 pub settle-requires-clause-within : goal.settle-requires-clause-within

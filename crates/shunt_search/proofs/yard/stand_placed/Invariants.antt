@@ -1,6 +1,6 @@
 use Rattle.std.proofs.Common.{◌≡◌, ◌+◌, take, length}
 use Rattle.shunt_blocks.specs.defs.Lists.{placed}
-use Rattle.shunt_search.specs.defs.Polishing.{Stand}
+use Rattle.shunt_search.specs.defs.Polish.{Stand}
 use Rattle.shunt_search.proofs.yard.stand_placed.Given as goal
 
 abbrev pub invariant-loop-place : goal.invariant-loop-place

@@ -1,4 +1,4 @@
-use Rattle.shunt_search.proofs.Yarding.{enough_room, start_yard}
+use Rattle.shunt_search.proofs.YardChanges.{enough_room, start_yard}
 use Rattle.shunt_search.proofs.yard.start.Goals as goal
 
 pub returns-clause-yard : goal.returns-clause-yard

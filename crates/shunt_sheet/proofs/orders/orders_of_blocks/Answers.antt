@@ -4,8 +4,8 @@ use Rattle.shunt_sheet.specs.defs.SheetFormat.{AreOrders}
 use Rattle.shunt_sheet.proofs.Plans.{BlockLaws, due_in_time, orders_are, orders_formed}
 use Rattle.shunt_sheet.proofs.orders.orders_of_blocks.Goals as goal
 
-pub sorted_dues-requires-clause-stays : goal.sorted_dues-requires-clause-stays
-sorted_dues-requires-clause-stays c = c.stays_of_blocks.ensures.stays c.args.instance.now c.args.blocks.now c.station.ensures.formed
+pub dues_in-requires-clause-stays : goal.dues_in-requires-clause-stays
+dues_in-requires-clause-stays c = c.stays_of_blocks.ensures.stays c.args.instance.now c.args.blocks.now c.station.ensures.formed
     (c.stays_of_blocks.ensures.in_range c.args.instance.now c.args.blocks.now c.requires)
 
 pub orders_from-requires : goal.orders_from-requires

@@ -7,7 +7,7 @@ use Rattle.shunt_blocks.specs.defs.Shapes.{IsWithinTrains}
 use Rattle.shunt_blocks.specs.defs.Lists.{ShareNothing, RunsThrough, placed}
 use Rattle.shunt_stacks.proofs.Parts.{part_left, part_runs}
 use Rattle.shunt_stacks.proofs.Filled.{empty}
-use Rattle.shunt_stacks.proofs.Existing.{gain_there}
+use Rattle.shunt_stacks.proofs.Existence.{gain_there}
 use Rattle.shunt_stacks.proofs.Bounded.{HasGains, choice_there}
 use Rattle.shunt_stacks.proofs.Plans.{StepLaws}
 use Rattle.shunt_stacks.proofs.Rises.{longer_apart, longer_within, still_hold, gain_falls, own_falls, path_to_choice, choice_to_longer}

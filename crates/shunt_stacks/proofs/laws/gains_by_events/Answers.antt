@@ -3,7 +3,7 @@ use Rattle.shunt_stacks.specs.defs.Stacks.{blocks_of}
 use Rattle.shunt_stacks.proofs.Pairs.{EventLaws}
 use Rattle.shunt_stacks.proofs.Tied.{TieLaws, gain_is, own_events}
 use Rattle.shunt_stacks.proofs.Numbered.{NumberLaws, numbered}
-use Rattle.shunt_stacks.proofs.Existing.{frees, frees_are}
+use Rattle.shunt_stacks.proofs.Existence.{frees, frees_are}
 use Rattle.shunt_stacks.proofs.laws.gains_by_events.Goals as goal
 
 pub returns : goal.returns

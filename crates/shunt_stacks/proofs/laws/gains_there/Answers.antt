@@ -8,7 +8,7 @@ use Rattle.shunt_choices.proofs.Given.{PlaceLaws}
 use Rattle.shunt_stacks.proofs.Parts.{part_left, part_runs}
 use Rattle.shunt_stacks.proofs.Filled.{empty}
 use Rattle.shunt_stacks.proofs.Rises.{longer_apart, longer_within}
-use Rattle.shunt_stacks.proofs.Existing.{gain_there}
+use Rattle.shunt_stacks.proofs.Existence.{gain_there}
 use Rattle.shunt_stacks.proofs.Bounded.{HasGains, sum_there, bound_there, choice_there}
 use Rattle.shunt_stacks.proofs.laws.gains_there.Goals as goal
 

@@ -1,7 +1,7 @@
 use Rattle.std.specs.List.{filter}
 use Rattle.shunt_lists.proofs.Members.{filter_from}
 use Rattle.shunt_stays.proofs.Fewer.{part_through, stays_filter}
-use Rattle.shunt_stays.proofs.Sorting.{tracks_within}
+use Rattle.shunt_stays.proofs.SortedEvents.{tracks_within}
 use Rattle.shunt_stays.proofs.laws.part_of_a_run.Goals as goal
 
 pub returns-clause-part : goal.returns-clause-part

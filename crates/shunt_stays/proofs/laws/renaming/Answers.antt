@@ -1,4 +1,4 @@
-use Rattle.shunt_stays.proofs.Renaming.{finds_from, found_through, found_back, tracks_found, zip_through}
+use Rattle.shunt_stays.proofs.OtherIds.{finds_from, found_through, found_back, tracks_found, zip_through}
 use Rattle.shunt_stays.proofs.laws.renaming.Goals as goal
 
 pub returns-clause-part : goal.returns-clause-part

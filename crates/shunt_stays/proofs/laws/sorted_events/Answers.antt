@@ -1,5 +1,5 @@
 use Rattle.shunt_stays.proofs.Fewer.{order_same}
-use Rattle.shunt_stays.proofs.Sorting.{order_permuted, sorted_is, stays_permuted}
+use Rattle.shunt_stays.proofs.SortedEvents.{order_permuted, sorted_is, stays_permuted}
 use Rattle.shunt_stays.proofs.laws.sorted_events.Goals as goal
 
 pub returns-clause-set : goal.returns-clause-set

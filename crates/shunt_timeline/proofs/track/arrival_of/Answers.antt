@@ -1,4 +1,4 @@
-use Rattle.shunt_timeline.proofs.Arriving.{wf, order, level_is, new_enter, new_leave}
+use Rattle.shunt_timeline.proofs.Arrivals.{wf, order, level_is, new_enter, new_leave}
 use Rattle.shunt_timeline.proofs.track.arrival_of.Goals as goal
 
 pub place-from-requires-clause-formed : goal.place-from-requires-clause-formed

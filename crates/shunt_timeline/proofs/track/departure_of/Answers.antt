@@ -1,4 +1,4 @@
-use Rattle.shunt_timeline.proofs.Removing.{well, places_apart, leave_found}
+use Rattle.shunt_timeline.proofs.Removals.{well, places_apart, leave_found}
 use Rattle.shunt_timeline.proofs.track.departure_of.Goals as goal
 
 pub place-requires-clause-formed : goal.place-requires-clause-formed

@@ -1,5 +1,5 @@
 use Rattle.shunt_tracks.specs.defs.Blocks.{blocks_of}
-use Rattle.shunt_tracks.proofs.Sorting.{dues_on}
+use Rattle.shunt_tracks.proofs.SortedDues.{dues_on}
 use Rattle.shunt_tracks.proofs.Turns.{fit_empty}
 use Rattle.shunt_tracks.proofs.run.run_lists.Goals as goal
 

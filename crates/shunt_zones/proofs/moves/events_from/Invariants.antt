@@ -1,6 +1,6 @@
 use Rattle.std.proofs.Common.{◌≡◌, map, take}
 use Rattle.shunt_tracks.specs.defs.Answer.{event_of as told}
-use Rattle.shunt_zones.specs.defs.Dues.{move_of}
+use Rattle.shunt_tracks.specs.defs.Dues.{move_of}
 use Rattle.shunt_zones.proofs.moves.events_from.Given as goal
 
 abbrev pub invariant-loop-due : goal.invariant-loop-due

@@ -6,8 +6,8 @@ use Rattle.shunt_zones.specs.defs.Moves.{IsMoveOf}
 use Rattle.shunt_zones.proofs.Ordered.{StayLaws, events_are, events_of_night, few_events}
 use Rattle.shunt_zones.proofs.moves.events_of.Goals as goal
 
-pub sorted_dues-requires-clause-stays : goal.sorted_dues-requires-clause-stays
-sorted_dues-requires-clause-stays c = c.stays_of_blocks.ensures.stays c.args.instance.now c.args.blocks.now c.station.ensures.formed
+pub dues_in-requires-clause-stays : goal.dues_in-requires-clause-stays
+dues_in-requires-clause-stays c = c.stays_of_blocks.ensures.stays c.args.instance.now c.args.blocks.now c.station.ensures.formed
     (c.stays_of_blocks.ensures.in_range c.args.instance.now c.args.blocks.now c.requires)
 
 pub returns-clause-exact : goal.returns-clause-exact

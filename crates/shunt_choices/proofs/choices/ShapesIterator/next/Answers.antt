@@ -3,7 +3,7 @@ use Rattle.std.proofs.lemmas.Bool.Decides.{nat_tests}
 use Rattle.shunt_instance.specs.defs.Instance.{position_total}
 use Rattle.shunt_blocks.specs.declared.records.Shape.{Shape}
 use Rattle.shunt_choices.specs.defs.Cursors.{shapes_left}
-use Rattle.shunt_choices.proofs.Remaining.{gives, skips, turns, ends}
+use Rattle.shunt_choices.proofs.Rests.{gives, skips, turns, ends}
 use Rattle.shunt_choices.proofs.Progress.{progress}
 use Rattle.shunt_choices.proofs.choices.ShapesIterator.next.Goals.{then-self-total, else-self-total+then-self}
 use Rattle.shunt_choices.proofs.choices.ShapesIterator.next.Goals as goal

@@ -3,7 +3,7 @@ use Rattle.std.proofs.Common.{◌∷◌, ◌+◌, ◌*◌, ◌<◌, length, arit
 use Rattle.shunt_blocks.specs.declared.records.Park.{Park}
 use Rattle.shunt_choices.specs.defs.Cursors.{options_left}
 use Rattle.shunt_blocks.specs.defs.Blocks.{is_option}
-use Rattle.shunt_choices.proofs.Remaining.{on_track, option_given, option_skipped, options_end}
+use Rattle.shunt_choices.proofs.Rests.{on_track, option_given, option_skipped, options_end}
 use Rattle.shunt_choices.proofs.Progress.{progress}
 use Rattle.shunt_choices.proofs.types.OptionsIterator.next.Goals as goal
 

@@ -2,7 +2,7 @@ use Rattle.std.proofs.Common.{Err, [], ◌∷◌}
 use Rattle.shunt_inputs.specs.defs.Inputs.{stated_by}
 use Rattle.shunt_inputs.proofs.Heard.{heard_before, heard_first, heard_last}
 use Rattle.shunt_inputs.proofs.Held.{both_stated, next_refused, texts_refused}
-use Rattle.shunt_inputs.proofs.Viewing.{cut_view, hears_all}
+use Rattle.shunt_inputs.proofs.HeardSteps.{cut_view, hears_all}
 use Rattle.shunt_inputs.proofs.chains.ThenInputs.load.Goals as goal
 
 pub returns-in_err-first-clause-told : goal.returns-in_err-first-clause-told

@@ -3,7 +3,7 @@ use Rattle.shunt_report.specs.declared.words.FileWord.TheVariants as word
 use Rattle.shunt_inputs.proofs.Heard.{heard_memory}
 use Rattle.shunt_inputs.proofs.Held.{texts_map}
 use Rattle.shunt_inputs.proofs.NightTexts.{night_refused, night_stated_in}
-use Rattle.shunt_inputs.proofs.Seeing.{loads_failed}
+use Rattle.shunt_inputs.proofs.SeenFiles.{loads_failed}
 use Rattle.shunt_inputs.proofs.nights.NightFilesInputs.load.Goals as goal
 
 pub returns-in_err-station-clause-told : goal.returns-in_err-station-clause-told

@@ -4,7 +4,7 @@ use Rattle.shunt_moves.specs.declared.exchange.Exchange.{Exchange}
 use Rattle.shunt_moves.specs.defs.Edits.{edit}
 use Rattle.shunt_moves.specs.defs.Benches.{Bench, after_edit}
 use Rattle.shunt_moves.specs.defs.Exchanges.{exchanged, AllLead}
-use Rattle.shunt_moves.proofs.Refusing.{never_both, same_error, on_ok}
+use Rattle.shunt_moves.proofs.Refusals.{never_both, same_error, on_ok}
 use Rattle.shunt_moves.proofs.Walked.{bench_at, planned_leads, planned_refused, edit_made, state_edited, past_leads, length_edited}
 use Rattle.shunt_moves.proofs.bench.Workbench.apply.Goals as goal
 

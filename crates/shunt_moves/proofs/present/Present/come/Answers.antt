@@ -5,9 +5,9 @@ use Rattle.shunt_blocks.specs.declared.records.Block.{Block}
 use Rattle.shunt_blocks.specs.defs.Shapes.{IsInRange, shape_of, unit_from, position_from}
 use Rattle.shunt_audit.specs.defs.Listed.{insert_by_id}
 use Rattle.shunt_moves.specs.declared.faults.Faults.{Faults}
-use Rattle.shunt_moves.specs.defs.Kept.{Standing, IsKept, Comes, at, is_within}
+use Rattle.shunt_moves.specs.defs.Kept.{Standing, IsKeptState, Comes, at, is_within}
 use Rattle.shunt_moves.proofs.ByIds.{IsNew}
-use Rattle.shunt_moves.proofs.Keeping.{come, kept_small}
+use Rattle.shunt_moves.proofs.KeptBeside.{come, kept_small}
 use Rattle.shunt_moves.proofs.Ready.{is_new, few_stays, has_room}
 use Rattle.shunt_moves.proofs.present.Present.come.Goals as goal
 
@@ -50,9 +50,9 @@ invariant_of-self c = (
       ≡ at c.self.inside.units.times u + cond (is_within from c.args.block.now.n u) 1 0) unit c.raise.ensures.each in
       let places = subst (λ (from : ℕ). (v : ℕ) → v < c.self.inside.places.total → at c.raise-2.new.self.times v
       ≡ at c.self.inside.places.times v + cond (is_within from c.args.block.now.n v) 1 0) place c.raise-2.ensures.each in
-      subst (λ (l : List Block). IsKept c.self.inside.instance.now l c.insert_stay.new.timelines c.raise.new.self c.raise-2.new.self c.with-self-inside.result)
+      subst (λ (l : List Block). IsKeptState c.self.inside.instance.now l c.insert_stay.new.timelines c.raise.new.self c.raise-2.new.self c.with-self-inside.result)
       (sym c.insert.ensures.items)
-      (subst (λ (g : Faults). IsKept c.self.inside.instance.now (insert_by_id c.args.block.now c.self.inside.blocks.items) c.insert_stay.new.timelines c.raise.new.self
+      (subst (λ (g : Faults). IsKeptState c.self.inside.instance.now (insert_by_id c.args.block.now c.self.inside.blocks.items) c.insert_stay.new.timelines c.raise.new.self
       c.raise-2.new.self g) (sym c.with-self-inside.ensures.exact)
       (come c.self.inside.instance.now c.args.block.now c.self.inside.blocks.items c.self.inside.timelines c.insert_stay.new.timelines c.self.inside.units c.self.inside.places
       c.raise.new.self c.raise-2.new.self c.self.inside.faults c.self.invariant.0 new range c.with-self-inside.ensures.cost few held c.raise.ensures.total units

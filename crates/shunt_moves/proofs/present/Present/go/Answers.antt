@@ -9,11 +9,11 @@ use Rattle.shunt_audit.specs.defs.Listed.{insert_by_id}
 use Rattle.shunt_moves.specs.declared.faults.Faults.{Faults}
 use Rattle.shunt_moves.specs.defs.States.{without_block}
 use Rattle.shunt_moves.proofs.ByIds.{put_again, gone}
-use Rattle.shunt_moves.specs.defs.Kept.{Standing, IsKept, Goes, at, is_within}
-use Rattle.shunt_moves.proofs.Made.{of_all}
+use Rattle.shunt_moves.specs.defs.Kept.{Standing, IsKeptState, Goes, at, is_within}
 use Rattle.shunt_moves.proofs.Ready.{some_units, some_places, all_in_range}
-use Rattle.shunt_moves.proofs.Leaving.{go}
+use Rattle.shunt_moves.proofs.Departures.{go}
 use Rattle.shunt_moves.proofs.present.Present.go.Goals as goal
+use Rattle.shunt_lists.proofs.Members.{each_one as of_all}
 
 pub stay-requires : goal.stay-requires
 stay-requires c = (of_all (IsInRange c.self.inside.instance.now) c.self.inside.blocks.items c.args.block.now c.self.invariant.0.each
@@ -58,7 +58,7 @@ invariant_of-self c = (
   (let there = (subst (λ (p : Standing). In c.args.block.now p.state.blocks) (sym c.self.view_is) c.requires) in
       let rest = without_block c.args.block.now.id c.self.inside.blocks.items in
       let is : c.self.inside.blocks.items ≡ insert_by_id c.args.block.now rest = sym (put_again c.args.block.now c.self.inside.blocks.items c.self.invariant.0.ascend there) in
-      let kept = subst (λ (l : List Block). IsKept c.self.inside.instance.now l c.self.inside.timelines c.self.inside.units c.self.inside.places c.self.inside.faults) is
+      let kept = subst (λ (l : List Block). IsKeptState c.self.inside.instance.now l c.self.inside.timelines c.self.inside.units c.self.inside.places c.self.inside.faults) is
       c.self.invariant.0 in
       let formed = c.stays_of_blocks.ensures.stays c.self.inside.instance.now (insert_by_id c.args.block.now rest) c.station.ensures.formed
       (c.stays_of_blocks.ensures.in_range c.self.inside.instance.now (insert_by_id c.args.block.now rest)
@@ -73,9 +73,9 @@ invariant_of-self c = (
       ≡ at c.self.inside.units.times u) unit c.lower.ensures.each in
       let places = subst (λ (from : ℕ). (v : ℕ) → v < c.self.inside.places.total → at c.lower-2.new.self.times v + cond (is_within from c.args.block.now.n v) 1 0
       ≡ at c.self.inside.places.times v) place c.lower-2.ensures.each in
-      subst (λ (l : List Block). IsKept c.self.inside.instance.now l c.remove_stay.new.timelines c.lower.new.self c.lower-2.new.self c.without-self-inside.result)
+      subst (λ (l : List Block). IsKeptState c.self.inside.instance.now l c.remove_stay.new.timelines c.lower.new.self c.lower-2.new.self c.without-self-inside.result)
       (sym c.remove.ensures.items)
-      (subst (λ (g : Faults). IsKept c.self.inside.instance.now rest c.remove_stay.new.timelines c.lower.new.self c.lower-2.new.self g) (sym c.without-self-inside.ensures)
+      (subst (λ (g : Faults). IsKeptState c.self.inside.instance.now rest c.remove_stay.new.timelines c.lower.new.self c.lower-2.new.self g) (sym c.without-self-inside.ensures)
       (go c.self.inside.instance.now c.args.block.now rest c.self.inside.timelines c.remove_stay.new.timelines c.self.inside.units c.self.inside.places c.lower.new.self
       c.lower-2.new.self c.self.inside.faults kept (gone c.args.block.now.id c.self.inside.blocks.items) formed held c.lower.ensures.total units c.lower-2.ensures.total
       places))),

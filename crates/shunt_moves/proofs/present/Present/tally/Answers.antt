@@ -2,7 +2,7 @@ use Rattle.std.proofs.Common.{◌≡◌, subst, ap}
 use Rattle.shunt_cross.specs.declared.clash.Clash.{Clash}
 use Rattle.shunt_moves.specs.defs.Kept.{Standing}
 use Rattle.shunt_moves.specs.defs.Tallies.{tally_of}
-use Rattle.shunt_moves.proofs.Counting.{made_tally, tally_kept, tally_small}
+use Rattle.shunt_moves.proofs.Counts.{made_tally, tally_kept, tally_small}
 use Rattle.shunt_moves.proofs.present.Present.tally.Goals as goal
 
 pub returns-clause-exact : goal.returns-clause-exact

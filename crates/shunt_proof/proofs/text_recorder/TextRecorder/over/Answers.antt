@@ -1,7 +1,7 @@
 use Rattle.std.proofs.Common.{refl, subst, sym}
 use Rattle.shunt_store.specs.defs.Files.{IsWriting}
-use Rattle.shunt_proof.specs.declared.text_recorder.Doing.TheVariants as doing
-use Rattle.shunt_proof.specs.defs.Streaming.{seen}
+use Rattle.shunt_proof.specs.declared.text_recorder.TextState.TheVariants as doing
+use Rattle.shunt_proof.specs.defs.TextRecorders.{seen}
 use Rattle.shunt_proof.proofs.Calls.{started, starts_open}
 use Rattle.shunt_proof.proofs.text_recorder.TextRecorder.over.Goals as goal
 

@@ -1,6 +1,6 @@
 use Rattle.std.proofs.Common.{refl}
-use Rattle.shunt_proof.specs.declared.text_recorder.Doing.TheVariants as doing
-use Rattle.shunt_proof.specs.defs.Streaming.{seen}
+use Rattle.shunt_proof.specs.declared.text_recorder.TextState.TheVariants as doing
+use Rattle.shunt_proof.specs.defs.TextRecorders.{seen}
 use Rattle.shunt_proof.proofs.Stages.{failed_is, stalled_is}
 use Rattle.shunt_proof.proofs.Calls.{is_writing, keeps_by, finish_done, finish_ended, finish_keeps, ends_same}
 use Rattle.shunt_proof.proofs.text_recorder.TextRecorderRecorder.finish.Goals as goal

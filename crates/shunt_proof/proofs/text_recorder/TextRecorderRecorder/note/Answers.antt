@@ -1,7 +1,7 @@
 use Rattle.std.proofs.Common.{◌+◌, refl, ap, subst}
-use Rattle.shunt_proof.specs.declared.text_recorder.Doing.TheVariants as doing
+use Rattle.shunt_proof.specs.declared.text_recorder.TextState.TheVariants as doing
 use Rattle.shunt_proof.specs.defs.Nodes.{FitsNode}
-use Rattle.shunt_proof.specs.defs.Streaming.{seen}
+use Rattle.shunt_proof.specs.defs.TextRecorders.{seen}
 use Rattle.shunt_proof.proofs.Stages.{failed_is, stalled_is}
 use Rattle.shunt_proof.proofs.Calls.{is_writing, keeps_by, note_done, note_open, note_keeps}
 use Rattle.shunt_proof.proofs.text_recorder.TextRecorderRecorder.note.Goals as goal

@@ -1,7 +1,7 @@
 use Rattle.std.proofs.Common.{length, List, refl, sym, ap, ◌∙◌, arith}
 use Rattle.std.proofs.Math.Seq.{take-length}
 use Rattle.shunt_blocks.specs.declared.records.Block.{Block}
-use Rattle.shunt_search.proofs.Yarding.{front_again, front_of}
+use Rattle.shunt_search.proofs.YardChanges.{front_again, front_of}
 use Rattle.shunt_search.proofs.yard.Yard.back_to.Goals as goal
 
 pub rest-init : goal.rest-init

@@ -1,7 +1,7 @@
 use Rattle.std.proofs.Common.{◌≤◌, length}
 use Rattle.shunt_choices.proofs.Given.{PlaceLaws}
 use Rattle.shunt_search.proofs.Improved.{Laws}
-use Rattle.shunt_search.proofs.Yarding.{few_path, may, is_new, few_stays, runs_with}
+use Rattle.shunt_search.proofs.YardChanges.{few_path, may, is_new, few_stays, runs_with}
 use Rattle.shunt_search.proofs.yard.Yard.goes_through.Goals as goal
 
 abbrev few : (c : goal.After-clash) → length c.args.self.now.path.blocks ≤ 160

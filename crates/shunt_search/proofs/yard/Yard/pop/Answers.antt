@@ -1,6 +1,6 @@
 use Rattle.std.proofs.Common.{◌≡◌, ◌++◌, ◌∷◌, [], List, length, ap}
 use Rattle.shunt_blocks.specs.declared.records.Block.{Block}
-use Rattle.shunt_search.proofs.Yarding.{left, shorter, front, left_yard}
+use Rattle.shunt_search.proofs.YardChanges.{left, shorter, front, left_yard}
 use Rattle.shunt_search.proofs.yard.Yard.pop.Goals as goal
 
 last : (c : goal.After-pop) → (b : Block) × (c.args.self.now.path.blocks ≡ c.pop.new.self.blocks ++ b ∷ [])

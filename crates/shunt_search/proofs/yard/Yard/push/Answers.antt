@@ -1,5 +1,5 @@
 use Rattle.shunt_choices.proofs.Given.{PlaceLaws}
-use Rattle.shunt_search.proofs.Yarding.{few_path, may, is_new, few_stays, has_room, with_next}
+use Rattle.shunt_search.proofs.YardChanges.{few_path, may, is_new, few_stays, has_room, with_next}
 use Rattle.shunt_search.proofs.yard.Yard.push.Goals as goal
 
 pub settle-requires-clause-within : goal.settle-requires-clause-within

@@ -26,7 +26,7 @@ use denote.Triple.Spec.{Meets, triple_of}
 use denote.Triple.Table.{entered}
 use denote.Triple.Walked.{says, Stays, stay_ref, walk_of, AllGo, Goes-ref, Walks, ends_at, walked, walk_Meets}
 use Rattle.shunt_store.specs.declared.noted.NotedFiles.{NotedFiles}
-use Rattle.shunt_store.specs.defs.Noting.{add_last}
+use Rattle.shunt_store.specs.defs.Notes.{add_last}
 use Rattle.shunt_store.specs.contracts.noted.NotedFiles as T
 use Rattle.shunt_store.specs.contracts.noted.NotedFiles.add.Key.{name as #it}
 use Rattle.shunt_store.specs.contracts.noted.NotedFiles.add as it

@@ -2,8 +2,8 @@ use Rattle.std.proofs.Common.{◌≡◌, ◌↔◌, subst}
 use Rattle.shunt_stays.specs.defs.Run.{GoesThrough}
 use Rattle.shunt_timeline.specs.defs.Holdings.{Holding}
 use Rattle.shunt_timeline.specs.defs.Sound.{lengths_of}
-use Rattle.shunt_timeline.proofs.Whole.{through}
 use Rattle.shunt_timeline.proofs.timelines.Timelines.clash.Goals as goal
+use Rattle.shunt_cross.proofs.Through.{counts as through}
 
 pub returns-clause-through : goal.returns-clause-through
 returns-clause-through c = subst (λ (h : Holding). (c.self.inside.pairs ≡ 0) × (c.self.inside.over ≡ 0) ↔ GoesThrough h.lengths h.stays) c.self.view_is

@@ -3,7 +3,7 @@ use Rattle.std.specs.List.{All}
 use Rattle.shunt_base.specs.defs.Keys.{AreStays}
 use Rattle.shunt_cross.specs.defs.Clashes.{clash_of}
 use Rattle.shunt_timeline.specs.defs.Holdings.{Holding}
-use Rattle.shunt_timeline.specs.defs.Kept.{IsKept}
+use Rattle.shunt_timeline.specs.defs.Kept.{IsKeptTrack}
 use Rattle.shunt_timeline.specs.defs.Sound.{lengths_of}
 use Rattle.shunt_timeline.proofs.Whole.{with_new, kept_at, length_is, pairs_add, over_add, clash_more}
 use Rattle.shunt_timeline.proofs.timelines.Timelines.clash_with.Goals as goal
@@ -15,7 +15,7 @@ overflow_add-result c =
     (subst (λ (h : Holding). c.args.stay.now.track.0 < length h.lengths) (sym c.self.view_is) c.requires.track)
     (subst (λ (h : Holding). All (λ s. s.id ≢ c.args.stay.now.id) h.stays) (sym c.self.view_is) c.requires.new)
     (subst (λ (h : Holding). length h.stays < 65536) (sym c.self.view_is) c.requires.few) in
-    let kept : IsKept c.self.inside.stays.items c.args.stay.now.track.0 c.index-track.result.now.events.items = kept_at c.self.inside.stays.items c.self.inside.tracks.items
+    let kept : IsKeptTrack c.self.inside.stays.items c.args.stay.now.track.0 c.index-track.result.now.events.items = kept_at c.self.inside.stays.items c.self.inside.tracks.items
     c.self.inside.spare (vec_capacity c.self.inside.stays) c.self.inside.pairs c.self.inside.over c.self.invariant c.args.stay.now c.requires.formed
     (subst (λ (h : Holding). c.args.stay.now.track.0 < length h.lengths) (sym c.self.view_is) c.requires.track)
     (subst (λ (h : Holding). All (λ s. s.id ≢ c.args.stay.now.id) h.stays) (sym c.self.view_is) c.requires.new)
@@ -47,7 +47,7 @@ overflow_add-result-2 c =
     (subst (λ (h : Holding). c.args.stay.now.track.0 < length h.lengths) (sym c.self.view_is) c.requires.track)
     (subst (λ (h : Holding). All (λ s. s.id ≢ c.args.stay.now.id) h.stays) (sym c.self.view_is) c.requires.new)
     (subst (λ (h : Holding). length h.stays < 65536) (sym c.self.view_is) c.requires.few) in
-    let kept : IsKept c.self.inside.stays.items c.args.stay.now.track.0 c.index-track.result.now.events.items = kept_at c.self.inside.stays.items c.self.inside.tracks.items
+    let kept : IsKeptTrack c.self.inside.stays.items c.args.stay.now.track.0 c.index-track.result.now.events.items = kept_at c.self.inside.stays.items c.self.inside.tracks.items
     c.self.inside.spare (vec_capacity c.self.inside.stays) c.self.inside.pairs c.self.inside.over c.self.invariant c.args.stay.now c.requires.formed
     (subst (λ (h : Holding). c.args.stay.now.track.0 < length h.lengths) (sym c.self.view_is) c.requires.track)
     (subst (λ (h : Holding). All (λ s. s.id ≢ c.args.stay.now.id) h.stays) (sym c.self.view_is) c.requires.new)
@@ -79,7 +79,7 @@ returns c =
     (subst (λ (h : Holding). c.args.stay.now.track.0 < length h.lengths) (sym c.self.view_is) c.requires.track)
     (subst (λ (h : Holding). All (λ s. s.id ≢ c.args.stay.now.id) h.stays) (sym c.self.view_is) c.requires.new)
     (subst (λ (h : Holding). length h.stays < 65536) (sym c.self.view_is) c.requires.few) in
-    let kept : IsKept c.self.inside.stays.items c.args.stay.now.track.0 c.index-track.result.now.events.items = kept_at c.self.inside.stays.items c.self.inside.tracks.items
+    let kept : IsKeptTrack c.self.inside.stays.items c.args.stay.now.track.0 c.index-track.result.now.events.items = kept_at c.self.inside.stays.items c.self.inside.tracks.items
     c.self.inside.spare (vec_capacity c.self.inside.stays) c.self.inside.pairs c.self.inside.over c.self.invariant c.args.stay.now c.requires.formed
     (subst (λ (h : Holding). c.args.stay.now.track.0 < length h.lengths) (sym c.self.view_is) c.requires.track)
     (subst (λ (h : Holding). All (λ s. s.id ≢ c.args.stay.now.id) h.stays) (sym c.self.view_is) c.requires.new)

@@ -6,8 +6,8 @@ use Rattle.shunt_lists.specs.defs.Members.{In}
 use Rattle.shunt_base.specs.declared.keys.Stay.{Stay}
 use Rattle.shunt_base.specs.defs.Keys.{AreStays}
 use Rattle.shunt_timeline.specs.defs.Holdings.{Holding}
-use Rattle.shunt_timeline.specs.defs.Kept.{IsKept}
-use Rattle.shunt_timeline.specs.defs.Sound.{lengths_of, IsSound}
+use Rattle.shunt_timeline.specs.defs.Kept.{IsKeptTrack}
+use Rattle.shunt_timeline.specs.defs.Sound.{lengths_of, IsSoundTrack}
 use Rattle.shunt_timeline.proofs.Whole.{with_new, kept_at, room_at, length_is, pairs_add, over_add, lengths_after, came, put_items}
 use Rattle.shunt_timeline.proofs.timelines.Timelines.insert.Goals as goal
 
@@ -27,7 +27,7 @@ overflow_add-self c =
     (subst (λ (h : Holding). c.args.stay.track.0 < length h.lengths) (sym c.self.view_is) c.requires.track)
     (subst (λ (h : Holding). All (λ s. s.id ≢ c.args.stay.id) h.stays) (sym c.self.view_is) c.requires.new)
     (subst (λ (h : Holding). length h.stays < 65536) (sym c.self.view_is) c.requires.few) in
-    let kept : IsKept c.self.inside.stays.items c.args.stay.track.0 c.index_mut-track.result.now.events.items = kept_at c.self.inside.stays.items c.self.inside.tracks.items
+    let kept : IsKeptTrack c.self.inside.stays.items c.args.stay.track.0 c.index_mut-track.result.now.events.items = kept_at c.self.inside.stays.items c.self.inside.tracks.items
     c.self.inside.spare (vec_capacity c.self.inside.stays) c.self.inside.pairs c.self.inside.over c.self.invariant c.args.stay c.requires.formed
     (subst (λ (h : Holding). c.args.stay.track.0 < length h.lengths) (sym c.self.view_is) c.requires.track)
     (subst (λ (h : Holding). All (λ s. s.id ≢ c.args.stay.id) h.stays) (sym c.self.view_is) c.requires.new)
@@ -59,7 +59,7 @@ overflow_add-self-2 c =
     (subst (λ (h : Holding). c.args.stay.track.0 < length h.lengths) (sym c.self.view_is) c.requires.track)
     (subst (λ (h : Holding). All (λ s. s.id ≢ c.args.stay.id) h.stays) (sym c.self.view_is) c.requires.new)
     (subst (λ (h : Holding). length h.stays < 65536) (sym c.self.view_is) c.requires.few) in
-    let kept : IsKept c.self.inside.stays.items c.args.stay.track.0 c.index_mut-track.result.now.events.items = kept_at c.self.inside.stays.items c.self.inside.tracks.items
+    let kept : IsKeptTrack c.self.inside.stays.items c.args.stay.track.0 c.index_mut-track.result.now.events.items = kept_at c.self.inside.stays.items c.self.inside.tracks.items
     c.self.inside.spare (vec_capacity c.self.inside.stays) c.self.inside.pairs c.self.inside.over c.self.invariant c.args.stay c.requires.formed
     (subst (λ (h : Holding). c.args.stay.track.0 < length h.lengths) (sym c.self.view_is) c.requires.track)
     (subst (λ (h : Holding). All (λ s. s.id ≢ c.args.stay.id) h.stays) (sym c.self.view_is) c.requires.new)
@@ -91,7 +91,7 @@ invariant_of-self c =
     (subst (λ (h : Holding). c.args.stay.track.0 < length h.lengths) (sym c.self.view_is) c.requires.track)
     (subst (λ (h : Holding). All (λ s. s.id ≢ c.args.stay.id) h.stays) (sym c.self.view_is) c.requires.new)
     (subst (λ (h : Holding). length h.stays < 65536) (sym c.self.view_is) c.requires.few) in
-    let kept : IsKept c.self.inside.stays.items c.args.stay.track.0 c.index_mut-track.result.now.events.items = kept_at c.self.inside.stays.items c.self.inside.tracks.items
+    let kept : IsKeptTrack c.self.inside.stays.items c.args.stay.track.0 c.index_mut-track.result.now.events.items = kept_at c.self.inside.stays.items c.self.inside.tracks.items
     c.self.inside.spare (vec_capacity c.self.inside.stays) c.self.inside.pairs c.self.inside.over c.self.invariant c.args.stay c.requires.formed
     (subst (λ (h : Holding). c.args.stay.track.0 < length h.lengths) (sym c.self.view_is) c.requires.track)
     (subst (λ (h : Holding). All (λ s. s.id ≢ c.args.stay.id) h.stays) (sym c.self.view_is) c.requires.new)
@@ -106,9 +106,9 @@ invariant_of-self c =
     (c.index_mut-track.ensures.value ∙ ap (λ n. get_or c.self.inside.tracks.items n c.index_mut-track.result.now) c.from.ensures) in
     let items : c.insert.new.self.items ≡ insert c.self.inside.stays.items c.place_of-place.result c.args.stay = put_items c.insert.result c.is_err.result _ _ _
     c.insert.ensures.items c.is_err.ensures.negation c.if-is_err.false in
-    subst (λ n. IsSound c.insert.new.self.items (set c.self.inside.tracks.items n c.insert-share.new.self) (c.self.inside.spare - 1) (vec_capacity c.insert.new.self)
+    subst (λ n. IsSoundTrack c.insert.new.self.items (set c.self.inside.tracks.items n c.insert-share.new.self) (c.self.inside.spare - 1) (vec_capacity c.insert.new.self)
     (c.self.inside.pairs + c.insert-share.result.pairs) (c.self.inside.over + c.insert-share.result.over)) (sym c.from.ensures)
-    (subst (λ l. IsSound l (set c.self.inside.tracks.items c.args.stay.track.0 c.insert-share.new.self) (c.self.inside.spare - 1) (vec_capacity c.insert.new.self)
+    (subst (λ l. IsSoundTrack l (set c.self.inside.tracks.items c.args.stay.track.0 c.insert-share.new.self) (c.self.inside.spare - 1) (vec_capacity c.insert.new.self)
     (c.self.inside.pairs + c.insert-share.result.pairs) (c.self.inside.over + c.insert-share.result.over)) (sym items)
     (came c.self.inside.stays.items c.self.inside.tracks.items c.self.inside.spare
     (vec_capacity c.self.inside.stays) c.self.inside.pairs c.self.inside.over c.self.invariant c.args.stay c.requires.formed
@@ -138,7 +138,7 @@ returns-clause-lengths c =
     (subst (λ (h : Holding). c.args.stay.track.0 < length h.lengths) (sym c.self.view_is) c.requires.track)
     (subst (λ (h : Holding). All (λ s. s.id ≢ c.args.stay.id) h.stays) (sym c.self.view_is) c.requires.new)
     (subst (λ (h : Holding). length h.stays < 65536) (sym c.self.view_is) c.requires.few) in
-    let kept : IsKept c.self.inside.stays.items c.args.stay.track.0 c.index_mut-track.result.now.events.items = kept_at c.self.inside.stays.items c.self.inside.tracks.items
+    let kept : IsKeptTrack c.self.inside.stays.items c.args.stay.track.0 c.index_mut-track.result.now.events.items = kept_at c.self.inside.stays.items c.self.inside.tracks.items
     c.self.inside.spare (vec_capacity c.self.inside.stays) c.self.inside.pairs c.self.inside.over c.self.invariant c.args.stay c.requires.formed
     (subst (λ (h : Holding). c.args.stay.track.0 < length h.lengths) (sym c.self.view_is) c.requires.track)
     (subst (λ (h : Holding). All (λ s. s.id ≢ c.args.stay.id) h.stays) (sym c.self.view_is) c.requires.new)

@@ -4,8 +4,8 @@ use Rattle.std.proofs.lemmas.List.Sorted.{IsPermutation-remove, IsPermutation-sy
 use Rattle.shunt_base.specs.declared.keys.Stay.{Stay}
 use Rattle.shunt_base.specs.defs.Keys.{AreStays}
 use Rattle.shunt_timeline.specs.defs.Holdings.{Holding}
-use Rattle.shunt_timeline.specs.defs.Kept.{IsKept}
-use Rattle.shunt_timeline.specs.defs.Sound.{lengths_of, IsSound}
+use Rattle.shunt_timeline.specs.defs.Kept.{IsKeptTrack}
+use Rattle.shunt_timeline.specs.defs.Sound.{lengths_of, IsSoundTrack}
 use Rattle.shunt_timeline.proofs.Gone.{with_gone, fewer, kept_all, length_was, pairs_less, over_less, lengths_left, went, id_gone}
 use Rattle.std.proofs.lemmas.List.Edits.{length-remove}
 use Rattle.shunt_timeline.proofs.timelines.Timelines.remove.Goals as goal
@@ -30,7 +30,7 @@ overflow_sub-self c =
     let gone : AreStays (c.remove-stay.result ∷ remove c.self.inside.stays.items c.in_ok-place.place) = with_gone c.self.inside.stays.items c.self.inside.tracks.items
     c.self.inside.spare (vec_capacity c.self.inside.stays) c.self.inside.pairs c.self.inside.over c.self.invariant c.in_ok-place.place
     (subst (λ l. c.in_ok-place.place < length l) c.deref.ensures.value c.in_ok-place.ensures.some.0) c.remove-stay.result c.remove-stay.ensures.value in
-    let kept : IsKept (c.remove-stay.result ∷ remove c.self.inside.stays.items c.in_ok-place.place) c.remove-stay.result.track.0 c.index_mut-track.result.now.events.items =
+    let kept : IsKeptTrack (c.remove-stay.result ∷ remove c.self.inside.stays.items c.in_ok-place.place) c.remove-stay.result.track.0 c.index_mut-track.result.now.events.items =
     kept_all c.self.inside.stays.items c.self.inside.tracks.items c.self.inside.spare
     (vec_capacity c.self.inside.stays) c.self.inside.pairs c.self.inside.over c.self.invariant c.in_ok-place.place
     (subst (λ l. c.in_ok-place.place < length l) c.deref.ensures.value c.in_ok-place.ensures.some.0) c.remove-stay.result c.remove-stay.ensures.value
@@ -53,7 +53,7 @@ overflow_sub-self-2 c =
     let gone : AreStays (c.remove-stay.result ∷ remove c.self.inside.stays.items c.in_ok-place.place) = with_gone c.self.inside.stays.items c.self.inside.tracks.items
     c.self.inside.spare (vec_capacity c.self.inside.stays) c.self.inside.pairs c.self.inside.over c.self.invariant c.in_ok-place.place
     (subst (λ l. c.in_ok-place.place < length l) c.deref.ensures.value c.in_ok-place.ensures.some.0) c.remove-stay.result c.remove-stay.ensures.value in
-    let kept : IsKept (c.remove-stay.result ∷ remove c.self.inside.stays.items c.in_ok-place.place) c.remove-stay.result.track.0 c.index_mut-track.result.now.events.items =
+    let kept : IsKeptTrack (c.remove-stay.result ∷ remove c.self.inside.stays.items c.in_ok-place.place) c.remove-stay.result.track.0 c.index_mut-track.result.now.events.items =
     kept_all c.self.inside.stays.items c.self.inside.tracks.items c.self.inside.spare
     (vec_capacity c.self.inside.stays) c.self.inside.pairs c.self.inside.over c.self.invariant c.in_ok-place.place
     (subst (λ l. c.in_ok-place.place < length l) c.deref.ensures.value c.in_ok-place.ensures.some.0) c.remove-stay.result c.remove-stay.ensures.value
@@ -76,7 +76,7 @@ invariant_of-self c =
     let gone : AreStays (c.remove-stay.result ∷ remove c.self.inside.stays.items c.in_ok-place.place) = with_gone c.self.inside.stays.items c.self.inside.tracks.items
     c.self.inside.spare (vec_capacity c.self.inside.stays) c.self.inside.pairs c.self.inside.over c.self.invariant c.in_ok-place.place
     (subst (λ l. c.in_ok-place.place < length l) c.deref.ensures.value c.in_ok-place.ensures.some.0) c.remove-stay.result c.remove-stay.ensures.value in
-    let kept : IsKept (c.remove-stay.result ∷ remove c.self.inside.stays.items c.in_ok-place.place) c.remove-stay.result.track.0 c.index_mut-track.result.now.events.items =
+    let kept : IsKeptTrack (c.remove-stay.result ∷ remove c.self.inside.stays.items c.in_ok-place.place) c.remove-stay.result.track.0 c.index_mut-track.result.now.events.items =
     kept_all c.self.inside.stays.items c.self.inside.tracks.items c.self.inside.spare
     (vec_capacity c.self.inside.stays) c.self.inside.pairs c.self.inside.over c.self.invariant c.in_ok-place.place
     (subst (λ l. c.in_ok-place.place < length l) c.deref.ensures.value c.in_ok-place.ensures.some.0) c.remove-stay.result c.remove-stay.ensures.value
@@ -86,9 +86,10 @@ invariant_of-self c =
     (vec_capacity c.self.inside.stays) c.self.inside.pairs c.self.inside.over c.self.invariant c.in_ok-place.place
     (subst (λ l. c.in_ok-place.place < length l) c.deref.ensures.value c.in_ok-place.ensures.some.0) c.remove-stay.result c.remove-stay.ensures.value
     c.index_mut-track.result.now (c.index_mut-track.ensures.value ∙ ap (λ n. get_or c.self.inside.tracks.items n c.index_mut-track.result.now) c.from.ensures) in
-    subst (λ n. IsSound c.remove-stay.new.self.items (set c.self.inside.tracks.items n c.remove-share.new.self) (c.self.inside.spare + 1) (vec_capacity c.remove-stay.new.self)
+    subst (λ n. IsSoundTrack c.remove-stay.new.self.items (set c.self.inside.tracks.items n c.remove-share.new.self) (c.self.inside.spare + 1) (vec_capacity c.remove-stay.new.self)
     (c.self.inside.pairs - c.remove-share.result.pairs) (c.self.inside.over - c.remove-share.result.over)) (sym c.from.ensures)
-    (subst (λ l. IsSound l (set c.self.inside.tracks.items c.remove-stay.result.track.0 c.remove-share.new.self) (c.self.inside.spare + 1) (vec_capacity c.remove-stay.new.self)
+    (subst (λ l. IsSoundTrack l (set c.self.inside.tracks.items c.remove-stay.result.track.0 c.remove-share.new.self) (c.self.inside.spare + 1)
+    (vec_capacity c.remove-stay.new.self)
     (c.self.inside.pairs - c.remove-share.result.pairs) (c.self.inside.over - c.remove-share.result.over)) (sym c.remove-stay.ensures.items)
     (went c.self.inside.stays.items c.self.inside.tracks.items c.self.inside.spare
     (vec_capacity c.self.inside.stays) c.self.inside.pairs c.self.inside.over c.self.invariant c.in_ok-place.place
@@ -118,7 +119,7 @@ returns-clause-lengths c =
     let gone : AreStays (c.remove-stay.result ∷ remove c.self.inside.stays.items c.in_ok-place.place) = with_gone c.self.inside.stays.items c.self.inside.tracks.items
     c.self.inside.spare (vec_capacity c.self.inside.stays) c.self.inside.pairs c.self.inside.over c.self.invariant c.in_ok-place.place
     (subst (λ l. c.in_ok-place.place < length l) c.deref.ensures.value c.in_ok-place.ensures.some.0) c.remove-stay.result c.remove-stay.ensures.value in
-    let kept : IsKept (c.remove-stay.result ∷ remove c.self.inside.stays.items c.in_ok-place.place) c.remove-stay.result.track.0 c.index_mut-track.result.now.events.items =
+    let kept : IsKeptTrack (c.remove-stay.result ∷ remove c.self.inside.stays.items c.in_ok-place.place) c.remove-stay.result.track.0 c.index_mut-track.result.now.events.items =
     kept_all c.self.inside.stays.items c.self.inside.tracks.items c.self.inside.spare
     (vec_capacity c.self.inside.stays) c.self.inside.pairs c.self.inside.over c.self.invariant c.in_ok-place.place
     (subst (λ l. c.in_ok-place.place < length l) c.deref.ensures.value c.in_ok-place.ensures.some.0) c.remove-stay.result c.remove-stay.ensures.value

@@ -1,0 +1,93 @@
+// Better numbers of a case by an ascent.
+use crate::changes::{Changes, farthest, free_positions, longest, step_of};
+use crate::climbs::{Pace, Valued, highest};
+use crate::numbers::{NOTHING, Number};
+use crate::points::{Point, Span};
+use crate::scenes::Scene;
+use crate::valuation::Work;
+use std::alloc::{AllocError, Global};
+
+/// Where an ascent goes: which numbers it changes, how far it goes at first, which counts in grains, and when it ends.
+#[derive(Clone, Copy, Drop)]
+pub(crate) struct Ascent {
+    /// Whether the prices of length change too, which are coarse once they are whole.
+    pub lengths: bool,
+    pub multiplier: bool,
+    pub step: i64,
+    /// How many evaluations it takes at most.
+    pub most: usize,
+    pub goal: Number,
+}
+
+/// The sum of a case at a path as a value of the numbers that change.
+#[derive(Drop)]
+struct Priced<'s> {
+    scene: &'s Scene,
+    span: Span,
+    changes: Changes,
+    point: Point,
+    work: &'s mut Work,
+}
+
+impl<'s> Valued for Priced<'s> {
+    fn value(&mut self, numbers: &[Number], slope: &mut [Number]) -> Result<Number, AllocError> {
+        let scene = self.scene;
+        self.changes.write(scene, numbers, &mut [], &mut self.point);
+        let sum = self.work.evaluate(scene, self.span, &self.point);
+        self.changes
+            .read_slopes(scene, &self.work.slopes, numbers, slope);
+        Ok(sum)
+    }
+}
+
+// The prices that an ascent changes.
+fn slots_of(alloc: Global, scene: &Scene, ascent: &Ascent) -> Result<Vec<usize>, AllocError> {
+    let mut slots = Vec::new(alloc);
+    for (place, slot) in scene.slots.iter().enumerate() {
+        if ascent.lengths || !slot.is_by_length() {
+            slots.push(place)?;
+        }
+    }
+    Ok(slots)
+}
+
+fn pace_of(scene: &Scene, ascent: &Ascent) -> Pace {
+    Pace {
+        step: step_of(scene, ascent.step),
+        longest: longest(scene),
+        farthest: farthest(scene),
+        most: ascent.most,
+        goal: ascent.goal,
+        little: NOTHING,
+    }
+}
+
+/// The best point that an ascent from a point finds, and the sum there; the point itself where none is better. Err is want of memory.
+pub(crate) fn ascend(
+    alloc: Global,
+    scene: &Scene,
+    span: Span,
+    ascent: Ascent,
+    start: &Point,
+    work: &mut Work,
+) -> Result<(Point, Number), AllocError> {
+    let changes = Changes {
+        units: Vec::new(alloc),
+        positions: free_positions(alloc, scene)?,
+        slots: slots_of(alloc, scene, &ascent)?,
+        multiplier: ascent.multiplier,
+    };
+    let numbers = changes.numbers(alloc, scene, &[], start)?;
+    let mut priced = Priced {
+        scene,
+        span,
+        changes,
+        point: start.copied(alloc)?,
+        work,
+    };
+    let peak = highest(alloc, &mut priced, numbers, pace_of(scene, &ascent))?;
+    let Priced { changes, point, .. } = priced;
+    let mut best = point;
+    changes.write(scene, &peak.numbers, &mut [], &mut best);
+    Ok((best, peak.value))
+}

@@ -1,0 +1,276 @@
+// Cases as a certificate states them.
+ghost use Rattle.std.specs.Prelude.{◌≡◌, ◌≢◌, ◌≤◌, ◌<◌, All, IfOk, IfSome, OnOk, length, map};
+ghost use Rattle.std.specs.Prelude.{false, true, [], ◌∷◌};
+ghost use Rattle.shunt_base.specs.declared.duals.Case.{Case as OneCase};
+ghost use Rattle.shunt_instance.specs.defs.Instance.{unit_total, position_total};
+ghost use Rattle.shunt_lists.specs.defs.Members.{In};
+ghost use Rattle.shunt_prices.specs.defs.Limits.{IsKind, IsPrice, ArePrices, AreApart};
+ghost use Rattle.shunt_prices.specs.defs.Limits.{place_of_price, IsValue, IsCase, AreCases};
+
+use crate::case_pairs::Parted;
+use crate::numbers::{Number, at, whole};
+use crate::points::Point;
+use crate::scenes::Scene;
+use crate::slots::Slot;
+use crate::valuation::Work;
+use crate::whole_numbers::{Found, round};
+use shunt_base::{Case, Cases, Duals, Price, PriceKind};
+use shunt_instance::Instance;
+use shunt_lists::Items;
+use std::alloc::{AllocError, Global};
+
+/// The greatest value, and the greatest value of a price.
+const GREATEST: i64 = 999_999_999_999;
+
+const DEAREST: u64 = 1_000_000_000;
+
+// A number as a whole one within the limits of values.
+fn value_of(number: Number) -> i64
+    ensures { IsValue result }
+{
+    let value = whole(number).0;
+    if value > GREATEST {
+        return GREATEST;
+    }
+    if value < -GREATEST { -GREATEST } else { value }
+}
+
+// Whether a kind has from 1 to 8 parts.
+fn is_kind(kind: PriceKind) -> bool
+    ensures { result ≡ true → IsKind kind }
+{
+    match kind {
+        PriceKind::Length => true,
+        PriceKind::Parts(parts) => parts >= 1 && parts <= 8,
+    }
+}
+
+// The price of a slot. None where it costs nothing, or is beyond the limits.
+fn price_of(instance: &Instance, slot: &Slot, number: Number) -> Option<Price>
+    ensures { IfSome result (IsPrice instance.now) }
+{
+    let value = u64::try_from(whole(number).0).unwrap_or(0);
+    if value < 1 || value > DEAREST {
+        return None;
+    }
+    if !is_kind(slot.kind) {
+        return None;
+    }
+    if slot.track.0 as usize >= instance.station().tracks.len() {
+        return None;
+    }
+    if slot.train.0 as usize >= instance.arrivals() {
+        return None;
+    }
+    Some(Price {
+        kind: slot.kind,
+        track: slot.track,
+        train: slot.train,
+        value,
+    })
+}
+
+// Whether two prices are for the same kind, track and train.
+fn are_alike(one: &Price, other: &Price) -> bool
+    ensures { result ≡ false → place_of_price one.now ≢ place_of_price other.now }
+{
+    one.kind == other.kind && one.track == other.track && one.train == other.train
+}
+
+// Whether a price for the same kind, track and train is among these.
+fn is_among(prices: &[Price], price: &Price) -> bool
+    ensures { result ≡ false
+        → All (λ other. place_of_price other ≢ place_of_price price.now) prices.now }
+{
+    for other in prices {
+        if are_alike(other, price) {
+            return true;
+        }
+    }
+    false
+}
+
+// Adds a price that no other is like, while there is room.
+#[tactic(auto, using(crate::proofs::Apart::apart_more))]
+fn add_price(instance: &Instance, price: Price, prices: &mut Vec<Price>) -> Result<(), AllocError>
+    requires price { IsPrice instance.now price }
+    requires prices { ArePrices instance.now prices.old.items }
+    requires apart { AreApart prices.old.items }
+    ensures prices { OnOk result (ArePrices instance.now prices.new.items) }
+    ensures apart { OnOk result (AreApart prices.new.items) }
+{
+    if prices.len() >= 64 {
+        return Ok(());
+    }
+    if is_among(prices, &price) {
+        return Ok(());
+    }
+    prices.push(price)?;
+    Ok(())
+}
+
+// The prices that cost anything.
+fn prices_of(
+    alloc: Global,
+    instance: &Instance,
+    slots: &[Slot],
+    values: &[Number],
+) -> Result<Vec<Price>, AllocError>
+    ensures prices { IfOk result (λ v. ArePrices instance.now v.items) }
+    ensures apart { IfOk result (λ v. AreApart v.items) }
+{
+    let mut prices = Vec::new(alloc);
+    for (place, slot) in slots.iter().enumerate() {
+        if let Some(price) = price_of(instance, slot, at(values, place)) {
+            add_price(instance, price, &mut prices)?;
+        }
+    }
+    Ok(prices)
+}
+
+// The values of positions.
+fn betas_of(alloc: Global, instance: &Instance, beta: &[Number]) -> Result<Vec<i64>, AllocError>
+    ensures size { IfOk result (λ v. length v.items ≡ position_total instance.now) }
+    ensures each { IfOk result (λ v. All IsValue v.items) }
+{
+    let mut values = Vec::new(alloc);
+    for v in 0..instance.positions() {
+        values.push(value_of(at(beta, v)))?;
+    }
+    Ok(values)
+}
+
+// The values of units.
+fn alphas_of(alloc: Global, instance: &Instance, alpha: &[Number]) -> Result<Vec<i64>, AllocError>
+    ensures size { IfOk result (λ v. length v.items ≡ unit_total instance.now) }
+    ensures each { IfOk result (λ v. All IsValue v.items) }
+{
+    let mut values = Vec::new(alloc);
+    for u in 0..instance.units() {
+        values.push(value_of(at(alpha, u)))?;
+    }
+    Ok(values)
+}
+
+// The case of a point whose numbers are whole, with values of units.
+fn case_of(
+    alloc: Global,
+    instance: &Instance,
+    scene: &Scene,
+    point: &Point,
+    alpha: &[Number],
+    to: u8,
+) -> Result<Case, AllocError>
+    requires { to ≤ 160 }
+    ensures case { IfOk result (IsCase instance.now) }
+    ensures apart { IfOk result (λ c. AreApart c.duals.prices) }
+    ensures to { IfOk result (λ c. c.to ≡ to) }
+{
+    let alpha = alphas_of(alloc, instance, alpha)?;
+    let beta = betas_of(alloc, instance, &point.beta)?;
+    let prices = prices_of(alloc, instance, &scene.slots, &point.prices)?;
+    Ok(Case {
+        to,
+        multiplier: value_of(point.multiplier),
+        duals: Duals {
+            alpha: Items::from_vec(alpha),
+            beta: Items::from_vec(beta),
+            prices: Items::from_vec(prices),
+        },
+    })
+}
+
+// What was found as a case, with whole numbers, and values of units that let it hold.
+fn state(
+    alloc: Global,
+    instance: &Instance,
+    scene: &Scene,
+    found: &Found,
+    to: u8,
+    work: &mut Work,
+) -> Result<Case, AllocError>
+    requires { to ≤ 160 }
+    ensures case { IfOk result (IsCase instance.now) }
+    ensures apart { IfOk result (λ c. AreApart c.duals.prices) }
+    ensures to { IfOk result (λ c. c.to ≡ to) }
+{
+    let mut point = found.point.copied(alloc)?;
+    round(&mut point);
+    work.evaluate(scene, found.span, &point);
+    let alpha = work.growths(alloc, scene)?;
+    case_of(alloc, instance, scene, &point, &alpha, to)
+}
+
+/// What was found as a case that speaks of all numbers of unparked blocks. Err is want of memory.
+pub(crate) fn case_for(
+    alloc: Global,
+    instance: &Instance,
+    scene: &Scene,
+    found: &Found,
+    work: &mut Work,
+) -> Result<Case, AllocError>
+    ensures case { IfOk result (IsCase instance.now) }
+    ensures apart { IfOk result (λ c. AreApart c.duals.prices) }
+{
+    state(alloc, instance, scene, found, 160, work)
+}
+
+// These as cases.
+fn two_cases(first: Case, last: Case) -> Cases
+    requires rise { first.to < last.to }
+    ensures { result ≡ first ∷ last ∷ [] }
+{
+    Cases::two(first, last)
+}
+
+/// The numbers of a case, with values of units, and the greatest number of unparked blocks that it speaks of.
+#[derive(Clone, Copy)]
+pub(crate) struct Sketch<'c> {
+    pub point: &'c Point,
+    pub alpha: &'c [Number],
+    pub to: u8,
+}
+
+/// A case, or two of which the first speaks of fewer unparked blocks, as a certificate states them. Err is want of memory.
+pub(crate) fn cases_with(
+    alloc: Global,
+    instance: &Instance,
+    scene: &Scene,
+    first: Option<Sketch<'_>>,
+    last: Sketch<'_>,
+) -> Result<Cases, AllocError>
+    ensures cases { IfOk result (AreCases instance.now) }
+    ensures apart { IfOk result (All (λ c. AreApart c.duals.prices)) }
+{
+    let last = case_of(alloc, instance, scene, last.point, last.alpha, 160)?;
+    match first {
+        Some(draft) => {
+            let to = draft.to.min(159);
+            let first = case_of(alloc, instance, scene, draft.point, draft.alpha, to)?;
+            Ok(two_cases(first, last))
+        }
+        None => Ok(Cases::one(last)),
+    }
+}
+
+/// Cases as a certificate states them. Err is want of memory.
+pub(crate) fn cases_of(
+    alloc: Global,
+    instance: &Instance,
+    scene: &Scene,
+    parted: &Parted,
+    work: &mut Work,
+) -> Result<Cases, AllocError>
+    ensures cases { IfOk result (AreCases instance.now) }
+    ensures apart { IfOk result (All (λ c. AreApart c.duals.prices)) }
+{
+    let last = state(alloc, instance, scene, &parted.last, 160, work)?;
+    match &parted.first {
+        Some(first) => {
+            let to = first.span.to.min(159);
+            let first = state(alloc, instance, scene, first, to, work)?;
+            Ok(two_cases(first, last))
+        }
+        None => Ok(Cases::one(last)),
+    }
+}

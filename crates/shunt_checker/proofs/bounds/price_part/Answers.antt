@@ -1,0 +1,5 @@
+use Rattle.shunt_checker.proofs.bounds.price_part.Goals as goal
+use Rattle.shunt_prices.proofs.Counts.{unparked_part}
+
+pub returns-in_default-clause-exact : goal.returns-in_default-clause-exact
+returns-in_default-clause-exact c = unparked_part c.args.instance.now c.args.prices.now c.args.block.now c.in_default.is

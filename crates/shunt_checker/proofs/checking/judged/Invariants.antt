@@ -1,4 +1,0 @@
-use Rattle.shunt_checker.proofs.checking.judged.Given as goal
-
-abbrev pub ghost-first_fault : goal.ghost-first_fault
-ghost-first_fault a = a.path.blocks

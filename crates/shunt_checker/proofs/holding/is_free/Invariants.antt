@@ -1,5 +1,0 @@
-use Rattle.shunt_checker.proofs.Freeing.{FreePairs}
-use Rattle.shunt_checker.proofs.holding.is_free.Given as goal
-
-abbrev pub invariant-loop-k : goal.invariant-loop-k
-invariant-loop-k l = FreePairs l.fn.instance l.fn.covered l.from l.to l.k

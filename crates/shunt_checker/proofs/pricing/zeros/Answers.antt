@@ -1,5 +1,0 @@
-use Rattle.shunt_checker.proofs.Taken.{zero_at}
-use Rattle.shunt_checker.proofs.pricing.zeros.Goals as goal
-
-pub returns : goal.returns
-returns c = λ t. zero_at 60 t

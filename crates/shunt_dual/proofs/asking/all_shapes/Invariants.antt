@@ -1,5 +1,0 @@
-use Rattle.shunt_dual.specs.defs.Asks.{AreFreeBelow}
-use Rattle.shunt_dual.proofs.asking.all_shapes.Given as goal
-
-abbrev pub invariant-loop-u : goal.invariant-loop-u
-invariant-loop-u l = AreFreeBelow l.instance l.covered l.u l.shapes.items

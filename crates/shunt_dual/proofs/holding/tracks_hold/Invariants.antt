@@ -1,5 +1,0 @@
-use Rattle.shunt_dual.specs.defs.Weighed.{TracksHold}
-use Rattle.shunt_dual.proofs.holding.tracks_hold.Given as goal
-
-abbrev pub invariant-loop-t : goal.invariant-loop-t
-invariant-loop-t l = TracksHold l.asked l.instance l.prices l.fn.shape l.sum l.t

@@ -1,0 +1,7 @@
+use Rattle.std.proofs.Common.{◌≡◌, ◌+◌, ◌++◌, drop}
+use Rattle.shunt_instance.specs.defs.Instance.{numbered_from, make_position}
+use Rattle.shunt_instance.proofs.train_numbers.push_positions.Given as goal
+
+abbrev pub invariant-loop-i : goal.invariant-loop-i
+invariant-loop-i l = l.positions.items ++ numbered_from make_position l.train.0 (l.i + 1) (drop l.i l.kinds) ≡ l.initial.positions.items
+    ++ numbered_from make_position l.train.0 1 l.kinds

@@ -1,6 +1,0 @@
-use Rattle.shunt_picture.proofs.Chained.{on_ok, add}
-use Rattle.shunt_picture.proofs.drawing.push_words_style.Goals as goal
-
-pub returns : goal.returns
-unfolding Rattle.shunt_picture.specs.defs.PictureTexts.words_style
-returns c = on_ok c.push-2.result _ _ c.push-2.ensures (λ last. add _ _ _ _ _ c.in_ok-push.ensures last)

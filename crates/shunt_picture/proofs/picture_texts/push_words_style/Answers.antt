@@ -1,0 +1,7 @@
+use Rattle.shunt_picture.proofs.Chained.{add}
+use Rattle.shunt_picture.proofs.picture_texts.push_words_style.Goals as goal
+use Rattle.shunt_lists.proofs.Options.{on_ok}
+
+pub returns : goal.returns
+unfolding Rattle.shunt_picture.specs.defs.PictureTexts.words_style
+returns c = on_ok c.push-2.result _ _ c.push-2.ensures (λ last. add _ _ _ _ _ c.in_ok-push.ensures last)

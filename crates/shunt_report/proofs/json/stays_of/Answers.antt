@@ -1,7 +1,0 @@
-use Rattle.std.proofs.Common.{arith}
-use Rattle.std.proofs.lemmas.Grind.{common_steps}
-use Rattle.std.proofs.lemmas.List.Elements.{filter_map-append}
-use Rattle.shunt_report.proofs.json.stays_of.Goals as goal
-
-pub loop-block-preserved : goal.loop-block-preserved
-loop-block-preserved c = grind (arith, common_steps, filter_map-append)

@@ -1,0 +1,4 @@
+use Rattle.shunt_ruin.proofs.search.RuinSearch.ruin_clashing.Given as goal
+
+abbrev pub decreases-left : goal.decreases-left
+decreases-left l = l.left

@@ -1,4 +1,0 @@
-use Rattle.shunt_ruin.proofs.search.Search.ruin_clashing.Given as goal
-
-abbrev pub decreases-left : goal.decreases-left
-decreases-left l = l.left

@@ -1,6 +1,0 @@
-use Rattle.std.proofs.Common.{refl}
-use Rattle.shunt_search.proofs.Begun.{root_follows}
-use Rattle.shunt_search.proofs.beginning.note_branch.Goals as goal
-
-pub note-requires-clause-place : goal.note-requires-clause-place
-note-requires-clause-place g c = root_follows _ _ refl c.requires.told

@@ -1,5 +1,0 @@
-use Rattle.shunt_dual.proofs.Matched.{as_many}
-use Rattle.shunt_search.proofs.opening.as_many_positions.Goals as goal
-
-pub returns : goal.returns
-returns c = λ night place m. as_many night place m

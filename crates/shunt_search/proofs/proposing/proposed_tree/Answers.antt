@@ -1,6 +1,0 @@
-use Rattle.shunt_search.proofs.Stocked.{all_statable}
-use Rattle.shunt_search.proofs.proposing.proposed_tree.Goals as goal
-
-pub returns-clause-stock : goal.returns-clause-stock
-returns-clause-stock c = c.in_ok-own.ensures.stock c.args.instance.now (all_statable c.args.instance.now c.in_ok-tree.tree.stock.items c.in_ok-tree.ensures.cases
-    c.in_ok-tree.ensures.apart) c.requires.statable

@@ -1,5 +1,0 @@
-use Rattle.shunt_search.proofs.Walked.{IsLeastOf}
-use Rattle.shunt_search.proofs.walking.give_up.Given as goal
-
-abbrev pub invariant-loop-t : goal.invariant-loop-t
-invariant-loop-t l = IsLeastOf l.fn.low l.waiting l.t-index l.bound

@@ -1,5 +1,0 @@
-use Rattle.std.proofs.Common.{◌≡◌, map, take}
-use Rattle.shunt_sheet.proofs.following.lengths_of.Given as goal
-
-abbrev pub invariant-loop-track : goal.invariant-loop-track
-invariant-loop-track l = l.lengths.items ≡ map (λ t. t.length) (take l.track-index l.station.tracks)

@@ -1,7 +1,0 @@
-use Rattle.std.proofs.Common.{◌≡◌, map}
-use Rattle.std.specs.List.{range_with_len}
-use Rattle.shunt_zones.specs.defs.Loading.{load_of, minutes_over}
-use Rattle.shunt_zones.proofs.loading.loads_by.Given as goal
-
-abbrev pub invariant-loop-zone : goal.invariant-loop-zone
-invariant-loop-zone l = l.loads.items ≡ map (λ z. load_of (minutes_over z l.moves)) (range_with_len 0 l.zone)

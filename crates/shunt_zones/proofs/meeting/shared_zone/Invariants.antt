@@ -1,8 +1,0 @@
-use Rattle.std.proofs.Common.{◌≡◌, filter, drop}
-use Rattle.shunt_zones.specs.defs.Passed.{has_zone}
-use Rattle.shunt_blocks.specs.defs.Least.{lesser}
-use Rattle.shunt_zones.specs.defs.Meeting.{least_of}
-use Rattle.shunt_zones.proofs.meeting.shared_zone.Given as goal
-
-abbrev pub invariant-loop-zone : goal.invariant-loop-zone
-invariant-loop-zone l = lesser l.least (least_of (filter (has_zone l.other) (drop l.zone-index l.own))) ≡ least_of (filter (has_zone l.other) l.own)

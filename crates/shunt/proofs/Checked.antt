@@ -19,7 +19,7 @@ use Rattle.shunt_proof.specs.declared.records.Version.TheVariants.{Stacks}
 use Rattle.shunt_checker.specs.declared.verdict.Verdict.{Verdict}
 use Rattle.shunt_checker.specs.declared.verdict.Verdict.TheVariants as verdict
 use Rattle.shunt_checker.specs.defs.Verdicts.{IsVerdict, Accepts}
-use Rattle.shunt_report.specs.declared.words.FileWord.TheVariants as word
+use Rattle.shunt_rows.specs.declared.words.FileWord.TheVariants as word
 use Rattle.shunt_report.specs.defs.VerdictTexts.{verdict_of}
 use Rattle.shunt_inputs.specs.declared.answers.Outcome.{Outcome}
 use Rattle.shunt_inputs.specs.declared.answers.Outcome.TheVariants as outcome

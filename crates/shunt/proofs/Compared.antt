@@ -18,7 +18,7 @@ use Rattle.shunt_audit.proofs.Stated.{only_plan}
 use Rattle.shunt_compare.specs.declared.records.Change.{Change}
 use Rattle.shunt_compare.specs.declared.records.Comparison.{Comparison}
 use Rattle.shunt_compare.specs.defs.Changes.{IsComparison}
-use Rattle.shunt_report.specs.declared.words.FileWord.TheVariants as word
+use Rattle.shunt_rows.specs.declared.words.FileWord.TheVariants as word
 use Rattle.shunt_inputs.specs.declared.answers.Outcome.{Outcome}
 use Rattle.shunt_inputs.specs.declared.answers.Outcome.TheVariants as outcome
 use Rattle.shunt_inputs.specs.defs.Inputs.{Agrees, stated_plans, stated_other}

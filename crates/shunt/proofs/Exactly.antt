@@ -21,7 +21,6 @@ use Rattle.shunt_zones.specs.declared.records.Meet.{Meet}
 use Rattle.shunt_zones.specs.defs.Meetings.{meets_in}
 use Rattle.shunt_inputs.specs.declared.answers.Outcome.{Outcome}
 use Rattle.shunt_inputs.specs.declared.answers.Outcome.TheVariants as outcome
-use Rattle.shunt_inputs.specs.defs.Pins.{IsUnusable}
 use Rattle.shunt.specs.declared.status.Status.{Status}
 use Rattle.shunt.specs.declared.status.Status.TheVariants as status
 use Rattle.shunt.specs.defs.Calls.{Call, Match, Follow, Audit, Delay, Report, Check, Compare, Zones, Sheet, Draw, Page, Upgrade, Trial, Drivers, Roster, CheckPinned, Replay, MakePlan, MakePinned, Improve}
@@ -34,6 +33,7 @@ use Rattle.shunt_planning.specs.defs.Matched.{IsPaired, IsShortBeside}
 use Rattle.shunt_judging.specs.defs.Audited.{IsFaulty, audit_outcome}
 use Rattle.shunt_judging.specs.defs.Checked.{check_outcome}
 use Rattle.shunt_judging.specs.defs.Pinned.{PinChecked, IsLost, IsPinVerdict}
+use Rattle.shunt_judging.specs.defs.Pins.{IsUnusable}
 use Rattle.shunt_dispatch.specs.defs.Delayed.{HasDelays}
 use Rattle.shunt_compare.specs.declared.records.Change.{Change}
 use Rattle.shunt_dispatch.specs.defs.Compared.{compared_outcome}

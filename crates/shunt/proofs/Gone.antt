@@ -17,7 +17,7 @@ use Rattle.shunt_sheet.specs.defs.FollowedOrders.{followed, LeavesNone}
 use Rattle.shunt_sheet.specs.defs.Orders.{orders_in}
 use Rattle.shunt_sheet.specs.defs.SheetFormat.{sheet_format}
 use Rattle.shunt_sheet.specs.defs.SheetRows.{rows_of as sheet_rows, ReadsAsSheet}
-use Rattle.shunt_report.specs.declared.words.FileWord.TheVariants as word
+use Rattle.shunt_rows.specs.declared.words.FileWord.TheVariants as word
 use Rattle.shunt_report.specs.defs.SheetTexts.{followed_of}
 use Rattle.shunt_inputs.specs.declared.answers.Outcome.TheVariants as outcome
 use Rattle.shunt_inputs.specs.defs.Inputs.{plans_in, stated_night, stated_plan, stated_plans, stated_sheet, stated_station, stated_timetable, then_stated}

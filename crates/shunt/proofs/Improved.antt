@@ -17,7 +17,7 @@ use Rattle.shunt_plan.proofs.Formed.{plan_formed}
 use Rattle.shunt_proof.specs.declared.records.Certificate.{Certificate}
 use Rattle.shunt_audit.specs.defs.Plans.{ArePlanFindings}
 use Rattle.shunt_audit.proofs.Stated.{only_plan}
-use Rattle.shunt_report.specs.declared.words.FileWord.TheVariants as word
+use Rattle.shunt_rows.specs.declared.words.FileWord.TheVariants as word
 use Rattle.shunt_inputs.specs.declared.answers.Outcome.{Outcome}
 use Rattle.shunt_inputs.specs.declared.answers.Outcome.TheVariants as outcome
 use Rattle.shunt_inputs.specs.declared.pins.Pinned.{Pinned}

@@ -10,7 +10,7 @@ use Rattle.shunt_zones.specs.defs.Moves.{moves_of}
 use Rattle.shunt_drivers.specs.declared.records.Duty.{Duty}
 use Rattle.shunt_drivers.specs.defs.RosterFormat.{roster_format, IsRoster}
 use Rattle.shunt_drivers.specs.defs.RosterRows.{rows_of, ReadsAsRoster}
-use Rattle.shunt_report.specs.declared.words.FileWord.TheVariants as word
+use Rattle.shunt_rows.specs.declared.words.FileWord.TheVariants as word
 use Rattle.shunt_inputs.specs.declared.answers.Outcome.TheVariants as outcome
 use Rattle.shunt.specs.declared.status.Status.{Status}
 use Rattle.shunt.specs.declared.status.Status.TheVariants as status

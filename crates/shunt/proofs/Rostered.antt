@@ -16,7 +16,7 @@ use Rattle.shunt_drivers.specs.declared.records.RosterFault.{RosterFault}
 use Rattle.shunt_drivers.specs.defs.CrewFormat.{crew_format, IsCrew}
 use Rattle.shunt_drivers.specs.defs.RosterFormat.{roster_format, AreDuties, IsRoster}
 use Rattle.shunt_drivers.specs.defs.RosterFaults.{fault_in, InWords}
-use Rattle.shunt_report.specs.declared.words.FileWord.TheVariants as word
+use Rattle.shunt_rows.specs.declared.words.FileWord.TheVariants as word
 use Rattle.shunt_inputs.specs.declared.answers.Outcome.{Outcome}
 use Rattle.shunt_inputs.specs.declared.answers.Outcome.TheVariants as outcome
 use Rattle.shunt.specs.declared.status.Status.{Status}

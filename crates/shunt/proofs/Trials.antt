@@ -82,6 +82,7 @@ module _ (n u m : ℕ) (s t p k : List ℕ) where
           in_range = is.in_range;
           statable = is.statable;
           meet = is.meet;
+          few = is.few;
           reply = refl;
         }),
         subst (λ r. IsWhole r old new) is.reply h.3,

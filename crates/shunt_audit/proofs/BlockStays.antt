@@ -5,12 +5,11 @@ use Rattle.std.specs.List.{filter_map, cons_option}
 use Rattle.std.proofs.lemmas.List.Sums.{sum_by-cons}
 use Rattle.std.proofs.lemmas.List.Sorted.{sum_by-IsPermutation}
 use Rattle.shunt_lists.proofs.Members.{all_in, all_from, place_of}
-use Rattle.shunt_lists.specs.defs.Members.{In}
+use Rattle.shunt_lists.specs.defs.Members.{In, Ascends}
 use Rattle.shunt_base.specs.declared.keys.Stay.{Stay}
 use Rattle.shunt_base.specs.defs.Keys.{AreStays}
 use Rattle.shunt_stays.specs.defs.Run.{AreOnTracks}
 use Rattle.shunt_stays.specs.defs.Crossings.{stands_at, load_after}
-use Rattle.shunt_stays.proofs.AscendingLists.{Ascends}
 use Rattle.shunt_instance.specs.defs.Instance.{Night, IsInstance}
 use Rattle.shunt_blocks.specs.declared.records.Block.{Block}
 use Rattle.shunt_blocks.specs.defs.Shapes.{IsInRange}

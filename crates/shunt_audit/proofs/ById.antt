@@ -10,8 +10,8 @@ use Rattle.std.proofs.lemmas.List.Sorted.{All-permutation, IsPermutation-refl, I
 use Rattle.std.proofs.lemmas.Map.Keys.{IsDistinct-IsPermutation}
 use Rattle.std.proofs.lemmas.Map.Made.{AllPairs-from_IsDistinct, IsDistinct-from_AllPairs}
 use Rattle.shunt_lists.proofs.Members.{all_in, all_from, place_of}
-use Rattle.shunt_lists.specs.defs.Members.{In, AreDistinct}
-use Rattle.shunt_stays.proofs.AscendingLists.{Ascends, unique}
+use Rattle.shunt_lists.specs.defs.Members.{In, AreDistinct, Ascends}
+use Rattle.shunt_stays.proofs.AscendingLists.{unique}
 use Rattle.shunt_stays.proofs.SortedEvents.{in_permuted, of_permuted}
 use Rattle.shunt_instance.specs.defs.Instance.{Night}
 use Rattle.shunt_blocks.specs.declared.records.Block.{Block}

@@ -5,8 +5,7 @@ use Rattle.std.proofs.lemmas.List.Concat.{flat_map-cons}
 use Rattle.std.proofs.lemmas.List.Elements.{All-from_recursion, recursion_from_All}
 use Rattle.std.proofs.lemmas.List.Kept.{AllPairs-cons}
 use Rattle.shunt_lists.proofs.Members.{all_in, all_from, in_cases, of_flat}
-use Rattle.shunt_lists.specs.defs.Members.{In}
-use Rattle.shunt_stays.proofs.AscendingLists.{Ascends}
+use Rattle.shunt_lists.specs.defs.Members.{In, Ascends}
 use Rattle.shunt_audit.specs.declared.types.Finding.{Finding}
 use Rattle.shunt_audit.specs.defs.Findings.{kind_of, first_of, second_of, FindingBefore, AreSorted}
 use Rattle.shunt_audit.specs.defs.Listed.{noted, noted_below}

@@ -69,10 +69,11 @@ flag_tells true false e = absurd (omega arith)
 flag_tells false true e = absurd (omega arith)
 flag_tells false false e = refl
 
-abbrev made : ℕ → Bool → ℕ → ℕ → ℕ → EventKey
-made minute enters train place id = record { minute = minute; enters = enters; train = train; place = place; id = id }
+-- the key of these parts
+abbrev pub made_key : ℕ → Bool → ℕ → ℕ → ℕ → EventKey
+made_key minute enters train place id = record { minute = minute; enters = enters; train = train; place = place; id = id }
 
-made_alike : (m n : ℕ) (d e : Bool) (t u p q i j : ℕ) → m ≡ n → d ≡ e → t ≡ u → p ≡ q → i ≡ j → made m d t p i ≡ made n e u q j
+made_alike : (m n : ℕ) (d e : Bool) (t u p q i j : ℕ) → m ≡ n → d ≡ e → t ≡ u → p ≡ q → i ≡ j → made_key m d t p i ≡ made_key n e u q j
 made_alike m n d e t u p q i j a b c f g = cc
 
 -- keys with one rank are one

@@ -15,5 +15,5 @@ pub use duals::{Case, Cases, Duals, Price, PriceKind};
 pub use ids::{ArrId, DepId, PlatformId, Side, TrackId, TypeId};
 pub use keys::{EventKey, Stay, compare_keys};
 pub use minute::{Minute, minute_bytes, parse_minute};
-pub use name::{Name, is_name};
+pub use name::{Name, Naming, PlainNames, is_name};
 pub use number::{parse_decimal, parse_signed};

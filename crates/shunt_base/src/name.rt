@@ -1,4 +1,4 @@
-ghost use Rattle.std.specs.Prelude.{◌≡◌, ◌↔◌, IsTrue, IfOk, All};
+ghost use Rattle.std.specs.Prelude.{◌≡◌, ◌↔◌, List, ℕ, IsTrue, IfOk, All};
 ghost use Rattle.std.specs.Str.{bytes_eq};
 ghost use Rattle.std.specs.Hash as fed;
 ghost use Rattle.std.specs.Cmp.Rules.{comparing, hashing};
@@ -92,5 +92,31 @@ impl Hash for Name {
 
     fn hash<H: Hasher>(&self, state: &mut H) {
         self.bytes().hash(state);
+    }
+}
+
+/// How things of a kind are named.
+pub trait Naming {
+    /// A thing that has a name.
+    type Thing: Drop;
+
+    /// Its name.
+    ghost name: { Self.Thing → List ℕ };
+
+    /// The bytes of its name.
+    fn name_of(thing: &Self::Thing) -> &[u8]
+        ensures { result.now ≡ name thing.now };
+}
+
+/// Names that stand for themselves, as those of platforms.
+pub struct PlainNames;
+
+impl Naming for PlainNames {
+    type Thing = Name;
+
+    ghost name = { λ n. n };
+
+    fn name_of(name: &Name) -> &[u8] {
+        name.bytes()
     }
 }

@@ -13,3 +13,5 @@ mod Agreed
 mod Upgrade
 mod Leasts
 pub mod Shapes
+pub mod Made
+pub mod UnderWays

@@ -1,7 +1,7 @@
 -- Blocks that cover the night give a matching: each unit goes to the position at its place in its block.
 use Rattle.std.specs.Prelude.{All, map, ◌==◌, ◌&&◌, not, cond, sum_by, count_by}
 use Rattle.std.specs.List.{range_with_len}
-use Rattle.std.proofs.Common.{◌≡◌, inl, inr, ℕ, ◌+◌, ◌-◌, ◌<◌, ◌≤◌, Bool, true, false, List, [], ◌∷◌, ◌++◌, length, refl, sym, ap, subst, ◌∙◌, arith}
+use Rattle.std.proofs.Common.{◌≡◌, inl, inr, ℕ, ◌+◌, ◌-◌, ◌<◌, ◌≤◌, Bool, true, false, List, [], ◌∷◌, length, refl, sym, ap, subst, ◌∙◌, arith}
 use Rattle.std.proofs.lemmas.Bool.{true≢false}
 use Rattle.std.proofs.lemmas.Bool.Decides.{nat_tests}
 use Rattle.std.proofs.lemmas.List.{length-map, get_or_past}
@@ -10,17 +10,16 @@ use Rattle.std.proofs.lemmas.List.FromFn.{get_or-map-range_with_len, length-map-
 use Rattle.shunt_lists.proofs.CountsBelow.{count_below-same}
 use Rattle.shunt_lists.specs.defs.Below.{count_below}
 use Rattle.shunt_lists.specs.defs.Members.{In}
-use Rattle.shunt_instance.specs.defs.Instance.{Night, IsInstance, units_of, positions_of, unit_total, position_total}
-use Rattle.shunt_instance.specs.defs.Matching.{entry_at, is_in_rest, IsMatchable, place_of, IsMatching, IsMatchingOfRest, unit_entries, position_entries}
+use Rattle.shunt_instance.specs.defs.Instance.{Night, units_of, positions_of, unit_total, position_total}
+use Rattle.shunt_instance.specs.defs.Matching.{entry_at, is_in_rest, IsMatchable, place_of, IsMatching, unit_entries, position_entries}
 use Rattle.shunt_instance.proofs.Facts.{unit_entry_is, position_entry_is}
 use Rattle.shunt_blocks.specs.declared.records.Block.{Block}
 use Rattle.shunt_blocks.specs.defs.Shapes.{shape_of, unit_from, position_from, unit_entry, IsPair, HasUnit, HasPosition}
 use Rattle.shunt_blocks.specs.defs.Blocks.{IsBlockButId}
-use Rattle.shunt_blocks.specs.defs.Lists.{has_unit, has_position, units_taken, positions_taken, Covers, IsFeasible, placed}
-use Rattle.shunt_blocks.specs.defs.Pins.{AreUsable, singles}
+use Rattle.shunt_blocks.specs.defs.Lists.{has_unit, has_position, Covers, IsFeasible}
 use Rattle.shunt_blocks.proofs.Places.{unit_in, position_in}
 use Rattle.shunt_blocks.proofs.Held.{held, holder, one_holder}
-use Rattle.shunt_blocks.proofs.Started.{one_counted, opening_feasible}
+use Rattle.shunt_blocks.proofs.Started.{one_counted}
 use Rattle.shunt_lists.proofs.Members.{each_one}
 use Rattle.shunt_blocks.proofs.Shapes.{has_from, has_position_from, position_to, unit_to, but_ids}
 
@@ -188,8 +187,3 @@ pub record HasMatching (night : Night) : Type 0 where
 
 pub plan_matching : (night : Night) (blocks : List Block) → IsFeasible night blocks → HasMatching night
 plan_matching night blocks h = record { place = partners night blocks; is = matched night blocks (but_ids night blocks h.each) h.covers }
-
-pub whole_matching : (night : Night) (pins : List Block) (place : List ℕ) → IsInstance night → AreUsable night pins
-    → IsMatchingOfRest (unit_entries night) (position_entries night) (units_taken night pins) (positions_taken night pins) place
-    → HasMatching night
-whole_matching night pins place is usable m = plan_matching night (placed (pins ++ singles night pins place)) (opening_feasible night pins place is usable m)

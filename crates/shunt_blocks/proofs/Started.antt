@@ -21,7 +21,7 @@ use Rattle.shunt_blocks.specs.defs.Shapes.{shape_of, unit_from, position_from, p
 use Rattle.shunt_blocks.specs.defs.Blocks.{IsBlockButId}
 use Rattle.shunt_blocks.specs.defs.Stays.{stay_with}
 use Rattle.shunt_blocks.specs.defs.Lists.{has_unit, has_position, times_unit, times_position, units_taken, positions_taken, Covers, track_lengths, stays_of, IsFeasible, placed_from, placed}
-use Rattle.shunt_blocks.specs.defs.Pins.{AreUsable, Keeps, single, singles_below, singles}
+use Rattle.shunt_blocks.specs.defs.Pins.{AreUsable, Keeps, single, singles_below, singles, single_at}
 use Rattle.shunt_blocks.proofs.StaysOf.{placed_runs, in_placed}
 use Rattle.shunt_blocks.proofs.Feasible.{placed_feasible}
 use Rattle.shunt_blocks.proofs.OpeningCosts.{rest_units, rest_positions}
@@ -98,13 +98,10 @@ single_goes night u v w h lt = let at = single_to night u v h lt in grind (arith
 
 -- ---- all singles
 
-abbrev last : Night → List Block → List ℕ → ℕ → List Block
-last night pins place n = cond (times_unit night pins n == 0) (single night n (place_of place n) ∷ []) []
-
 pub singles_fit : (night : Night) (pins : List Block) (place : List ℕ) (n : ℕ) → IsOrderedNight night → IsRestMatched night pins place → n ≤ unit_total night
     → All (IsBlockButId night) (singles_below night pins place n)
 singles_fit night pins place zero h m le = All-nil (IsBlockButId night)
-singles_fit night pins place (suc n) h m le = All-append (IsBlockButId night) (singles_below night pins place n) (last night pins place n)
+singles_fit night pins place (suc n) h m le = All-append (IsBlockButId night) (singles_below night pins place n) (single_at night pins place n)
     (singles_fit night pins place n h m (omega (arith, le))) (at (times_unit night pins n == 0) refl)
   where
     at : (t : Bool) → (times_unit night pins n == 0) ≡ t → All (IsBlockButId night) (cond t (single night n (place_of place n) ∷ []) [])
@@ -118,7 +115,7 @@ singles_units night pins place zero w h le = refl
 singles_units night pins place (suc n) w h le = omega (
   arith,
   sum_by-append (λ b. cond (has_unit night (shape_of b) w) 1 0) (singles_below night pins place n)
-      (last night pins place n),
+      (single_at night pins place n),
   singles_units night pins place n w h (omega (arith, le)),
   at (times_unit night pins n == 0),
 )
@@ -134,7 +131,7 @@ singles_positions night pins place zero w h m le = refl
 singles_positions night pins place (suc n) w h m le = omega (
   arith,
   sum_by-append (λ b. cond (has_position night (shape_of b) w) 1 0) (singles_below night pins place n)
-      (last night pins place n),
+      (single_at night pins place n),
   singles_positions night pins place n w h m (omega (arith, le)),
   at (times_unit night pins n == 0) refl,
 )
@@ -188,7 +185,7 @@ singles_unparked night pins place zero b there = absurd there
 singles_unparked night pins place (suc n) b there = ⊎_elim
     (λ before. singles_unparked night pins place n b before)
     (λ here. at (times_unit night pins n == 0) here)
-    (in_cases (singles_below night pins place n) (last night pins place n) b there)
+    (in_cases (singles_below night pins place n) (single_at night pins place n) b there)
   where
     at : (t : Bool) → In b (cond t (single night n (place_of place n) ∷ []) []) → b.park ≡ None
     at true (inl e) = ap (λ (x : Block). x.park) e

@@ -85,7 +85,7 @@ enters_first night s h r soon = omega (
 
 -- ---- lengths
 
-length_small : (s : Station) (kind : TypeId) → IsStation s → length_of s kind ≤ 5000
+pub length_small : (s : Station) (kind : TypeId) → IsStation s → length_of s kind ≤ 5000
 length_small s kind h = ⊎_elim
     (λ lt. omega (arith, get_or-map (λ (t : UnitType). t.length) s.types kind.0 no_type 0 lt, (h.types kind.0 no_type lt).long))
     (λ le. omega (arith, get_or_past (map (λ (t : UnitType). t.length) s.types) kind.0 0 (rw length-map le)))

@@ -23,9 +23,9 @@ use Rattle.shunt_proof.specs.defs.Versions.{HoldIn}
 use Rattle.shunt_proof.proofs.Depths.{nearest_here, nearest_before}
 use Rattle.shunt_checker.specs.declared.verdict.Reason.{Reason}
 use Rattle.shunt_checker.specs.declared.walk.Frame.{Frame}
-use Rattle.shunt_checker.specs.defs.NodeFaults.{IsNodeSound, IsFirstNodeFault}
+use Rattle.shunt_checker.specs.defs.NodeFaults.{IsNodeSound, IsFirstNodeFault, AreSound}
 use Rattle.shunt_checker.specs.defs.NodeSteps.{NodeFrom, Judges, JudgesChild, LeadsDown}
-use Rattle.shunt_checker.specs.defs.Walks.{IsOwner, AreOwn, Owns, IsFrame, AreFrames, AreSound, IsAtNode, IsWalk, Settles, path_before, front_of}
+use Rattle.shunt_checker.specs.defs.Walks.{IsOwner, AreOwn, Owns, IsFrame, AreFrames, IsAtNode, IsWalk, Settles, path_before, front_of}
 use Rattle.shunt_checker.proofs.Chosen.{no_choice}
 use Rattle.shunt_checker.proofs.NodeOrder.{from_start, from_next, none_there, none_twice, none_lean, sound}
 

@@ -4,16 +4,13 @@ mod Steps
 mod Seen
 mod Nexts
 mod Chosen
-mod Taken
 mod Longer
 mod Lowness
 mod Missed
 mod Growth
-mod Dear
 mod Parks
 mod Options
 mod Looked
-mod FreeShapes
 mod Searches
 mod Opened
 mod Twofold

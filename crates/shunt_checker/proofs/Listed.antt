@@ -16,6 +16,7 @@ use Rattle.shunt_proof.specs.defs.Nodes.{node_at}
 use Rattle.shunt_proof.specs.defs.Trees.{depth_at, parent, IsChildOf, stated_choice, path_at, choice_from}
 use Rattle.shunt_proof.specs.defs.Proves.{IsListed}
 use Rattle.shunt_checker.proofs.Stable.{Stable}
+use Rattle.shunt_checker.specs.defs.Lows.{offer_of}
 
 abbrev pub Decided : Type 0 → Type 0
 Decided P = P ⊎ (P → ⊥)
@@ -71,14 +72,11 @@ shape_from a b p r n m x y q s ea ep en ex eq =
     ap (λ (w : ℕ). run_shape w p n x q) ea ∙ (ap (λ (w : ℕ). run_shape b w n x q) ep
     ∙ (ap (λ (w : ℕ). run_shape b r w x q) en ∙ (ap (λ (w : ℕ). run_shape b r m w q) ex ∙ ap (λ (w : ℕ). run_shape b r m y w) eq)))
 
-abbrev choice_of : Shape → Option Park → PathChoice
-choice_of s o = record { shape = s; option = o }
-
 choice_from_alike : (c d : PathChoice) → AreAlike c d → c ≡ d
 choice_from_alike c d h =
-    ap (λ (s : Shape). choice_of s c.option) (shape_from c.shape.arr.0 d.shape.arr.0 c.shape.p d.shape.p c.shape.n d.shape.n c.shape.dep.0 d.shape.dep.0 c.shape.q d.shape.q h.arr
+    ap (λ (s : Shape). offer_of s c.option) (shape_from c.shape.arr.0 d.shape.arr.0 c.shape.p d.shape.p c.shape.n d.shape.n c.shape.dep.0 d.shape.dep.0 c.shape.q d.shape.q h.arr
     h.p h.n h.dep h.q)
-    ∙ ap (λ (o : Option Park). choice_of d.shape o) h.option
+    ∙ ap (λ (o : Option Park). offer_of d.shape o) h.option
 
 pub choice : (c d : PathChoice) → Decided (c ≡ d)
 choice c d = ⊎_elim

@@ -13,6 +13,7 @@ use Rattle.shunt_blocks.specs.declared.records.Park.{Park}
 use Rattle.shunt_blocks.specs.defs.Shapes.{unit_from}
 use Rattle.shunt_blocks.specs.defs.Costs.{cost_with}
 use Rattle.shunt_blocks.specs.defs.Stays.{shape_length}
+use Rattle.shunt_blocks.proofs.Made.{made_park}
 use Rattle.shunt_choices.specs.defs.Choices.{Choice as PathChoice, ParkBefore, OptionBefore, LaterBefore}
 use Rattle.shunt_prices.specs.defs.Prices.{track_length, price_part_with}
 use Rattle.shunt_prices.specs.defs.Cases.{weight_with, duals_over}
@@ -23,11 +24,8 @@ use Rattle.shunt_checker.specs.defs.NodeFaults.{EarlierChoice}
 use Rattle.shunt_checker.proofs.Versioned.{unparked_asked}
 use Rattle.shunt_prices.proofs.Counts.{no_part}
 
-abbrev parked : TrackId → Side → Side → Park
-parked t a b = record { track = t; side_in = a; side_out = b }
-
-parked_as : (t : TrackId) (a : Side) (k : Park) → k.track ≡ t → k.side_in ≡ a → k ≡ parked t a k.side_out
-parked_as t a k et ea = ap (λ (w : TrackId). parked w k.side_in k.side_out) et ∙ ap (λ (w : Side). parked t w k.side_out) ea
+parked_as : (t : TrackId) (a : Side) (k : Park) → k.track ≡ t → k.side_in ≡ a → k ≡ made_park t a k.side_out
+parked_as t a k et ea = ap (λ (w : TrackId). made_park w k.side_in k.side_out) et ∙ ap (λ (w : Side). made_park t w k.side_out) ea
 
 not_before : (k l : Park) → k.track ≡ l.track → k.side_in ≡ B → l.side_in ≡ A → ParkBefore k l → ⊥
 not_before k l same b a (inl less) = let e : k.track.0 ≡ l.track.0 = ap (λ (w : TrackId). w.0) same in omega (arith, e, less)
@@ -35,11 +33,11 @@ not_before k l same b a (inr (_, inl (first, second))) = let e : A ≡ B = sym f
 not_before k l same b a (inr (_, inr (sides, _))) = let e : B ≡ A = sym b ∙ (sides ∙ a) in cc
 
 module _ (version : Version) (night : Night) (s : Shape) (sum : ℤ) (part : ℕ) (track : TrackId) where
-  pub neither : (side_in : Side) (a b : Bool) → IsTrue a ↔ IsLightPark version night s sum part (parked track side_in A) → a ≡ false
-      → IsTrue b ↔ IsLightPark version night s sum part (parked track side_in B) → b ≡ false → Finds (IsLightBy version night s sum part track side_in) ParkBefore None
+  pub neither : (side_in : Side) (a b : Bool) → IsTrue a ↔ IsLightPark version night s sum part (made_park track side_in A) → a ≡ false
+      → IsTrue b ↔ IsLightPark version night s sum part (made_park track side_in B) → b ≡ false → Finds (IsLightBy version night s sum part track side_in) ParkBefore None
   neither side_in a b ha ea hb eb k h = by k.side_out (subst (IsLightPark version night s sum part) (parked_as track side_in k h.on h.by) h.light)
     where
-      by : (o : Side) → IsLightPark version night s sum part (parked track side_in o) → ⊥
+      by : (o : Side) → IsLightPark version night s sum part (made_park track side_in o) → ⊥
       by A l = let t : a ≡ true = ha.1 l in cc
       by B l = let t : b ≡ true = hb.1 l in cc
 

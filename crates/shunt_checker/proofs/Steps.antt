@@ -10,12 +10,13 @@ use Rattle.shunt_lists.proofs.Members.{all_in, in_left, in_right}
 use Rattle.shunt_base.specs.declared.duals.Case.{Case}
 use Rattle.shunt_instance.specs.defs.Instance.{Night}
 use Rattle.shunt_blocks.specs.declared.records.Block.{Block}
-use Rattle.shunt_blocks.specs.defs.Shapes.{begins_at, shape_of, unit_from, IsInRange, IsWithinTrains}
+use Rattle.shunt_blocks.specs.defs.Shapes.{begins_at, shape_of, IsInRange, IsWithinTrains}
 use Rattle.shunt_blocks.specs.defs.Blocks.{IsBlockButId}
 use Rattle.shunt_blocks.specs.defs.Lists.{ShareNothing, RunsThrough, placed}
 use Rattle.shunt_blocks.specs.defs.Pins.{without_id}
 use Rattle.shunt_choices.specs.defs.Paths.{Masks, Trail, IsTrailOf, IsPartialPlan, masks_of, next_of}
 use Rattle.shunt_choices.specs.defs.Choices.{Choice as PathChoice, IsChoice, IsChoiceAt, IsFreeShape, longer_by, chosen}
+use Rattle.shunt_choices.proofs.AtPaths.{for_next}
 use Rattle.shunt_prices.specs.defs.Cases.{IsFreeBlock}
 use Rattle.shunt_stacks.specs.defs.Bounds.{IsChoiceBound}
 use Rattle.shunt_proof.specs.declared.records.Version.TheVariants.{Stacks}
@@ -95,11 +96,6 @@ of_last P whole front b e all = all_in P whole b (recursion_from_All P whole all
 of_front : (P : Block → Type 0) (whole front : List Block) (b : Block) → whole ≡ front ++ b ∷ [] → All P whole → All P front
 of_front P whole front b e all = subst (All P) (ap (take (length front)) e ∙ take-append_seam front (b ∷ [])) (All-take P (length front) whole all)
 
-next_for : (night : Night) (path : List Block) (next : Option ℕ) (d : PathChoice) → IsSomeAnd next (λ u. IsChoice night (masks_of night path) u d)
-    → next ≡ Some (unit_from night d.shape)
-next_for night path None d never = absurd never
-next_for night path (Some u) d is = ap (λ (n : ℕ). Some n) (sym is.shape.first)
-
 -- what the law on parts of runs says of one night
 abbrev pub PartLaw : Night → Type 0
 PartLaw night = (blocks others : List Block) → All (IsWithinTrains night) blocks → ShareNothing night blocks → All (IsWithinTrains night) others → ShareNothing night others
@@ -135,7 +131,7 @@ module _ (night : Night) (old new : Trail) (b : Block) (e : old.blocks ≡ new.b
   last_next = subst (λ (m : Masks). next_of m ≡ Some (begins_at night b)) (sym of_new.covered)
       (subst (λ (f : List Block). next_of (masks_of night f) ≡ Some (begins_at night b)) front_is
       (subst (λ (x : Block). next_of (masks_of night more.0) ≡ Some (begins_at night x)) block_is
-      (next_for night more.0 (next_of (masks_of night more.0)) more.1.choice more.1.there)))
+      (for_next night more.0 (next_of (masks_of night more.0)) more.1.choice more.1.there).0))
 
   pub whole_runs : RunsThrough night (placed (new.blocks ++ b ∷ []))
   whole_runs = subst (λ (bs : List Block). RunsThrough night (placed bs)) e more.1.through

@@ -1,7 +1,6 @@
 -- What holds of either version: which bounds there are, and what is asked.
-use Rattle.std.specs.Prelude.{◌≤ℤ◌, All, Option, Some, None}
-use Rattle.std.specs.Option.{IsSomeAnd}
-use Rattle.std.proofs.Common.{◌≡◌, ℕ, ◌+◌, ◌≤◌, List, [], ◌∷◌, ◌++◌, length, ℤ, refl, sym, subst, arith}
+use Rattle.std.specs.Prelude.{◌≤ℤ◌, All, None}
+use Rattle.std.proofs.Common.{◌≡◌, ℕ, ◌+◌, ◌≤◌, List, [], ◌∷◌, ◌++◌, length, ℤ, refl, arith}
 use Rattle.std.proofs.lemmas.Int.{ints, by_lt_z}
 use Rattle.std.proofs.lemmas.List.Elements.{All-from_get_or}
 use Rattle.shunt_base.specs.declared.duals.Case.{Case}
@@ -10,7 +9,8 @@ use Rattle.shunt_blocks.specs.declared.records.Block.{Block}
 use Rattle.shunt_blocks.specs.defs.Shapes.{IsWithinTrains, shape_of}
 use Rattle.shunt_blocks.specs.defs.Lists.{ShareNothing, RunsThrough, placed}
 use Rattle.shunt_choices.specs.defs.Paths.{Masks, masks_of, next_of}
-use Rattle.shunt_choices.specs.defs.Choices.{Choice as PathChoice, IsChoice, IsChoiceAt, IsFreeShape, longer_by, chosen}
+use Rattle.shunt_choices.specs.defs.Choices.{Choice as PathChoice, IsChoiceAt, longer_by, chosen}
+use Rattle.shunt_choices.proofs.AtPaths.{for_next}
 use Rattle.shunt_prices.specs.defs.Limits.{case_at}
 use Rattle.shunt_prices.specs.defs.Cases.{IsFreeBlock, HasRoom, HoldsInCase, weight_with, duals_over}
 use Rattle.shunt_prices.specs.defs.Bounds.{IsCasesBound}
@@ -29,13 +29,10 @@ pub record IsSolid (night : Night) (path : List Block) : Type 0 where
   pub through : RunsThrough night (placed path)
 
 -- the block of a choice at a path is free there
-free_for : (night : Night) (path : List Block) (next : Option ℕ) (d : PathChoice) → IsSomeAnd next (λ u. IsChoice night (masks_of night path) u d)
-    → IsFreeBlock night (masks_of night path) d.shape d.option
-free_for night path None d never = absurd never
-free_for night path (Some u) d is = record { shape = subst (λ (w : ℕ). IsFreeShape night (masks_of night path) w d.shape) (sym is.shape.first) is.shape; option = is.option }
-
 pub free_at : (night : Night) (path : List Block) (d : PathChoice) → IsChoiceAt night path d → IsFreeBlock night (masks_of night path) d.shape d.option
-free_at night path d is = free_for night path (next_of (masks_of night path)) d is
+free_at night path d is =
+    let own = (for_next night path (next_of (masks_of night path)) d is).1 in
+    record { shape = own.shape; option = own.option }
 
 -- ---- bounds
 

@@ -7,7 +7,6 @@ pub mod Firsts
 pub mod Searches
 pub mod Ways
 pub mod Lights
-pub mod Opened
 pub mod Stops
 pub mod Breaks
 pub mod Children

@@ -10,7 +10,7 @@ ghost use Rattle.shunt_prices.specs.defs.Limits.{IsValue, from_of};
 ghost use Rattle.shunt_prices.specs.defs.Cases.{weight};
 ghost use Rattle.shunt_prices.specs.defs.Bounds.{most_surcharge, sum_at, case_sum, unparked_in};
 ghost use Rattle.shunt_prices.specs.defs.Bounds.{IsBoundOf, IsCasesBound};
-ghost use Rattle.shunt_checker.specs.defs.Opened.{IsLeastBelow};
+ghost use Rattle.shunt_prices.specs.defs.Bounds.{IsLeastBelow};
 
 use crate::prices::{room_on, taken_on_tracks};
 use shunt_base::{Case, Cases, Price, PriceKind};

@@ -4,7 +4,7 @@ ghost use Rattle.shunt_instance.specs.defs.Instance.{unit_total, position_total}
 ghost use Rattle.shunt_blocks.specs.defs.Shapes.{AreRunsWithin, unit_from};
 ghost use Rattle.shunt_choices.specs.defs.Free.{AreMasksOf};
 ghost use Rattle.shunt_choices.specs.defs.Choices.{IsFreeShape};
-ghost use Rattle.shunt_checker.specs.defs.Lights.{IsFreePair};
+ghost use Rattle.shunt_choices.specs.defs.Choices.{IsFreePair};
 
 use shunt_blocks::{Shape, is_pair, position_from, unit_from};
 use shunt_choices::Covered;

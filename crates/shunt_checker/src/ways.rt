@@ -9,7 +9,8 @@ ghost use Rattle.shunt_blocks.specs.defs.Shapes.{AreRunsWithin};
 ghost use Rattle.shunt_blocks.specs.defs.Ways.{way_from, way_to};
 ghost use Rattle.shunt_blocks.specs.defs.Blocks.{IsParkable};
 ghost use Rattle.shunt_blocks.specs.defs.Costs.{shape_cost, cost_with};
-ghost use Rattle.shunt_checker.specs.defs.Ways.{IsUnderIn, IsUnderOut, AreLeastWays};
+ghost use Rattle.shunt_blocks.specs.defs.Ways.{IsUnderIn, IsUnderOut};
+ghost use Rattle.shunt_checker.specs.defs.Ways.{AreLeastWays};
 
 use crate::prices::{as_block, cost_with};
 use shunt_base::{ArrId, DepId, Side, TrackId};

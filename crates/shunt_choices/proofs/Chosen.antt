@@ -16,7 +16,7 @@ use Rattle.shunt_blocks.specs.declared.records.Shape.{Shape}
 use Rattle.shunt_choices.specs.defs.Paths.{Masks}
 use Rattle.shunt_blocks.specs.defs.Shapes.{AreRunsWithin, IsPair, unit_from, position_from, is_pair}
 use Rattle.shunt_choices.specs.defs.Free.{is_bare, is_free_pair, is_free_run, has_units, has_positions}
-use Rattle.shunt_choices.specs.defs.Choices.{IsFreeShape, ShapeBefore, shape_at, shapes_of_length, shapes_of}
+use Rattle.shunt_choices.specs.defs.Choices.{IsFreeShape, ShapeBefore, shape_at, shapes_of_length, shapes_of, IsFreePair}
 use Rattle.shunt_choices.proofs.Given.{PlaceLaws}
 use Rattle.shunt_choices.proofs.Ordered.{Follows, follows_map, follows_filter, follows_flat, follows_range, range_in, in_range}
 use Rattle.shunt_lists.proofs.Tests.{all_three as three_true, from_three}
@@ -32,11 +32,6 @@ pair_from night u v t =
 pair_to : (night : Night) (u v : ℕ) → IsPair night u v → is_pair night u v ≡ true
 pair_to night u v h = and_from ((unit_at night u).kind.0 == (position_at night v).kind.0) (nat_le (ready night u) (leaves night v)) (eq-eqb _ _ h.kind)
     (le-leb (ready night u) (leaves night v) h.ready)
-
-record IsFreePair (night : Night) (covered : Masks) (u v : ℕ) : Type 0 where
-  unit : slice_index_or covered.units u true ≡ false
-  position : slice_index_or covered.places v true ≡ false
-  pair : IsPair night u v
 
 free_from : (night : Night) (covered : Masks) (u v : ℕ) → is_free_pair night covered u v ≡ true → IsFreePair night covered u v
 unfolding is_free_pair

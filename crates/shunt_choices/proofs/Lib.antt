@@ -13,3 +13,4 @@ pub mod Grown
 pub mod Partial
 pub mod Counted
 pub mod Begins
+pub mod Pairwise

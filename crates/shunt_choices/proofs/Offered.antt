@@ -14,6 +14,7 @@ use Rattle.shunt_blocks.specs.declared.records.Park.{Park}
 use Rattle.shunt_choices.specs.defs.Paths.{Masks}
 use Rattle.shunt_blocks.specs.defs.Ways.{park_way_in, park_way_out, permits_units}
 use Rattle.shunt_blocks.specs.defs.Blocks.{IsOption, IsParkable, can_park, is_option}
+use Rattle.shunt_blocks.proofs.Made.{parked}
 use Rattle.shunt_choices.specs.defs.Choices.{ShapeBefore, ParkBefore, OptionBefore, Choice, ChoiceBefore, IsChoice, parks_on, parks_below, candidates, options_of, shapes_of, choices_with, choices_of}
 use Rattle.shunt_choices.proofs.Given.{PlaceLaws}
 use Rattle.shunt_choices.proofs.Ordered.{Follows, all_pairs, follows_map, follows_filter, follows_flat, follows_range, range_in, in_range}
@@ -21,9 +22,6 @@ use Rattle.shunt_choices.proofs.Chosen.{shapes_are, shapes_follow}
 use Rattle.shunt_lists.proofs.Tests.{all_three as three_true, from_three}
 
 -- ---- tracks with sides
-
-abbrev parked : ℕ → Side → Side → Park
-parked t a b = record { track = record { 0 = t }; side_in = a; side_out = b }
 
 in_four : (t : ℕ) (a b : Side) → In (parked t a b) (parks_on t)
 in_four t A A = inl refl

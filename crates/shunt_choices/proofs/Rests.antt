@@ -4,7 +4,6 @@ use Rattle.std.specs.List.{flat_map, range_with_len}
 use Rattle.std.proofs.Common.{◌≡◌, ℕ, zero, suc, ◌+◌, ◌-◌, ◌*◌, ◌/◌, ◌%◌, ◌<◌, ◌≤◌, true, false, List, [], ◌∷◌, ◌++◌, map, length, get_or, drop, refl, sym, ap, ◌∙◌, arith}
 use Rattle.std.proofs.lemmas.List.{drop_more, drop_all, get_or-map, length-map}
 use Rattle.shunt_lists.proofs.Members.{filter_yes, filter_no}
-use Rattle.shunt_base.specs.declared.ids.Side.{Side}
 use Rattle.shunt_base.specs.declared.ids.Side.TheVariants.{A, B}
 use Rattle.shunt_instance.specs.defs.Instance.{Night, position_total}
 use Rattle.shunt_blocks.specs.declared.records.Shape.{Shape}
@@ -12,6 +11,7 @@ use Rattle.shunt_blocks.specs.declared.records.Park.{Park}
 use Rattle.shunt_choices.specs.defs.Choices.{shape_at, parks_on, parks_below, candidates}
 use Rattle.shunt_choices.specs.defs.Cursors.{row_left, rows_left, shapes_left, options_left, side_numbered, candidate}
 use Rattle.shunt_blocks.specs.defs.Blocks.{is_option}
+use Rattle.shunt_blocks.proofs.Made.{parked, same_park}
 use Rattle.shunt_lists.proofs.Tests.{one_left as one_more}
 
 -- ---- shapes
@@ -63,14 +63,8 @@ ends night u reach most n v le done =
 abbrev some : Park → Option Park
 some k = Some k
 
-abbrev parked : ℕ → Side → Side → Park
-parked t a b = record { track = record { 0 = t }; side_in = a; side_out = b }
-
 abbrev park_of : ℕ → ℕ → Park
 park_of t i = parked (t + i / 4) (side_numbered (i / 2 % 2)) (side_numbered (i % 2))
-
-same_park : (t r : ℕ) (a b c e : Side) → t ≡ r → a ≡ b → c ≡ e → parked t a c ≡ parked r b e
-same_park t r a b c e f g h = cc
 
 park_at : (t n i : ℕ) (d : Park) → i < 4 * n → get_or (flat_map parks_on (range_with_len t n)) i d ≡ park_of t i
 park_at t zero i d lt = absurd (omega arith)

@@ -1,7 +1,7 @@
 -- How far free runs go, and the shapes that a table of their lengths gives.
 use Rattle.std.specs.Prelude.{◌&&◌, nat_le, filter}
 use Rattle.std.specs.List.{flat_map, range_with_len}
-use Rattle.std.proofs.Common.{◌≡◌, ⊎_elim, ℕ, zero, suc, ◌+◌, ◌-◌, ◌<◌, ◌≤◌, Bool, true, false, List, [], ◌∷◌, ◌++◌, map, length, get_or, slice_set, replicate, refl, sym, ap, subst, ◌∙◌, arith}
+use Rattle.std.proofs.Common.{◌≡◌, ⊎_elim, ℕ, zero, suc, ◌+◌, ◌-◌, ◌<◌, ◌≤◌, Bool, true, false, List, [], ◌∷◌, ◌++◌, map, length, get_or, slice_set, refl, sym, ap, subst, ◌∙◌, arith}
 use Rattle.std.proofs.lemmas.Bool.{cases_lt, cases_eq, cases_Bool, true≢false, le-leb, lt-leb, false_from_ne_true}
 use Rattle.std.proofs.lemmas.List.{get_or-set_same, get_or-set_other}
 use Rattle.shunt_lists.proofs.TestsBelow.{each_passes, all_pass}
@@ -94,14 +94,6 @@ table_small most reach i x within before small v =
     (λ e. subst (λ (w : ℕ). get_or (slice_set reach i x) w 0 ≤ most) e (subst (λ (y : ℕ). y ≤ most) (sym (get_or-set_same reach i x 0 within)) small))
     (λ ne. subst (λ (y : ℕ). y ≤ most) (sym (get_or-set_other reach i v x 0 (λ e. ne (sym e)))) (before v))
     (cases_eq i v)
-
-abbrev none : ℕ
-none = 0
-
-pub zero_at : (n v : ℕ) → get_or (replicate n none) v none ≡ none
-zero_at zero v = refl
-zero_at (suc n) zero = refl
-zero_at (suc n) (suc v) = zero_at n v
 
 -- the greatest number of a table
 pub bound_more : (numbers : List ℕ) (i most greater : ℕ) → most ≤ greater → get_or numbers i 0 ≤ greater → ((k : ℕ) → k < i → get_or numbers k 0 ≤ most) → (k : ℕ) → k < i + 1

@@ -5,9 +5,8 @@ use Rattle.std.proofs.Common.{◌≡◌, inl, inr, ⊎_elim, ℕ, zero, suc, ◌
 use Rattle.std.proofs.lemmas.List.{map-append, append-nil}
 use Rattle.std.proofs.lemmas.List.Elements.{filter-append}
 use Rattle.shunt_lists.proofs.Members.{filter_yes, filter_no, filter_from, in_map, in_place, in_cases, of_one, each_one as of_all, to_all, place_of}
-use Rattle.shunt_lists.specs.defs.Members.{In}
+use Rattle.shunt_lists.specs.defs.Members.{In, Ascends}
 use Rattle.shunt_stays.specs.defs.Run.{AreOnTracks, GoesThrough}
-use Rattle.shunt_stays.proofs.AscendingLists.{Ascends}
 use Rattle.shunt_stays.proofs.Fewer.{part_through}
 use Rattle.shunt_instance.specs.defs.Words.{train_at, is_standing}
 use Rattle.shunt_instance.specs.defs.Instance.{Night, IsInstance}

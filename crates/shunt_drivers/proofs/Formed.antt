@@ -15,7 +15,7 @@ use Rattle.shunt_base.specs.defs.Sides.{same_side}
 use Rattle.shunt_base.specs.defs.Spelling.{decimal_of}
 use Rattle.shunt_rows.specs.defs.Records.{at}
 use Rattle.shunt_rows.specs.defs.Checks.{answer}
-use Rattle.shunt_rows.specs.defs.Fields.{is_word, side_in}
+use Rattle.shunt_rows.specs.defs.Fields.{is_word, side_in, enters_of}
 use Rattle.shunt_rows.specs.defs.Formats.{reading}
 use Rattle.shunt_rows.proofs.Answered.{says, in_either}
 use Rattle.shunt_rows.proofs.KeptStates.{all_kept, formed}
@@ -29,7 +29,7 @@ use Rattle.shunt_drivers.specs.declared.records.Takes.{Takes}
 use Rattle.shunt_drivers.specs.declared.records.Crew.{Crew}
 use Rattle.shunt_drivers.specs.declared.records.Duty.{Duty}
 use Rattle.shunt_drivers.specs.defs.CrewFormat.{CrewDraft, no_crew, way_of, takes_over, is_over, stands, first_of, takes_in, takes_of, else_of, later_of, crew_of, crew_format, AreMinutes, IsTakes, IsCrew}
-use Rattle.shunt_drivers.specs.defs.RosterFormat.{MoveName, name_of, named_by, is_one, move_named, enters_of, no_move, driver_in, move_in, duty_by, duty_of, roster_first, duties_of, roster_later, roster_format, IsSpelled, IsRoster}
+use Rattle.shunt_drivers.specs.defs.RosterFormat.{MoveName, name_of, named_by, is_one, move_named, no_move, driver_in, move_in, duty_by, duty_of, roster_first, duties_of, roster_later, roster_format, IsSpelled, IsRoster}
 use Rattle.shunt_drivers.proofs.MoveNames.{one_tells, tells_one, found_in, number_small}
 use Rattle.shunt_lists.proofs.Options.{some_same}
 

@@ -1,18 +1,15 @@
 -- How long the text of a roster is.
-use Rattle.std.proofs.Common.{◌≡◌, ℕ, ◌≤◌, Bool, true, false, List, length, length-append, map, sym, subst, ap, ◌∙◌, arith}
+use Rattle.std.proofs.Common.{◌≡◌, ℕ, ◌≤◌, List, length, length-append, map, sym, subst, ap, ◌∙◌, arith}
 use Rattle.std.proofs.lemmas.Fmt.{length-decimal-le}
 use Rattle.std.proofs.lemmas.List.Concat.{flat_map-cons}
 use Rattle.shunt_rows.specs.defs.Records.{text_of_row, text_of_rows}
 use Rattle.shunt_rows.proofs.Widths.{row_width, rows_width}
+use Rattle.shunt_rows.proofs.Plain.{word_short}
 use Rattle.shunt_tracks.specs.declared.run.Event.{Event}
 use Rattle.shunt_drivers.specs.declared.records.Duty.{Duty}
 use Rattle.shunt_drivers.specs.defs.RosterFormat.{IsSpelled, IsRoster}
-use Rattle.shunt_drivers.specs.defs.RosterRows.{move_word, head_row, duty_row, rows_of}
+use Rattle.shunt_drivers.specs.defs.RosterRows.{head_row, duty_row, rows_of}
 use Rattle.shunt_drivers.proofs.RoundTrip.{plain_head, plain_duty}
-
-word_short : (enters : Bool) → length (move_word enters) ≤ 5
-word_short true = omega arith
-word_short false = omega arith
 
 duty_short : (d : Duty) → IsSpelled d → length (text_of_row (duty_row d)) ≤ 34
 duty_short d is =

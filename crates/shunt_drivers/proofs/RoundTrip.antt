@@ -1,5 +1,5 @@
 -- The records of a roster are plain, and state it.
-use Rattle.std.proofs.Common.{◌≡◌, ℕ, Bool, true, false, not, List, [], ◌∷◌, ◌++◌, map, refl, sym, subst, ap, ◌∙◌, arith}
+use Rattle.std.proofs.Common.{◌≡◌, ℕ, Bool, true, not, List, [], ◌∷◌, ◌++◌, map, refl, sym, subst, ap, ◌∙◌, arith}
 use Rattle.std.specs.Prelude.{Ok, Option, Some, codes}
 use Rattle.std.specs.Option.{is_some, unwrap_or}
 use Rattle.std.specs.Fmt.{decimal}
@@ -8,28 +8,24 @@ use Rattle.shunt_lists.specs.defs.Members.{In, AreDistinct}
 use Rattle.shunt_lists.proofs.Members.{of_map}
 use Rattle.shunt_base.specs.defs.Spelling.{decimal_of}
 use Rattle.shunt_rows.specs.defs.Checks.{answer}
-use Rattle.shunt_rows.specs.defs.Fields.{is_within}
+use Rattle.shunt_rows.specs.defs.Fields.{is_within, enters_of}
 use Rattle.shunt_rows.specs.defs.Formats.{reading}
-use Rattle.shunt_rows.specs.defs.Records.{records_of, text_of_row, text_of_rows, IsPlainField, IsPlainRow, ArePlain, ReadsBack}
-use Rattle.shunt_rows.specs.defs.Written.{Written}
+use Rattle.shunt_rows.specs.defs.Records.{records_of, text_of_row, text_of_rows, IsPlainRow, ArePlain, ReadsBack}
+use Rattle.shunt_rows.specs.defs.Written.{Written, move_word}
 use Rattle.shunt_rows.proofs.Again.{again}
 use Rattle.shunt_rows.proofs.Answered.{holding}
 use Rattle.shunt_rows.proofs.Named.{not_before, of_middle, fewer}
-use Rattle.shunt_rows.proofs.Plain.{plain_number, plain_word, plain_map}
+use Rattle.shunt_rows.proofs.Plain.{plain_number, plain_word, plain_map, plain_move, word_read}
 use Rattle.shunt_rows.proofs.Sections.{section, all_read}
 use Rattle.shunt_rows.proofs.Spelled.{number_read, number_again}
 use Rattle.shunt_rows.proofs.Texts.{row_written, rows_written}
 use Rattle.shunt_tracks.specs.declared.run.Event.{Event}
 use Rattle.shunt_drivers.specs.declared.records.Duty.{Duty}
-use Rattle.shunt_drivers.specs.defs.RosterFormat.{MoveName, name_of, named_by, is_one, move_named, has_duty, enters_of, no_move, driver_in, move_in, duty_by, duty_of, roster_first, duties_of, roster_later, roster_format, IsSpelled, IsRoster}
-use Rattle.shunt_drivers.specs.defs.RosterRows.{move_word, head_row, duty_row, rows_of, ReadsAsRoster}
+use Rattle.shunt_drivers.specs.defs.RosterFormat.{MoveName, name_of, named_by, is_one, move_named, has_duty, no_move, driver_in, move_in, duty_by, duty_of, roster_first, duties_of, roster_later, roster_format, IsSpelled, IsRoster}
+use Rattle.shunt_drivers.specs.defs.RosterRows.{head_row, duty_row, rows_of, ReadsAsRoster}
 use Rattle.shunt_drivers.proofs.MoveNames.{one_tells, tells_one, found_in, finds}
 
 -- ---- plain records
-
-plain_move : (enters : Bool) → IsPlainField (move_word enters)
-plain_move true = plain_word (codes "enter") refl refl
-plain_move false = plain_word (codes "leave") refl refl
 
 pub plain_duty : (d : Duty) → IsSpelled d → IsPlainRow (duty_row d)
 plain_duty d is =
@@ -43,11 +39,6 @@ rows_plain : (moves : List Event) (duties : List Duty) → IsRoster moves duties
 rows_plain moves duties f = (plain_head, plain_map IsSpelled duty_row duties plain_duty f.spelled)
 
 -- ---- each record is read
-
-word_read : (enters : Bool) → enters_of (move_word enters) ≡ Some enters
-unfolding enters_of
-word_read true = refl
-word_read false = refl
 
 -- the move that a duty names
 abbrev Moved : List Event → Duty → Type 0

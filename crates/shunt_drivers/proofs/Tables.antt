@@ -12,10 +12,6 @@ use Rattle.shunt_drivers.specs.declared.records.Duty.{Duty}
 use Rattle.shunt_drivers.specs.defs.CrewFormat.{CrewDraft, first_of, takes_in, takes_of, else_of, later_of, crew_format}
 use Rattle.shunt_drivers.specs.defs.RosterFormat.{driver_in, move_in, duty_of, roster_first, duties_of, roster_later, roster_format}
 
-first_up : (row : List (List ℕ)) → HasChecksInOrder (first_of row)
-unfolding first_of
-first_up row = record { up = refl }
-
 takes_up : (s : Station) (d : CrewDraft) (row : List (List ℕ)) → HasChecksInOrder (takes_of s d row)
 unfolding takes_of way_in takes_in
 takes_up s d row = record { up = refl }
@@ -29,11 +25,8 @@ unfolding later_of
 later_up s d row = in_if (is_word row (codes "takes")) (takes_up s d row) (in_if (is_word row (codes "else")) (else_up d row) (no_word_up d))
 
 pub crews_tell : (s : Station) (rows : List (List (List ℕ))) → Tells (crew_format s) rows
-crews_tell s rows = tells (crew_format s) (record { first = first_up; later = later_up s }) rows
-
-roster_first_up : (row : List (List ℕ)) → HasChecksInOrder (roster_first row)
-unfolding roster_first
-roster_first_up row = record { up = refl }
+unfolding first_of
+crews_tell s rows = tells (crew_format s) (record { first = λ row. record { up = refl }; later = later_up s }) rows
 
 duties_up : (moves : List Event) (duties : List Duty) (row : List (List ℕ)) → HasChecksInOrder (duties_of moves duties row)
 unfolding duties_of duty_of driver_in move_in
@@ -44,4 +37,5 @@ unfolding roster_later
 roster_later_up moves duties row = in_if (is_word row (codes "duty")) (duties_up moves duties row) (no_word_up duties)
 
 pub rosters_tell : (moves : List Event) (rows : List (List (List ℕ))) → Tells (roster_format moves) rows
-rosters_tell moves rows = tells (roster_format moves) (record { first = roster_first_up; later = roster_later_up moves }) rows
+unfolding roster_first
+rosters_tell moves rows = tells (roster_format moves) (record { first = λ row. record { up = refl }; later = roster_later_up moves }) rows

@@ -7,7 +7,7 @@ ghost use Rattle.shunt_rows.specs.defs.Given.{Gives};
 ghost use Rattle.shunt_plan.specs.defs.Plans.{IsPlanInRange};
 ghost use Rattle.shunt_zones.specs.defs.Moves.{moves_of};
 ghost use Rattle.shunt_drivers.specs.defs.RosterFormat.{is_one, name_of, named_by, move_named};
-ghost use Rattle.shunt_drivers.specs.defs.RosterFormat.{has_duty, enters_of, driver_in, move_in};
+ghost use Rattle.shunt_drivers.specs.defs.RosterFormat.{has_duty, driver_in, move_in};
 ghost use Rattle.shunt_drivers.specs.defs.RosterFormat.{duty_of, duties_of, roster_format};
 ghost use Rattle.shunt_drivers.specs.defs.RosterFormat.{IsRoster};
 
@@ -17,7 +17,8 @@ use shunt_instance::Instance;
 use shunt_lists::Items;
 use shunt_plan::{Plan, read_first};
 use shunt_rows::{
-    FormatReader, ReadError, Row, RowFault, RowKind, fields_in, found, must, number_in, read,
+    FormatReader, ReadError, Row, RowFault, RowKind, enters_of, fields_in, found, must, number_in,
+    read,
 };
 use shunt_tracks::Event;
 use shunt_zones::moves_of;
@@ -60,20 +61,6 @@ fn has_duty(event: Event, duties: &[Duty]) -> bool
     ensures { result ≡ has_duty (name_of event) duties.now }
 {
     duties.iter().any(|duty| is_of(duty, event))
-}
-
-// Whether these bytes say that a move enters.
-#[tactic(auto, unfolding(crate::specs::defs::RosterFormat::enters_of))]
-fn enters_of(bytes: &[u8]) -> Option<bool>
-    ensures { result ≡ enters_of bytes.now }
-{
-    if bytes == b"enter".as_slice() {
-        return Some(true);
-    }
-    if bytes == b"leave".as_slice() {
-        return Some(false);
-    }
-    None
 }
 
 // The driver of one more duty.

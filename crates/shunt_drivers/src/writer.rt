@@ -4,7 +4,7 @@ ghost use Rattle.shunt_rows.specs.defs.Records.{text_of_row, text_of_rows};
 ghost use Rattle.shunt_plan.specs.defs.Plans.{IsPlanInRange};
 ghost use Rattle.shunt_zones.specs.defs.Moves.{moves_of};
 ghost use Rattle.shunt_drivers.specs.defs.RosterFormat.{IsRoster};
-ghost use Rattle.shunt_drivers.specs.defs.RosterRows.{move_word, head_row, duty_row, rows_of};
+ghost use Rattle.shunt_drivers.specs.defs.RosterRows.{head_row, duty_row, rows_of};
 ghost use Rattle.shunt_drivers.specs.defs.RosterRows.{ReadsAsRoster};
 
 use crate::records::Duty;
@@ -26,18 +26,6 @@ fn write_head(writer: &mut RowWriter) -> Result<(), AllocError>
     writer.end_row()
 }
 
-// Adds the word of an entry or a leave as a field of the open row.
-fn write_word(writer: &mut RowWriter, enters: bool) -> Result<(), AllocError>
-    ensures { OnOk result
-        (writer.new ≡ record writer.old { row = writer.old.row ++ move_word enters ∷ [] }) }
-{
-    if enters {
-        writer.field(b"enter")
-    } else {
-        writer.field(b"leave")
-    }
-}
-
 fn write_duty(writer: &mut RowWriter, duty: &Duty) -> Result<(), AllocError>
     requires { writer.old.row ≡ [] }
     ensures { OnOk result (writer.new
@@ -45,7 +33,7 @@ fn write_duty(writer: &mut RowWriter, duty: &Duty) -> Result<(), AllocError>
 {
     writer.field(b"duty")?;
     writer.number(duty.driver as u64)?;
-    write_word(writer, duty.enters)?;
+    writer.move_word(duty.enters)?;
     writer.number(duty.id as u64)?;
     writer.end_row()
 }

@@ -12,6 +12,7 @@ use Rattle.shunt_instance.proofs.Orders.{opened}
 use Rattle.shunt_blocks.specs.declared.records.Shape.{Shape}
 use Rattle.shunt_blocks.specs.defs.Shapes.{AreRunsWithin, IsPair, unit_from, position_from}
 use Rattle.shunt_blocks.specs.defs.Blocks.{IsOption}
+use Rattle.shunt_blocks.proofs.Made.{made_shape}
 use Rattle.shunt_dual.specs.defs.Shares.{Holds, IsShare, part_with}
 use Rattle.shunt_dual.specs.defs.Around.{AreAfter, AreBefore, shape_around, IsLeastPart, FromSome}
 
@@ -63,10 +64,7 @@ module _ (night : Night) (u v back n : ℕ) (is : IsInstance night) (ul : u < un
     position = sym from_position;
   }
 
-abbrev made : ArrId → ℕ → ℕ → DepId → ℕ → Shape
-made a p n d q = record { arr = a; p = p; n = n; dep = d; q = q }
-
-shapes_alike : (a b : ArrId) (p x n : ℕ) (d e : DepId) (q y : ℕ) → a ≡ b → p ≡ x → d ≡ e → q ≡ y → made a p n d q ≡ made b x n e y
+shapes_alike : (a b : ArrId) (p x n : ℕ) (d e : DepId) (q y : ℕ) → a ≡ b → p ≡ x → d ≡ e → q ≡ y → made_shape a p n d q ≡ made_shape b x n e y
 shapes_alike a b p x n d e q y f g h i = cc
 
 -- a shape that holds a pair is one of those around it

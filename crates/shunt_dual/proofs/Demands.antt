@@ -9,13 +9,14 @@ use Rattle.shunt_instance.specs.defs.Instance.{Night}
 use Rattle.shunt_blocks.specs.declared.records.Shape.{Shape}
 use Rattle.shunt_blocks.specs.defs.Shapes.{unit_from}
 use Rattle.shunt_choices.specs.defs.Paths.{Masks}
+use Rattle.shunt_choices.specs.defs.Choices.{AreFreeShapes}
 use Rattle.shunt_prices.specs.defs.Sums.{sum_z_below}
 use Rattle.shunt_prices.specs.defs.Cases.{HoldsInCase}
 use Rattle.shunt_dual.specs.declared.unit_values.Ask.{Ask}
 use Rattle.shunt_dual.specs.declared.feasibility.Asked.TheVariants.{Every}
 use Rattle.shunt_dual.specs.defs.Weighed.{case_of, ShapeHolds}
 use Rattle.shunt_dual.specs.defs.Refits.{run_of, IsMet}
-use Rattle.shunt_dual.specs.defs.Asks.{IsAskOf, AreAsksOf, AreFreeShapes}
+use Rattle.shunt_dual.specs.defs.Asks.{IsAskOf, AreAsksOf}
 use Rattle.shunt_prices.proofs.Counts.{no_surcharge as nothing_more}
 
 -- a shape that is not there, for places past a list's end

@@ -11,10 +11,10 @@ use Rattle.shunt_instance.specs.defs.Instance.{Night, unit_total, first_unit}
 use Rattle.shunt_blocks.specs.declared.records.Shape.{Shape}
 use Rattle.shunt_blocks.specs.defs.Shapes.{AreRunsWithin, unit_from}
 use Rattle.shunt_choices.specs.defs.Paths.{Masks}
-use Rattle.shunt_choices.specs.defs.Choices.{IsFreeShape, shapes_of}
+use Rattle.shunt_choices.specs.defs.Choices.{IsFreeShape, shapes_of, AreFreeShapes}
 use Rattle.shunt_dual.specs.declared.unit_values.Ask.{Ask}
 use Rattle.shunt_dual.specs.declared.shape_demands.Demand.{Demand}
-use Rattle.shunt_dual.specs.defs.Asks.{IsAskOf, AreAsksOf, AreFreeBelow, AreFreeShapes, shapes_asked}
+use Rattle.shunt_dual.specs.defs.Asks.{IsAskOf, AreAsksOf, AreFreeBelow, shapes_asked}
 
 -- ---- asks
 

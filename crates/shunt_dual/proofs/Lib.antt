@@ -9,9 +9,7 @@ pub mod Around
 pub mod LeastPart
 pub mod Entries
 pub mod PaidShares
-pub mod Charged
 pub mod Holds
-pub mod Dear
 pub mod Summed
 pub mod LeastBounds
 pub mod Lengthened

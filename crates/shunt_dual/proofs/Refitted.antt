@@ -11,6 +11,7 @@ use Rattle.shunt_instance.specs.defs.Instance.{Night, unit_total}
 use Rattle.shunt_blocks.specs.declared.records.Shape.{Shape}
 use Rattle.shunt_blocks.specs.declared.records.Block.{Block}
 use Rattle.shunt_choices.specs.defs.Paths.{masks_of}
+use Rattle.shunt_choices.specs.defs.Choices.{AreFreeShapes}
 use Rattle.shunt_prices.specs.defs.Sums.{IsWithin}
 use Rattle.shunt_prices.specs.defs.Limits.{IsValue, AreDuals, case_at, plain}
 use Rattle.shunt_prices.specs.defs.Cases.{alpha_at, HoldsInCase, DualsHold}
@@ -18,7 +19,7 @@ use Rattle.shunt_prices.specs.defs.Bounds.{duals_sum}
 use Rattle.shunt_prices.specs.defs.Steps.{with_alpha, IsGreatest, IsRefit, AreRefitted}
 use Rattle.shunt_dual.specs.declared.unit_values.Ask.{Ask}
 use Rattle.shunt_dual.specs.defs.Refits.{IsMet, IsGreatestUnder, IsUnitRefit, AreUnitsRefit}
-use Rattle.shunt_dual.specs.defs.Asks.{AreAsksOf, AreFreeShapes}
+use Rattle.shunt_dual.specs.defs.Asks.{AreAsksOf}
 use Rattle.shunt_dual.specs.defs.Raises.{AreRefit}
 use Rattle.shunt_dual.proofs.Demands.{all_met, all_hold}
 

@@ -7,7 +7,6 @@ pub mod Pairs
 pub mod Tree
 pub mod Weighed
 pub mod Ways
-pub mod Opened
 pub mod Longer
 pub mod Refits
 pub mod Asks

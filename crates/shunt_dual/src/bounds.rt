@@ -10,7 +10,7 @@ ghost use Rattle.shunt_prices.specs.defs.Limits.{IsValue, from_of};
 ghost use Rattle.shunt_prices.specs.defs.Cases.{weight};
 ghost use Rattle.shunt_prices.specs.defs.Bounds.{most_surcharge, sum_at, case_sum, unparked_in};
 ghost use Rattle.shunt_prices.specs.defs.Bounds.{is_open, IsBoundOf, IsCasesBound, IsDualsBound};
-ghost use Rattle.shunt_dual.specs.defs.Opened.{IsLeastBelow};
+ghost use Rattle.shunt_prices.specs.defs.Bounds.{IsLeastBelow};
 ghost use Rattle.shunt_dual.specs.defs.Weighed.{case_of};
 
 use crate::shape_costs::{parked_part, room};

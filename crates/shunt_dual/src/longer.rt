@@ -6,7 +6,7 @@ ghost use Rattle.shunt_prices.specs.defs.Sums.{IsWithin};
 ghost use Rattle.shunt_prices.specs.defs.Limits.{AreDuals, AreCases, IsValue};
 ghost use Rattle.shunt_prices.specs.defs.Cases.{duals_over, weight};
 ghost use Rattle.shunt_prices.specs.defs.Bounds.{IsBoundOf, IsCasesBound, case_sum};
-ghost use Rattle.shunt_dual.specs.defs.Opened.{IsLeastBelow};
+ghost use Rattle.shunt_prices.specs.defs.Bounds.{IsLeastBelow};
 ghost use Rattle.shunt_dual.specs.defs.Longer.{AreSums, AreSumsAt, AtLonger, one_unparked};
 ghost use Rattle.shunt_dual.specs.defs.Weighed.{case_of};
 

@@ -11,7 +11,8 @@ ghost use Rattle.shunt_prices.specs.defs.Limits.{ArePrices, IsValue};
 ghost use Rattle.shunt_prices.specs.defs.Cases.{HasRoom};
 ghost use Rattle.shunt_dual.specs.defs.Refits.{IsAsk};
 ghost use Rattle.shunt_dual.specs.defs.Asks.{AreCosts, AreCostsWith, IsDemand, IsLeastWeight};
-ghost use Rattle.shunt_dual.specs.defs.Asks.{IsAskOf, AreAsksOf, AreFreeShapes, AreDemands};
+ghost use Rattle.shunt_choices.specs.defs.Choices.{AreFreeShapes};
+ghost use Rattle.shunt_dual.specs.defs.Asks.{IsAskOf, AreAsksOf, AreDemands};
 ghost use Rattle.shunt_dual.specs.defs.Asks.{shapes_asked};
 
 use crate::shape_costs::{charges, cost_with, room, run_sum, shape_length};

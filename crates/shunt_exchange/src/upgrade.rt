@@ -1,7 +1,7 @@
 // The answer of `upgrade`.
 ghost use Rattle.std.specs.Prelude.{◌≡◌, [], ◌∷◌, map, get_or, IfOk};
 ghost use Rattle.shunt_instance.specs.defs.Wellformed.{IsStation, IsTimetable};
-ghost use Rattle.shunt_report.specs.declared.words.FileWord.TheVariants as words;
+ghost use Rattle.shunt_rows.specs.declared.words.FileWord.TheVariants as words;
 ghost use Rattle.shunt_rows.specs.defs.Formats.{reading};
 ghost use Rattle.shunt_timetable.specs.defs.TimetableFormat.{timetable_format};
 ghost use Rattle.shunt_inputs.specs.defs.Inputs.{stated_by, stated_station};

@@ -9,8 +9,8 @@ use Rattle.shunt_instance.specs.defs.Instance.{Night}
 use Rattle.shunt_blocks.specs.declared.records.Block.{Block}
 use Rattle.shunt_blocks.specs.defs.Shapes.{AreRunsWithin, IsWithinTrains}
 use Rattle.shunt_choices.specs.defs.Paths.{Masks, masks_of}
+use Rattle.shunt_choices.specs.defs.Choices.{AreFreeShapes}
 use Rattle.shunt_dual.specs.declared.case_offers.Offer.{Offer}
-use Rattle.shunt_dual.specs.defs.Asks.{AreFreeShapes}
 use Rattle.shunt_dual.specs.defs.Offers.{IsSmallOffer, AreOffers}
 use Rattle.shunt_stacks.specs.defs.Stacks.{Stack}
 use Rattle.shunt_fillings.specs.declared.candidates.Candidate.{Candidate}

@@ -5,7 +5,6 @@ use Rattle.std.proofs.lemmas.Int.{ints}
 use Rattle.std.proofs.lemmas.Bool.{eqb-true, eq-eqb, and_parts, and_from, false≢true}
 use Rattle.shunt_lists.specs.defs.Members.{In}
 use Rattle.shunt_lists.proofs.Members.{in_map, of_map, to_all as from_members}
-use Rattle.shunt_base.specs.declared.ids.Side.{Side}
 use Rattle.shunt_base.specs.declared.duals.Case.{Case}
 use Rattle.shunt_base.specs.defs.Sides.{same_side}
 use Rattle.shunt_base.proofs.Sides.{same_side_tells, same_side_is}
@@ -16,12 +15,14 @@ use Rattle.shunt_blocks.specs.declared.records.Park.{Park}
 use Rattle.shunt_blocks.specs.defs.Shapes.{shape_of}
 use Rattle.shunt_blocks.specs.defs.Blocks.{IsOption, IsParkable}
 use Rattle.shunt_blocks.specs.defs.Pins.{without_id}
+use Rattle.shunt_blocks.proofs.Made.{same_park}
 use Rattle.shunt_choices.specs.defs.Paths.{masks_of}
+use Rattle.shunt_choices.specs.defs.Choices.{AreFreeShapes}
 use Rattle.shunt_prices.specs.defs.Sums.{IsWithin}
 use Rattle.shunt_prices.specs.defs.Prices.{track_length}
 use Rattle.shunt_prices.specs.defs.Cases.{IsFreeBlock, HasRoom, duals_over, weight_with}
 use Rattle.shunt_dual.specs.declared.case_offers.Offer.{Offer}
-use Rattle.shunt_dual.specs.defs.Asks.{AreFreeShapes, weight_of, weight_at}
+use Rattle.shunt_dual.specs.defs.Asks.{weight_of, weight_at}
 use Rattle.shunt_dual.specs.defs.Offers.{IsOffer, IsSmallOffer, AreOffers, offered}
 use Rattle.shunt_dual.proofs.Offered.{offered_is}
 use Rattle.shunt_stacks.specs.defs.Stacks.{Stack, is_of}
@@ -32,19 +33,14 @@ use Rattle.shunt_fillings.specs.defs.Pieces.{park_on, block_on, candidate_on, bl
 
 -- ---- an option of a stack is parked there by its side
 
-abbrev parked : ℕ → Side → Side → Park
-parked t x y = record { track = record { 0 = t }; side_in = x; side_out = y }
-
-same_park : (t u : ℕ) (x y z : Side) → t ≡ u → x ≡ z → y ≡ z → Some (parked t x y) ≡ Some (parked u z z)
-same_park t u x y z e f g = cc
-
 pub is_parked_on : (stack : Stack) (park : Option Park) → is_of stack park ≡ true → park ≡ Some (park_on stack)
 is_parked_on stack None e = absurd (false≢true e)
 is_parked_on stack (Some k) e =
     let h = and_parts (k.track.0 == stack.track.0) (same_side k.side_in stack.side && same_side k.side_out stack.side) e in
     let sides = and_parts (same_side k.side_in stack.side) (same_side k.side_out stack.side) h.1 in
-    same_park k.track.0 stack.track.0 k.side_in k.side_out stack.side (eqb-true k.track.0 stack.track.0 h.0) (same_side_tells k.side_in stack.side sides.0)
-    (same_side_tells k.side_out stack.side sides.1)
+    ap (λ (p : Park). Some p)
+    (same_park k.track.0 stack.track.0 k.side_in stack.side k.side_out stack.side (eqb-true k.track.0 stack.track.0 h.0) (same_side_tells k.side_in stack.side sides.0)
+    (same_side_tells k.side_out stack.side sides.1))
 
 on_stack : (stack : Stack) → is_of stack (Some (park_on stack)) ≡ true
 on_stack stack = and_from (stack.track.0 == stack.track.0) (same_side stack.side stack.side && same_side stack.side stack.side) (eq-eqb stack.track.0 stack.track.0 refl)

@@ -22,9 +22,6 @@ use Rattle.shunt_fillings.specs.declared.candidates.Candidate.{Candidate}
 use Rattle.shunt_fillings.specs.defs.Pieces.{blocks_in, AreCandidates, fixed_of_stack, span_with, spans_with}
 use Rattle.shunt_blocks.proofs.Shapes.{on_track}
 
-pub small_lists : (fixed free xs ys : List Span) → xs ≡ fixed → ys ≡ free → AreSmall fixed free → AreSmall xs ys
-small_lists fixed free xs ys e f small = subst (λ (zs : List Span). AreSmall zs ys) (sym e) (subst (AreSmall fixed) (sym f) small)
-
 nothing : IsWithin 1000000000000000 (pos 0)
 nothing = record { low = omega (arith, ints); high = omega (arith, ints) }
 

@@ -1,8 +1,9 @@
 -- The greatest gain at an event, by a list one piece after another, and by the steps of the recursion.
-use Rattle.std.specs.Prelude.{cond, map, Option, Some, None}
+use Rattle.std.specs.Prelude.{cond, map, Option, Some, None, nat_le, ◌&&◌}
 use Rattle.std.proofs.Math.Seq.{drop-cons}
-use Rattle.std.proofs.Common.{◌≡◌, ℕ, suc, ◌+◌, ◌<◌, Bool, List, [], ◌∷◌, length, drop, get_or, ℤ, pos, refl, sym, subst, ap, ◌∙◌, arith}
-use Rattle.shunt_stacks.specs.defs.Spans.{Span, greater, greatest_of, coming_at, best_with, best_at, best_step}
+use Rattle.std.proofs.Common.{◌≡◌, ℕ, suc, ◌+◌, ◌<◌, Bool, false, List, [], ◌∷◌, length, drop, get_or, ℤ, pos, refl, sym, subst, ap, ◌∙◌, arith}
+use Rattle.std.proofs.lemmas.Bool.Decides.{nat_tests}
+use Rattle.shunt_stacks.specs.defs.Spans.{Span, greater, greatest_of, coming_at, sum_with, best_with, best_at, best_step}
 use Rattle.shunt_gains.specs.declared.pieces.Piece.{Piece}
 use Rattle.shunt_gains.specs.defs.Tables.{span_of, spans_of}
 use Rattle.shunt_stacks.proofs.Steps.{not_yet, greater_apart}
@@ -49,3 +50,15 @@ module _ (rest : ℕ → ℕ → ℕ → Option ℤ) (fixed free : List Span) (x
   pub by_free : (m : List Span) (o g : Option ℤ) → m ≡ coming_at x free → length (coming_at x fixed) ≡ 0 → o ≡ rest (x + 1) y room →
       g ≡ greater o (greatest_of (map (best_with rest y room) m)) → g ≡ best_step rest fixed free x y room
   by_free m o g f none is h = h ∙ (ap (λ (k : List Span). greater o (greatest_of (map (best_with rest y room) k))) f ∙ (no_fixed (coming_at x fixed) o none is ∙ stepped))
+
+is_late : (y room : ℕ) (s : Span) → y < s.past → nat_le s.past y && nat_le s.length room ≡ false
+is_late y room s late = grind (arith, nat_tests)
+
+is_long : (y room : ℕ) (s : Span) → room < s.length → nat_le s.past y && nat_le s.length room ≡ false
+is_long y room s long = grind (arith, nat_tests)
+
+pub none_by_end : (rest : ℕ → ℕ → ℕ → Option ℤ) (y room : ℕ) (s : Span) → y < s.past → None ≡ best_with rest y room s
+none_by_end rest y room s late = sym (ap (λ (t : Bool). cond t (sum_with rest y room s) None) (is_late y room s late))
+
+pub none_by_room : (rest : ℕ → ℕ → ℕ → Option ℤ) (y room : ℕ) (s : Span) → room < s.length → None ≡ best_with rest y room s
+none_by_room rest y room s long = sym (ap (λ (t : Bool). cond t (sum_with rest y room s) None) (is_long y room s long))

@@ -8,7 +8,7 @@ use Rattle.shunt_store.specs.defs.Files.{Files, AreFirst, BothTold, content}
 use Rattle.shunt_store.specs.defs.Notes.{Entries, AddsBytes, AddsSome}
 use Rattle.std.specs.Global.{Global}
 use Rattle.shunt_rows.specs.declared.fault.RowFault.{RowFault}
-use Rattle.shunt_report.specs.declared.words.FileWord.{FileWord}
+use Rattle.shunt_rows.specs.declared.words.FileWord.{FileWord}
 use Rattle.shunt_inputs.specs.declared.file_loader.Halt.{Halt}
 use Rattle.shunt_inputs.specs.defs.Halts.{Loads, LoadsBytes}
 use Rattle.shunt_inputs.specs.defs.Inputs.{stated_by}

@@ -4,7 +4,7 @@ use Rattle.std.proofs.Math.Seq.{take-append_seam, get_or-append_seam}
 use Rattle.std.proofs.lemmas.List.{length-append, map-append}
 use Rattle.std.specs.Prelude.{IfSome}
 use Rattle.shunt_store.specs.defs.Files.{Files, content}
-use Rattle.shunt_report.specs.declared.words.FileWord.{FileWord}
+use Rattle.shunt_rows.specs.declared.words.FileWord.{FileWord}
 use Rattle.shunt_inputs.specs.declared.file_loader.Halt.{Halt}
 use Rattle.shunt_inputs.specs.defs.Halts.{Loads}
 use Rattle.shunt_inputs.specs.defs.Inputs.{Holding, then_stated}

@@ -12,8 +12,8 @@ use Rattle.shunt_store.specs.defs.Causes.{HasCause}
 use Rattle.shunt_store.specs.defs.Files.{Files, content}
 use Rattle.shunt_store.proofs.TableLaws.{get_here, same_elsewhere}
 use Rattle.shunt_rows.specs.declared.fault.RowFault.{RowFault}
-use Rattle.shunt_report.specs.declared.words.FileWord.{FileWord}
-use Rattle.shunt_report.specs.defs.Texts.{input_of}
+use Rattle.shunt_rows.specs.declared.words.FileWord.{FileWord}
+use Rattle.shunt_rows.specs.defs.InputTexts.{input_of}
 use Rattle.shunt_inputs.specs.declared.file_loader.Halt.{Halt}
 use Rattle.shunt_inputs.specs.declared.file_loader.Halt.TheVariants as halt
 use Rattle.shunt_inputs.specs.defs.Names.{AreNames}

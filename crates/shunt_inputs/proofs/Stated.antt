@@ -4,11 +4,11 @@ use Rattle.std.proofs.lemmas.Bool.{le-leb}
 use Rattle.std.specs.Prelude.{None, if◌then◌else◌, nat_le}
 use Rattle.shunt_rows.specs.defs.Formats.{Format, reading}
 use Rattle.shunt_rows.specs.defs.Records.{records_of}
-use Rattle.shunt_report.specs.declared.words.FileWord.{FileWord}
-use Rattle.shunt_report.specs.declared.words.FileWord.TheVariants as word
-use Rattle.shunt_report.specs.defs.Texts.{input_of}
+use Rattle.shunt_rows.specs.declared.words.FileWord.{FileWord}
+use Rattle.shunt_rows.specs.declared.words.FileWord.TheVariants as word
 use Rattle.shunt_inputs.specs.defs.Inputs.{most_bytes_of, value_or, stated, then_stated, stated_station, stated_timetable, stated_night, stated_plan, stated_plans, stated_pins, stated_pinned}
 use Rattle.shunt_rows.specs.declared.fault.RowFault.{RowFault}
+use Rattle.shunt_rows.specs.defs.InputTexts.{input_of}
 use Rattle.shunt_instance.specs.defs.Instance.{Night, night_of, IsInstance}
 use Rattle.shunt_instance.proofs.Orders.{night_is, closed}
 use Rattle.shunt_blocks.specs.declared.records.Block.{Block}

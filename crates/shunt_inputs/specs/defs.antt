@@ -6,4 +6,3 @@ pub mod Replies
 pub mod Halts
 pub mod Writes
 pub mod ReadFiles
-pub mod Pins

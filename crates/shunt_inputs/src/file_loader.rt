@@ -3,15 +3,14 @@ ghost use Rattle.std.specs.Prelude.{◌≡◌, ◌^◌, ◌<◌, ◌≤◌, ◌-
 ghost use Rattle.std.specs.Prelude.{◌∷◌, Option};
 ghost use Rattle.shunt_store.specs.defs.Files.{Closed, Files};
 ghost use Rattle.shunt_store.specs.defs.Causes.{HasCause};
-ghost use Rattle.shunt_report.specs.defs.Texts.{input_of};
+ghost use Rattle.shunt_rows.specs.defs.InputTexts.{input_of};
 ghost use Rattle.shunt_inputs.specs.declared.file_loader.Halt.TheVariants as halt;
 ghost use Rattle.shunt_inputs.specs.defs.Halts.{IfInput, LoadsBytes};
 ghost use Rattle.shunt_inputs.specs.defs.Inputs.{Holding, most_bytes_of};
 ghost use Rattle.shunt_inputs.specs.defs.ReadFiles.{HearsFor};
 ghost use Rattle.shunt_inputs.specs.defs.Views.{IsView};
 
-use shunt_report::{FileWord, input_text};
-use shunt_rows::RowFault;
+use shunt_rows::{FileWord, RowFault, input_text};
 use shunt_store::{ReadAllError, Store, read_all};
 use std::alloc::{AllocError, Global};
 

@@ -8,7 +8,7 @@ ghost use Rattle.shunt_plan.specs.defs.PlanFormat.{plan_format};
 ghost use Rattle.shunt_plan.specs.defs.Plans.{IsPlanInRange};
 ghost use Rattle.shunt_proof.specs.defs.CertificateFormat.{certificate_format};
 ghost use Rattle.shunt_proof.specs.defs.Certificates.{IsCertificate};
-ghost use Rattle.shunt_report.specs.declared.words.FileWord.TheVariants as words;
+ghost use Rattle.shunt_rows.specs.declared.words.FileWord.TheVariants as words;
 ghost use Rattle.shunt_rows.specs.defs.Formats.{reading};
 ghost use Rattle.shunt_zones.specs.defs.ZonesFormat.{zones_format, IsZones};
 
@@ -18,8 +18,7 @@ use shunt_drivers::{Crew, read_crew};
 use shunt_lists::Items;
 use shunt_plan::{Plan, Turn, read_edits, read_pins, read_plan};
 use shunt_proof::{Certificate, read_certificate};
-use shunt_report::FileWord;
-use shunt_rows::{ReadError, Row};
+use shunt_rows::{FileWord, ReadError, Row};
 use shunt_zones::{Zones, read_zones};
 use std::alloc::Global;
 

@@ -3,7 +3,7 @@ ghost use Rattle.std.specs.Prelude.{◌≡◌, ℕ, List, [], Result, Ok, Option
 ghost use Rattle.shunt_store.specs.defs.Files.{Closed, Files};
 ghost use Rattle.shunt_store.specs.defs.Causes.{HasCause};
 ghost use Rattle.shunt_instance.specs.defs.Instance.{Night};
-ghost use Rattle.shunt_report.specs.declared.words.FileWord.{FileWord};
+ghost use Rattle.shunt_rows.specs.declared.words.FileWord.{FileWord};
 ghost use Rattle.shunt_rows.specs.declared.fault.RowFault.{RowFault};
 ghost use Rattle.shunt_rows.specs.defs.Given.{Gives};
 ghost use Rattle.shunt_inputs.specs.defs.Halts.{Loads};
@@ -12,8 +12,7 @@ ghost use Rattle.shunt_inputs.specs.defs.Views.{IsView};
 
 use crate::file_loader::Halt;
 use shunt_instance::Instance;
-use shunt_report::FileWord;
-use shunt_rows::{ReadError, Row};
+use shunt_rows::{FileWord, ReadError, Row};
 use shunt_store::Store;
 use std::alloc::Global;
 

@@ -18,6 +18,6 @@ pub use file_loader::Halt;
 pub use files::{CertificateFile, CrewFile, EditsFile, OtherFile, PinsFile, PlanFile, ZonesFile};
 pub use inputs::{HasNight, InputFile, Inputs, NoFiles};
 pub use nights::{CrewFiles, NightFiles, PlanFiles, RosterFile};
-pub use pins::{Pinned, PinnedFiles, pins_answer};
+pub use pins::{Pinned, PinnedFiles};
 pub use questions::{Question, reply};
 pub use stations::{SheetFile, StationFile, TimetableFile};

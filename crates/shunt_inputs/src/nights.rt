@@ -1,7 +1,7 @@
 // The files of a night, and those that commands read behind them.
 ghost use Rattle.std.specs.Prelude.{◌≡◌, [], ◌∷◌, get_or};
 ghost use Rattle.shunt_drivers.specs.defs.RosterFormat.{roster_format, IsRoster};
-ghost use Rattle.shunt_report.specs.declared.words.FileWord.TheVariants as words;
+ghost use Rattle.shunt_rows.specs.declared.words.FileWord.TheVariants as words;
 ghost use Rattle.shunt_rows.specs.defs.Formats.{reading};
 ghost use Rattle.shunt_zones.specs.defs.Moves.{moves_of};
 ghost use Rattle.shunt_inputs.specs.defs.Inputs.{stated_night};
@@ -15,8 +15,7 @@ use shunt_drivers::{Crew, Duty, read_roster};
 use shunt_instance::Instance;
 use shunt_lists::Items;
 use shunt_plan::Plan;
-use shunt_report::FileWord;
-use shunt_rows::{ReadError, Row};
+use shunt_rows::{FileWord, ReadError, Row};
 use shunt_store::Store;
 use std::alloc::Global;
 

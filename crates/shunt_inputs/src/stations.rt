@@ -1,7 +1,7 @@
 // The station file, and the files over a station alone.
 ghost use Rattle.std.specs.Prelude.{◌≡◌, [], ◌∷◌, get_or};
 ghost use Rattle.shunt_instance.specs.defs.Wellformed.{IsStation, IsTimetable};
-ghost use Rattle.shunt_report.specs.declared.words.FileWord.TheVariants as words;
+ghost use Rattle.shunt_rows.specs.declared.words.FileWord.TheVariants as words;
 ghost use Rattle.shunt_rows.specs.defs.Formats.{reading};
 ghost use Rattle.shunt_sheet.specs.defs.SheetFormat.{sheet_format, AreOrders};
 ghost use Rattle.shunt_station.specs.defs.StatedStations.{station_format};
@@ -13,8 +13,7 @@ use crate::input_loader::load_input;
 use crate::inputs::{InputFile, Inputs, NoFiles};
 use shunt_instance::{Station, Timetable};
 use shunt_lists::Items;
-use shunt_report::FileWord;
-use shunt_rows::{ReadError, Row};
+use shunt_rows::{FileWord, ReadError, Row};
 use shunt_sheet::{Order, read_sheet};
 use shunt_station::read_station;
 use shunt_store::Store;

@@ -1,7 +1,7 @@
 -- Names and routes are found where they stand.
 use Rattle.std.specs.Prelude.{All, Option, Some, None, IfSome, IsTrue, find, option_map, position, slice_get, bytes_eq, nat_lt}
 use Rattle.std.specs.List.{position_or_len}
-use Rattle.std.proofs.Common.{◌≡◌, ℕ, zero, suc, ◌<◌, ◌≤◌, Bool, true, ◌&&◌, ◌==◌, List, [], ◌∷◌, length, map, get_or, sym, ap, ◌∙◌, subst, arith, inl, inr, refl}
+use Rattle.std.proofs.Common.{◌≡◌, ℕ, zero, suc, ◌<◌, ◌≤◌, Bool, true, false, ◌&&◌, ◌==◌, List, [], ◌∷◌, length, map, get_or, sym, ap, ◌∙◌, subst, arith, inl, inr, refl}
 use Rattle.std.proofs.lemmas.Bool.{cases_Bool, cond-true, cond-false, eqb-true, eq-eqb, and_parts, and_from, lt-ltb, false_from_ne_true}
 use Rattle.std.proofs.lemmas.List.{get_or-map, length-map}
 use Rattle.std.proofs.lemmas.List.Quantifiers.{position-Some}
@@ -16,7 +16,7 @@ use Rattle.shunt_base.specs.declared.ids.TrackId.{TrackId}
 use Rattle.shunt_base.specs.declared.ids.Side.{Side}
 use Rattle.shunt_instance.specs.declared.records.Route.{Route}
 use Rattle.shunt_instance.specs.declared.records.Station.{Station}
-use Rattle.shunt_instance.specs.defs.Words.{is_open_at, way_of, joins, route_cost}
+use Rattle.shunt_instance.specs.defs.Words.{is_open_at, way_of, joins, route_cost, track_of_name}
 use Rattle.shunt_instance.specs.defs.Wellformed.{IsRoute, IsStation}
 
 -- the thing that is found has the name
@@ -25,6 +25,24 @@ pub found_has : {X : Type 0} (name_of : X → List ℕ) (xs : List X) (name : Li
 found_has name_of xs name k d is =
     let f = position-Some (λ x. bytes_eq (name_of x) name) xs k d is in
     slice_get-map name_of xs k ∙ ap (option_map name_of) (slice_get-get_or xs k d f.0) ∙ ap Some ((bytes_eq-Decides (name_of (get_or xs k d)) name).0 f.1)
+
+-- a number that is found is one of the list's
+pub number_found : {X I : Type 0} (p : X → Bool) (xs : List X) (d : X) (id : ℕ → I) (number : I → ℕ) → ((k : ℕ) → number (id k) ≡ k) → (i : I)
+    → option_map id (position p xs) ≡ Some i → number i < length xs
+number_found {I = I} p xs d id number is i e = by (position p xs) refl e
+  where
+    by : (o : Option ℕ) → position p xs ≡ o → option_map id o ≡ Some i → number i < length xs
+    by None at e = absurd cc
+    by (Some k) at e =
+        let lt = (position-Some p xs k d at).0 in
+        let same : id k ≡ i = cc in
+        let num : number i ≡ k = ap number (sym same) ∙ is k in
+        omega (arith, num, lt)
+
+-- the track that is found is one of the station's
+pub track_within : (s : Station) (name : List ℕ) (t : TrackId) → track_of_name s name ≡ Some t → t.0 < length s.tracks
+track_within s name t e =
+    number_found (λ t. bytes_eq t.name name) s.tracks (record { name = []; length = 0; side_a = false; side_b = false }) (λ k. record { 0 = k }) (λ j. j.0) (λ k. refl) t e
 
 first_is : {X : Type 0} (p : X → Bool) (xs : List X) (k : ℕ) → position_or_len p xs ≡ k → k < length xs → position p xs ≡ Some k
 first_is p xs k e lt = rw e (cond-true (nat_lt k (length xs)) (Some k) None (lt-ltb k (length xs) lt))

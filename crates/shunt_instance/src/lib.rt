@@ -5,10 +5,12 @@ mod joined;
 pub mod laws;
 mod lookups;
 mod names;
+mod namings;
 mod records;
 mod train_numbers;
 
 pub use joined::Instance;
+pub use namings::{TrackNames, TypeNames};
 pub use records::{
     Origin, Permit, Position, Route, Station, Timetable, Track, Train, Unit, UnitType,
 };

@@ -3,3 +3,4 @@ pub mod Audited
 pub mod Checked
 pub mod Replayed
 pub mod Pinned
+pub mod Pins

@@ -4,10 +4,12 @@
 mod audit;
 mod check;
 mod pinned_check;
+mod pins;
 mod replay;
 mod turns;
 
 pub use audit::{AuditCommand, fault_answer, outcome_of};
 pub use check::CheckCommand;
 pub use pinned_check::CheckPinnedCommand;
+pub use pins::pins_answer;
 pub use replay::ReplayCommand;

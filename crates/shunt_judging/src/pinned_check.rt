@@ -10,10 +10,11 @@ ghost use Rattle.shunt_inputs.specs.declared.answers.Outcome.TheVariants as outc
 ghost use Rattle.shunt_judging.specs.defs.Pinned.{IsPinChecked, IsPinVerdict};
 
 use crate::check::outcome_of_verdict;
+use crate::pins::pins_answer;
 use shunt_blocks::Block;
 use shunt_checker::check_pinned;
 use shunt_inputs::{
-    Answer, CertificateFile, Outcome, Pinned, PinnedFiles, PlanFile, Question, Then, pins_answer,
+    Answer, CertificateFile, Outcome, Pinned, PinnedFiles, PlanFile, Question, Then,
 };
 use shunt_instance::Instance;
 use shunt_plan::{Plan, lost_pin};

@@ -64,3 +64,7 @@ each_whole P xs i le all = subst (All P) (take_all i xs le) all
 pub either_long : {X : Type 0} (b : Bool) (xs ys : List X) (n : ℕ) → length xs ≡ n → length ys ≡ n → length (if b then xs else ys) ≡ n
 either_long true xs ys n e f = e
 either_long false xs ys n e f = f
+
+-- what holds of two things holds of what is equal to them
+pub moved_both : {X Y : Type 0} (P : X → Y → Type 0) (a : X) (b : Y) (x : X) (y : Y) → x ≡ a → y ≡ b → P a b → P x y
+moved_both {X = X} P a b x y e f h = subst (λ (z : X). P z y) (sym e) (subst (P a) (sym f) h)

@@ -1,5 +1,5 @@
 -- The numbers below a bound that pass a test, as a list.
-use Rattle.std.proofs.Common.{◌≡◌, ⊎_elim, ℕ, zero, suc, ◌+◌, ◌<◌, ◌≤◌, Bool, true, false, cond, List, [], ◌∷◌, ◌++◌, length, get_or, refl, sym, ap, ◌∙◌, subst, arith, length-append}
+use Rattle.std.proofs.Common.{◌≡◌, ⊎_elim, ℕ, zero, suc, ◌+◌, ◌<◌, ◌≤◌, Bool, true, false, cond, List, [], ◌∷◌, ◌++◌, length, get_or, refl, sym, ap, ◌∙◌, subst, arith, length-append, replicate}
 use Rattle.std.specs.List.{range_with_len, filter}
 use Rattle.std.proofs.Math.ListN.{get_or-append}
 use Rattle.std.proofs.Math.Seq.{get_or-append_seam}
@@ -54,3 +54,13 @@ found_at n p i k d lt e same = sym (ap (λ r. get_or (passing n p) r d) same ∙
 
 pub found_none : (n : ℕ) (p : ℕ → Bool) (k d : ℕ) → count_below n p ≤ k → d ≡ get_or (passing n p) k d
 found_none n p k d le = sym (get_or_past (passing n p) k d (omega (arith, length-passing n p)))
+
+-- ---- a list of zeros
+
+abbrev pub none : ℕ
+none = 0
+
+pub zero_at : (n i : ℕ) → get_or (replicate n none) i none ≡ none
+zero_at zero i = refl
+zero_at (suc n) zero = refl
+zero_at (suc n) (suc i) = zero_at n i

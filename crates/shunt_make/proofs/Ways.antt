@@ -10,15 +10,11 @@ use Rattle.shunt_base.specs.declared.ids.Side.TheVariants.{A, B}
 use Rattle.shunt_base.specs.declared.ids.PlatformId.{PlatformId}
 use Rattle.shunt_base.specs.declared.ids.TrackId.{TrackId}
 use Rattle.shunt_instance.specs.declared.records.Track.{Track}
-use Rattle.shunt_instance.specs.defs.Words.{is_open}
+use Rattle.shunt_instance.specs.defs.Words.{is_open, open_in}
 use Rattle.shunt_make.specs.declared.stations.OpenWay.{OpenWay}
 use Rattle.shunt_make.specs.defs.Made.{open_ways, ways_from, ways_of}
 
 -- ---- each leads to an open side
-
--- whether there is a track with this number that is open at a side
-abbrev pub open_in : List Track → ℕ → Side → Bool
-open_in tracks k side = unwrap_or (option_map (λ t. is_open t side) (slice_get tracks k)) false
 
 -- a way from one of two platforms to an open side of one of these tracks
 pub record IsWayOf (tracks : List Track) (w : OpenWay) : Type 0 where

@@ -9,6 +9,7 @@ use Rattle.shunt_lists.specs.defs.Members.{In}
 use Rattle.shunt_blocks.specs.declared.records.Block.{Block}
 use Rattle.shunt_audit.specs.defs.Listed.{insert_by_id}
 use Rattle.shunt_moves.specs.defs.States.{Ascend, block_with, without_block, changed}
+use Rattle.shunt_moves.specs.defs.Exchanges.{Extends}
 use Rattle.shunt_lists.proofs.Tests.{equal_of as is_same, equal_to as same_id, unequal_from as is_other}
 use Rattle.shunt_audit.proofs.ById.{put_first as insert_below}
 
@@ -65,7 +66,7 @@ taken_again b (c ∷ blocks) h = ⊎_elim
     (cases_lt c.id b.id)
 
 -- a member's change in place is its going and the other's coming
-pub changed_is : (b : Block) (change : Block → Block) (blocks : List Block) → Ascend blocks → In b blocks → (change b).id ≡ b.id
+changed_is : (b : Block) (change : Block → Block) (blocks : List Block) → Ascend blocks → In b blocks → (change b).id ≡ b.id
     → insert_by_id (change b) (without_block b.id blocks) ≡ changed b.id change blocks
 changed_is b change [] a i e = absurd i
 changed_is b change (c ∷ blocks) a (inl is) e =
@@ -93,6 +94,11 @@ changed_is b change (c ∷ blocks) a (inr i) e =
     ∙ insert_later (change b) c (without_block b.id blocks) (omega arith)
     ∙ ap (λ (l : List Block). c ∷ l) (changed_is b change blocks a.1 i e)
     ∙ ap (λ (x : Block). x ∷ changed b.id change blocks) (sym (cond-false (c.id == b.id) (change c) c (other_id c.id b.id (λ f. absurd (omega arith)))))
+
+-- a member that is changed in place goes, and comes as the other
+pub came : (b : Block) (change : Block → Block) (blocks : List Block) → Ascend blocks → In b blocks → (change b).id ≡ b.id
+    → Extends (Some (change b)) (without_block b.id blocks) (changed b.id change blocks)
+came b change blocks a i e = (sym (changed_is b change blocks a i e), subst (λ n. IsNew n (without_block b.id blocks)) (sym e) (gone b.id blocks))
 
 -- what was taken away is put again
 pub put_again : (b : Block) (blocks : List Block) → Ascend blocks → In b blocks → insert_by_id b (without_block b.id blocks) ≡ blocks

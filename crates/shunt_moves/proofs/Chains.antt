@@ -57,9 +57,6 @@ module _ (night : Night) (x : Exchange) (s t : State) (h : LeadsOn night x s t) 
 abbrev pub state_of : List Block → ℕ → State
 state_of bs n = record { blocks = bs; next = n }
 
-pub same_state : (bs cs : List Block) (m n : ℕ) → bs ≡ cs → m ≡ n → state_of bs m ≡ state_of cs n
-same_state bs cs m n e f = ap (λ (l : List Block). state_of l m) e ∙ ap (state_of cs) f
-
 -- what the steps themselves need
 pub goes_in : (o : Option Block) (b : Block) (blocks : List Block) → o ≡ Some b → MayGo o blocks → In b blocks
 goes_in None b blocks e h = absurd (cc)

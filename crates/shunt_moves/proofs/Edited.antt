@@ -22,7 +22,7 @@ use Rattle.shunt_moves.specs.declared.exchange.Exchange.{Exchange}
 use Rattle.shunt_moves.specs.defs.States.{State, IsState, Ascend, block_with, without_block, changed}
 use Rattle.shunt_moves.specs.defs.Edits.{edit, edited, continues, are_runs_within, is_on_track, front_of, rest_of, cuts_nothing, are_apart, refusal, cut, join, made, names_no_block, has_bad_count, is_not_adjacent, is_out_of_range, makes_block}
 use Rattle.shunt_moves.specs.defs.Exchanges.{Extends, LeadsOn, Agrees, none, one, two, must, found, room_in, adding, dropping, parking, cutting, joining, planned, ◌>>=◌}
-use Rattle.shunt_moves.proofs.ByIds.{IsNew, gone, put_again, changed_is, insert_last, with_in, other_id}
+use Rattle.shunt_moves.proofs.ByIds.{gone, put_again, insert_last, with_in, other_id, came}
 use Rattle.shunt_moves.proofs.Made.{same_block, of_without, ascend_without, few_without, ascend_last, each_last, few_last, each_changed, ascend_changed}
 use Rattle.shunt_lists.proofs.Tests.{equal_of as is_same, both_true as both}
 
@@ -30,10 +30,6 @@ use Rattle.shunt_lists.proofs.Tests.{equal_of as is_same, both_true as both}
 
 took : (b : Block) (blocks : List Block) → Ascend blocks → In b blocks → Extends (Some b) (without_block b.id blocks) blocks
 took b blocks a i = (sym (put_again b blocks a i), gone b.id blocks)
-
-came : (b : Block) (change : Block → Block) (blocks : List Block) → Ascend blocks → In b blocks → (change b).id ≡ b.id
-    → Extends (Some (change b)) (without_block b.id blocks) (changed b.id change blocks)
-came b change blocks a i e = (sym (changed_is b change blocks a i e), subst (λ n. IsNew n (without_block b.id blocks)) (sym e) (gone b.id blocks))
 
 came_last : (b : Block) (blocks : List Block) → AllByRecursion (λ c. c.id < b.id) blocks → Extends (Some b) blocks (blocks ++ b ∷ [])
 came_last b blocks h = (sym (insert_last b blocks h), all_from (λ c. c.id ≢ b.id) blocks (λ c i e. let lt : c.id < b.id = all_in (λ c. c.id < b.id) blocks c h i in omega arith))

@@ -2,11 +2,10 @@
 use Rattle.std.proofs.Common.{◌≡◌, ◌≢◌, inl, inr, ℕ, zero, suc, ◌+◌, ◌-◌, ◌<◌, ◌≤◌, max, reverse, List, [], ◌∷◌, length, get_or, take, drop, map, refl, sym, subst, ap, ◌∙◌, arith}
 use Rattle.std.proofs.lemmas.List.Sorted.{length_permutation}
 use Rattle.shunt_lists.proofs.Members.{all_in, all_from, each_one as of_all}
-use Rattle.shunt_lists.specs.defs.Members.{In, AreDistinct}
+use Rattle.shunt_lists.specs.defs.Members.{In, AreDistinct, Ascends}
 use Rattle.shunt_blocks.specs.declared.records.Block.{Block}
 use Rattle.shunt_audit.specs.defs.Listed.{insert_by_id, by_id}
 use Rattle.shunt_audit.proofs.ById.{id_of, Apart, apart, there, moves, ascends, sorted_range}
-use Rattle.shunt_stays.proofs.AscendingLists.{Ascends}
 use Rattle.shunt_instance.specs.defs.Instance.{Night}
 use Rattle.shunt_blocks.specs.defs.Shapes.{IsInRange}
 use Rattle.shunt_blocks.specs.defs.Lists.{AreInRange}

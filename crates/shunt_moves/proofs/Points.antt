@@ -7,6 +7,7 @@ use Rattle.std.proofs.lemmas.Bool.Decides.{nat_tests}
 use Rattle.shunt_lists.specs.defs.Below.{count_below}
 use Rattle.shunt_moves.specs.defs.Kept.{at, is_within, IsCounted}
 use Rattle.shunt_lists.proofs.CountsBelow.{count_below-same as same_count}
+use Rattle.shunt_timeline.proofs.Steps.{byte_is}
 
 abbrev flag : Bool → ℕ
 flag b = cond b 1 0
@@ -36,10 +37,6 @@ at_other (y ∷ times) (suc u) (suc v) x ne = at_other times u v x (λ e. ne (ap
 flag_most : (b : Bool) → flag b ≤ 1
 flag_most true = omega arith
 flag_most false = omega arith
-
-byte_is : (b : Bool) → bool_byte b ≡ flag b
-byte_is true = refl
-byte_is false = refl
 
 pub count_most : (n : ℕ) (p : ℕ → Bool) → count_below n p ≤ n
 count_most zero p = omega arith

@@ -6,7 +6,8 @@ ghost use Rattle.shunt_instance.specs.defs.Words.{is_standing};
 ghost use Rattle.shunt_blocks.specs.defs.Shapes.{IsWithinTrains, IsOnTrack, IsInRange};
 ghost use Rattle.shunt_picture.specs.defs.Marks.{origin_name};
 ghost use Rattle.shunt_page.specs.defs.Told.{unit_told, units_told, train_told, arrive_told};
-ghost use Rattle.shunt_page.specs.defs.Told.{depart_told, parked_on, loose_of, loose_at, looses_of};
+ghost use Rattle.shunt_picture.specs.defs.Told.{track_name};
+ghost use Rattle.shunt_page.specs.defs.Told.{depart_told, loose_of, loose_at, looses_of};
 
 use crate::records::{LooseRow, TrainTold, UnitTold};
 use shunt_base::{Name, copy_name};
@@ -122,7 +123,7 @@ pub(crate) fn parked_on(
     park: Option<Park>,
 ) -> Result<Option<Name>, AllocError>
     requires { IsOnTrack instance.now.station park }
-    ensures { IfOk result (λ n. n ≡ parked_on instance.now park) }
+    ensures { IfOk result (λ n. n ≡ track_name instance.now park) }
 {
     match park {
         None => Ok(None),

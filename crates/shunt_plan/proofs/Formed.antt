@@ -7,24 +7,22 @@ use Rattle.std.proofs.lemmas.Bool.{ltb-true, not-true, eq-eqb, true≢false}
 use Rattle.shunt_lists.proofs.Lists.{no_pairs}
 use Rattle.shunt_base.specs.declared.ids.ArrId.{ArrId}
 use Rattle.shunt_base.specs.declared.ids.DepId.{DepId}
-use Rattle.shunt_base.specs.declared.ids.TrackId.{TrackId}
 use Rattle.shunt_rows.specs.defs.Records.{at}
 use Rattle.shunt_rows.specs.defs.Checks.{AllHold, Judged, answer}
 use Rattle.shunt_rows.specs.defs.Fields.{is_word}
 use Rattle.shunt_rows.specs.defs.Formats.{in_state, reading}
 use Rattle.shunt_rows.proofs.Answered.{says, hold_first, in_either, hold_rest}
 use Rattle.shunt_rows.proofs.KeptStates.{formed}
-use Rattle.shunt_rows.proofs.Named.{distinct_push, number_found}
+use Rattle.shunt_rows.proofs.Named.{distinct_push}
 use Rattle.shunt_rows.proofs.Spelled.{there, within}
 use Rattle.shunt_instance.specs.declared.records.Station.{Station}
 use Rattle.shunt_instance.specs.declared.records.Train.{Train}
-use Rattle.shunt_instance.specs.declared.records.Track.{Track}
-use Rattle.shunt_instance.specs.defs.Instance.{Night}
+use Rattle.shunt_instance.specs.defs.Instance.{Night, arr_of_name, dep_of_name}
 use Rattle.shunt_blocks.specs.declared.records.Block.{Block}
 use Rattle.shunt_blocks.specs.defs.Shapes.{IsOnTrack, IsInRange}
 use Rattle.shunt_blocks.specs.defs.Lists.{AreInRange}
 use Rattle.shunt_plan.specs.declared.records.Plan.{Plan}
-use Rattle.shunt_plan.specs.defs.BlockRecords.{arr_number, dep_number, track_number, arr_units, dep_units, track_in, unparked_in, parked_in, option_in, has_id, runs_of, block_of, blocks_of, arr_in, dep_in}
+use Rattle.shunt_plan.specs.defs.BlockRecords.{arr_units, dep_units, track_in, unparked_in, parked_in, option_in, has_id, runs_of, block_of, blocks_of, arr_in, dep_in}
 use Rattle.shunt_plan.specs.defs.PlanFormat.{PlanDraft, plan_format}
 use Rattle.shunt_plan.specs.defs.PinsFormat.{pins_first, pins_later, pins_format}
 use Rattle.shunt_plan.specs.defs.Plans.{IsPlanInRange}
@@ -32,6 +30,8 @@ use Rattle.shunt_blocks.specs.declared.records.Shape.{Shape}
 use Rattle.shunt_plan.specs.declared.edits.Turn.{Turn}
 use Rattle.shunt_plan.specs.defs.Edits.{AreRunsStated, IsTurn, AreTurns, runs_in, add_of, drop_of, park_of, unpark_of, cut_of, join_of, undo_of, redo_of, turn_of, edits_first, edits_later, edits_format}
 use Rattle.shunt_instance.specs.declared.records.Origin.TheVariants as origin
+use Rattle.shunt_instance.specs.defs.Words.{track_of_name}
+use Rattle.shunt_instance.proofs.Found.{number_found, track_within}
 use Rattle.shunt_plan.specs.defs.PlanFormat as plan
 
 -- ---- what is found of names
@@ -39,20 +39,11 @@ use Rattle.shunt_plan.specs.defs.PlanFormat as plan
 abbrev no_train : Train
 no_train = record { name = []; minute = 0; origin = origin.Platform (record { 0 = 0 }); units = [] }
 
-abbrev no_track : Track
-no_track = record { name = []; length = 0; side_a = false; side_b = false }
-
-pub arr_within : (night : Night) (name : List ℕ) (a : ArrId) → arr_number night name ≡ Some a → a.0 < length night.arrive
-unfolding arr_number
+pub arr_within : (night : Night) (name : List ℕ) (a : ArrId) → arr_of_name night name ≡ Some a → a.0 < length night.arrive
 arr_within night name a e = number_found (λ t. bytes_eq t.name name) night.arrive no_train (λ k. record { 0 = k }) (λ j. j.0) (λ k. refl) a e
 
-pub dep_within : (night : Night) (name : List ℕ) (d : DepId) → dep_number night name ≡ Some d → d.0 < length night.depart
-unfolding dep_number
+pub dep_within : (night : Night) (name : List ℕ) (d : DepId) → dep_of_name night name ≡ Some d → d.0 < length night.depart
 dep_within night name d e = number_found (λ t. bytes_eq t.name name) night.depart no_train (λ k. record { 0 = k }) (λ j. j.0) (λ k. refl) d e
-
-pub track_within : (s : Station) (name : List ℕ) (t : TrackId) → track_number s name ≡ Some t → t.0 < length s.tracks
-unfolding track_number
-track_within s name t e = number_found (λ t. bytes_eq t.name name) s.tracks no_track (λ k. record { 0 = k }) (λ j. j.0) (λ k. refl) t e
 
 -- a run from one place on ends inside its train
 inside : (p n units : ℕ) → 1 ≤ n → n ≤ units + 1 - p → p + n ≤ units + 1
@@ -64,7 +55,7 @@ inside_too n q units some le = omega (arith, some, le)
 -- ---- one block
 
 pub track_held : (s : Station) (row : List (List ℕ)) (k : ℕ) → AllHold (track_in s row k).checks → (track_in s row k).value.0 < length s.tracks
-track_held s row k h = track_within s (at row k) (track_in s row k).value (there (record { 0 = 0 }) (track_number s (at row k)) h.0)
+track_held s row k h = track_within s (at row k) (track_in s row k).value (there (record { 0 = 0 }) (track_of_name s (at row k)) h.0)
 
 -- what is true of both records is true of the one that is chosen
 pub chosen : {A : Type 0} (b : Bool) (m k : Judged A) (P : A → Type 0) → (AllHold m.checks → P m.value) → (AllHold k.checks → P k.value) → AllHold (if b then m else k).checks
@@ -198,10 +189,10 @@ pub pins_formed : (night : Night) (rows : List (List (List ℕ))) (pins : List B
 pins_formed night = formed (pins_format night) (AreInRange night) (AreInRange night) (pins_start night) (λ n s t row. pins_step n night s t row) (λ s is. is)
 
 arr_held : (night : Night) (row : List (List ℕ)) (k : ℕ) → AllHold (arr_in night row k).checks → (arr_in night row k).value.0 < length night.arrive
-arr_held night row k h = arr_within night (at row k) (arr_in night row k).value (there (record { 0 = 0 }) (arr_number night (at row k)) h.0)
+arr_held night row k h = arr_within night (at row k) (arr_in night row k).value (there (record { 0 = 0 }) (arr_of_name night (at row k)) h.0)
 
 dep_held : (night : Night) (row : List (List ℕ)) (k : ℕ) → AllHold (dep_in night row k).checks → (dep_in night row k).value.0 < length night.depart
-dep_held night row k h = dep_within night (at row k) (dep_in night row k).value (there (record { 0 = 0 }) (dep_number night (at row k)) h.0)
+dep_held night row k h = dep_within night (at row k) (dep_in night row k).value (there (record { 0 = 0 }) (dep_of_name night (at row k)) h.0)
 
 -- a turn that a file can state, where there was room for it
 abbrev Formed : Night → ℕ → Turn → Type 0

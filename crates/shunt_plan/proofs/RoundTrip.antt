@@ -29,7 +29,7 @@ use Rattle.shunt_instance.specs.declared.records.Station.{Station}
 use Rattle.shunt_instance.specs.declared.records.Track.{Track}
 use Rattle.shunt_instance.specs.declared.records.Train.{Train}
 use Rattle.shunt_instance.specs.defs.Wellformed.{IsStation}
-use Rattle.shunt_instance.specs.defs.Instance.{Night, IsInstance, IsOrderedNight}
+use Rattle.shunt_instance.specs.defs.Instance.{Night, IsInstance, IsOrderedNight, arr_of_name, dep_of_name}
 use Rattle.shunt_instance.proofs.Found.{found_there}
 use Rattle.shunt_instance.proofs.Orders.{opened}
 use Rattle.shunt_blocks.specs.declared.records.Park.{Park}
@@ -37,18 +37,20 @@ use Rattle.shunt_blocks.specs.declared.records.Block.{Block}
 use Rattle.shunt_blocks.specs.defs.Shapes.{IsOnTrack, IsInRange}
 use Rattle.shunt_blocks.specs.defs.Lists.{AreInRange}
 use Rattle.shunt_plan.specs.declared.records.Plan.{Plan}
-use Rattle.shunt_plan.specs.defs.BlockRecords.{arr_number, dep_number, track_number, arr_units, dep_units, unparked_in, parked_in, option_in, has_id, runs_of, block_of, blocks_of}
+use Rattle.shunt_plan.specs.defs.BlockRecords.{arr_units, dep_units, unparked_in, parked_in, option_in, has_id, runs_of, block_of, blocks_of}
 use Rattle.shunt_plan.specs.defs.PlanFormat.{PlanDraft, first_of, more_of, cost_of, later_of, plan_format}
 use Rattle.shunt_plan.specs.defs.Plans.{IsPlanInRange}
-use Rattle.shunt_plan.specs.defs.PlanRows.{arr_name, dep_name, track_name, option_fields, head_row, block_row, cost_row, rows_of, ReadsAsPlan}
+use Rattle.shunt_plan.specs.defs.PlanRows.{arr_name, dep_name, track_name, option_fields, head_row, block_row, cost_row, rows_of, ReadsAsPlan, rest_rows}
 use Rattle.shunt_plan.proofs.Parts.{block_is, one_more, add_is, one_turn}
 use Rattle.shunt_plan.proofs.Plain.{small_runs, plan_plain, edits_plain}
 use Rattle.shunt_blocks.specs.declared.records.Shape.{Shape}
+use Rattle.shunt_blocks.proofs.Made.{made_shape, made_park}
 use Rattle.shunt_plan.specs.declared.edits.Turn.{Turn}
 use Rattle.shunt_plan.specs.defs.Edits.{IsId, AreRunsStated, IsTurn, AreTurns, runs_in, drop_of, park_of, unpark_of, cut_of, join_of, undo_of, redo_of, turn_of, edits_first, edits_format}
 use Rattle.shunt_plan.specs.defs.WrittenEdits.{edit_row, turn_row, edits_head, rows_of_edits, ReadsAsEdits}
 use Rattle.shunt_rows.specs.declared.fault.RowKind.TheVariants as kinds
 use Rattle.shunt_instance.specs.declared.records.Origin.TheVariants as origin
+use Rattle.shunt_instance.specs.defs.Words.{track_of_name}
 use Rattle.shunt_base.specs.declared.ids.Side.TheVariants as sides
 use Rattle.shunt_plan.specs.declared.edits.Edit.TheVariants as edits
 use Rattle.shunt_plan.specs.declared.edits.Turn.TheVariants as turns
@@ -70,20 +72,17 @@ no_train = record { name = []; minute = 0; origin = origin.Platform (record { 0 
 abbrev no_track : Track
 no_track = record { name = []; length = 0; side_a = false; side_b = false }
 
-pub arr_there : (night : Night) (a : ArrId) → IsOrderedNight night → a.0 < length night.arrive → arr_number night (arr_name night a) ≡ Some a
-unfolding arr_number
+pub arr_there : (night : Night) (a : ArrId) → IsOrderedNight night → a.0 < length night.arrive → arr_of_name night (arr_name night a) ≡ Some a
 arr_there night a h lt =
     ap (option_map arr_id) (found_there (λ (t : Train). t.name) night.arrive (arr_name night a) a.0 no_train h.timetable.arrive.names
     (slice_get-get_or (map (λ (t : Train). t.name) night.arrive) a.0 [] (omega (arith, lt, length-map night.arrive (λ (t : Train). t.name)))))
 
-pub dep_there : (night : Night) (d : DepId) → IsOrderedNight night → d.0 < length night.depart → dep_number night (dep_name night d) ≡ Some d
-unfolding dep_number
+pub dep_there : (night : Night) (d : DepId) → IsOrderedNight night → d.0 < length night.depart → dep_of_name night (dep_name night d) ≡ Some d
 dep_there night d h lt =
     ap (option_map dep_id) (found_there (λ (t : Train). t.name) night.depart (dep_name night d) d.0 no_train h.timetable.depart.names
     (slice_get-get_or (map (λ (t : Train). t.name) night.depart) d.0 [] (omega (arith, lt, length-map night.depart (λ (t : Train). t.name)))))
 
-pub track_there : (s : Station) (t : TrackId) → IsStation s → t.0 < length s.tracks → track_number s (track_name s t) ≡ Some t
-unfolding track_number
+pub track_there : (s : Station) (t : TrackId) → IsStation s → t.0 < length s.tracks → track_of_name s (track_name s t) ≡ Some t
 track_there s t f lt =
     ap (option_map track_id) (found_there (λ (t : Track). t.name) s.tracks (track_name s t) t.0 no_track f.track_names
     (slice_get-get_or (map (λ (t : Track). t.name) s.tracks) t.0 [] (omega (arith, lt, length-map s.tracks (λ (t : Track). t.name)))))
@@ -180,10 +179,10 @@ runs_read k night xs y h room new is =
     let small = small_runs night y h is in
     let by = runs_by night xs in
     let id = decimal_of (decimal y.id) in
-    let arr = arr_number night (arr_name night y.arr) in
+    let arr = arr_of_name night (arr_name night y.arr) in
     let p = decimal_of (decimal y.p) in
     let n = decimal_of (decimal y.n) in
-    let dep = dep_number night (dep_name night y.dep) in
+    let dep = dep_of_name night (dep_name night y.dep) in
     let q = decimal_of (decimal y.q) in
     ap (λ o. answer k (by o id arr p n dep q)) (fields_fit night.station (codes "block") (decimal y.id) (arr_name night y.arr) (decimal y.p) (decimal y.n) (dep_name night y.dep)
     (decimal y.q) y.park)
@@ -252,10 +251,7 @@ head_read : answer 1 (first_of head_row) ≡ Ok (partial [])
 unfolding first_of is_within
 head_read = ap (λ o. answer 1 (head_by o)) (number_again 1 (omega arith))
 
-abbrev pub rest_of : Night → Plan → List (List (List ℕ))
-rest_of night plan = map (block_row night) plan.blocks ++ cost_row plan.cost ∷ []
-
-rest_read : (night : Night) (plan : Plan) → IsOrderedNight night → IsPlanInRange night plan → reads (plan_format night) (partial []) 2 (rest_of night plan) ≡ Ok (whole plan)
+rest_read : (night : Night) (plan : Plan) → IsOrderedNight night → IsPlanInRange night plan → reads (plan_format night) (partial []) 2 (rest_rows night plan) ≡ Ok (whole plan)
 rest_read night plan h is =
     let f = plan_format night in
     section_then f (block_row night) partial plan.blocks (whole plan) (cost_row plan.cost ∷ []) (more_read night plan.blocks h is.blocks)
@@ -263,7 +259,7 @@ rest_read night plan h is =
 
 -- the records of a plan state it
 plan_back : (night : Night) (plan : Plan) → IsOrderedNight night → IsPlanInRange night plan → reading (plan_format night) (rows_of night plan) ≡ Ok plan
-plan_back night plan h is = all_read (plan_format night) head_row (rest_of night plan) (partial []) (whole plan) head_read (rest_read night plan h is) refl
+plan_back night plan h is = all_read (plan_format night) head_row (rest_rows night plan) (partial []) (whole plan) head_read (rest_read night plan h is) refl
 
 pub records_back : (night : Night) (plan : Plan) → IsInstance night → IsPlanInRange night plan → reading (plan_format night) (rows_of night plan) ≡ Ok plan
 records_back night plan h is = plan_back night plan (opened night h) is
@@ -285,22 +281,16 @@ id_read id is = number_read 1 1000000 id is.0 is.1 (omega arith)
 count_read : (k : ℕ) → k ≤ 8 → IsRead 0 8 k
 count_read k le = number_read 0 8 k (omega arith) le (omega arith)
 
-abbrev park_from : TrackId → Side → Side → Park
-park_from t a b = record { track = t; side_in = a; side_out = b }
-
 -- what is read of a track and two sides
 park_same : (s : Station) → IsStation s → (park : Park) → park.track.0 < length s.tracks
-    → park_from (unwrap_or (track_number s (track_name s park.track)) (track_id 0)) (unwrap_or (side_of (side_text park.side_in)) sides.A)
+    → made_park (unwrap_or (track_of_name s (track_name s park.track)) (track_id 0)) (unwrap_or (side_of (side_text park.side_in)) sides.A)
     (unwrap_or (side_of (side_text park.side_out)) sides.A) ≡ park
 park_same s f park lt =
     let a = unwrap_or (side_of (side_text park.side_in)) sides.A in
     let b = unwrap_or (side_of (side_text park.side_out)) sides.A in
-    ap (λ o. park_from (unwrap_or o (track_id 0)) a b) (track_there s park.track f lt)
-    ∙ ap (λ o. park_from park.track (unwrap_or o sides.A) b) (side_read park.side_in)
-    ∙ ap (λ o. park_from park.track park.side_in (unwrap_or o sides.A)) (side_read park.side_out)
-
-abbrev shape_from : ArrId → ℕ → ℕ → DepId → ℕ → Shape
-shape_from a p n d q = record { arr = a; p = p; n = n; dep = d; q = q }
+    ap (λ o. made_park (unwrap_or o (track_id 0)) a b) (track_there s park.track f lt)
+    ∙ ap (λ o. made_park park.track (unwrap_or o sides.A) b) (side_read park.side_in)
+    ∙ ap (λ o. made_park park.track park.side_in (unwrap_or o sides.A)) (side_read park.side_out)
 
 edit_runs_read : (night : Night) → IsOrderedNight night → (n before : ℕ) → before < 10000 → (s : Shape) → AreRunsStated night s → (word : List ℕ) (option : List (List ℕ))
     → (length (word ∷ arr_name night s.arr ∷ decimal s.p ∷ decimal s.n ∷ dep_name night s.dep ∷ decimal s.q ∷ option) == 7 || length
@@ -315,13 +305,13 @@ edit_runs_read night f n before room s is word option size =
     let p = count_read s.p is.p in
     let k = count_read s.n is.n in
     let q = count_read s.q is.q in
-    let av = unwrap_or (arr_number night (arr_name night s.arr)) (arr_id 0) in
-    let dv = unwrap_or (dep_number night (dep_name night s.dep)) (dep_id 0) in
+    let av = unwrap_or (arr_of_name night (arr_name night s.arr)) (arr_id 0) in
+    let dv = unwrap_or (dep_of_name night (dep_name night s.dep)) (dep_id 0) in
     let pv = unwrap_or (decimal_of (decimal s.p)) 0 in
     let kv = unwrap_or (decimal_of (decimal s.n)) 0 in
     let qv = unwrap_or (decimal_of (decimal s.q)) 0 in
-    let same = ap (λ o. shape_from (unwrap_or o (arr_id 0)) pv kv dv qv) a ∙ ap (λ x. shape_from s.arr x kv dv qv) p.value ∙ ap (λ x. shape_from s.arr s.p x dv qv) k.value
-    ∙ ap (λ o. shape_from s.arr s.p s.n (unwrap_or o (dep_id 0)) qv) d ∙ ap (λ x. shape_from s.arr s.p s.n s.dep x) q.value in
+    let same = ap (λ o. made_shape (unwrap_or o (arr_id 0)) pv kv dv qv) a ∙ ap (λ x. made_shape s.arr x kv dv qv) p.value ∙ ap (λ x. made_shape s.arr s.p x dv qv) k.value
+    ∙ ap (λ o. made_shape s.arr s.p s.n (unwrap_or o (dep_id 0)) qv) d ∙ ap (λ x. made_shape s.arr s.p s.n s.dep x) q.value in
     holding n m.checks m.value (size, (lt-ltb before 10000 room, (ap is_some a, (p.there, (p.range, (k.there, (k.range, (ap is_some d, (q.there, (q.range, tt))))))))))
     ∙ ap (λ (x : Shape). Ok x) same
 
@@ -377,7 +367,7 @@ park_read night f n before room id park is lt =
     let s = night.station in
     let i = id_read id is in
     let m = park_of night before (edit_row night (edits.Park id park)) in
-    let read = park_from (unwrap_or (track_number s (track_name s park.track)) (track_id 0)) (unwrap_or (side_of (side_text park.side_in)) sides.A)
+    let read = made_park (unwrap_or (track_of_name s (track_name s park.track)) (track_id 0)) (unwrap_or (side_of (side_text park.side_in)) sides.A)
     (unwrap_or (side_of (side_text park.side_out)) sides.A) in
     holding n m.checks m.value (
       refl,
@@ -424,7 +414,7 @@ redo_read night n before room = let m = redo_of before (turn_row night turns.Red
 
 -- a turn is read from its record
 turn_read : (night : Night) → IsOrderedNight night → (n before : ℕ) → before < 10000 → (t : Turn) → IsTurn night t → answer n (turn_of night before (turn_row night t)) ≡ Ok t
-turn_read night f n before room (turns.Edit (edits.Add arr p k dep q park)) is = add_read night f n before room (shape_from arr p k dep q) park is.0 is.1
+turn_read night f n before room (turns.Edit (edits.Add arr p k dep q park)) is = add_read night f n before room (made_shape arr p k dep q) park is.0 is.1
 turn_read night f n before room (turns.Edit (edits.Drop id)) is = drop_read night n before room id is
 turn_read night f n before room (turns.Edit (edits.Park id park)) is = park_read night f n before room id park is.0 is.1
 turn_read night f n before room (turns.Edit (edits.Unpark id)) is = unpark_read night n before room id is

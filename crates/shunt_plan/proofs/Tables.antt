@@ -37,31 +37,21 @@ more_up : (night : Night) (d : PlanDraft) (row : List (List ℕ)) → HasChecksI
 unfolding plan.more_of
 more_up night d row = record { up = (whole_up 13 (blocks_of night d.blocks row).checks (record { up = (blocks_up night d.blocks row).up })).up }
 
-first_up : (row : List (List ℕ)) → HasChecksInOrder (plan.first_of row)
-unfolding plan.first_of
-first_up row = record { up = refl }
-
 later_up : (night : Night) (d : PlanDraft) (row : List (List ℕ)) → HasChecksInOrder (plan.later_of night d row)
 unfolding plan.later_of plan.cost_of
 later_up night d row = in_if (is_word row (codes "block")) (more_up night d row) (in_if (is_word row (codes "cost")) (record { up = refl }) (no_word_up d))
-
-pins_first_up : (row : List (List ℕ)) → HasChecksInOrder (pins_first row)
-unfolding pins_first
-pins_first_up row = record { up = refl }
 
 pins_later_up : (night : Night) (blocks : List Block) (row : List (List ℕ)) → HasChecksInOrder (pins_later night blocks row)
 unfolding pins_later
 pins_later_up night blocks row = in_if (is_word row (codes "block")) (blocks_up night blocks row) (no_word_up blocks)
 
 pub plans_tell : (night : Night) (rows : List (List (List ℕ))) → Tells (plan_format night) rows
-plans_tell night rows = tells (plan_format night) (record { first = first_up; later = later_up night }) rows
+unfolding plan.first_of
+plans_tell night rows = tells (plan_format night) (record { first = λ row. record { up = refl }; later = later_up night }) rows
 
 pub pins_tell : (night : Night) (rows : List (List (List ℕ))) → Tells (pins_format night) rows
-pins_tell night rows = tells (pins_format night) (record { first = pins_first_up; later = pins_later_up night }) rows
-
-edits_first_up : (row : List (List ℕ)) → HasChecksInOrder (edits_first row)
-unfolding edits_first
-edits_first_up row = record { up = refl }
+unfolding pins_first
+pins_tell night rows = tells (pins_format night) (record { first = λ row. record { up = refl }; later = pins_later_up night }) rows
 
 edit_option_up : (s : Station) (row : List (List ℕ)) → Ascends 80 ((option_in s row 7).checks ++ [])
 unfolding option_in unparked_in parked_in
@@ -92,4 +82,5 @@ edits_later_up night before row = record {
 }
 
 pub edits_tell : (night : Night) (rows : List (List (List ℕ))) → Tells (edits_format night) rows
-edits_tell night rows = tells (edits_format night) (record { first = edits_first_up; later = edits_later_up night }) rows
+unfolding edits_first
+edits_tell night rows = tells (edits_format night) (record { first = λ row. record { up = refl }; later = edits_later_up night }) rows

@@ -35,7 +35,6 @@ fn unknown(n: u32, k: u32) -> RowFault
 }
 
 /// The arriving train at field `k` of record `n`: else Unknown.
-#[tactic(auto, unfolding(crate::specs::defs::BlockRecords::arr_number))]
 pub fn read_arr(instance: &Instance, row: &Row, n: u32, k: u32) -> Result<ArrId, RowFault>
     requires first { 1 ≤ k }
     requires last { k ≤ length row.now }
@@ -49,7 +48,6 @@ pub fn read_arr(instance: &Instance, row: &Row, n: u32, k: u32) -> Result<ArrId,
 }
 
 /// The departing train at field `k` of record `n`: else Unknown.
-#[tactic(auto, unfolding(crate::specs::defs::BlockRecords::dep_number))]
 pub fn read_dep(instance: &Instance, row: &Row, n: u32, k: u32) -> Result<DepId, RowFault>
     requires first { 1 ≤ k }
     requires last { k ≤ length row.now }
@@ -63,7 +61,6 @@ pub fn read_dep(instance: &Instance, row: &Row, n: u32, k: u32) -> Result<DepId,
 }
 
 /// The track at field `k` of record `n`: else Unknown.
-#[tactic(auto, unfolding(crate::specs::defs::BlockRecords::track_number))]
 pub fn read_track(instance: &Instance, row: &Row, n: u32, k: u32) -> Result<TrackId, RowFault>
     requires first { 1 ≤ k }
     requires last { k ≤ length row.now }

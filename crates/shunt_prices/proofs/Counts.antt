@@ -7,6 +7,7 @@ use Rattle.std.proofs.lemmas.Int.{ints}
 use Rattle.shunt_prices.specs.defs.Bounds.{IsBoundOf, most_surcharge, uncovered_alphas, uncovered_betas, sum_at}
 use Rattle.shunt_prices.proofs.Signed.{bound_rises, sum_z_push, five}
 use Rattle.shunt_base.specs.declared.duals.Duals.{Duals}
+use Rattle.shunt_base.specs.declared.duals.PriceKind.TheVariants as kinds
 use Rattle.shunt_instance.specs.defs.Instance.{Night}
 use Rattle.shunt_blocks.specs.declared.records.Shape.{Shape}
 use Rattle.shunt_blocks.specs.defs.Shapes.{unit_from, position_from, shape_of}
@@ -23,6 +24,10 @@ use Rattle.shunt_prices.specs.defs.Prices.{paid_at_most, counted_with, price_par
 use Rattle.std.proofs.lemmas.Option.{get_or_from_slice_get}
 use Rattle.std.proofs.lemmas.List.Sums.{sum_by-cons, sum_by_more}
 use Rattle.shunt_base.specs.declared.duals.Price.{Price}
+
+-- a price that is not there, for places past a list's end
+abbrev pub no_price : Price
+no_price = record { kind = kinds.Length; track = record { 0 = 0 }; train = record { 0 = 0 }; value = 0 }
 
 -- from the trains below one to one more
 pub train_more : (Fits : ℕ → ℕ → Type 0) (costs : List ℕ) (t cost : ℕ) → t < length costs → Fits t cost → ((a : ℕ) → a < t → Fits a (get_or costs a 0))

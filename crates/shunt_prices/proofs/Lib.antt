@@ -14,3 +14,4 @@ mod Open
 mod Raised
 mod Stepped
 pub mod Counts
+pub mod LeastBelow

@@ -9,7 +9,6 @@ use Rattle.std.proofs.lemmas.List.{get_or-map, get_or_past, length-map}
 use Rattle.std.proofs.lemmas.List.Sums.{sum_by-le}
 use Rattle.std.proofs.lemmas.List.Elements.{All-tail}
 use Rattle.shunt_lists.proofs.SumsBelow.{sum_below-small}
-use Rattle.shunt_base.specs.declared.ids.TypeId.{TypeId}
 use Rattle.shunt_base.specs.declared.ids.TrackId.{TrackId}
 use Rattle.shunt_base.specs.declared.ids.Side.{Side}
 use Rattle.shunt_base.specs.declared.ids.Side.TheVariants.{A, B}
@@ -20,11 +19,8 @@ use Rattle.shunt_base.specs.declared.duals.Duals.{Duals}
 use Rattle.shunt_base.specs.declared.duals.Case.{Case}
 use Rattle.shunt_instance.specs.declared.records.Origin.{Origin}
 use Rattle.shunt_instance.specs.declared.records.Origin.TheVariants as origin
-use Rattle.shunt_instance.specs.declared.records.Station.{Station}
 use Rattle.shunt_instance.specs.declared.records.Track.{Track}
-use Rattle.shunt_instance.specs.declared.records.UnitType.{UnitType}
 use Rattle.shunt_instance.specs.defs.Words.{train_at}
-use Rattle.shunt_instance.specs.defs.Wellformed.{IsStation}
 use Rattle.shunt_instance.specs.defs.Instance.{Night, IsOrderedNight, unit_at, unit_total, position_total}
 use Rattle.shunt_instance.proofs.Looked.{cost_bound, units_few, positions_few}
 use Rattle.shunt_blocks.specs.declared.records.Shape.{Shape}
@@ -40,7 +36,7 @@ use Rattle.shunt_prices.specs.defs.Prices.{track_length, count_of, most_of, coun
 use Rattle.shunt_prices.specs.defs.Limits.{IsKind, IsPrice, ArePrices, IsValue, AreDuals, IsCase, AreCases, from_of}
 use Rattle.shunt_prices.specs.defs.Cases.{alpha_at, beta_at, duals_over, surcharge, weight_with, weight}
 use Rattle.shunt_prices.specs.defs.Bounds.{uncovered_alphas, uncovered_betas, most_surcharge, sum_at}
-use Rattle.shunt_blocks.proofs.Times.{arrival}
+use Rattle.shunt_blocks.proofs.Times.{arrival, length_small}
 
 -- ---- signed numbers
 
@@ -99,15 +95,6 @@ from_small night cases (suc k) is lt = omega (arith, is.rise k (suc k) no_case (
     no_case = record { to = 0; multiplier = pos 0; duals = record { alpha = []; beta = []; prices = [] } }
 
 -- ---- lengths, counts and prices
-
-length_small : (s : Station) (kind : TypeId) → IsStation s → length_of s kind ≤ 5000
-length_small s kind h = ⊎_elim
-    (λ lt. omega (arith, get_or-map (λ (t : UnitType). t.length) s.types kind.0 no_type 0 lt, (h.types kind.0 no_type lt).long))
-    (λ le. omega (arith, get_or_past (map (λ (t : UnitType). t.length) s.types) kind.0 0 (rw length-map le)))
-    (cases_lt kind.0 (length s.types))
-  where
-    no_type : UnitType
-    no_type = record { name = []; length = 0; turn = 0 }
 
 room_small : (night : Night) (track : ℕ) → IsOrderedNight night → track_length night track ≤ 50000
 room_small night track h = ⊎_elim

@@ -17,8 +17,7 @@ use Rattle.shunt_rows.specs.defs.Fields.{is_within, fields_in}
 use Rattle.shunt_rows.proofs.Answered.{holding}
 use Rattle.shunt_rows.proofs.Joins.{part_ok}
 use Rattle.shunt_rows.proofs.Spelled.{number_again, in_range, signed_again}
-use Rattle.shunt_instance.specs.defs.Instance.{Night, IsOrderedNight, unit_total, position_total}
-use Rattle.shunt_plan.specs.defs.BlockRecords.{arr_number}
+use Rattle.shunt_instance.specs.defs.Instance.{Night, IsOrderedNight, unit_total, position_total, arr_of_name}
 use Rattle.shunt_plan.specs.defs.PlanRows.{arr_name, track_name}
 use Rattle.shunt_plan.proofs.RoundTrip.{arr_there, track_there}
 use Rattle.shunt_prices.specs.defs.Limits.{IsValue}
@@ -189,7 +188,7 @@ pub price_back : (n : ℕ) (night : Night) → IsOrderedNight night → (prices 
 unfolding price_in is_within
 price_back n night h prices t a v room new track train worth =
     let by = price_by prices in
-    let ao = arr_number night (arr_name night a) in
+    let ao = arr_of_name night (arr_name night a) in
     let vo = decimal_of (decimal v) in
     ap (λ o. answer n (by o ao vo)) (track_there night.station t h.station track)
     ∙ ap (λ o. answer n (by (Some t) o vo)) (arr_there night a h train)
@@ -206,7 +205,7 @@ pub part_back : (n : ℕ) (night : Night) → IsOrderedNight night → (prices :
 unfolding part_in is_within
 part_back n night h prices t a r v room new track train some few worth =
     let by = part_by prices in
-    let ao = arr_number night (arr_name night a) in
+    let ao = arr_of_name night (arr_name night a) in
     let ro = decimal_of (decimal r) in
     let vo = decimal_of (decimal v) in
     ap (λ o. answer n (by o ao ro vo)) (track_there night.station t h.station track)

@@ -8,12 +8,11 @@ use Rattle.shunt_blocks.specs.defs.Lists.{total_cost}
 use Rattle.shunt_blocks.specs.defs.Pins.{opening_cost}
 use Rattle.shunt_prices.specs.defs.Limits.{plain}
 use Rattle.shunt_proof.specs.declared.records.Choice.{Choice}
-use Rattle.shunt_proof.specs.declared.records.NodeKind.{NodeKind}
 use Rattle.shunt_proof.specs.declared.records.NodeKind.TheVariants.{Branch, Leaf, Whole}
-use Rattle.shunt_proof.specs.declared.records.NodeDuals.{NodeDuals}
 use Rattle.shunt_proof.specs.declared.records.NodeDuals.TheVariants.{Same, New, Bare}
 use Rattle.shunt_proof.specs.declared.records.Node.{Node}
 use Rattle.shunt_proof.specs.defs.Trees.{parent, longer_with, path_at, duals_at, best_before}
+use Rattle.shunt_proof.proofs.NodesBack.{made_of}
 
 -- ---- a root with two children, the first of which has two, the second one
 
@@ -23,12 +22,9 @@ single q = Some (record { n = 1; dep = record { 0 = 0 }; q = q; park = None })
 abbrev cases : ℕ → List Case
 cases q = plain (record { alpha = pos q ∷ []; beta = []; prices = [] })
 
-abbrev node : ℕ → Option Choice → NodeKind → NodeDuals → Node
-node depth choice kind duals = record { depth = depth; choice = choice; kind = kind; duals = duals }
-
 abbrev tree : List Node
-tree = node 0 None Branch (New (cases 0)) ∷ node 1 (single 1) Branch Same ∷ node 2 (single 2) Whole Bare ∷ node 2 (single 3) Leaf Same ∷ node 1 (single 4) Branch
-    (New (cases 4)) ∷ node 2 (single 5) Leaf Same ∷ []
+tree = made_of 0 None Branch (New (cases 0)) ∷ made_of 1 (single 1) Branch Same ∷ made_of 2 (single 2) Whole Bare ∷ made_of 2 (single 3) Leaf Same ∷ made_of 1 (single 4) Branch
+    (New (cases 4)) ∷ made_of 2 (single 5) Leaf Same ∷ []
 
 first_child : parent tree 1 ≡ 0
 first_child = refl

@@ -23,9 +23,11 @@ use Rattle.shunt_rows.proofs.Answered.{says, hold_first}
 use Rattle.shunt_rows.proofs.KeptStates.{all_kept}
 use Rattle.shunt_rows.proofs.Named.{distinct_push}
 use Rattle.shunt_rows.proofs.Spelled.{there, within}
-use Rattle.shunt_instance.specs.defs.Instance.{Night, unit_total, position_total}
-use Rattle.shunt_plan.specs.defs.BlockRecords.{arr_number, dep_number, track_number, option_in}
-use Rattle.shunt_plan.proofs.Formed.{arr_within, dep_within, track_within, option_holds}
+use Rattle.shunt_instance.specs.defs.Instance.{Night, unit_total, position_total, arr_of_name, dep_of_name}
+use Rattle.shunt_instance.specs.defs.Words.{track_of_name}
+use Rattle.shunt_instance.proofs.Found.{track_within}
+use Rattle.shunt_plan.specs.defs.BlockRecords.{option_in}
+use Rattle.shunt_plan.proofs.Formed.{arr_within, dep_within, option_holds}
 use Rattle.shunt_prices.specs.defs.Limits.{IsValue, IsPrice, ArePrices, AreApart, place_of_price, IsCase}
 use Rattle.shunt_proof.specs.declared.records.Choice.{Choice}
 use Rattle.shunt_proof.specs.declared.records.NodeKind.{NodeKind}
@@ -387,7 +389,7 @@ child_holds n night d t row is same a =
     let place = dep.1 in
     let c : Choice = record {
       n = unwrap_or (decimal_of (at row 5)) 0;
-      dep = unwrap_or (dep_number night (at row 6)) (record { 0 = 0 });
+      dep = unwrap_or (dep_of_name night (at row 6)) (record { 0 = 0 });
       q = unwrap_or
           (decimal_of (at row 7)) 0;
       park = option.value;
@@ -398,7 +400,7 @@ child_holds n night d t row is same a =
     let choice : FitsChoice night c = record {
       some = few.0;
       few = few.1;
-      dep = dep_within night (at row 6) c.dep (there (record { 0 = 0 }) (dep_number night (at row 6)) dep.0);
+      dep = dep_within night (at row 6) c.dep (there (record { 0 = 0 }) (dep_of_name night (at row 6)) dep.0);
       from = from.0;
       to = from.1;
       track = option_holds night.station row 8 (hold_first option.checks [] (hold_first (option.checks ++ []) [] place.1.1));
@@ -643,8 +645,8 @@ price_holds n night d t row e is a =
     subst (IsDraft night) s.1 (placed_as night (format.with_price d price) e (price_added night d price is (ltb-true (length d.now.duals.prices) 64 h.1.0) (not-true _ h.1.1.1.1.0)
     record {
       kind = tt;
-      track = track_within night.station (at row 2) price.track (there (record { 0 = 0 }) (track_number night.station (at row 2)) h.1.1.0);
-      train = arr_within night (at row 3) price.train (there (record { 0 = 0 }) (arr_number night (at row 3)) h.1.1.1.0);
+      track = track_within night.station (at row 2) price.track (there (record { 0 = 0 }) (track_of_name night.station (at row 2)) h.1.1.0);
+      train = arr_within night (at row 3) price.train (there (record { 0 = 0 }) (arr_of_name night (at row 3)) h.1.1.1.0);
       value = (within 0 1000000000 price.value h.1.1.1.1.1.1.0).1;
     }))
 
@@ -660,8 +662,8 @@ part_holds n night d t row e is a =
     subst (IsDraft night) s.1 (placed_as night (format.with_price d price) e (price_added night d price is (ltb-true (length d.now.duals.prices) 64 h.1.0)
     (not-true _ h.1.1.1.1.1.0) record {
       kind = within 1 8 parts h.1.1.1.1.1.1.0;
-      track = track_within night.station (at row 2) price.track (there (record { 0 = 0 }) (track_number night.station (at row 2)) h.1.1.0);
-      train = arr_within night (at row 3) price.train (there (record { 0 = 0 }) (arr_number night (at row 3)) h.1.1.1.0);
+      track = track_within night.station (at row 2) price.track (there (record { 0 = 0 }) (track_of_name night.station (at row 2)) h.1.1.0);
+      train = arr_within night (at row 3) price.train (there (record { 0 = 0 }) (arr_of_name night (at row 3)) h.1.1.1.0);
       value = (within 0 1000000000 price.value h.1.1.1.1.1.1.1.1.0).1;
     }))
 

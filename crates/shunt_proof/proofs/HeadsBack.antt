@@ -11,8 +11,8 @@ use Rattle.shunt_rows.specs.defs.Fields.{is_within}
 use Rattle.shunt_rows.proofs.Answered.{holding}
 use Rattle.shunt_rows.proofs.Joins.{part_ok}
 use Rattle.shunt_rows.proofs.Spelled.{number_again, in_range}
-use Rattle.shunt_instance.specs.defs.Instance.{Night, IsOrderedNight}
-use Rattle.shunt_plan.specs.defs.BlockRecords.{dep_number, option_in}
+use Rattle.shunt_instance.specs.defs.Instance.{Night, IsOrderedNight, dep_of_name}
+use Rattle.shunt_plan.specs.defs.BlockRecords.{option_in}
 use Rattle.shunt_plan.specs.defs.PlanRows.{dep_name, option_fields}
 use Rattle.shunt_plan.proofs.RoundTrip.{dep_there, option_read, fields_fit}
 use Rattle.shunt_proof.specs.declared.records.Choice.{Choice}
@@ -148,7 +148,7 @@ later_back n night h begun last depth kind own c room some few deep is fits =
     let duals_by : NodeKind → ℕ → Option HeadDuals = λ k d. duals_of k d (duals_text own) in
     let k = kind_of (kind_text kind) in
     let u = decimal_of (decimal c.n) in
-    let t = dep_number night (dep_name night c.dep) in
+    let t = dep_of_name night (dep_name night c.dep) in
     let p = decimal_of (decimal c.q) in
     let units : c.n ≤ 160 = (let le = fits.few in omega (arith, le)) in
     let place : c.q ≤ 160 = (let le = fits.to in omega (arith, le)) in

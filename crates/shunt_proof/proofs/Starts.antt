@@ -4,7 +4,8 @@ use Rattle.std.proofs.Common.{◌≡◌, ℕ, suc, ◌<◌, List, [], ◌∷◌,
 use Rattle.std.proofs.lemmas.List.Sorted.{All-permutation, sum_by-IsPermutation}
 use Rattle.shunt_lists.proofs.Members.{all_from, place}
 use Rattle.shunt_lists.proofs.SumsBelow.{sum_below-same}
-use Rattle.shunt_stays.proofs.AscendingLists.{Ascends, unique}
+use Rattle.shunt_lists.specs.defs.Members.{Ascends}
+use Rattle.shunt_stays.proofs.AscendingLists.{unique}
 use Rattle.shunt_stays.proofs.SortedEvents.{in_permuted, of_permuted}
 use Rattle.shunt_instance.specs.defs.Instance.{Night, unit_total, position_total}
 use Rattle.shunt_blocks.specs.declared.records.Block.{Block}

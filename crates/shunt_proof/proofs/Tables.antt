@@ -109,9 +109,6 @@ later_up : (night : Night) (d : CertificateDraft) (row : List (List ℕ)) → Ha
 unfolding later_of
 later_up night d row = place_up night d d.place row
 
-first_up : (row : List (List ℕ)) → HasChecksInOrder (first_of row)
-unfolding first_of version_in
-first_up row = record { up = refl }
-
 pub certificates_tell : (night : Night) (rows : List (List (List ℕ))) → Tells (certificate_format night) rows
-certificates_tell night rows = tells (certificate_format night) (record { first = first_up; later = later_up night }) rows
+unfolding first_of version_in
+certificates_tell night rows = tells (certificate_format night) (record { first = λ row. record { up = refl }; later = later_up night }) rows

@@ -2,10 +2,6 @@
 use Rattle.std.specs.Prelude.{◌↔◌, Option, Some}
 use Rattle.std.proofs.Common.{◌≡◌, ℕ, ◌+◌, ◌≤◌, List, ℤ, sym, subst, ◌∙◌, arith}
 use Rattle.shunt_stacks.specs.defs.Spans.{Span, best}
-use Rattle.shunt_recount.specs.defs.Visits.{AreSmall}
-
-pub moved_small : (fixed free xs ys : List Span) → xs ≡ fixed → ys ≡ free → AreSmall fixed free → AreSmall xs ys
-moved_small fixed free xs ys e f small = subst (λ (zs : List Span). AreSmall zs ys) (sym e) (subst (AreSmall fixed) (sym f) small)
 
 pub tells : (P : ℤ → Type 0) (r room : ℕ) (fixed free xs ys : List Span) (g : Option ℤ) → r ≡ room → xs ≡ fixed → ys ≡ free →
     ((n : ℕ) → 5760000 ≤ 0 + n → g ≡ best n xs ys 0 5760000 r) → ((most : ℤ) → (best 5760000 fixed free 0 5760000 room ≡ Some most) ↔ P most) → (most : ℤ)

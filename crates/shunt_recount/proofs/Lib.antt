@@ -9,5 +9,4 @@ mod Gained
 mod TakenOffers
 mod Totalled
 mod Added
-mod Pairwise
 mod ShapeLists

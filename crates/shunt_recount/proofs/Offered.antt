@@ -9,11 +9,12 @@ use Rattle.shunt_instance.specs.defs.Instance.{Night}
 use Rattle.shunt_blocks.specs.declared.records.Shape.{Shape}
 use Rattle.shunt_blocks.specs.defs.Shapes.{AreRunsWithin}
 use Rattle.shunt_choices.specs.defs.Paths.{Masks}
+use Rattle.shunt_choices.specs.defs.Choices.{AreFreeShapes}
 use Rattle.shunt_prices.specs.defs.Cases.{duals_over}
 use Rattle.shunt_stacks.specs.defs.Stacks.{Stack}
 use Rattle.shunt_recount.specs.declared.candidates.Candidate.{Candidate}
 use Rattle.shunt_recount.specs.declared.offers.Offer.{Offer}
-use Rattle.shunt_recount.specs.defs.Offers.{AreFreeShapes, IsCandidate, AreCandidatesOf, Gains, IsOffer, AreOffersFor, block_on}
+use Rattle.shunt_recount.specs.defs.Offers.{IsCandidate, AreCandidatesOf, Gains, IsOffer, AreOffersFor, block_on}
 
 -- ---- shapes
 

@@ -10,8 +10,10 @@ use Rattle.shunt_instance.specs.defs.Words.{train_at, kind_at}
 use Rattle.shunt_instance.specs.defs.Instance.{Night, unit_at, make_unit}
 use Rattle.shunt_blocks.specs.declared.records.Shape.{Shape}
 use Rattle.shunt_blocks.specs.defs.Shapes.{AreRunsWithin, unit_from}
+use Rattle.shunt_blocks.proofs.Made.{made_shape}
 use Rattle.shunt_choices.specs.defs.Paths.{Masks}
-use Rattle.shunt_recount.specs.defs.Offers.{IsFree, GoesOn, BeginsAt, IsOfUnit, GoesWith}
+use Rattle.shunt_choices.specs.defs.Choices.{IsFree}
+use Rattle.shunt_recount.specs.defs.Offers.{GoesOn, BeginsAt, IsOfUnit, GoesWith}
 
 -- ---- where a shape stands
 
@@ -34,15 +36,12 @@ BeginsBelow night u s = unit_from night s < u
 
 -- ---- which shape it is
 
-abbrev made : ArrId → ℕ → ℕ → DepId → ℕ → Shape
-made arr p n dep q = record { arr = arr; p = p; n = n; dep = dep; q = q }
-
 pub from_place : (unit : TrainUnit) (n : ℕ) (dep : DepId) (q : ℕ) (s : Shape) → GoesWith unit n dep.0 s → s.q ≡ q
     → s ≡ record { arr = unit.train; p = unit.place; n = n; dep = dep; q = q }
 from_place unit n dep q s with at =
-    ap (λ (w : ArrId). made w s.p s.n s.dep s.q) with.0.0.0 ∙ (ap (λ (w : ℕ). made unit.train w s.n s.dep s.q) with.0.0.1
-    ∙ (ap (λ (w : ℕ). made unit.train unit.place w s.dep s.q) with.0.1 ∙ (ap (λ (w : ℕ). made unit.train unit.place n (record { 0 = w }) s.q) with.1
-    ∙ ap (λ (w : ℕ). made unit.train unit.place n dep w) at)))
+    ap (λ (w : ArrId). made_shape w s.p s.n s.dep s.q) with.0.0.0 ∙ (ap (λ (w : ℕ). made_shape unit.train w s.n s.dep s.q) with.0.0.1
+    ∙ (ap (λ (w : ℕ). made_shape unit.train unit.place w s.dep s.q) with.0.1 ∙ (ap (λ (w : ℕ). made_shape unit.train unit.place n (record { 0 = w }) s.q) with.1
+    ∙ ap (λ (w : ℕ). made_shape unit.train unit.place n dep w) at)))
 
 -- the units of a shape are those of its train from its place on
 module _ (night : Night)

@@ -1,10 +1,9 @@
 -- The offers to a stack are its free blocks at a path, and those that share nothing with one more block are those of the longer path.
 use Rattle.std.specs.Prelude.{◌&&◌, ◌==◌, ◌<ℤ◌, ◌-ℤ◌, filter, not, Option, Some, None}
-use Rattle.std.proofs.Common.{◌≡◌, ℕ, Bool, true, false, List, [], ◌∷◌, ℤ, pos, refl, sym, subst, ap, ◌∙◌}
+use Rattle.std.proofs.Common.{◌≡◌, Bool, true, false, List, [], ◌∷◌, ℤ, pos, refl, sym, subst, ap, ◌∙◌}
 use Rattle.std.proofs.lemmas.Bool.{eqb-true, eq-eqb, and_parts, and_from, false≢true}
 use Rattle.shunt_lists.specs.defs.Members.{In}
 use Rattle.shunt_lists.proofs.Members.{in_map, of_map, filter_from, filter_yes, filter_no, to_all as from_members}
-use Rattle.shunt_base.specs.declared.ids.Side.{Side}
 use Rattle.shunt_base.specs.declared.duals.Case.{Case}
 use Rattle.shunt_base.specs.defs.Sides.{same_side}
 use Rattle.shunt_base.proofs.Sides.{same_side_tells, same_side_is}
@@ -15,31 +14,28 @@ use Rattle.shunt_blocks.specs.declared.records.Park.{Park}
 use Rattle.shunt_blocks.specs.defs.Shapes.{shape_of}
 use Rattle.shunt_blocks.specs.defs.Blocks.{IsOption}
 use Rattle.shunt_blocks.specs.defs.Pins.{without_id}
+use Rattle.shunt_blocks.proofs.Made.{same_park}
 use Rattle.shunt_choices.specs.defs.Paths.{masks_of}
+use Rattle.shunt_choices.specs.defs.Choices.{AreFreeShapes}
 use Rattle.shunt_prices.specs.defs.Cases.{IsFreeBlock, HasRoom, duals_over, weight_with}
 use Rattle.shunt_stacks.specs.defs.Stacks.{Stack, is_of}
 use Rattle.shunt_stacks.specs.defs.Fillings.{gain}
 use Rattle.shunt_stacks.specs.defs.Numbers.{AreFreeOf, shares, apart_of}
 use Rattle.shunt_recount.specs.declared.candidates.Candidate.{Candidate}
 use Rattle.shunt_recount.specs.declared.offers.Offer.{Offer}
-use Rattle.shunt_recount.specs.defs.Offers.{AreFreeShapes, AreCandidatesOf, Gains, AreOffersFor, AreOffersOf, block_on, blocks_in}
+use Rattle.shunt_recount.specs.defs.Offers.{AreCandidatesOf, Gains, AreOffersFor, AreOffersOf, block_on, blocks_in}
 use Rattle.shunt_recount.proofs.Weighed.{worth_something}
 
 -- ---- an option of a stack is parked there by its side
-
-abbrev parked : ℕ → Side → Side → Park
-parked t x y = record { track = record { 0 = t }; side_in = x; side_out = y }
-
-same_park : (t u : ℕ) (x y z : Side) → t ≡ u → x ≡ z → y ≡ z → Some (parked t x y) ≡ Some (parked u z z)
-same_park t u x y z e f g = cc
 
 park_on : (stack : Stack) (s : Shape) (park : Option Park) → is_of stack park ≡ true → park ≡ (block_on stack s).park
 park_on stack s None e = absurd (false≢true e)
 park_on stack s (Some k) e =
     let h = and_parts (k.track.0 == stack.track.0) (same_side k.side_in stack.side && same_side k.side_out stack.side) e in
     let sides = and_parts (same_side k.side_in stack.side) (same_side k.side_out stack.side) h.1 in
-    same_park k.track.0 stack.track.0 k.side_in k.side_out stack.side (eqb-true k.track.0 stack.track.0 h.0) (same_side_tells k.side_in stack.side sides.0)
-    (same_side_tells k.side_out stack.side sides.1)
+    ap (λ (p : Park). Some p)
+    (same_park k.track.0 stack.track.0 k.side_in stack.side k.side_out stack.side (eqb-true k.track.0 stack.track.0 h.0) (same_side_tells k.side_in stack.side sides.0)
+    (same_side_tells k.side_out stack.side sides.1))
 
 on_stack : (stack : Stack) (s : Shape) → is_of stack (block_on stack s).park ≡ true
 on_stack stack s = and_from (stack.track.0 == stack.track.0) (same_side stack.side stack.side && same_side stack.side stack.side) (eq-eqb stack.track.0 stack.track.0 refl)

@@ -4,7 +4,8 @@ ghost use Rattle.shunt_blocks.specs.declared.records.Shape.{Shape as AShape};
 ghost use Rattle.shunt_blocks.specs.defs.Shapes.{AreRunsWithin};
 ghost use Rattle.shunt_choices.specs.defs.Free.{AreMasksOf};
 ghost use Rattle.shunt_prices.specs.defs.Limits.{IsCase};
-ghost use Rattle.shunt_recount.specs.defs.Offers.{AreFreeShapes, IsCandidate, AreCandidatesOf};
+ghost use Rattle.shunt_choices.specs.defs.Choices.{AreFreeShapes};
+ghost use Rattle.shunt_recount.specs.defs.Offers.{IsCandidate, AreCandidatesOf};
 
 use crate::ends::block_of;
 use crate::prices::worth;

@@ -5,7 +5,8 @@ ghost use Rattle.shunt_blocks.specs.defs.Blocks.{IsBlockButId};
 ghost use Rattle.shunt_blocks.specs.defs.Lists.{RunsThrough, placed};
 ghost use Rattle.shunt_choices.specs.defs.Paths.{IsTrailOf};
 ghost use Rattle.shunt_prices.specs.defs.Limits.{IsCase};
-ghost use Rattle.shunt_recount.specs.defs.Offers.{AreFreeShapes, AreCandidatesOf};
+ghost use Rattle.shunt_choices.specs.defs.Choices.{AreFreeShapes};
+ghost use Rattle.shunt_recount.specs.defs.Offers.{AreCandidatesOf};
 ghost use Rattle.shunt_recount.specs.defs.Recounts.{IsCountOf};
 
 use crate::candidates::Candidate;

@@ -11,7 +11,8 @@ ghost use Rattle.shunt_prices.specs.defs.Sums.{sum_z, IsWithin};
 ghost use Rattle.shunt_prices.specs.defs.Limits.{IsCase};
 ghost use Rattle.shunt_stacks.specs.defs.Stacks.{stacks};
 ghost use Rattle.shunt_stacks.specs.defs.Bounds.{AreStackGains};
-ghost use Rattle.shunt_recount.specs.defs.Offers.{stacks_at, AreFreeShapes, AreCandidatesOf};
+ghost use Rattle.shunt_choices.specs.defs.Choices.{AreFreeShapes};
+ghost use Rattle.shunt_recount.specs.defs.Offers.{stacks_at, AreCandidatesOf};
 ghost use Rattle.shunt_recount.specs.defs.Recounts.{IsRecountOf, AreCountsOf};
 
 use crate::candidates::{Candidate, all_candidates};

@@ -4,7 +4,8 @@ ghost use Rattle.shunt_instance.specs.defs.Words.{train_at};
 ghost use Rattle.shunt_instance.specs.defs.Instance.{unit_total, position_total};
 ghost use Rattle.shunt_blocks.specs.defs.Shapes.{AreRunsWithin};
 ghost use Rattle.shunt_choices.specs.defs.Free.{AreMasksOf};
-ghost use Rattle.shunt_recount.specs.defs.Offers.{IsFreePair, IsFree, AreFreeShapes, GoesOn};
+ghost use Rattle.shunt_choices.specs.defs.Choices.{IsFreePair, IsFree, AreFreeShapes};
+ghost use Rattle.shunt_recount.specs.defs.Offers.{GoesOn};
 ghost use Rattle.shunt_recount.specs.defs.Offers.{BeginsAt, HasUnits, GoesWith};
 
 use shunt_base::DepId;

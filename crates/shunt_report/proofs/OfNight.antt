@@ -1,11 +1,10 @@
 -- What a verdict on a certificate tells is of the night.
-use Rattle.std.proofs.Common.{◌≡◌, ◌<◌, ℕ, inl, inr, sym, subst, length, List, Option, Some, None}
-use Rattle.std.specs.Option.{IsSomeAnd}
+use Rattle.std.proofs.Common.{◌≡◌, ◌<◌, ℕ, inl, inr, sym, subst, length, List, Option, Some}
 use Rattle.shunt_instance.specs.defs.Instance.{Night}
 use Rattle.shunt_blocks.specs.declared.records.Block.{Block}
-use Rattle.shunt_blocks.specs.defs.Shapes.{IsOnTrack}
 use Rattle.shunt_choices.specs.defs.Paths.{masks_of, next_of}
-use Rattle.shunt_choices.specs.defs.Choices.{Choice as PathChoice, IsChoice, IsChoiceAt}
+use Rattle.shunt_choices.specs.defs.Choices.{Choice as PathChoice, IsChoiceAt}
+use Rattle.shunt_choices.proofs.AtPaths.{for_next}
 use Rattle.shunt_plan.specs.declared.records.Plan.{Plan}
 use Rattle.shunt_proof.specs.declared.records.Choice.{Choice}
 use Rattle.shunt_proof.specs.declared.records.Certificate.{Certificate}
@@ -38,16 +37,11 @@ stated night depth c o e h =
     let fits : FitsDepth night depth (Some c) = subst (FitsDepth night depth) e h in
     record { dep = fits.1.dep; track = fits.1.track }
 
--- a choice for the next unit of a path
-there_at : (night : Night) (path : List Block) (next : Option ℕ) (d : PathChoice) → IsSomeAnd next (λ u. IsChoice night (masks_of night path) u d)
-    → (d.shape.dep.0 < length night.depart) × IsOnTrack night.station d.option
-there_at night path None d h = absurd h
-there_at night path (Some u) d h = (h.shape.shape.within.dep, on_track night d.shape d.option h.option)
-
 missed : (night : Night) (path : List Block) (c : Choice) (d : PathChoice) → d ≡ choice_from night path c → IsChoiceAt night path d → IsChoiceOfNight night c
 missed night path c d e h =
-    let there = there_at night path (next_of (masks_of night path)) (choice_from night path c) (subst (IsChoiceAt night path) e h) in
-    record { dep = there.0; track = there.1 }
+    let own = choice_from night path c in
+    let there = (for_next night path (next_of (masks_of night path)) own (subst (IsChoiceAt night path) e h)).1 in
+    record { dep = there.shape.shape.within.dep; track = on_track night own.shape own.option there.option }
 
 module _ (night : Night) (start : List Block) (c : Certificate) (nodes : AreNodes night c.nodes) (k : ℕ) (lt : k < length c.nodes) where
   told : (choice : Choice) → (node_at c.nodes k).choice ≡ Some choice → IsChoiceOfNight night choice

@@ -11,7 +11,7 @@ ghost use Rattle.shunt_blocks.specs.defs.Shapes.{IsWithinTrains, IsInRange};
 ghost use Rattle.shunt_blocks.specs.defs.Lists.{CanStand, stays_of, track_lengths};
 ghost use Rattle.shunt_tracks.specs.defs.Answer.{answer};
 ghost use Rattle.shunt_plan.specs.defs.Plans.{IsPlanInRange};
-ghost use Rattle.shunt_drivers.specs.defs.RosterRows.{move_word};
+ghost use Rattle.shunt_rows.specs.defs.Written.{move_word};
 ghost use Rattle.shunt_report.specs.defs.JsonTexts.{IsStepOf, ways_cost, route_sum, cost_value};
 ghost use Rattle.shunt_report.specs.defs.JsonTexts.{event_value, steps_of, value_with, json_of};
 

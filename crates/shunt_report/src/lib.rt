@@ -1,4 +1,4 @@
-//! Every text that the program prints.
+//! Every text that the program prints but the line for an input file that isn't accepted.
 #![tactic(auto)]
 
 mod comparisons;
@@ -13,7 +13,6 @@ mod plans;
 mod sheets;
 mod turns;
 mod verdicts;
-mod words;
 mod zones;
 
 pub use comparisons::comparison_text;
@@ -26,5 +25,4 @@ pub use plans::{lost_text, plan_text};
 pub use sheets::{followed_text, sheet_text};
 pub use turns::{TurnOutcome, turn_text};
 pub use verdicts::verdict_text;
-pub use words::{FileWord, input_text};
 pub use zones::zones_text;

@@ -1,6 +1,6 @@
 // Words for entries and leaves.
 ghost use Rattle.std.specs.Prelude.{◌≡◌, ◌++◌, OnOk};
-ghost use Rattle.shunt_drivers.specs.defs.RosterRows.{move_word};
+ghost use Rattle.shunt_rows.specs.defs.Written.{move_word};
 ghost use Rattle.shunt_report.specs.defs.MoveTexts.{move_words};
 
 use shunt_text::Text;

@@ -1,15 +1,13 @@
 -- Lists of things that names or other keys tell apart.
 use Rattle.std.proofs.Common.{◌≡◌, ◌≢◌, ℕ, zero, suc, ◌<◌, ◌≤◌, Bool, true, false, List, [], ◌∷◌, ◌++◌, length, length-append, map, get_or, refl, sym, ap, subst, ◌∙◌, arith}
-use Rattle.std.specs.Prelude.{All, AllPairs, bytes_eq, nat_lt, Option, Some, None, option_map, position}
+use Rattle.std.specs.Prelude.{All, bytes_eq, nat_lt}
 use Rattle.std.specs.List.{list_any}
 use Rattle.std.proofs.lemmas.List.{map-append, map-id, length-map}
-use Rattle.std.proofs.lemmas.List.Quantifiers.{all_pairs_push, position-Some}
+use Rattle.std.proofs.lemmas.List.Quantifiers.{all_pairs_push}
 use Rattle.std.proofs.lemmas.Slice.Eq.{bytes_eq-Decides}
 use Rattle.std.proofs.lemmas.Bool.{true≢false, lt-ltb, or_parts, or_from, false_from_ne_true}
 use Rattle.shunt_base.specs.defs.Spelling.{IsName}
-
-abbrev Apart : {X : Type 0} → List X → Type 0
-Apart = AllPairs (λ x y. x ≢ y)
+use Rattle.shunt_lists.specs.defs.Members.{AreDistinct}
 
 -- the test of a name
 pub by_name : (name other : List ℕ) → bytes_eq other name ≡ true → other ≡ name
@@ -26,13 +24,13 @@ none_such f test (x ∷ xs) y same e zero d lt is = true≢false (sym (same x is
 none_such f test (x ∷ xs) y same e (suc k) d lt is = none_such f test xs y same (or_parts _ _ e).1 k d (omega arith) is
 
 -- one more thing, unlike the others by its key
-pub distinct_push : {X Y : Type 0} (f : X → Y) (test : X → Bool) (xs : List X) (y : X) → ((x : X) → f x ≡ f y → test x ≡ true) → Apart (map f xs) → list_any test xs ≡ false
-    → Apart (map f (xs ++ y ∷ []))
-distinct_push f test xs y same all e = subst Apart (sym (map-append f xs (y ∷ []))) (all_pairs_push (λ m n. m ≢ n) (map f xs) (f y) all (none_such f test xs (f y) same e))
+pub distinct_push : {X Y : Type 0} (f : X → Y) (test : X → Bool) (xs : List X) (y : X) → ((x : X) → f x ≡ f y → test x ≡ true) → AreDistinct (map f xs) → list_any test xs ≡ false
+    → AreDistinct (map f (xs ++ y ∷ []))
+distinct_push f test xs y same all e = subst AreDistinct (sym (map-append f xs (y ∷ []))) (all_pairs_push (λ m n. m ≢ n) (map f xs) (f y) all (none_such f test xs (f y) same e))
 
 -- one more thing, unlike the others
-pub plain_push : {Y : Type 0} (test : Y → Bool) (ys : List Y) (y : Y) → ((x : Y) → x ≡ y → test x ≡ true) → Apart ys → list_any test ys ≡ false → Apart (ys ++ y ∷ [])
-plain_push test ys y same all e = subst Apart (map-id (ys ++ y ∷ [])) (distinct_push (λ x. x) test ys y same (subst Apart (sym (map-id ys)) all) e)
+pub plain_push : {Y : Type 0} (test : Y → Bool) (ys : List Y) (y : Y) → ((x : Y) → x ≡ y → test x ≡ true) → AreDistinct ys → list_any test ys ≡ false → AreDistinct (ys ++ y ∷ [])
+plain_push test ys y same all e = subst AreDistinct (map-id (ys ++ y ∷ [])) (distinct_push (λ x. x) test ys y same (subst AreDistinct (sym (map-id ys)) all) e)
 
 -- the one in the middle
 in_middle : {X Y : Type 0} (f : X → Y) (xs zs : List X) (y : X) (d : Y) → get_or (map f (xs ++ y ∷ zs)) (length xs) d ≡ f y
@@ -40,7 +38,7 @@ in_middle f [] zs y d = refl
 in_middle f (x ∷ xs) zs y d = in_middle f xs zs y d
 
 -- of things that keys tell apart none before one of them passes a test that tells it
-pub not_before : {X Y : Type 0} (f : X → Y) (test : X → Bool) (xs zs : List X) (y : X) → ((x : X) → test x ≡ true → f x ≡ f y) → Apart (map f (xs ++ y ∷ zs))
+pub not_before : {X Y : Type 0} (f : X → Y) (test : X → Bool) (xs zs : List X) (y : X) → ((x : X) → test x ≡ true → f x ≡ f y) → AreDistinct (map f (xs ++ y ∷ zs))
     → list_any test xs ≡ false
 not_before f test [] zs y tells all = refl
 not_before f test (x ∷ xs) zs y tells all =
@@ -60,19 +58,6 @@ of_middle {X = X} P all xs zs y h e = at_place xs (subst (All P) e h)
 -- fewer stand before the one in the middle
 pub fewer : {X : Type 0} (all xs zs : List X) (y : X) (most : ℕ) → length all ≤ most → all ≡ xs ++ y ∷ zs → nat_lt (length xs) most ≡ true
 fewer all xs zs y most few e = lt-ltb (length xs) most (omega (arith, few, ap length e, length-append xs (y ∷ zs)))
-
--- a number that is found is one of the list's
-pub number_found : {X I : Type 0} (p : X → Bool) (xs : List X) (d : X) (id : ℕ → I) (number : I → ℕ) → ((k : ℕ) → number (id k) ≡ k) → (i : I)
-    → option_map id (position p xs) ≡ Some i → number i < length xs
-number_found {I = I} p xs d id number is i e = by (position p xs) refl e
-  where
-    by : (o : Option ℕ) → position p xs ≡ o → option_map id o ≡ Some i → number i < length xs
-    by None at e = absurd cc
-    by (Some k) at e =
-        let lt = (position-Some p xs k d at).0 in
-        let same : id k ≡ i = cc in
-        let num : number i ≡ k = ap number (sym same) ∙ is k in
-        omega (arith, num, lt)
 
 -- the name of the thing at a place
 pub name_at : {X : Type 0} (name : X → List ℕ) (xs : List X) (k : ℕ) → All (λ x. IsName (name x)) xs → k < length xs → IsName (get_or (map name xs) k [])

@@ -1,5 +1,5 @@
--- Names, numbers, words and sides are plain fields, and a side's letter is read back.
-use Rattle.std.proofs.Common.{◌≡◌, ℕ, ℤ, pos, negsuc, suc, ◌^◌, ◌<◌, ◌≤◌, true, List, [], ◌∷◌, ◌++◌, length, map, ◌+◌, ◌/◌, ◌%◌, refl, arith, IsTrue}
+-- Names, numbers, words and sides are plain fields, and a side's letter and a move's word are read back.
+use Rattle.std.proofs.Common.{◌≡◌, ℕ, ℤ, pos, negsuc, suc, ◌^◌, ◌<◌, ◌≤◌, Bool, true, false, List, [], ◌∷◌, ◌++◌, length, map, ◌+◌, ◌/◌, ◌%◌, refl, arith, IsTrue}
 use Rattle.std.specs.Prelude.{All, codes, nat_lt, Some}
 use Rattle.std.specs.List.{list_all, AllByRecursion}
 use Rattle.std.specs.Fmt.{decimal, signed_decimal}
@@ -13,8 +13,8 @@ use Rattle.shunt_base.specs.declared.ids.Side.TheVariants.{A, B}
 use Rattle.shunt_base.specs.defs.Spelling.{IsName, IsSigned, is_name_byte, minute_text}
 use Rattle.shunt_base.proofs.Decimal.{spelled}
 use Rattle.shunt_rows.specs.defs.Records.{is_plain, IsPlainField, IsPlainRow, ArePlain}
-use Rattle.shunt_rows.specs.defs.Fields.{side_of}
-use Rattle.shunt_rows.specs.defs.Written.{side_text}
+use Rattle.shunt_rows.specs.defs.Fields.{side_of, enters_of}
+use Rattle.shunt_rows.specs.defs.Written.{side_text, move_word}
 
 abbrev ArePlainBytes : List ℕ → Type 0
 ArePlainBytes field = AllByRecursion (λ b. IsTrue (is_plain b)) field
@@ -50,6 +50,19 @@ side_read B = refl
 pub side_short : (q : Side) → length (side_text q) ≤ 1
 side_short A = omega arith
 side_short B = omega arith
+
+pub plain_move : (enters : Bool) → IsPlainField (move_word enters)
+plain_move true = plain_word (codes "enter") refl refl
+plain_move false = plain_word (codes "leave") refl refl
+
+pub word_read : (enters : Bool) → enters_of (move_word enters) ≡ Some enters
+unfolding enters_of
+word_read true = refl
+word_read false = refl
+
+pub word_short : (enters : Bool) → length (move_word enters) ≤ 5
+word_short true = omega arith
+word_short false = omega arith
 
 digit_plain : (d : ℕ) → d < 10 → IsTrue (is_plain (48 + d))
 digit_plain d lt = grind (arith, nat_tests)

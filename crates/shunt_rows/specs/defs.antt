@@ -8,3 +8,4 @@ pub mod Fields
 pub mod Formats
 pub mod FirstFault
 pub mod Given
+pub mod InputTexts

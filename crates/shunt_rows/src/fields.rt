@@ -1,8 +1,8 @@
-// Fields that are numbers, minutes and sides.
+// Fields that are numbers, minutes, sides and words of moves.
 ghost use Rattle.std.specs.Prelude.{◌≡◌, ◌↔◌, ◌≤◌, IsTrue, IfOk, OnOk, length};
 ghost use Rattle.shunt_rows.specs.defs.Checks.{answer};
 ghost use Rattle.shunt_rows.specs.defs.Fields.{is_within, fields_in, number_in, minute_in, side_in};
-ghost use Rattle.shunt_rows.specs.defs.Fields.{side_of};
+ghost use Rattle.shunt_rows.specs.defs.Fields.{enters_of, side_of};
 
 use crate::check::{found, must};
 use crate::fault::{RowFault, RowKind};
@@ -70,4 +70,18 @@ pub fn side_in(row: &Row, n: u32, k: u32) -> Result<Side, RowFault>
     ensures { result ≡ answer n (side_in row.now k) }
 {
     found(side_named(row.field(k as usize)), n, k, RowKind::Kind)
+}
+
+/// Whether these bytes say that something enters, if they say `enter` or `leave`.
+#[tactic(auto, unfolding(crate::specs::defs::Fields::enters_of))]
+pub fn enters_of(bytes: &[u8]) -> Option<bool>
+    ensures { result ≡ enters_of bytes.now }
+{
+    if bytes == b"enter".as_slice() {
+        return Some(true);
+    }
+    if bytes == b"leave".as_slice() {
+        return Some(false);
+    }
+    None
 }

@@ -1,5 +1,5 @@
 // Things that are numbered by their names.
-ghost use Rattle.std.specs.Prelude.{◌≡◌, ◌≢◌, ◌++◌, ◌∷◌, ◌≤◌, ◌<◌, List, ℕ, AllPairs, map, []};
+ghost use Rattle.std.specs.Prelude.{◌≡◌, ◌≢◌, ◌++◌, ◌∷◌, ◌≤◌, ◌<◌, AllPairs, map, []};
 ghost use Rattle.std.specs.Prelude.{false, IfOk, IfSome, OnOk, OnErr, bytes_eq, position, length};
 ghost use Rattle.std.specs.List.{list_any};
 ghost use Rattle.shunt_rows.specs.defs.Checks.{answer};
@@ -8,22 +8,10 @@ ghost use Rattle.shunt_rows.specs.defs.Fields.{named_in};
 use crate::fault::RowFault;
 use crate::names::Names;
 use crate::row::Row;
+use shunt_base::Naming;
 use shunt_lists::Items;
 use std::alloc::{AllocError, Global};
 use std::marker::Model;
-
-/// How things of a kind are named.
-pub trait Naming {
-    /// A thing that has a name.
-    type Thing: Drop;
-
-    /// Its name.
-    ghost name: { Self.Thing → List ℕ };
-
-    /// The bytes of its name.
-    fn name_of(thing: &Self::Thing) -> &[u8]
-        ensures { result.now ≡ name thing.now };
-}
 
 /// Things, each numbered by its place from 0 and found by its name; seen as the list of them.
 #[derive(Drop)]

@@ -4,7 +4,7 @@ ghost use Rattle.std.specs.Fmt.{decimal};
 ghost use Rattle.csv.specs.Records.{fields_of};
 ghost use Rattle.shunt_rows.specs.defs.Records.{text_of_row, ReadsBack};
 ghost use Rattle.shunt_rows.specs.defs.Rows.{IsAtRow, rows_text};
-ghost use Rattle.shunt_rows.specs.defs.Written.{Written, side_text};
+ghost use Rattle.shunt_rows.specs.defs.Written.{Written, move_word, side_text};
 
 use csv::{ByteRecord, Writer, WriterBuilder};
 use shunt_base::Side;
@@ -109,6 +109,18 @@ impl RowWriter {
         match side {
             Side::A => self.field(b"A"),
             Side::B => self.field(b"B"),
+        }
+    }
+
+    /// Adds the word of an entry or a leave as a field of the open row: `enter` or `leave`.
+    pub fn move_word(&mut self, enters: bool) -> Result<(), AllocError>
+        ensures { OnOk result
+            (self.new ≡ record self.old { row = self.old.row ++ move_word enters ∷ [] }) }
+    {
+        if enters {
+            self.field(b"enter")
+        } else {
+            self.field(b"leave")
         }
     }
 

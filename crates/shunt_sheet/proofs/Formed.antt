@@ -9,7 +9,7 @@ use Rattle.shunt_lists.specs.defs.Members.{In}
 use Rattle.shunt_base.specs.defs.Spelling.{decimal_of, minute_of}
 use Rattle.shunt_rows.specs.defs.Records.{at}
 use Rattle.shunt_rows.specs.defs.Checks.{answer}
-use Rattle.shunt_rows.specs.defs.Fields.{is_word, side_in}
+use Rattle.shunt_rows.specs.defs.Fields.{is_word, side_in, enters_of}
 use Rattle.shunt_rows.specs.defs.Formats.{reading}
 use Rattle.shunt_rows.proofs.Answered.{says, in_either}
 use Rattle.shunt_rows.proofs.KeptStates.{formed}
@@ -19,7 +19,7 @@ use Rattle.shunt_sheet.specs.declared.records.Order.{Order}
 use Rattle.shunt_sheet.specs.declared.reader.Entered.{Entered}
 use Rattle.shunt_sheet.specs.declared.reader.StatedMove.{StatedMove}
 use Rattle.shunt_sheet.specs.declared.reader.StatedPlace.{StatedPlace}
-use Rattle.shunt_sheet.specs.defs.SheetFormat.{stands, has_entered, keeps_length, keeps_track, entry_in, is_of, last_minute, enters_of, start_in, move_in, place_in, order_by, order_in, sheet_first, more_of, sheet_later, sheet_format, MayFollow, AreOrders}
+use Rattle.shunt_sheet.specs.defs.SheetFormat.{stands, has_entered, keeps_length, keeps_track, entry_in, is_of, last_minute, start_in, move_in, place_in, order_by, order_in, sheet_first, more_of, sheet_later, sheet_format, MayFollow, AreOrders}
 use Rattle.shunt_sheet.proofs.Tests.{tells_of, none_first, any_to, keeps_is, last_or_earlier}
 use Rattle.shunt_lists.proofs.Tests.{never_both}
 

@@ -1,20 +1,16 @@
 -- How long the text of a sheet is.
-use Rattle.std.proofs.Common.{◌≡◌, ℕ, ◌≤◌, Bool, true, false, List, length, length-append, map, sym, subst, ap, ◌∙◌, arith}
+use Rattle.std.proofs.Common.{◌≡◌, ℕ, ◌≤◌, List, length, length-append, map, sym, subst, ap, ◌∙◌, arith}
 use Rattle.std.proofs.lemmas.Fmt.{length-decimal-le}
 use Rattle.std.proofs.lemmas.List.Concat.{flat_map-cons}
 use Rattle.shunt_rows.specs.defs.Records.{text_of_row, text_of_rows}
-use Rattle.shunt_rows.proofs.Plain.{side_short}
+use Rattle.shunt_rows.proofs.Plain.{side_short, word_short}
 use Rattle.shunt_rows.proofs.Widths.{row_width, rows_width}
 use Rattle.shunt_instance.specs.declared.records.Station.{Station}
 use Rattle.shunt_instance.specs.defs.Wellformed.{IsStation}
 use Rattle.shunt_sheet.specs.declared.records.Order.{Order}
 use Rattle.shunt_sheet.specs.defs.SheetFormat.{AreOrders}
-use Rattle.shunt_sheet.specs.defs.SheetRows.{move_word, head_row, order_row, rows_of}
+use Rattle.shunt_sheet.specs.defs.SheetRows.{head_row, order_row, rows_of}
 use Rattle.shunt_sheet.proofs.RoundTrip.{IsSpelled, all_spelled, track_named, plain_head, plain_order}
-
-word_short : (enters : Bool) → length (move_word enters) ≤ 5
-word_short true = omega arith
-word_short false = omega arith
 
 order_short : (s : Station) → IsStation s → (o : Order) → IsSpelled s o → length (text_of_row (order_row s o)) ≤ 51
 order_short s f o is =

@@ -1,8 +1,7 @@
 -- The stays of blocks in range, and the orders that they give.
-use Rattle.std.proofs.Common.{◌≡◌, ⊎_elim, ℕ, zero, suc, ◌+◌, ◌-◌, ◌<◌, ◌≤◌, List, [], length, map, sym, subst, ap, ◌∙◌, arith}
+use Rattle.std.proofs.Common.{◌≡◌, ℕ, zero, suc, ◌+◌, ◌-◌, ◌<◌, ◌≤◌, List, [], length, map, sym, subst, ap, ◌∙◌, arith}
 use Rattle.std.specs.Prelude.{All, Some}
-use Rattle.std.proofs.lemmas.Bool.{cases_lt}
-use Rattle.std.proofs.lemmas.List.{get_or-map, get_or_past, length-map}
+use Rattle.std.proofs.lemmas.List.{get_or-map}
 use Rattle.shunt_lists.specs.defs.Below.{sum_below}
 use Rattle.shunt_lists.specs.defs.Members.{In}
 use Rattle.shunt_lists.proofs.SumsBelow.{sum_below-small}
@@ -36,7 +35,7 @@ use Rattle.shunt_sheet.proofs.Halved.{IsFit, dues_in_time, stays_ordered}
 use Rattle.shunt_sheet.proofs.Runs.{stays_followed}
 use Rattle.shunt_lists.proofs.Members.{each_one}
 use Rattle.shunt_lists.proofs.Options.{few_some}
-use Rattle.shunt_blocks.proofs.Times.{arrival, departure}
+use Rattle.shunt_blocks.proofs.Times.{arrival, departure, length_small}
 use Rattle.shunt_blocks.proofs.StaysOf.{stay_is}
 
 -- what the laws of blocks say of stays and units
@@ -54,12 +53,6 @@ no_type = record { name = []; length = 0; turn = 0 }
 
 kind_long : (s : Station) (kind : TypeId) → IsStation s → kind.0 < length s.types → 1 ≤ length_of s kind
 kind_long s kind h lt = omega (arith, get_or-map (λ (t : UnitType). t.length) s.types kind.0 no_type 0 lt, (h.types kind.0 no_type lt).some)
-
-length_small : (s : Station) (kind : TypeId) → IsStation s → length_of s kind ≤ 5000
-length_small s kind h = ⊎_elim
-    (λ lt. omega (arith, get_or-map (λ (t : UnitType). t.length) s.types kind.0 no_type 0 lt, (h.types kind.0 no_type lt).long))
-    (λ le. omega (arith, get_or_past (map (λ (t : UnitType). t.length) s.types) kind.0 0 (rw length-map le)))
-    (cases_lt kind.0 (length s.types))
 
 some_below : (n : ℕ) (f : ℕ → ℕ) → 1 ≤ n → ((k : ℕ) → k < n → 1 ≤ f k) → 1 ≤ sum_below n f
 some_below zero f le h = absurd (omega arith)

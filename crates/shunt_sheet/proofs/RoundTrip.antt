@@ -14,12 +14,12 @@ use Rattle.shunt_base.specs.defs.Spelling.{IsName}
 use Rattle.shunt_rows.specs.defs.Checks.{answer}
 use Rattle.shunt_rows.specs.defs.Fields.{is_within}
 use Rattle.shunt_rows.specs.defs.Formats.{reading}
-use Rattle.shunt_rows.specs.defs.Records.{records_of, text_of_row, text_of_rows, IsPlainField, IsPlainRow, ArePlain, ReadsBack}
+use Rattle.shunt_rows.specs.defs.Records.{records_of, text_of_row, text_of_rows, IsPlainRow, ArePlain, ReadsBack}
 use Rattle.shunt_rows.specs.defs.Written.{Written}
 use Rattle.shunt_rows.proofs.Again.{again}
 use Rattle.shunt_rows.proofs.Answered.{holding}
 use Rattle.shunt_rows.proofs.Named.{fewer, name_at}
-use Rattle.shunt_rows.proofs.Plain.{plain_name, plain_number, plain_word, plain_side, plain_minute, plain_map, side_read}
+use Rattle.shunt_rows.proofs.Plain.{plain_name, plain_number, plain_word, plain_side, plain_minute, plain_map, side_read, plain_move, word_read}
 use Rattle.shunt_rows.proofs.Sections.{section, all_read}
 use Rattle.shunt_rows.proofs.Spelled.{number_read, number_again, in_range}
 use Rattle.shunt_rows.proofs.Texts.{row_written, rows_written}
@@ -29,15 +29,11 @@ use Rattle.shunt_instance.specs.defs.Wellformed.{IsStation}
 use Rattle.shunt_instance.proofs.Found.{found_there}
 use Rattle.shunt_sheet.specs.declared.records.Order.{Order}
 use Rattle.shunt_sheet.specs.declared.reader.StatedMove.{StatedMove}
-use Rattle.shunt_sheet.specs.defs.SheetFormat.{is_of, stands, entered_by, entry_in, has_entered, keeps_length, keeps_track, last_minute, enters_of, start_in, move_in, place_in, order_in, sheet_first, more_of, sheet_later, sheet_format, MayFollow, AreOrders}
-use Rattle.shunt_sheet.specs.defs.SheetRows.{move_word, head_row, order_row, rows_of, ReadsAsSheet}
+use Rattle.shunt_sheet.specs.defs.SheetFormat.{is_of, stands, entered_by, entry_in, has_entered, keeps_length, keeps_track, last_minute, start_in, move_in, place_in, order_in, sheet_first, more_of, sheet_later, sheet_format, MayFollow, AreOrders}
+use Rattle.shunt_sheet.specs.defs.SheetRows.{head_row, order_row, rows_of, ReadsAsSheet}
 use Rattle.shunt_sheet.proofs.Tests.{of_tells, unless, any_none, is_kept}
 
 -- ---- plain records
-
-plain_move : (enters : Bool) → IsPlainField (move_word enters)
-plain_move true = plain_word (codes "enter") refl refl
-plain_move false = plain_word (codes "leave") refl refl
 
 -- the numbers of an order can be spelled, and its track is the station's
 pub record IsSpelled (s : Station) (o : Order) : Type 0 where
@@ -90,11 +86,6 @@ rows_plain : (s : Station) (orders : List Order) → IsStation s → AreOrders s
 rows_plain s orders f g = (plain_head, plain_map (IsSpelled s) (order_row s) orders (plain_order s f) (all_spelled s orders g))
 
 -- ---- each record is read
-
-word_read : (enters : Bool) → enters_of (move_word enters) ≡ Some enters
-unfolding enters_of
-word_read true = refl
-word_read false = refl
 
 known_entry : (s : Station) (xs : List Order) (y : Order) → MayFollow s xs y → has_entered xs y.enters y.id ≡ true
 unfolding has_entered

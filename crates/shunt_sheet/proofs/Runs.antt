@@ -13,6 +13,7 @@ use Rattle.shunt_stays.specs.defs.Run.{Standing, Stop, Through, moved, run, load
 use Rattle.shunt_stays.specs.defs.Run.Stop.{Blocked, Over}
 use Rattle.shunt_stays.proofs.Ends.{as_many, counted, none_on}
 use Rattle.shunt_stays.proofs.Steps.{seen_alike}
+use Rattle.shunt_stays.proofs.Blocks.{one_more}
 use Rattle.shunt_instance.specs.declared.records.Station.{Station}
 use Rattle.shunt_blocks.specs.defs.Lists.{track_lengths}
 use Rattle.shunt_sheet.specs.declared.records.Order.{Order}
@@ -29,9 +30,6 @@ abbrev pub Agrees : Result Through Stop → Followed → Type 0
 Agrees (Ok t) a = a ≡ answers.Through (blocks_on t.tracks)
 Agrees (Err (Blocked m)) a = (n : ℕ) × (a ≡ answers.Blocked n)
 Agrees (Err (Over m load)) a = (n : ℕ) × (a ≡ answers.Over n load)
-
-abbrev pub one_more : Move → List Standing → Through → Through
-one_more m blocks t = record t { steps = (m, load blocks) ∷ t.steps }
 
 kept : (m : Move) (blocks : List Standing) (r : Result Through Stop) (a : Followed) → Agrees r a → Agrees (r >>= (λ t. Ok (one_more m blocks t))) a
 kept m blocks (Ok t) a h = h
@@ -59,7 +57,7 @@ entries_few : (moves : List Move) → entries_in moves ≤ length moves
 entries_few [] = omega arith
 entries_few (m ∷ moves) = omega (arith, sum_by-cons (λ (n : Move). cond n.key.enters 1 0) m moves, flag_small m.key.enters, entries_few moves)
 
-through_same : (m n : ℕ) → answers.Through m ≡ answers.Through n → m ≡ n
+pub through_same : (m n : ℕ) → answers.Through m ≡ answers.Through n → m ≡ n
 through_same m n e = cc
 
 through_blocked : (m n : ℕ) → answers.Through m ≡ answers.Blocked n → ⊥

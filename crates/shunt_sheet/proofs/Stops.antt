@@ -10,8 +10,9 @@ use Rattle.shunt_sheet.specs.declared.records.Order.{Order}
 use Rattle.shunt_sheet.specs.declared.records.Followed.{Followed}
 use Rattle.shunt_sheet.specs.declared.records.Followed.TheVariants as answers
 use Rattle.shunt_sheet.specs.defs.FollowedOrders.{move_of, goes_on, follow_from, followed, run_in, StopsAt, InWords}
-use Rattle.shunt_sheet.proofs.Runs.{Agrees, agrees, one_more}
+use Rattle.shunt_sheet.proofs.Runs.{Agrees, agrees, through_same}
 use Rattle.shunt_stays.proofs.Steps.{ok_was, first_was}
+use Rattle.shunt_stays.proofs.Blocks.{one_more}
 
 abbrev moved_at : List ℕ → Order → List (List Standing) → Result (List Standing) Stop
 moved_at lengths o tracks = moved (get_or lengths o.track.0 0) (move_of o) (get_or tracks o.track.0 [])
@@ -159,9 +160,6 @@ stop_told s orders number stop at =
           ∙ told_is (length at.before + 1) (stop (move_of at.here)) rest
           ∙ ap (λ k. told k (stop (move_of at.here))) (sym at.counted),
     )
-
-through_same : (m n : ℕ) → answers.Through m ≡ answers.Through n → m ≡ n
-through_same m n e = cc
 
 blocked_same : (m n : ℕ) → answers.Blocked m ≡ answers.Blocked n → m ≡ n
 blocked_same m n e = cc

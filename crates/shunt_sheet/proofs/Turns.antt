@@ -13,10 +13,10 @@ use Rattle.shunt_sheet.specs.declared.records.Followed.{Followed}
 use Rattle.shunt_sheet.specs.declared.records.Followed.TheVariants as answers
 use Rattle.shunt_sheet.specs.declared.tracks.Did.{Did}
 use Rattle.shunt_sheet.specs.declared.tracks.Did.TheVariants as did
-use Rattle.shunt_sheet.specs.defs.Tracks.{Does, Fit}
+use Rattle.shunt_sheet.specs.defs.Tracks.{Does}
 use Rattle.shunt_sheet.specs.defs.FollowedOrders.{move_of, goes_on, follow_from, followed}
 use Rattle.shunt_sheet.proofs.Runs.{few_left}
-use Rattle.shunt_stays.proofs.Tracks.{none_at}
+use Rattle.shunt_tracks.specs.defs.Blocks.{Fit}
 
 did_moved : (x : Did) (m : Move) (room : ℕ) (old new : List Standing) → x ≡ did.Moved → Does x m room old new → moved room m old ≡ Ok new
 did_moved x m room old new e h = subst (λ (y : Did). Does y m room old new) e h
@@ -76,11 +76,6 @@ left_few view lengths orders i n was now seen few sizes on none past so same =
     subst (λ l. blocks_on (map view l) ≤ 800) (sym same)
     (few_left lengths orders (map view was) (blocks_on (map view now)) few (λ k d lt. let below = on k d lt in omega (arith, below, sizes, length-map was view)) none
     (all_through lengths orders i n (map view now) (follow_from lengths 1 orders (map view was)) past so))
-
-pub fit_empty : {X : Type 0} (view : X → List Standing) (lengths : List ℕ) (tracks : List X) → map view tracks ≡ empty_tracks lengths → Fit view lengths tracks
-fit_empty view lengths tracks e = λ k d lt.
-    let none : view (get_or tracks k d) ≡ [] = sym (get_or-map view tracks k d [] lt) ∙ ap (λ (l : List (List Standing)). get_or l k []) e ∙ none_at lengths k in
-    omega (arith, ap load none)
 
 -- the tracks of orders have lengths
 pub lengths_for : (s : Station) (lengths : List ℕ) (orders seen : List Order) → seen ≡ orders → lengths ≡ track_lengths s → All (λ o. o.track.0 < length s.tracks) orders

@@ -2,7 +2,8 @@
 ghost use Rattle.std.specs.Prelude.{◌≡◌, ◌<◌, ◌≤◌, All, length, map, IfOk};
 ghost use Rattle.shunt_stays.specs.defs.Run.{empty_tracks, blocks_on};
 ghost use Rattle.shunt_sheet.specs.defs.SheetFormat.{AreOrders};
-ghost use Rattle.shunt_sheet.specs.defs.Tracks.{blocks_of, Fit};
+ghost use Rattle.shunt_tracks.specs.defs.Blocks.{Fit};
+ghost use Rattle.shunt_sheet.specs.defs.Tracks.{blocks_of};
 ghost use Rattle.shunt_sheet.specs.defs.FollowedOrders.{follow_from, followed};
 
 use crate::records::{Followed, Order};

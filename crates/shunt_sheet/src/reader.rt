@@ -8,7 +8,7 @@ ghost use Rattle.shunt_rows.specs.defs.Given.{Gives};
 ghost use Rattle.shunt_instance.specs.defs.Wellformed.{IsStation};
 ghost use Rattle.shunt_sheet.specs.defs.SheetFormat.{is_of, stands, entry_in, has_entered};
 ghost use Rattle.shunt_sheet.specs.defs.SheetFormat.{keeps_length, keeps_track, last_minute};
-ghost use Rattle.shunt_sheet.specs.defs.SheetFormat.{enters_of, start_in, move_in, place_in};
+ghost use Rattle.shunt_sheet.specs.defs.SheetFormat.{start_in, move_in, place_in};
 ghost use Rattle.shunt_sheet.specs.defs.SheetFormat.{order_in, more_of, sheet_format, AreOrders};
 
 use crate::records::Order;
@@ -17,8 +17,8 @@ use shunt_instance::{Station, Track};
 use shunt_lists::Items;
 use shunt_plan::read_first;
 use shunt_rows::{
-    FormatReader, ReadError, Row, RowFault, RowKind, fields_in, found, is_within, minute_in, must,
-    number_in, read, side_in,
+    FormatReader, ReadError, Row, RowFault, RowKind, enters_of, fields_in, found, is_within,
+    minute_in, must, number_in, read, side_in,
 };
 use std::alloc::Global;
 use std::marker::Model;
@@ -121,20 +121,6 @@ fn last_minute(orders: &[Order]) -> u16
         return 0;
     }
     orders[count - 1].minute.number()
-}
-
-// Whether these bytes say that a block enters.
-#[tactic(auto, unfolding(crate::specs::defs::SheetFormat::enters_of))]
-fn enters_of(bytes: &[u8]) -> Option<bool>
-    ensures { result ≡ enters_of bytes.now }
-{
-    if bytes == b"enter".as_slice() {
-        return Some(true);
-    }
-    if bytes == b"leave".as_slice() {
-        return Some(false);
-    }
-    None
 }
 
 // The place of the track with a name.

@@ -3,7 +3,7 @@ ghost use Rattle.std.specs.Prelude.{◌≡◌, ◌<◌, ◌≤◌, ◌++◌, [],
 ghost use Rattle.shunt_rows.specs.defs.Records.{text_of_row, text_of_rows};
 ghost use Rattle.shunt_instance.specs.defs.Wellformed.{IsStation};
 ghost use Rattle.shunt_sheet.specs.defs.SheetFormat.{AreOrders};
-ghost use Rattle.shunt_sheet.specs.defs.SheetRows.{move_word, head_row, order_row, rows_of};
+ghost use Rattle.shunt_sheet.specs.defs.SheetRows.{head_row, order_row, rows_of};
 ghost use Rattle.shunt_sheet.specs.defs.SheetRows.{ReadsAsSheet};
 
 use crate::records::Order;
@@ -25,18 +25,6 @@ fn write_head(writer: &mut RowWriter) -> Result<(), AllocError>
     writer.end_row()
 }
 
-// Adds the word of an entry or a leave as a field of the open row.
-fn write_word(writer: &mut RowWriter, enters: bool) -> Result<(), AllocError>
-    ensures { OnOk result
-        (writer.new ≡ record writer.old { row = writer.old.row ++ move_word enters ∷ [] }) }
-{
-    if enters {
-        writer.field(b"enter")
-    } else {
-        writer.field(b"leave")
-    }
-}
-
 fn write_order(writer: &mut RowWriter, station: &Station, order: &Order) -> Result<(), AllocError>
     requires open_row { writer.old.row ≡ [] }
     requires track { order.now.track.0 < length station.now.tracks }
@@ -48,7 +36,7 @@ fn write_order(writer: &mut RowWriter, station: &Station, order: &Order) -> Resu
 {
     writer.field(b"order")?;
     writer.field(&minute_bytes(order.minute))?;
-    write_word(writer, order.enters)?;
+    writer.move_word(order.enters)?;
     writer.number(order.id as u64)?;
     writer.number(order.length as u64)?;
     writer.field(

@@ -17,7 +17,7 @@ use Rattle.shunt_choices.proofs.Grown.{next_is}
 use Rattle.shunt_prices.specs.defs.Prices.{track_length}
 use Rattle.shunt_stacks.specs.defs.Stacks.{Stack, is_of, blocks_of}
 use Rattle.shunt_stacks.specs.defs.Fillings.{gain}
-use Rattle.shunt_stacks.specs.defs.Spans.{Span, IsSpan, IsOutside, AreOwn, plus, best, best_with}
+use Rattle.shunt_stacks.specs.defs.Spans.{Span, IsSpan, IsOutside, AreOwn, plus, best, best_with, sum_with}
 use Rattle.shunt_stacks.specs.defs.Choices.{BeginsAt, IsAround}
 use Rattle.shunt_stacks.specs.defs.Numbers.{IsNumbering, span_of, fixed_spans, free_spans, AreFreeOf, shares, apart_of}
 use Rattle.shunt_stacks.proofs.Parts.{IsFreeAt, unit_bare}
@@ -60,9 +60,6 @@ inside_first g (Some x) (Some y) (Some z) = ap Some (same g x y z)
     same g x y z = omega (arith, ints)
 
 -- ---- one span
-
-abbrev sum_with : (ℕ → ℕ → ℕ → Option ℤ) → ℕ → ℕ → Span → Option ℤ
-sum_with rest y room s = plus (Some s.gain) (plus (rest s.inside s.until (room - s.length)) (rest s.past y room))
 
 with_yes : (rest : ℕ → ℕ → ℕ → Option ℤ) (y room : ℕ) (s : Span) → s.past ≤ y → s.length ≤ room → best_with rest y room s ≡ sum_with rest y room s
 with_yes rest y room s past long = ap (λ (t : Bool). cond t (sum_with rest y room s) None)

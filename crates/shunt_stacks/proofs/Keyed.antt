@@ -6,6 +6,7 @@ use Rattle.std.proofs.Common.{◌≡◌, ⊎_elim, ℕ, ◌<◌, ◌≤◌, Bool
 use Rattle.std.proofs.lemmas.Bool.{cases_lt, false≢true}
 use Rattle.shunt_base.specs.declared.keys.EventKey.{EventKey}
 use Rattle.shunt_base.specs.defs.Keys.{key_cmp}
+use Rattle.shunt_base.proofs.Ranks.{made_key}
 use Rattle.shunt_lists.proofs.Orders.{nat_less as less, nat_greater as greater, nat_equal as even}
 
 -- the one comes first
@@ -27,17 +28,14 @@ flags : (e : Bool) (rest : Ordering) → ordering_then (bool_cmp e e) rest ≡ r
 flags true rest = refl
 flags false rest = refl
 
-abbrev key : ℕ → Bool → ℕ → ℕ → ℕ → EventKey
-key minute enters train place id = record { minute = minute; enters = enters; train = train; place = place; id = id }
-
 abbrev after_minute : Bool → Bool → ℕ → ℕ → ℕ → ℕ → ℕ → ℕ → Ordering
 after_minute d e t u p q i j = ordering_then (bool_cmp d e) (ordering_then (nat_cmp t u) (ordering_then (nat_cmp p q) (nat_cmp i j)))
 
-pub by_minute : (m n : ℕ) (d e : Bool) (t u p q i j : ℕ) → m < n → Ordered (key m d t p i) (key n e u q j)
+pub by_minute : (m n : ℕ) (d e : Bool) (t u p q i j : ℕ) → m < n → Ordered (made_key m d t p i) (made_key n e u q j)
 by_minute m n d e t u p q i j lt = record { less = first_less m n (after_minute d e t u p q i j) lt; more = first_more n m (after_minute e d u t q p j i) lt }
 
 same_minute : (m n : ℕ) (d e : Bool) (t u p q i j : ℕ) → m ≡ n → after_minute d e t u p q i j ≡ Less → after_minute e d u t q p j i ≡ Greater
-    → Ordered (key m d t p i) (key n e u q j)
+    → Ordered (made_key m d t p i) (made_key n e u q j)
 same_minute m n d e t u p q i j same h k = record {
   less = first_even m n (after_minute d e t u p q i j) same
       ∙ h;
@@ -45,7 +43,7 @@ same_minute m n d e t u p q i j same h k = record {
 }
 
 -- of one minute, the lesser train
-pub by_train : (m n : ℕ) (e : Bool) (t u p q i j : ℕ) → m ≤ n → t < u → Ordered (key m e t p i) (key n e u q j)
+pub by_train : (m n : ℕ) (e : Bool) (t u p q i j : ℕ) → m ≤ n → t < u → Ordered (made_key m e t p i) (made_key n e u q j)
 by_train m n e t u p q i j le lt = ⊎_elim
     (λ before. by_minute m n e e t u p q i j before)
     (λ ge. let same : m ≡ n = omega (arith, le, ge) in
@@ -53,27 +51,27 @@ by_train m n e t u p q i j le lt = ⊎_elim
     (cases_lt m n)
 
 -- of one train, the lesser place
-pub by_place : (m n : ℕ) (e : Bool) (t u p q i j : ℕ) → m ≡ n → t ≡ u → p < q → Ordered (key m e t p i) (key n e u q j)
+pub by_place : (m n : ℕ) (e : Bool) (t u p q i j : ℕ) → m ≡ n → t ≡ u → p < q → Ordered (made_key m e t p i) (made_key n e u q j)
 by_place m n e t u p q i j same train lt =
     same_minute m n e e t u p q i j same
     (flags e _ ∙ first_even t u _ train ∙ first_less p q (nat_cmp i j) lt)
     (flags e _ ∙ first_even u t _ (sym train) ∙ first_more q p (nat_cmp j i) lt)
 
 -- of one minute, leaves
-pub by_kind : (m n : ℕ) (t u p q i j : ℕ) → m ≤ n → Ordered (key m false t p i) (key n true u q j)
+pub by_kind : (m n : ℕ) (t u p q i j : ℕ) → m ≤ n → Ordered (made_key m false t p i) (made_key n true u q j)
 by_kind m n t u p q i j le = ⊎_elim
     (λ before. by_minute m n false true t u p q i j before)
     (λ ge. let same : m ≡ n = omega (arith, le, ge) in same_minute m n false true t u p q i j same refl refl)
     (cases_lt m n)
 
 -- a key is as great as itself
-pub same_key : (m : ℕ) (e : Bool) (t p i : ℕ) → key_cmp (key m e t p i) (key m e t p i) ≡ Equal
+pub same_key : (m : ℕ) (e : Bool) (t p i : ℕ) → key_cmp (made_key m e t p i) (made_key m e t p i) ≡ Equal
 same_key m e t p i = first_even m m (after_minute e e t t p p i i) refl ∙ flags e _ ∙ first_even t t _ refl ∙ first_even p p (nat_cmp i i) refl ∙ even i i refl
 
-pub itself : (m : ℕ) (e : Bool) (t p i : ℕ) → is_le (key_cmp (key m e t p i) (key m e t p i)) ≡ true
+pub itself : (m : ℕ) (e : Bool) (t p i : ℕ) → is_le (key_cmp (made_key m e t p i) (made_key m e t p i)) ≡ true
 itself m e t p i = ap is_le (same_key m e t p i)
 
-pub not_before_itself : (m : ℕ) (e : Bool) (t p i : ℕ) → key_cmp (key m e t p i) (key m e t p i) ≡ Less → ⊥
+pub not_before_itself : (m : ℕ) (e : Bool) (t p i : ℕ) → key_cmp (made_key m e t p i) (made_key m e t p i) ≡ Less → ⊥
 not_before_itself m e t p i k = false≢true (ap is_lt (sym (same_key m e t p i) ∙ k))
 
 pub less_not_more : Less ≡ Greater → ⊥

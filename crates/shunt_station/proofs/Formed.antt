@@ -1,7 +1,6 @@
 -- What the records of a station file state is well formed.
 use Rattle.std.proofs.Common.{◌≡◌, ◌≢◌, ℕ, zero, suc, ◌<◌, ◌≤◌, Bool, true, false, ◌||◌, ◌&&◌, List, [], ◌∷◌, ◌++◌, length, length-append, map, refl, sym, ap, ◌∙◌, subst, arith}
-use Rattle.std.specs.Prelude.{Ok, bytes_eq, nat_lt, All, ◌==◌, Option, Some, option_map, if◌then◌else◌, codes, slice_get}
-use Rattle.std.specs.Option.{unwrap_or}
+use Rattle.std.specs.Prelude.{Ok, bytes_eq, nat_lt, All, ◌==◌, Option, Some, if◌then◌else◌, codes}
 use Rattle.std.proofs.lemmas.List.Elements.{All-nil, All-push, All-weaker}
 use Rattle.std.proofs.lemmas.Bool.{true≢false, ltb-true, not-true, and_from}
 use Rattle.shunt_base.proofs.Sides.{same_side_itself}
@@ -21,16 +20,17 @@ use Rattle.shunt_rows.specs.defs.Fields.{is_word, number_in, side_in}
 use Rattle.shunt_rows.specs.defs.Formats.{reading}
 use Rattle.shunt_rows.proofs.Answered.{says, in_either}
 use Rattle.shunt_rows.proofs.KeptStates.{formed}
-use Rattle.shunt_rows.proofs.Named.{distinct_push, plain_push, same_name, number_found}
+use Rattle.shunt_rows.proofs.Named.{distinct_push, plain_push, same_name}
 use Rattle.shunt_rows.proofs.Spelled.{there, within}
 use Rattle.shunt_instance.specs.declared.records.UnitType.{UnitType}
 use Rattle.shunt_instance.specs.declared.records.Track.{Track}
 use Rattle.shunt_instance.specs.declared.records.Route.{Route}
 use Rattle.shunt_instance.specs.declared.records.Permit.{Permit}
 use Rattle.shunt_instance.specs.declared.records.Station.{Station}
-use Rattle.shunt_instance.specs.defs.Words.{is_open, is_open_at, joins, way_of}
+use Rattle.shunt_instance.specs.defs.Words.{is_open_at, joins, way_of, track_of_name, open_in}
 use Rattle.shunt_instance.specs.defs.Wellformed.{IsUnitType, IsTrack, IsRoute, IsPermit, IsStation}
-use Rattle.shunt_station.specs.defs.StatedStations.{StationDraft, OpenSides, empty_station, first_of, type_of_name, platform_of_name, track_number, open_sides_of, type_of, platform_of, track_of, opens, stands, route_of, is_permitted, permit_of, cost_of, later_of, station_format}
+use Rattle.shunt_instance.proofs.Found.{number_found, track_within}
+use Rattle.shunt_station.specs.defs.StatedStations.{StationDraft, OpenSides, empty_station, first_of, type_of_name, platform_of_name, open_sides_of, type_of, platform_of, track_of, stands, route_of, permit_of, cost_of, later_of, station_format}
 use Rattle.shunt_lists.proofs.Tests.{same_number}
 
 -- the lists of a station, each with what is true of it
@@ -106,9 +106,6 @@ permit_kept s t g p is = record {
   track = let a = is.track in let b = g.tracks in omega arith;
   kind = let a = is.kind in let b = g.types in omega arith;
 }
-
-abbrev open_in : List Track → ℕ → Side → Bool
-open_in tracks k side = unwrap_or (option_map (λ t. is_open t side) (slice_get tracks k)) false
 
 open_kept : (tracks more : List Track) (k : ℕ) (side : Side) → open_in tracks k side ≡ true → open_in (tracks ++ more) k side ≡ true
 open_kept [] more k side e = absurd (true≢false (sym e))
@@ -237,11 +234,6 @@ platform_within : (s : Station) (name : List ℕ) (i : PlatformId) → platform_
 unfolding platform_of_name
 platform_within s name i e = number_found (λ p. bytes_eq p name) s.platforms [] (λ k. record { 0 = k }) (λ j. j.0) (λ k. refl) i e
 
-track_within : (s : Station) (name : List ℕ) (i : TrackId) → track_number s name ≡ Some i → i.0 < length s.tracks
-unfolding track_number
-track_within s name i e = number_found (λ t. bytes_eq t.name name) s.tracks (record { name = []; length = 0; side_a = false; side_b = false }) (λ k. record { 0 = k }) (λ j. j.0)
-    (λ k. refl) i e
-
 type_within : (s : Station) (name : List ℕ) (i : TypeId) → type_of_name s name ≡ Some i → i.0 < length s.types
 unfolding type_of_name
 type_within s name i e = number_found (λ t. bytes_eq t.name name) s.types (record { name = []; length = 0; turn = 0 }) (λ k. record { 0 = k }) (λ j. j.0) (λ k. refl) i e
@@ -264,7 +256,7 @@ abbrev no_type : TypeId
 no_type = record { 0 = 0 }
 
 route_formed : (n : ℕ) (d t : StationDraft) (row : List (List ℕ)) → IsStation d.station → answer n (route_of d row) ≡ Ok t → IsStation t.station
-unfolding route_of stands opens
+unfolding route_of stands
 route_formed n d t row s e =
     let all = says n (route_of d row) t e in
     let p = all.0.1 in
@@ -273,7 +265,7 @@ route_formed n d t row s e =
     let shut = new.1 in
     let price = shut.1.1 in
     let mp = found no_platform (platform_of_name d.station (at row 2)) 2 kinds.Unknown in
-    let mt = found no_track (track_number d.station (at row 3)) 3 kinds.Unknown in
+    let mt = found no_track (track_of_name d.station (at row 3)) 3 kinds.Unknown in
     let ms = side_in row 4 in
     let mc = number_in row 5 0 1000000 in
     let old = d.station in
@@ -296,13 +288,13 @@ route_formed n d t row s e =
     (costs_of old s))
 
 permit_formed : (n : ℕ) (d t : StationDraft) (row : List (List ℕ)) → IsStation d.station → answer n (permit_of d row) ≡ Ok t → IsStation t.station
-unfolding permit_of is_permitted
+unfolding permit_of
 permit_formed n d t row s e =
     let all = says n (permit_of d row) t e in
     let k = all.0.1 in
     let u = k.1 in
     let new = u.1 in
-    let mt = found no_track (track_number d.station (at row 2)) 2 kinds.Unknown in
+    let mt = found no_track (track_of_name d.station (at row 2)) 2 kinds.Unknown in
     let mk = found no_type (type_of_name d.station (at row 3)) 3 kinds.Unknown in
     let old = d.station in
     let p0 : Permit = record { track = mt.value; kind = mk.value } in

@@ -11,9 +11,6 @@ use Rattle.std.proofs.Math.Dec.{eqb}
 use Rattle.shunt_lists.specs.defs.Members.{AreDistinct}
 use Rattle.shunt_base.specs.declared.ids.Side.{Side}
 use Rattle.shunt_base.specs.declared.ids.Side.TheVariants.{A, B}
-use Rattle.shunt_base.specs.declared.ids.PlatformId.{PlatformId}
-use Rattle.shunt_base.specs.declared.ids.TrackId.{TrackId}
-use Rattle.shunt_base.specs.declared.ids.TypeId.{TypeId}
 use Rattle.shunt_base.specs.defs.Spelling.{IsName}
 use Rattle.shunt_rows.specs.defs.Records.{text_of_row, text_of_rows}
 use Rattle.shunt_rows.specs.defs.Written.{Written}
@@ -27,8 +24,9 @@ use Rattle.shunt_instance.specs.defs.Words.{way_of}
 use Rattle.shunt_instance.specs.defs.Wellformed.{IsUnitType, IsTrack, IsRoute, IsPermit, IsStation}
 use Rattle.shunt_rows.proofs.Plain.{side_short}
 use Rattle.shunt_rows.proofs.Texts.{join_short, one_short, row_written, rows_written}
-use Rattle.shunt_station.specs.defs.WrittenRows.{ends_text, head_row, type_row, platform_row, track_row, route_row, permit_row, cost_row, rows_of}
+use Rattle.shunt_station.specs.defs.WrittenRows.{ends_text, head_row, type_row, platform_row, track_row, route_row, permit_row, cost_row, rows_of, rest_rows}
 use Rattle.shunt_station.proofs.Plain.{platform_named, track_named, type_named, plain_head, plain_type, plain_platform, plain_track, plain_route, plain_permit, plain_cost}
+use Rattle.shunt_station.proofs.Ids.{platform_id, track_id, type_id, way_from, permit_from}
 
 type_short : (t : UnitType) → IsUnitType t → length (text_of_row (type_row t)) ≤ 32
 type_short t is =
@@ -131,18 +129,6 @@ flag_tells B B e = refl
 way_number : Route → ℕ
 way_number r = 120 * r.platform.0 + 2 * r.track.0 + flag r.side
 
-abbrev way_from : PlatformId → TrackId → Side → PlatformId × (TrackId × Side)
-way_from p t q = (p, (t, q))
-
-abbrev platform_id : ℕ → PlatformId
-platform_id k = record { 0 = k }
-
-abbrev track_id : ℕ → TrackId
-track_id k = record { 0 = k }
-
-abbrev type_id : ℕ → TypeId
-type_id k = record { 0 = k }
-
 way_small : (s : Station) → IsStation s → (r : Route) → IsRoute s r → way_number r < 3600
 unfolding way_number
 way_small s f r is =
@@ -168,9 +154,6 @@ few_routes s f = few (IsRoute s) way_of way_number 3600 some_route s.routes (way
 pair_number : Permit → ℕ
 pair_number p = 40 * p.track.0 + p.kind.0
 
-abbrev permit_from : TrackId → TypeId → Permit
-permit_from t k = record { track = t; kind = k }
-
 pair_small : (s : Station) → IsStation s → (p : Permit) → IsPermit s p → pair_number p < 2400
 unfolding pair_number
 pair_small s f p is = let t = is.track in let k = is.kind in let a = f.few_tracks in let b = f.few_types in omega arith
@@ -186,10 +169,6 @@ pair_tells s f p q is js e =
 few_permits : (s : Station) → IsStation s → length s.permits ≤ 2400
 few_permits s f = few (IsPermit s) (λ p. p) pair_number 2400 (permit_from (track_id 0) (type_id 0)) s.permits (permit_from (track_id 0) (type_id 0))
     (subst AreDistinct (sym (map-id s.permits)) f.permits_differ) f.permits (pair_small s f) (pair_tells s f)
-
-abbrev rest_rows : Station → List (List (List ℕ))
-rest_rows s = map type_row s.types ++ (map platform_row s.platforms ++ (map track_row s.tracks
-    ++ (map (route_row s) s.routes ++ (map (permit_row s) s.permits ++ cost_row s ∷ []))))
 
 -- the text of a station has at most 282,436 bytes
 pub station_short : (s : Station) → IsStation s → length (text_of_rows (rows_of s)) ≤ 282436

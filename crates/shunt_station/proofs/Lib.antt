@@ -1,4 +1,5 @@
 pub mod Formed
+mod Ids
 pub mod Lengths
 pub mod Plain
 pub mod RoundTrip

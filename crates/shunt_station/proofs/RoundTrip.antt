@@ -33,12 +33,13 @@ use Rattle.shunt_instance.specs.declared.records.Track.{Track}
 use Rattle.shunt_instance.specs.declared.records.Route.{Route}
 use Rattle.shunt_instance.specs.declared.records.Permit.{Permit}
 use Rattle.shunt_instance.specs.declared.records.Station.{Station}
-use Rattle.shunt_instance.specs.defs.Words.{is_open_at, joins, way_of}
+use Rattle.shunt_instance.specs.defs.Words.{is_open_at, joins, way_of, track_of_name}
 use Rattle.shunt_instance.specs.defs.Wellformed.{IsUnitType, IsTrack, IsRoute, IsPermit, IsStation}
 use Rattle.shunt_instance.proofs.Found.{found_there}
-use Rattle.shunt_station.specs.defs.StatedStations.{StationDraft, OpenSides, empty_station, first_of, type_of_name, platform_of_name, track_number, open_sides_of, type_of, platform_of, track_of, opens, stands, route_of, is_permitted, permit_of, cost_of, later_of, station_format}
+use Rattle.shunt_station.specs.defs.StatedStations.{StationDraft, OpenSides, empty_station, first_of, type_of_name, platform_of_name, open_sides_of, type_of, platform_of, track_of, stands, route_of, permit_of, cost_of, later_of, station_format}
 use Rattle.shunt_station.specs.defs.WrittenRows.{type_name, platform_name, track_name, ends_text, head_row, type_row, platform_row, track_row, route_row, permit_row, cost_row, rows_of, ReadsAsStation}
 use Rattle.shunt_station.proofs.Plain.{station_plain}
+use Rattle.shunt_station.proofs.Ids.{platform_id, track_id, type_id, way_from, permit_from}
 
 -- the parts of a station that were read
 abbrev partial : Station → List UnitType → List (List ℕ) → List Track → List Route → List Permit → StationDraft
@@ -123,18 +124,6 @@ track_read s f n xs y zs e =
     holding n m.checks m.value (refl, (fewer s.tracks xs zs y 60 f.few_tracks e, (name_read y.name is.name, (ap not new, (size.there, (size.range, (ap is_some sides, tt)))))))
     ∙ ap (λ (t : Track). Ok (partial s s.types s.platforms (xs ++ t ∷ []) [] [])) same
 
-abbrev platform_id : ℕ → PlatformId
-platform_id k = record { 0 = k }
-
-abbrev track_id : ℕ → TrackId
-track_id k = record { 0 = k }
-
-abbrev type_id : ℕ → TypeId
-type_id k = record { 0 = k }
-
-abbrev way_from : PlatformId → TrackId → Side → PlatformId × (TrackId × Side)
-way_from p t q = (p, (t, q))
-
 joins_tells : (y r : Route) → joins y.platform y.track y.side r ≡ true → way_of r ≡ way_of y
 joins_tells y r e =
     let c = and_parts _ (same_side r.side y.side) e in
@@ -142,9 +131,6 @@ joins_tells y r e =
     ap (λ k. way_from (platform_id k) r.track r.side) (eqb-true r.platform.0 y.platform.0 d.0)
     ∙ ap (λ k. way_from y.platform (track_id k) r.side) (eqb-true r.track.0 y.track.0 d.1)
     ∙ ap (λ q. way_from y.platform y.track q) (same_side_tells r.side y.side c.1)
-
-abbrev permit_from : TrackId → TypeId → Permit
-permit_from t k = record { track = t; kind = k }
 
 names_tell : (y p : Permit) → (p.track.0 == y.track.0 && p.kind.0 == y.kind.0) ≡ true → p ≡ y
 names_tell y p e =
@@ -165,8 +151,7 @@ abbrev some_track : Track
 some_track = record { name = []; length = 0; side_a = false; side_b = false }
 
 track_there : (s : Station) (ts : List UnitType) (ps : List (List ℕ)) (rs : List Route) (qs : List Permit) (i : TrackId) → IsStation s → i.0 < length s.tracks
-    → track_number (partial s ts ps s.tracks rs qs).station (track_name s.tracks i) ≡ Some i
-unfolding track_number
+    → track_of_name (partial s ts ps s.tracks rs qs).station (track_name s.tracks i) ≡ Some i
 track_there s ts ps rs qs i f lt =
     ap (option_map track_id) (found_there (λ (t : Track). t.name) s.tracks (track_name s.tracks i) i.0 some_track f.track_names
     (slice_get-get_or (map (λ (t : Track). t.name) s.tracks) i.0 [] (omega (arith, lt, length-map s.tracks (λ (t : Track). t.name)))))
@@ -190,7 +175,7 @@ three test p q t u a b e f g = ap (λ k. test k t a) e ∙ ap (λ k. test q k a)
 
 route_read : (s : Station) → IsStation s → (n : ℕ) (xs : List Route) (y : Route) (zs : List Route) → s.routes ≡ xs ++ y ∷ zs
     → answer n (later_of (partial s s.types s.platforms s.tracks xs []) (route_row s y)) ≡ Ok (partial s s.types s.platforms s.tracks (xs ++ y ∷ []) [])
-unfolding later_of route_of opens stands is_within
+unfolding later_of route_of stands is_within
 route_read s f n xs y zs e =
     let is = of_middle (IsRoute s) s.routes xs zs y f.routes e in
     let d = partial s s.types s.platforms s.tracks xs [] in
@@ -212,7 +197,7 @@ route_read s f n xs y zs e =
 
 permit_read : (s : Station) → IsStation s → (n : ℕ) (xs : List Permit) (y : Permit) (zs : List Permit) → s.permits ≡ xs ++ y ∷ zs
     → answer n (later_of (partial s s.types s.platforms s.tracks s.routes xs) (permit_row s y)) ≡ Ok (partial s s.types s.platforms s.tracks s.routes (xs ++ y ∷ []))
-unfolding later_of permit_of is_permitted is_within
+unfolding later_of permit_of is_within
 permit_read s f n xs y zs e =
     let is = of_middle (IsPermit s) s.permits xs zs y f.permits e in
     let d = partial s s.types s.platforms s.tracks s.routes xs in

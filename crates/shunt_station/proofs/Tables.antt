@@ -7,10 +7,6 @@ use Rattle.shunt_rows.proofs.InOrder.{in_if, no_word_up}
 use Rattle.shunt_rows.proofs.Readings.{tells}
 use Rattle.shunt_station.specs.defs.StatedStations.{StationDraft, first_of, type_of, platform_of, track_of, route_of, permit_of, cost_of, later_of, station_format}
 
-first_up : (row : List (List ℕ)) → HasChecksInOrder (first_of row)
-unfolding first_of
-first_up row = record { up = refl }
-
 type_up : (d : StationDraft) (row : List (List ℕ)) → HasChecksInOrder (type_of d row)
 unfolding type_of
 type_up d row = record { up = refl }
@@ -46,4 +42,5 @@ later_up d row =
     (in_if (d.version == 2 && is_word row (codes "permit")) (permit_up d row) (no_word_up d))))))
 
 pub station_tells : (rows : List (List (List ℕ))) → Tells station_format rows
-station_tells rows = tells station_format (record { first = first_up; later = later_up }) rows
+unfolding first_of
+station_tells rows = tells station_format (record { first = λ row. record { up = refl }; later = later_up }) rows

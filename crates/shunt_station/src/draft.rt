@@ -4,61 +4,23 @@ ghost use Rattle.std.specs.List.{list_any};
 ghost use Rattle.shunt_base.specs.defs.Sides.{same_side};
 ghost use Rattle.shunt_rows.specs.defs.Checks.{answer};
 ghost use Rattle.shunt_rows.specs.defs.Given.{Gives};
-ghost use Rattle.shunt_instance.specs.defs.Words.{is_open, joins};
+ghost use Rattle.shunt_instance.specs.defs.Words.{is_open, is_open_at, is_permitted, joins, track_of_name};
 ghost use Rattle.shunt_station.specs.defs.StatedStations.{StationDraft, OpenSides, first_of};
 ghost use Rattle.shunt_station.specs.defs.StatedStations.{type_of_name, platform_of_name};
-ghost use Rattle.shunt_station.specs.defs.StatedStations.{track_number, opens, stands};
-ghost use Rattle.shunt_station.specs.defs.StatedStations.{is_permitted, open_sides_of, type_of};
+ghost use Rattle.shunt_station.specs.defs.StatedStations.{stands};
+ghost use Rattle.shunt_station.specs.defs.StatedStations.{open_sides_of, type_of};
 ghost use Rattle.shunt_station.specs.defs.StatedStations.{platform_of, track_of, route_of};
 ghost use Rattle.shunt_station.specs.defs.StatedStations.{permit_of, cost_of, later_of};
 ghost use Rattle.shunt_station.specs.defs.StatedStations.{station_format};
 
-use shunt_base::{Name, PlatformId, Side, TrackId, TypeId, is_name};
-use shunt_instance::{Permit, Route, Station, Track, UnitType};
+use shunt_base::{Name, PlainNames, PlatformId, Side, TrackId, TypeId, is_name};
+use shunt_instance::{Permit, Route, Station, Track, TrackNames, TypeNames, UnitType};
 use shunt_lists::Items;
 use shunt_rows::{
-    FormatReader, Naming, Numbered, ReadError, Row, RowKind, fields_in, found, must, number_in,
-    side_in,
+    FormatReader, Numbered, ReadError, Row, RowKind, fields_in, found, must, number_in, side_in,
 };
 use std::alloc::Global;
 use std::marker::Model;
-
-// Types, platforms and tracks are known by their names.
-struct TypeNames;
-
-impl Naming for TypeNames {
-    type Thing = UnitType;
-
-    ghost name = { λ t. t.name };
-
-    fn name_of(kind: &UnitType) -> &[u8] {
-        kind.name.bytes()
-    }
-}
-
-struct PlatformNames;
-
-impl Naming for PlatformNames {
-    type Thing = Name;
-
-    ghost name = { λ p. p };
-
-    fn name_of(platform: &Name) -> &[u8] {
-        platform.bytes()
-    }
-}
-
-struct TrackNames;
-
-impl Naming for TrackNames {
-    type Thing = Track;
-
-    ghost name = { λ t. t.name };
-
-    fn name_of(track: &Track) -> &[u8] {
-        track.name.bytes()
-    }
-}
 
 /// What the records so far state.
 #[derive(Drop)]
@@ -66,7 +28,7 @@ pub struct StationDraft<'r> {
     version: u64,
     name: Name,
     types: Numbered<'r, TypeNames>,
-    platforms: Numbered<'r, PlatformNames>,
+    platforms: Numbered<'r, PlainNames>,
     tracks: Numbered<'r, TrackNames>,
     routes: Vec<Route>,
     permits: Vec<Permit>,
@@ -253,9 +215,8 @@ impl<'r> StationDraft<'r> {
     }
 
     // The number of the track with a name.
-    #[tactic(auto, unfolding(crate::specs::defs::StatedStations::track_number))]
     fn track_named(&self, name: &[u8]) -> Option<TrackId>
-        ensures { result ≡ track_number self.now.station name.now }
+        ensures { result ≡ track_of_name self.now.station name.now }
     {
         match self.tracks.number_of(name) {
             Some(k) => Some(TrackId(k as u8)),
@@ -272,7 +233,6 @@ impl<'r> StationDraft<'r> {
     }
 
     // Whether a permit names both already.
-    #[tactic(auto, unfolding(crate::specs::defs::StatedStations::is_permitted))]
     fn is_permitted(&self, track: TrackId, kind: TypeId) -> bool
         ensures { result ≡ is_permitted self.now.station track kind }
     {
@@ -280,9 +240,8 @@ impl<'r> StationDraft<'r> {
     }
 
     // Whether the track with a number is open at a side.
-    #[tactic(auto, unfolding(crate::specs::defs::StatedStations::opens))]
     fn is_open_at(&self, track: TrackId, side: Side) -> bool
-        ensures { result ≡ opens self.now.station track side }
+        ensures { result ≡ is_open_at self.now.station track side }
     {
         match self.tracks.as_slice().get(track.0 as usize) {
             Some(track) => is_open(track, side),

@@ -3,12 +3,7 @@ use Rattle.std.proofs.Common.{◌≡◌, inl, inr, ⊎_elim, ◌↔◌, ℕ, ◌
 use Rattle.std.specs.List.{AllByRecursion, filter}
 use Rattle.std.proofs.lemmas.Bool.{cases_Bool}
 use Rattle.shunt_lists.proofs.Members.{all_in, all_from, filter_from, filter_yes, filter_no}
-use Rattle.shunt_lists.specs.defs.Members.{In}
-
--- each is before all that follow
-abbrev pub Ascends : {X : Type 0} → (X → ℕ) → List X → Type 0
-Ascends at [] = Unit {0}
-Ascends at (x ∷ xs) = AllByRecursion (λ y. at x < at y) xs × Ascends at xs
+use Rattle.shunt_lists.specs.defs.Members.{In, Ascends}
 
 pub ascends_filter : {X : Type 0} (at : X → ℕ) (p : X → Bool) (xs : List X) → Ascends at xs → Ascends at (filter p xs)
 ascends_filter at p [] a = tt

@@ -190,18 +190,20 @@ ok_then : (r : Result Through Stop) (f : Through → Through) → IsOk (r >>= (�
 ok_then (Ok t) f = (λ _. refl, λ _. refl)
 ok_then (Err e) f = (λ h. h, λ h. h)
 
-abbrev with_step : Move → List Standing → Through → Through
-with_step m blocks t = record t { steps = (m, load blocks) ∷ t.steps }
+-- one more step
+abbrev pub one_more : Move → List Standing → Through → Through
+one_more m blocks t = record t { steps = (m, load blocks) ∷ t.steps }
 
-abbrev go_on : List ℕ → Move → List Move → List (List Standing) → List Standing → Result Through Stop
-go_on lengths m moves tracks blocks = run lengths moves (set tracks m.track.0 blocks) >>= (λ t. Ok (with_step m blocks t))
+-- what is left of a run, behind its first step
+abbrev pub go_on : List ℕ → Move → List Move → List (List Standing) → List Standing → Result Through Stop
+go_on lengths m moves tracks blocks = run lengths moves (set tracks m.track.0 blocks) >>= (λ t. Ok (one_more m blocks t))
 
 pub run_ok : (lengths : List ℕ) (m : Move) (moves : List Move) (tracks : List (List Standing)) (blocks : List Standing)
     → moved (get_or lengths m.track.0 0) m (get_or tracks m.track.0 []) ≡ Ok blocks
     → IsOk (run lengths (m ∷ moves) tracks) ↔ IsOk (run lengths moves (set tracks m.track.0 blocks))
 run_ok lengths m moves tracks blocks e =
     let to : run lengths (m ∷ moves) tracks ≡ go_on lengths m moves tracks blocks = ap (λ (r : Result (List Standing) Stop). r >>= go_on lengths m moves tracks) e in
-    let k = ok_then (run lengths moves (set tracks m.track.0 blocks)) (with_step m blocks) in
+    let k = ok_then (run lengths moves (set tracks m.track.0 blocks)) (one_more m blocks) in
     (λ h. k.0 (subst IsOk to h), λ h. subst IsOk (sym to) (k.1 h))
 
 could : (r : Result (List Standing) Stop) (f : List Standing → Result Through Stop) → IsOk (r >>= f) → (blocks : List Standing) × (r ≡ Ok blocks)

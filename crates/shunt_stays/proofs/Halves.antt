@@ -4,13 +4,12 @@ use Rattle.std.specs.Ordering.{nat_cmp, is_lt}
 use Rattle.std.proofs.lemmas.Bool.{cases_Bool, ltb-true, ltb-false}
 use Rattle.std.proofs.lemmas.Bool.Decides.{nat_tests}
 use Rattle.shunt_lists.proofs.Members.{all_in, all_from, Distinct}
-use Rattle.shunt_lists.specs.defs.Members.{In}
+use Rattle.shunt_lists.specs.defs.Members.{In, Ascends}
 use Rattle.shunt_base.specs.declared.keys.EventKey.{EventKey}
 use Rattle.shunt_base.specs.declared.keys.Stay.{Stay}
 use Rattle.shunt_base.specs.defs.Keys.{rank, IsKey, IsWellFormed, AreStays}
 use Rattle.shunt_base.proofs.Ranks.{key_cmp_is, is_before}
 use Rattle.shunt_stays.specs.defs.Events.{Move, entry_of, leave_of, key_before, insert_by_key, in_order}
-use Rattle.shunt_stays.proofs.AscendingLists.{Ascends}
 
 -- a stay's entry (true) or its leave
 abbrev pub Half : Type 0
@@ -27,6 +26,10 @@ at (s, false) = rank s.leave
 abbrev pub move_of : Half → Move
 move_of (s, true) = entry_of s
 move_of (s, false) = leave_of s
+
+-- halves that are equal are of one stay
+pub same_stay : (s t : Stay) (x y : Bool) → ◌≡◌ {A = Half} (s, x) (t, y) → s ≡ t
+same_stay s t x y e = ap (λ (m : Half). m.0) e
 
 abbrev pub insert_half : Half → List Half → List Half
 insert_half m [] = m ∷ []

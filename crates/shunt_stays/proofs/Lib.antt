@@ -14,3 +14,4 @@ pub mod SortedEvents
 pub mod Steps
 pub mod Ends
 mod Examples
+pub mod NumberedStays

@@ -4,13 +4,12 @@ use Rattle.std.proofs.lemmas.Bool.{true≢false, false≢true, and_parts, leb-tr
 use Rattle.std.proofs.lemmas.Bool.Decides.{nat_tests}
 use Rattle.shunt_lists.proofs.Sums.{sum_same}
 use Rattle.shunt_lists.proofs.Members.{all_in, Distinct}
-use Rattle.shunt_lists.specs.defs.Members.{In}
+use Rattle.shunt_lists.specs.defs.Members.{In, Ascends}
 use Rattle.shunt_base.specs.declared.keys.Stay.{Stay}
 use Rattle.shunt_base.specs.defs.Keys.{rank}
 use Rattle.shunt_stays.specs.defs.Run.{put}
 use Rattle.shunt_stays.proofs.Members.{put_here, put_there, put_cases, distinct_put, distinct_taken}
-use Rattle.shunt_stays.proofs.AscendingLists.{Ascends}
-use Rattle.shunt_stays.proofs.Halves.{Half, at, InKeyOrder}
+use Rattle.shunt_stays.proofs.Halves.{Half, at, InKeyOrder, same_stay}
 use Rattle.shunt_stays.proofs.Track.{length_of, total, GoesOn, Meets, stands_by, total_at}
 use Rattle.shunt_stays.proofs.Sides.{Arranged, arranged_put, arranged_taken, arranged_none, clear_from, fits_from, leaves_first, at_end}
 
@@ -34,9 +33,6 @@ record Clear (room : ℕ) (stays : List Stay) (halves : List Half) (st : List St
   standing : (s c : Stay) → In s st → In (c, true) halves → Meets s c → ⊥
   coming : (b c : Stay) → In (b, true) halves → In (c, true) halves → Meets b c → ⊥
   loads : (b : Stay) → In (b, true) halves → total_at stays (rank b.enter) ≤ room
-
-same : (s t : Stay) (x y : Bool) → ◌≡◌ {A = Half} (s, x) (t, y) → s ≡ t
-same s t x y e = ap (λ (m : Half). m.0) e
 
 leave_in : (s c : Stay) (halves : List Half) → In (s, false) ((c, true) ∷ halves) → In (s, false) halves
 leave_in s c halves (inl e) = absurd (false≢true (ap (λ (m : Half). m.1) e))
@@ -62,7 +58,7 @@ module _ (room : ℕ) (stays : List Stay) (c : Stay) (halves : List Half) (st : 
     distinct = distinct_put c.side_in c st new w.distinct;
     complete = λ s h. leave_in s c halves (w.complete s (inr h));
     from = λ s h. ⊎_elim (λ i. inl (put_there c.side_in c s st i)) (λ k. ⊎_elim (λ e. inl
-        (subst (λ (z : Stay). In z (put c.side_in c st)) (sym (same s c true true e)) (put_here c.side_in c st))) (λ i. inr i) k) (w.from s (inr h));
+        (subst (λ (z : Stay). In z (put c.side_in c st)) (sym (same_stay s c true true e)) (put_here c.side_in c st))) (λ i. inr i) k) (w.from s (inr h));
     later = λ s h. w.later s (inr h);
     known = λ s b h. w.known s b (inr h);
     present = λ s h. ⊎_elim (λ e. subst (λ (z : Stay). In z stays) (sym e) (w.known c true (inl refl))) (λ i. w.present s i) (put_cases c.side_in c s st h);
@@ -87,7 +83,7 @@ module _ (room : ℕ) (stays : List Stay) (c : Stay) (halves : List Half) (st : 
           let b = and_parts (leb (rank s.enter) (rank c.enter)) (ltb (rank c.enter) (rank s.leave)) t in
           let come : rank s.enter ≤ rank c.enter = leb-true _ _ b.0 in
           let gone : rank c.enter < rank s.leave = ltb-true _ _ b.1 in
-          ⊎_elim (λ i. ⊎_elim (λ j. put_there c.side_in c s st j) (λ k. ⊎_elim (λ e. subst (λ (z : Stay). In z (put c.side_in c st)) (sym (same s c true true e))
+          ⊎_elim (λ i. ⊎_elim (λ j. put_there c.side_in c s st j) (λ k. ⊎_elim (λ e. subst (λ (z : Stay). In z (put c.side_in c st)) (sym (same_stay s c true true e))
           (put_here c.side_in c st)) (λ j. absurd (let gt : rank c.enter < rank s.enter = after (s, true) j in omega arith)) k) (w.from s i))
           (λ k. absurd (let lt : rank s.leave < rank c.enter = k (c, true) (inl refl) in omega arith)) (w.settled s h)
 
@@ -95,21 +91,21 @@ module _ (room : ℕ) (stays : List Stay) (c : Stay) (halves : List Half) (st : 
   enter_clear fits k =
       let a = arranged_taken c.side_in c st k.arranged in record {
         arranged = a.0;
-        standing = λ s d h i x. ⊎_elim (λ e. clear_from s c (a.1 s h) (subst (λ (z : Stay). Meets s z) (same d c true true e) x))
+        standing = λ s d h i x. ⊎_elim (λ e. clear_from s c (a.1 s h) (subst (λ (z : Stay). Meets s z) (same_stay d c true true e) x))
             (λ j. k.standing s d (put_there c.side_in c s st h) j x) i;
         coming = λ b d h i x. both b d h i x;
-        loads = λ b h. ⊎_elim (λ e. omega (arith, load_is, ap (λ (z : Stay). total_at stays (rank z.enter)) (same b c true true e))) (λ i. k.loads b i) h;
+        loads = λ b h. ⊎_elim (λ e. omega (arith, load_is, ap (λ (z : Stay). total_at stays (rank z.enter)) (same_stay b c true true e))) (λ i. k.loads b i) h;
       }
     where
       both : (b d : Stay) → In (b, true) ((c, true) ∷ halves) → In (d, true) ((c, true) ∷ halves) → Meets b d → ⊥
       both b d (inl e) (inl f) x = let lt = x.after in absurd (omega (
         arith,
-        ap (λ (z : Stay). rank z.enter) (same b c true true e),
-        ap (λ (z : Stay). rank z.enter) (same d c true true f),
+        ap (λ (z : Stay). rank z.enter) (same_stay b c true true e),
+        ap (λ (z : Stay). rank z.enter) (same_stay d c true true f),
       ))
-      both b d (inl e) (inr j) x = k.standing c d (put_here c.side_in c st) j (subst (λ (z : Stay). Meets z d) (same b c true true e) x)
+      both b d (inl e) (inr j) x = k.standing c d (put_here c.side_in c st) j (subst (λ (z : Stay). Meets z d) (same_stay b c true true e) x)
       both b d (inr i) (inl f) x = let lt = x.after in let gt : rank c.enter < rank b.enter = after (b, true) i in absurd
-          (omega (arith, ap (λ (z : Stay). rank z.enter) (same d c true true f)))
+          (omega (arith, ap (λ (z : Stay). rank z.enter) (same_stay d c true true f)))
       both b d (inr i) (inr j) x = k.coming b d i j x
 
   clear_enter : Clear room stays ((c, true) ∷ halves) st → Clear room stays halves (put c.side_in c st)
@@ -132,7 +128,7 @@ module _ (room : ℕ) (stays : List Stay) (s : Stay) (halves : List Half) (rest 
   gone t h e = absurd (let lt : rank s.leave < rank t.leave = before (t, false) h in omega (arith, ap (λ (z : Stay). rank z.leave) e))
 
   still : (t : Stay) → In t rest → In (t, false) halves
-  still t h = ⊎_elim (λ e. absurd (alone.0 (subst (λ (z : Stay). In z rest) (same t s false false e) h))) (λ i. i) (w.leaving t (put_there s.side_out s t rest h))
+  still t h = ⊎_elim (λ e. absurd (alone.0 (subst (λ (z : Stay). In z rest) (same_stay t s false false e) h))) (λ i. i) (w.leaving t (put_there s.side_out s t rest h))
 
   leave_step : Stands stays halves rest
   leave_step = record {
@@ -140,12 +136,12 @@ module _ (room : ℕ) (stays : List Stay) (s : Stay) (halves : List Half) (rest 
     begun = λ t h m k. w.begun t (put_there s.side_out s t rest h) m (inr k);
     leaving = still;
     distinct = alone.1;
-    complete = λ t h. ⊎_elim (λ e. absurd (over t h (same t s false false e))) (λ i. i) (w.complete t (inr h));
+    complete = λ t h. ⊎_elim (λ e. absurd (over t h (same_stay t s false false e))) (λ i. i) (w.complete t (inr h));
     from = λ t h. ⊎_elim (λ i. ⊎_elim (λ e. absurd (gone t h e)) (λ j. inl j) (put_cases s.side_out s t rest i)) (λ k. inr (enter_in t s halves k)) (w.from t (inr h));
     later = λ t h. w.later t (inr h);
     known = λ t b h. w.known t b (inr h);
     present = λ t h. w.present t (put_there s.side_out s t rest h);
-    settled = λ t h. ⊎_elim (λ i. ⊎_elim (λ e. inr (λ m j. subst (λ (z : Stay). rank z.leave < at m) (sym (same t s false false e)) (before m j))) (λ j. inl j) i)
+    settled = λ t h. ⊎_elim (λ i. ⊎_elim (λ e. inr (λ m j. subst (λ (z : Stay). rank z.leave < at m) (sym (same_stay t s false false e)) (before m j))) (λ j. inl j) i)
         (λ k. inr (λ m j. k m (inr j))) (w.settled t h);
     apart = w.apart;
   }
@@ -184,7 +180,7 @@ ready stays s halves st w a = at_end s st a w.distinct there first
         (enter_in s s halves k) in let lt : rank s.enter < rank s.leave = w.later s (inl refl) in omega arith)) (w.from s (inl refl))
 
     first : (t : Stay) → In t st → t ≢ s → rank s.leave < rank t.leave
-    first t h ne = ⊎_elim (λ e. absurd (ne (same t s false false e))) (λ i. all_in (λ n. rank s.leave < at n) halves (t, false) w.ascends.0 i) (w.leaving t h)
+    first t h ne = ⊎_elim (λ e. absurd (ne (same_stay t s false false e))) (λ i. all_in (λ n. rank s.leave < at n) halves (t, false) w.ascends.0 i) (w.leaving t h)
 
 forward : (room : ℕ) (stays : List Stay) (halves : List Half) (st : List Stay) → Stands stays halves st → GoesOn room halves st → Clear room stays halves st
 forward room stays [] st w go = record { arranged = arranged_none st (λ s h. w.leaving s h); standing = λ s c h i x. i; coming = λ b c h i x. h; loads = λ b h. absurd h }

@@ -9,13 +9,13 @@ use Rattle.std.proofs.lemmas.List.Concat.{flat_map-cons}
 use Rattle.std.proofs.lemmas.List.Sorted.{Contains-permutation, IsPermutation-sym, IsPermutation-refl, IsPermutation-cons, IsPermutation-trans, IsPermutation-middle}
 use Rattle.std.proofs.lemmas.Map.Keys.{IsDistinct-IsPermutation, ge_from_not_lt}
 use Rattle.shunt_lists.proofs.Members.{all_in, all_from, in_cases, in_from, in_to, in_map, of_map, in_place}
-use Rattle.shunt_lists.specs.defs.Members.{In}
+use Rattle.shunt_lists.specs.defs.Members.{In, Ascends}
 use Rattle.shunt_base.specs.declared.keys.Stay.{Stay}
 use Rattle.shunt_base.specs.defs.Keys.{key_cmp, rank, IsKey, IsWellFormed, AreStays}
 use Rattle.shunt_base.proofs.Ranks.{key_cmp_is}
 use Rattle.shunt_stays.specs.defs.Events.{Move, entry_of, leave_of, moves_of, in_order, key_before, insert_by_key}
 use Rattle.shunt_stays.specs.defs.Run.{AreOnTracks}
-use Rattle.shunt_stays.proofs.AscendingLists.{Ascends, unique}
+use Rattle.shunt_stays.proofs.AscendingLists.{unique}
 use Rattle.shunt_stays.proofs.Halves.{Half, at, move_of, halves_of, ordered, formed, later_rank, ids_apart, of_stay, half_in, in_order_is}
 use Rattle.shunt_stays.proofs.Fewer.{order_same, on_tracks}
 use Rattle.std.specs.Prelude.{◌↔◌}

@@ -1,26 +1,22 @@
 -- The stays that stand on a track at a moment fit it, where its run goes through.
-use Rattle.std.proofs.Common.{◌≡◌, ◌⊎◌, inl, inr, ⊎_elim, ℕ, ◌+◌, ◌<◌, ◌≤◌, leb, ltb, Bool, true, false, List, [], ◌∷◌, sym, subst, ap, arith}
+use Rattle.std.proofs.Common.{◌≡◌, ◌⊎◌, inl, inr, ⊎_elim, ℕ, ◌+◌, ◌<◌, ◌≤◌, leb, ltb, true, false, List, [], ◌∷◌, sym, subst, ap, arith}
 use Rattle.std.proofs.lemmas.Bool.{true≢false, false≢true, cases_lt, and_parts, leb-true, ltb-true}
 use Rattle.std.proofs.lemmas.List.Sums.{sum_by-append, sum_by-cons}
 use Rattle.shunt_lists.proofs.Sums.{sum_within}
 use Rattle.shunt_lists.proofs.Members.{all_in, Distinct}
-use Rattle.shunt_lists.specs.defs.Members.{In}
+use Rattle.shunt_lists.specs.defs.Members.{In, Ascends}
 use Rattle.shunt_base.specs.declared.ids.Side.{Side}
 use Rattle.shunt_base.specs.declared.ids.Side.TheVariants.{A, B}
 use Rattle.shunt_base.specs.declared.keys.Stay.{Stay}
 use Rattle.shunt_base.specs.defs.Keys.{rank, AreStays}
 use Rattle.shunt_stays.specs.defs.Run.{put}
 use Rattle.shunt_stays.proofs.Members.{put_here, put_there, put_cases}
-use Rattle.shunt_stays.proofs.AscendingLists.{Ascends}
-use Rattle.shunt_stays.proofs.Halves.{Half, at, halves_of, ordered}
+use Rattle.shunt_stays.proofs.Halves.{Half, at, halves_of, ordered, same_stay}
 use Rattle.shunt_stays.proofs.Track.{length_of, total, GoesOn, stands_by, total_at}
 
 total_put : (side : Side) (s : Stay) (st : List Stay) → total (put side s st) ≡ s.length + total st
 total_put A s st = sum_by-cons length_of s st
 total_put B s st = omega (arith, sum_by-append length_of st (s ∷ []), sum_by-cons length_of s [])
-
-same : (s t : Stay) (x y : Bool) → ◌≡◌ {A = Half} (s, x) (t, y) → s ≡ t
-same s t x y e = ap (λ (m : Half). m.0) e
 
 -- who stands at the moment has its leave left, and is there or has its entry left
 abbrev Comes : List Stay → ℕ → List Half → List Stay → Type 0
@@ -51,7 +47,7 @@ holds room stays moment ((s, true) ∷ halves) st d a le comes go =
     left_in x (inr i) = i
 
     come_in : (x : Stay) → In (x, true) ((s, true) ∷ halves) → In x (put s.side_in s st) ⊎ In (x, true) halves
-    come_in x (inl e) = inl (subst (λ (z : Stay). In z (put s.side_in s st)) (sym (same x s true true e)) (put_here s.side_in s st))
+    come_in x (inl e) = inl (subst (λ (z : Stay). In z (put s.side_in s st)) (sym (same_stay x s true true e)) (put_here s.side_in s st))
     come_in x (inr i) = inr i
 
     stays_on : (x : Stay) → In (x, false) ((s, true) ∷ halves) × (In x st ⊎ In (x, true) ((s, true) ∷ halves))
@@ -63,7 +59,7 @@ holds room stays moment ((s, false) ∷ halves) st d a le comes go =
     (cases_lt moment (rank s.leave))
   where
     left_in : (x : Stay) → (x ≡ s → ⊥) → In (x, false) ((s, false) ∷ halves) → In (x, false) halves
-    left_in x ne (inl e) = absurd (ne (same x s false false e))
+    left_in x ne (inl e) = absurd (ne (same_stay x s false false e))
     left_in x ne (inr i) = i
 
     come_in : (x : Stay) → In (x, true) ((s, false) ∷ halves) → In (x, true) halves

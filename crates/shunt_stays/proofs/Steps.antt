@@ -11,7 +11,7 @@ use Rattle.shunt_base.specs.declared.ids.Side.TheVariants.{A, B}
 use Rattle.shunt_stays.specs.defs.Events.{Move}
 use Rattle.shunt_stays.specs.defs.Run.{Standing, Stop, Through, put, without, load, entered, left, moved, ◌>>=◌, run, blocks_on, entries_in, leaves_in, seen}
 use Rattle.shunt_stays.specs.defs.Run.Stop.{Over}
-use Rattle.shunt_stays.proofs.Blocks.{without_was, run_first, run_ok}
+use Rattle.shunt_stays.proofs.Blocks.{without_was, run_first, run_ok, one_more}
 
 -- a run that went through, after these steps
 abbrev pub after_steps : List (Move × ℕ) → Result Through Stop → Result Through Stop
@@ -20,9 +20,6 @@ after_steps done r = r >>= (λ t. Ok (record t { steps = done ++ t.steps }))
 pub none_done : (r : Result Through Stop) → after_steps [] r ≡ r
 none_done (Ok t) = refl
 none_done (Err e) = refl
-
-abbrev one_more : Move → List Standing → Through → Through
-one_more m blocks t = record t { steps = (m, load blocks) ∷ t.steps }
 
 regroup : (done : List (Move × ℕ)) (m : Move) (blocks : List Standing) (r : Result Through Stop)
     → after_steps done (r >>= (λ t. Ok (one_more m blocks t))) ≡ after_steps (done ++ (m, load blocks) ∷ []) r

@@ -4,7 +4,7 @@ use Rattle.std.specs.List.{count_by}
 use Rattle.std.proofs.lemmas.Bool.{eqb-true, eq-eqb, cases_eq}
 use Rattle.std.proofs.lemmas.Bool.Decides.{nat_tests}
 use Rattle.shunt_lists.proofs.Members.{in_left, in_right, in_cases}
-use Rattle.shunt_lists.specs.defs.Members.{In}
+use Rattle.shunt_lists.specs.defs.Members.{In, Ascends}
 use Rattle.shunt_base.specs.declared.keys.EventKey.{EventKey}
 use Rattle.shunt_base.specs.declared.keys.Stay.{Stay}
 use Rattle.shunt_base.specs.defs.Keys.{rank, IsKey, IsWellFormed, AreStays}
@@ -12,7 +12,7 @@ use Rattle.shunt_stays.specs.defs.Crossings.{stands_at, load_at}
 use Rattle.shunt_stays.proofs.Halves.{formed}
 use Rattle.shunt_timeline.specs.declared.events.StayEvent.{StayEvent}
 use Rattle.shunt_timeline.specs.defs.Levels.{key_of, at}
-use Rattle.shunt_timeline.specs.defs.Kept.{Ascends, IsKeptTrack, sum_on}
+use Rattle.shunt_timeline.specs.defs.Kept.{IsKeptTrack, sum_on}
 use Rattle.shunt_timeline.proofs.Lists.{sum_zero, sum_some, sum_least, ascends_front, ascends_apart}
 use Rattle.shunt_timeline.proofs.Steps.{flag}
 use Rattle.shunt_timeline.proofs.Ranks.{key_in}

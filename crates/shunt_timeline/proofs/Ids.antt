@@ -5,9 +5,8 @@ use Rattle.std.specs.List.Sorted.{IsPartitionedBy, IsPartitionPoint}
 use Rattle.std.proofs.lemmas.Bool.{ltb-true, ltb-false, lt-ltb}
 use Rattle.std.proofs.lemmas.List.{take-append-drop}
 use Rattle.shunt_lists.proofs.Members.{in_place, all_from, in_cases, in_take, in_drop}
-use Rattle.shunt_lists.specs.defs.Members.{In}
+use Rattle.shunt_lists.specs.defs.Members.{In, Ascends}
 use Rattle.shunt_base.specs.declared.keys.Stay.{Stay}
-use Rattle.shunt_timeline.specs.defs.Kept.{Ascends}
 use Rattle.shunt_timeline.proofs.Lists.{ascends_at, ascends_front, ascends_back, ascends_apart, ascends_joined}
 
 abbrev pub id_of : Stay → ℕ

@@ -3,13 +3,13 @@ use Rattle.std.proofs.Common.{◌≡◌, ◌≢◌, ◌⊎◌, inl, inr, ⊎_eli
 use Rattle.std.proofs.lemmas.Bool.{eq-eqb, cases_Bool}
 use Rattle.std.proofs.lemmas.List.Sums.{sum_by-cons, sum_by-append}
 use Rattle.shunt_lists.proofs.Members.{all_in, all_from, in_left, in_right, in_cases, of_map}
-use Rattle.shunt_lists.specs.defs.Members.{In}
+use Rattle.shunt_lists.specs.defs.Members.{In, Ascends}
 use Rattle.shunt_base.specs.declared.keys.Stay.{Stay}
 use Rattle.shunt_base.specs.defs.Keys.{rank, IsKey, IsWellFormed, AreStays}
 use Rattle.shunt_stays.proofs.Halves.{later_rank, formed}
 use Rattle.shunt_timeline.specs.declared.events.StayEvent.{StayEvent}
 use Rattle.shunt_timeline.specs.defs.Levels.{key_of, at, raised, lowered}
-use Rattle.shunt_timeline.specs.defs.Kept.{Ascends, IsKeptAt, IsKeptTrack, sum_on}
+use Rattle.shunt_timeline.specs.defs.Kept.{IsKeptAt, IsKeptTrack, sum_on}
 use Rattle.shunt_timeline.proofs.Lists.{sum_map, ascends_front, ascends_back, ascends_apart, ascends_joined, ascends_map}
 use Rattle.shunt_timeline.proofs.Ranks.{key_in}
 use Rattle.shunt_timeline.proofs.Changes.{entry_at, leave_at, not_yet, no_more, stands_now, crossed_not_yet, crossed_no_more, kept_aside, aside_kept, kept_raised, kept_lowered}

@@ -1,5 +1,5 @@
 mod Lists
-mod Steps
+pub mod Steps
 mod Ranks
 mod Numbers
 mod Changes

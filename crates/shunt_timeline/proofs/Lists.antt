@@ -3,8 +3,7 @@ use Rattle.std.proofs.Common.{◌≡◌, inl, inr, ⊎_elim, ℕ, zero, suc, ◌
 use Rattle.std.specs.List.{AllByRecursion}
 use Rattle.std.proofs.lemmas.List.Sums.{sum_by-cons}
 use Rattle.shunt_lists.proofs.Members.{all_in, all_from, in_place, in_left, in_right, in_cases}
-use Rattle.shunt_lists.specs.defs.Members.{In}
-use Rattle.shunt_timeline.specs.defs.Kept.{Ascends}
+use Rattle.shunt_lists.specs.defs.Members.{In, Ascends}
 
 pub sum_plus : {X : Type 0} (f g h : X → ℕ) (xs : List X) → ((x : X) → In x xs → h x ≡ f x + g x) → sum_by h xs ≡ sum_by f xs + sum_by g xs
 sum_plus f g h [] e = refl

@@ -3,14 +3,13 @@ use Rattle.std.proofs.Common.{◌≡◌, ℕ, ◌<◌, ◌≤◌, ltb, true, fal
 use Rattle.std.proofs.lemmas.Bool.{ltb-true, ltb-false, lt-ltb}
 use Rattle.std.specs.List.Sorted.{IsPartitionedBy, IsPartitionPoint}
 use Rattle.shunt_lists.proofs.Members.{in_place, in_take, in_drop}
-use Rattle.shunt_lists.specs.defs.Members.{In}
+use Rattle.shunt_lists.specs.defs.Members.{In, Ascends}
 use Rattle.shunt_base.specs.declared.keys.EventKey.{EventKey}
 use Rattle.shunt_base.specs.defs.Keys.{rank, IsKey, IsWellFormed}
 use Rattle.shunt_stays.specs.defs.Events.{key_before}
 use Rattle.shunt_stays.proofs.Halves.{before_is}
 use Rattle.shunt_timeline.specs.declared.events.StayEvent.{StayEvent}
 use Rattle.shunt_timeline.specs.defs.Levels.{key_of, at}
-use Rattle.shunt_timeline.specs.defs.Kept.{Ascends}
 use Rattle.shunt_timeline.proofs.Lists.{ascends_at}
 
 pub key_in : (e : StayEvent) → IsWellFormed e.stay → IsKey (key_of e)

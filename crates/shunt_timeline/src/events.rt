@@ -8,7 +8,7 @@ ghost use Rattle.shunt_base.specs.defs.Keys.{IsKey, IsWellFormed};
 ghost use Rattle.shunt_stays.specs.defs.Events.{key_before};
 ghost use Rattle.shunt_timeline.specs.defs.Levels.{key_of, at, is_crossed, gets_over, has_left};
 ghost use Rattle.shunt_timeline.specs.defs.Levels.{has_blocked, raised, lowered, IsSmall, IsPlace};
-ghost use Rattle.shunt_timeline.specs.defs.Kept.{Ascends};
+ghost use Rattle.shunt_lists.specs.defs.Members.{Ascends};
 
 use shunt_base::{EventKey, Stay, compare_keys};
 use shunt_cross::crosses;

@@ -10,7 +10,7 @@ ghost use Rattle.shunt_base.specs.defs.Keys.{AreStays, IsWellFormed};
 ghost use Rattle.shunt_stays.specs.defs.Run.{AreOnTracks, GoesThrough};
 ghost use Rattle.shunt_cross.specs.defs.Clashes.{clash_of};
 ghost use Rattle.shunt_timeline.specs.defs.Holdings.{Holding};
-ghost use Rattle.shunt_timeline.specs.defs.Kept.{Ascends};
+ghost use Rattle.shunt_lists.specs.defs.Members.{Ascends};
 ghost use Rattle.shunt_timeline.specs.defs.Sound.{lengths_of, AreSame};
 ghost use Rattle.shunt_timeline.specs.declared.track.TrackTimeline.{TrackTimeline};
 

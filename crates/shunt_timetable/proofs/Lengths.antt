@@ -1,9 +1,11 @@
 -- How long the text of a timetable is.
-use Rattle.std.proofs.Common.{◌≡◌, ℕ, ◌+◌, ◌*◌, ◌<◌, ◌≤◌, not, List, [], ◌∷◌, ◌++◌, length, length-append, map, filter, refl, ap, ◌∙◌, arith}
+use Rattle.std.proofs.Common.{◌≡◌, ℕ, ◌+◌, ◌*◌, ◌≤◌, not, List, [], ◌∷◌, ◌++◌, length, length-append, map, filter, refl, ap, ◌∙◌, arith}
 use Rattle.std.specs.Prelude.{All, codes, slice_index_or}
 use Rattle.std.proofs.lemmas.List.Concat.{flat_map-cons}
 use Rattle.std.proofs.lemmas.List.Elements.{All-tail, All-filter}
 use Rattle.std.proofs.lemmas.List.Sums.{sum_by-append, sum_by-cons}
+use Rattle.std.specs.List.{AllByRecursion}
+use Rattle.std.proofs.lemmas.List.{length-map}
 use Rattle.shunt_base.proofs.Names.{name_from}
 use Rattle.shunt_base.specs.declared.ids.TypeId.{TypeId}
 use Rattle.shunt_base.specs.defs.Spelling.{IsName}
@@ -15,35 +17,30 @@ use Rattle.shunt_instance.specs.declared.records.Timetable.{Timetable}
 use Rattle.shunt_instance.specs.defs.Words.{is_standing, unit_count}
 use Rattle.shunt_instance.specs.defs.Wellformed.{IsStation, IsTrain, IsTimetable}
 use Rattle.shunt_timetable.specs.defs.WrittenRows.{type_names, standing_row, moving_row, first_row, rows_of}
-use Rattle.shunt_timetable.proofs.Plain.{place_is_name, moving_plain, standing_plain}
-use Rattle.shunt_rows.proofs.Named.{name_at}
+use Rattle.shunt_timetable.proofs.Plain.{place_is_name, moving_plain, standing_plain, unit_names, units_named}
 use Rattle.shunt_rows.proofs.Plain.{plain_name}
 use Rattle.shunt_rows.proofs.Texts.{texts_join}
 
-units_wide : (station : Station) (units : List TypeId) → IsStation station → All (λ k. k.0 < length station.types) units
-    → width (map (λ k. slice_index_or (type_names station) k.0 []) units) ≤ 17 * length units
-units_wide station [] s h = omega arith
-units_wide station (k ∷ units) s h =
-    let name = name_at (λ t. t.name) station.types k.0 (λ i d l. (s.types i d l).name) (h 0 k (omega arith)) in
-    let more = units_wide station units s (All-tail (λ k. k.0 < length station.types) k units h) in
-    omega (arith, more, name.1)
+names_wide : (names : List (List ℕ)) → AllByRecursion IsName names → width names ≤ 17 * length names
+names_wide [] h = omega arith
+names_wide (name ∷ names) h = let first = h.0 in let more = names_wide names h.1 in omega (arith, more, first.1)
 
 moving_wide : (station : Station) (word : List ℕ) → IsStation station → IsName word → length word ≤ 6 → (t : Train) → IsTrain station t
     → length (text_of_row (moving_row station word t)) ≤ 47 + 17 * length t.units
 moving_wide station word s w short t h =
     let row = row_width (moving_row station word t) (moving_plain station word s w t h) in
-    let units = units_wide station t.units s h.kinds in
+    let units = names_wide (unit_names station t.units) (units_named station t.units s h.kinds) in
     let name = h.name.1 in
     let place = (place_is_name station t.origin s h.origin).1 in
-    omega (arith, row, units, name, place, short)
+    omega (arith, row, units, length-map t.units (λ (k : TypeId). slice_index_or (type_names station) k.0 []), name, place, short)
 
 standing_wide : (station : Station) → IsStation station → (t : Train) → IsTrain station t → length (text_of_row (standing_row station t)) ≤ 47 + 17 * length t.units
 standing_wide station s t h =
     let row = row_width (standing_row station t) (standing_plain station s t h) in
-    let units = units_wide station t.units s h.kinds in
+    let units = names_wide (unit_names station t.units) (units_named station t.units s h.kinds) in
     let name = h.name.1 in
     let place = (place_is_name station t.origin s h.origin).1 in
-    omega (arith, row, units, name, place)
+    omega (arith, row, units, length-map t.units (λ (k : TypeId). slice_index_or (type_names station) k.0 []), name, place)
 
 rows_wide : (station : Station) (row : Train → List (List ℕ)) (ts : List Train) → ((t : Train) → IsTrain station t → length (text_of_row (row t)) ≤ 47 + 17 * length t.units)
     → All (IsTrain station) ts

@@ -29,13 +29,20 @@ pub place_is_name : (station : Station) (o : Origin) → IsStation station → I
 place_is_name station (origin.Platform p) s lt = s.platforms p.0 [] lt
 place_is_name station (origin.Track k) s lt = name_at (λ t. t.name) station.tracks k.0 (λ i d l. (s.tracks i d l).name) lt
 
-units_plain : (station : Station) (units : List TypeId) → IsStation station → All (λ k. k.0 < length station.types) units
-    → AllByRecursion IsPlainField (map (λ k. slice_index_or (type_names station) k.0 []) units)
-units_plain station [] s h = tt
-units_plain station (k ∷ units) s h = (
-  plain_name _ (name_at (λ t. t.name) station.types k.0 (λ i d l. (s.types i d l).name) (h 0 k (omega arith))),
-  units_plain station units s (All-tail (λ k. k.0 < length station.types) k units h),
+-- the names of the types of a train's units
+abbrev pub unit_names : Station → List TypeId → List (List ℕ)
+unit_names station units = map (λ k. slice_index_or (type_names station) k.0 []) units
+
+pub units_named : (station : Station) (units : List TypeId) → IsStation station → All (λ k. k.0 < length station.types) units → AllByRecursion IsName (unit_names station units)
+units_named station [] s h = tt
+units_named station (k ∷ units) s h = (
+  name_at (λ t. t.name) station.types k.0 (λ i d l. (s.types i d l).name) (h 0 k (omega arith)),
+  units_named station units s (All-tail (λ k. k.0 < length station.types) k units h),
 )
+
+names_plain : (names : List (List ℕ)) → AllByRecursion IsName names → AllByRecursion IsPlainField names
+names_plain [] h = tt
+names_plain (name ∷ names) h = (plain_name name h.0, names_plain names h.1)
 
 pub moving_plain : (station : Station) (word : List ℕ) → IsStation station → IsName word → (t : Train) → IsTrain station t → IsPlainRow (moving_row station word t)
 moving_plain station word s w t h = (
@@ -44,7 +51,7 @@ moving_plain station word s w t h = (
     plain_name word w,
     (
       plain_name t.name h.name,
-      (plain_minute t.minute h.minute, (plain_name (place_name station t.origin) (place_is_name station t.origin s h.origin), units_plain station t.units s h.kinds)),
+      (plain_minute t.minute h.minute, (plain_name (place_name station t.origin) (place_is_name station t.origin s h.origin), names_plain (unit_names station t.units) (units_named station t.units s h.kinds))),
     ),
   ),
 )
@@ -54,7 +61,7 @@ standing_plain station s t h = (
   omega arith,
   (
     plain_name (codes "stand") (name_from (codes "stand") refl),
-    (plain_name t.name h.name, (plain_name (place_name station t.origin) (place_is_name station t.origin s h.origin), units_plain station t.units s h.kinds)),
+    (plain_name t.name h.name, (plain_name (place_name station t.origin) (place_is_name station t.origin s h.origin), names_plain (unit_names station t.units) (units_named station t.units s h.kinds))),
   ),
 )
 

@@ -17,10 +17,6 @@ units_up station before t row k zero least le = none_left
 units_up station before t row k (suc more) least le =
     one_before le (one_before (omega arith) (units_up station before (unit_of station before t row k).value row (k + 1) more (12 * k + 8) (omega arith)))
 
-first_up : (row : List (List ℕ)) → HasChecksInOrder (first_of row)
-unfolding first_of
-first_up row = record { up = refl }
-
 standing_up : (station : Station) (trains : List Train) (row : List (List ℕ)) → Ascends 13 (standing_of station trains row).checks
 unfolding standing_of
 standing_up station trains row = record { up = (units_up station (unit_count trains) _ row 4 (length row - 3) 42 (omega arith)).up }
@@ -48,4 +44,5 @@ later_up station s row = in_if (is_word row (codes "arrive")) (arrive_up station
     (in_if (may_stand s && is_word row (codes "stand")) (stand_up station s row) (no_word_up s)))
 
 pub timetables_tell : (station : Station) (rows : List (List (List ℕ))) → Tells (timetable_format station) rows
-timetables_tell station rows = tells (timetable_format station) (record { first = first_up; later = later_up station }) rows
+unfolding first_of
+timetables_tell station rows = tells (timetable_format station) (record { first = λ row. record { up = refl }; later = later_up station }) rows

@@ -14,59 +14,22 @@ ghost use Rattle.shunt_timetable.specs.defs.TimetableFormat.{standing_of, moving
 ghost use Rattle.shunt_timetable.specs.defs.TimetableFormat.{arrive_of, depart_of, later_of};
 ghost use Rattle.shunt_timetable.specs.defs.TimetableFormat.{timetable_of, timetable_format};
 
-use shunt_base::{Minute, Name, PlatformId, TrackId, TypeId, is_name};
-use shunt_instance::{Origin, Station, Timetable, Track, Train, UnitType};
+use shunt_base::{Minute, Name, Naming, PlainNames, PlatformId, TrackId, TypeId, is_name};
+use shunt_instance::{Origin, Station, Timetable, TrackNames, Train, TypeNames};
 use shunt_lists::Items;
 use shunt_rows::{
-    FormatReader, Known, Naming, Numbered, ReadError, Row, RowFault, RowKind, fields_in, minute_in,
-    must, number_in, read,
+    FormatReader, Known, Numbered, ReadError, Row, RowFault, RowKind, fields_in, minute_in, must,
+    number_in, read,
 };
 use std::alloc::{AllocError, Global};
 use std::marker::{Model, PhantomData};
-
-// Types, platforms and tracks are known by their names.
-struct TypeNames;
-
-impl Naming for TypeNames {
-    type Thing = UnitType;
-
-    ghost name = { λ t. t.name };
-
-    fn name_of(kind: &UnitType) -> &[u8] {
-        kind.name.bytes()
-    }
-}
-
-struct PlatformNames;
-
-impl Naming for PlatformNames {
-    type Thing = Name;
-
-    ghost name = { λ p. p };
-
-    fn name_of(platform: &Name) -> &[u8] {
-        platform.bytes()
-    }
-}
-
-struct TrackNames;
-
-impl Naming for TrackNames {
-    type Thing = Track;
-
-    ghost name = { λ t. t.name };
-
-    fn name_of(track: &Track) -> &[u8] {
-        track.name.bytes()
-    }
-}
 
 // A station whose names are numbered, seen as the station.
 #[derive(Drop)]
 struct KnownStation<'r> {
     station: &'r Station,
     types: Known<'r, TypeNames>,
-    platforms: Known<'r, PlatformNames>,
+    platforms: Known<'r, PlainNames>,
     tracks: Known<'r, TrackNames>,
 }
 
@@ -88,7 +51,7 @@ impl<'r> KnownStation<'r> {
         ensures { IfOk result (λ k. k ≡ station.now) }
     {
         let types = Known::<TypeNames>::of(alloc, station.types.as_slice())?;
-        let platforms = Known::<PlatformNames>::of(alloc, station.platforms.as_slice())?;
+        let platforms = Known::<PlainNames>::of(alloc, station.platforms.as_slice())?;
         let tracks = Known::<TrackNames>::of(alloc, station.tracks.as_slice())?;
         Ok(KnownStation {
             station,

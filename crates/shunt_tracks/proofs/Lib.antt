@@ -1,3 +1,3 @@
 mod Ends
 mod SortedDues
-mod Turns
+pub mod Turns

@@ -19,6 +19,7 @@ use Rattle.shunt_tracks.specs.defs.Dues.{move_of}
 use Rattle.shunt_tracks.specs.defs.Blocks.{Does, Fit}
 use Rattle.shunt_tracks.specs.defs.Answer.{event_of, step_of, answer}
 use Rattle.shunt_stays.proofs.Tracks.{none_at}
+use Rattle.shunt_stays.proofs.Blocks.{one_more, go_on}
 
 -- what is answered after these steps
 abbrev pub after : List Step → Ran → Ran
@@ -26,17 +27,11 @@ after steps (ran.Through more) = ran.Through (steps ++ more)
 after steps (ran.Blocked e) = ran.Blocked e
 after steps (ran.Over e n) = ran.Over e n
 
-abbrev one_more : Move → List Standing → Through → Through
-one_more m blocks t = record t { steps = (m, load blocks) ∷ t.steps }
-
 one_done : (steps : List Step) (m : Move) (blocks : List Standing) (r : Result Through Stop)
     → after steps (answer (r >>= (λ t. Ok (one_more m blocks t)))) ≡ after (steps ++ step_of (m, load blocks) ∷ []) (answer r)
 one_done steps m blocks (Ok t) = ap ran.Through (sym (append_assoc steps (step_of (m, load blocks) ∷ []) (map step_of t.steps)))
 one_done steps m blocks (Err (Blocked e)) = refl
 one_done steps m blocks (Err (Over e n)) = refl
-
-abbrev rest_of : List ℕ → Move → List Move → List (List Standing) → List Standing → Result Through Stop
-rest_of lengths m moves tracks bs = run lengths moves (set tracks m.track.0 bs) >>= (λ t. Ok (one_more m bs t))
 
 did_moved : (x : Did) (n : ℕ) (m : Move) (room : ℕ) (old new : List Standing) → x ≡ did.Moved n → Does x m room old new → (moved room m old ≡ Ok new) × (load new ≡ n)
 did_moved x n m room old new e h = subst (λ (y : Did). Does y m room old new) e h
@@ -50,11 +45,11 @@ module _ {X : Type 0} (view : X → List Standing) (lengths : List ℕ) (dues : 
   left = map move_of (drop (i + 1) dues)
 
   -- the event that is due comes first
-  first_is : run lengths (map move_of (drop i dues)) (map view tracks) ≡ (moved (get_or lengths u 0) here (view v) >>= (λ bs. rest_of lengths here left (map view tracks) bs))
+  first_is : run lengths (map move_of (drop i dues)) (map view tracks) ≡ (moved (get_or lengths u 0) here (view v) >>= (λ bs. go_on lengths here left (map view tracks) bs))
   first_is =
       ap (λ (l : List Move). run lengths l (map view tracks)) (ap (map move_of) (drop_more dues i z lt))
-      ∙ ap (λ (k : ℕ). moved (get_or lengths k 0) here (get_or (map view tracks) k []) >>= (λ bs. rest_of lengths here left (map view tracks) bs)) (sym at)
-      ∙ ap (λ (l : List Standing). moved (get_or lengths u 0) here l >>= (λ bs. rest_of lengths here left (map view tracks) bs))
+      ∙ ap (λ (k : ℕ). moved (get_or lengths k 0) here (get_or (map view tracks) k []) >>= (λ bs. go_on lengths here left (map view tracks) bs)) (sym at)
+      ∙ ap (λ (l : List Standing). moved (get_or lengths u 0) here l >>= (λ bs. go_on lengths here left (map view tracks) bs))
       (get_or-map view tracks u v [] on ∙ ap view (sym was))
 
   pub turned : (steps more : List Step) (x : Did) (n : ℕ) (w : X) (event : Event) (all : Ran) → x ≡ did.Moved n → Does x here (get_or lengths u 0) (view v) (view w)
@@ -70,7 +65,7 @@ module _ {X : Type 0} (view : X → List Standing) (lengths : List ℕ) (dues : 
       ∙ ap (λ (l : List (List Standing)). after (steps ++ step_of (here, load (view w)) ∷ []) (answer (run lengths left l))) after_it
       ∙ sym (one_done steps here (view w) (run lengths left (set (map view tracks) here.track.0 (view w))))
       ∙ sym (ap (λ (r : Result Through Stop). after steps (answer r)) (first_is ∙ ap
-      (λ (r : Result (List Standing) Stop). r >>= (λ bs. rest_of lengths here left (map view tracks) bs)) m.0))
+      (λ (r : Result (List Standing) Stop). r >>= (λ bs. go_on lengths here left (map view tracks) bs)) m.0))
       ∙ so
 
   pub fits : (x : Did) (n : ℕ) (w : X) → x ≡ did.Moved n → Does x here (get_or lengths u 0) (view v) (view w) → Fit view lengths tracks → Fit view lengths (set tracks u w)

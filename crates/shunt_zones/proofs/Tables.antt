@@ -9,10 +9,6 @@ use Rattle.shunt_instance.specs.declared.records.Station.{Station}
 use Rattle.shunt_zones.specs.declared.records.Zones.{Zones}
 use Rattle.shunt_zones.specs.defs.ZonesFormat.{way_in, first_of, zone_of, over_in, over_of, later_of, zones_format}
 
-first_up : (row : List (List ℕ)) → HasChecksInOrder (first_of row)
-unfolding first_of
-first_up row = record { up = refl }
-
 zone_up : (z : Zones) (row : List (List ℕ)) → HasChecksInOrder (zone_of z row)
 unfolding zone_of
 zone_up z row = record { up = refl }
@@ -26,4 +22,5 @@ unfolding later_of
 later_up s z row = in_if (is_word row (codes "zone")) (zone_up z row) (in_if (is_word row (codes "over")) (over_up s z row) (no_word_up z))
 
 pub zones_tell : (s : Station) (rows : List (List (List ℕ))) → Tells (zones_format s) rows
-zones_tell s rows = tells (zones_format s) (record { first = first_up; later = later_up s }) rows
+unfolding first_of
+zones_tell s rows = tells (zones_format s) (record { first = λ row. record { up = refl }; later = later_up s }) rows

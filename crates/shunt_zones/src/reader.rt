@@ -11,32 +11,19 @@ ghost use Rattle.shunt_zones.specs.defs.ZonesFormat.{later_of, zones_format, IsZ
 use crate::overs::Overs;
 use crate::records::{Over, Zones};
 use crate::ways::{KnownStation, Way};
-use shunt_base::{Name, is_name};
+use shunt_base::{Name, PlainNames, is_name};
 use shunt_instance::Station;
 use shunt_plan::read_first;
 use shunt_rows::{
-    FormatReader, Naming, Numbered, ReadError, Row, RowFault, RowKind, fields_in, found, must, read,
+    FormatReader, Numbered, ReadError, Row, RowFault, RowKind, fields_in, found, must, read,
 };
 use std::alloc::Global;
 use std::marker::{Model, PhantomData};
 
-// Zones are known by their names.
-struct ZoneNames;
-
-impl Naming for ZoneNames {
-    type Thing = Name;
-
-    ghost name = { λ z. z };
-
-    fn name_of(zone: &Name) -> &[u8] {
-        zone.bytes()
-    }
-}
-
 // The zones that the records so far state.
 #[derive(Drop)]
 struct Stated<'r, 's> {
-    names: Numbered<'r, ZoneNames>,
+    names: Numbered<'r, PlainNames>,
     over: Overs,
     // The station outlives what is read over it.
     station: PhantomData<&'s Station>,
@@ -56,7 +43,7 @@ impl<'r, 's> Model for Stated<'r, 's> {
 // The zone at field 5 over a way, where it doesn't stand already.
 #[tactic(auto, unfolding(crate::specs::defs::ZonesFormat::over_in))]
 fn read_new(
-    names: &Numbered<'_, ZoneNames>,
+    names: &Numbered<'_, PlainNames>,
     all: &Overs,
     way: Way,
     row: &Row,

@@ -7,9 +7,9 @@ ghost use Rattle.shunt_instance.specs.defs.Words.{joins};
 ghost use Rattle.shunt_instance.specs.defs.Wellformed.{IsStation};
 ghost use Rattle.shunt_zones.specs.defs.ZonesFormat.{has_route, way_in};
 
-use shunt_base::{Name, PlatformId, Side, TrackId};
-use shunt_instance::{Route, Station, Track};
-use shunt_rows::{Known, Naming, Row, RowFault, RowKind, must, side_in};
+use shunt_base::{PlainNames, PlatformId, Side, TrackId};
+use shunt_instance::{Route, Station, TrackNames};
+use shunt_rows::{Known, Row, RowFault, RowKind, must, side_in};
 use std::alloc::{AllocError, Global};
 use std::marker::Model;
 
@@ -19,31 +19,6 @@ pub struct Way {
     pub platform: PlatformId,
     pub track: TrackId,
     pub side: Side,
-}
-
-// Platforms and tracks are known by their names.
-struct PlatformNames;
-
-impl Naming for PlatformNames {
-    type Thing = Name;
-
-    ghost name = { λ p. p };
-
-    fn name_of(platform: &Name) -> &[u8] {
-        platform.bytes()
-    }
-}
-
-struct TrackNames;
-
-impl Naming for TrackNames {
-    type Thing = Track;
-
-    ghost name = { λ t. t.name };
-
-    fn name_of(track: &Track) -> &[u8] {
-        track.name.bytes()
-    }
 }
 
 pub(crate) fn is_same_side(one: Side, other: Side) -> bool
@@ -79,7 +54,7 @@ fn has_route(station: &Station, way: Way) -> bool
 #[derive(Drop)]
 pub struct KnownStation<'r> {
     station: &'r Station,
-    platforms: Known<'r, PlatformNames>,
+    platforms: Known<'r, PlainNames>,
     tracks: Known<'r, TrackNames>,
 }
 
@@ -102,7 +77,7 @@ impl<'r> KnownStation<'r> {
         requires { IsStation station.now }
         ensures { IfOk result (λ k. k ≡ station.now) }
     {
-        let platforms = Known::<PlatformNames>::of(alloc, station.platforms.as_slice())?;
+        let platforms = Known::<PlainNames>::of(alloc, station.platforms.as_slice())?;
         let tracks = Known::<TrackNames>::of(alloc, station.tracks.as_slice())?;
         Ok(KnownStation {
             station,

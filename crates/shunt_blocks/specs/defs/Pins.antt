@@ -59,10 +59,14 @@ single night u v = record {
   park = None;
 }
 
--- the units below n that no pin has, each as an unparked block of its own at the position that the list gives it
+-- a unit that no pin has, as an unparked block of its own at the position that the list gives it
+abbrev pub single_at : Night → List Block → List ℕ → ℕ → List Block
+single_at night pins place u = cond (times_unit night pins u == 0) (single night u (place_of place u) ∷ []) []
+
+-- the units below n that no pin has, each as such a block
 abbrev pub singles_below : Night → List Block → List ℕ → ℕ → List Block
 singles_below night pins place zero = []
-singles_below night pins place (suc n) = singles_below night pins place n ++ cond (times_unit night pins n == 0) (single night n (place_of place n) ∷ []) []
+singles_below night pins place (suc n) = singles_below night pins place n ++ single_at night pins place n
 
 -- the same of all units
 abbrev pub singles : Night → List Block → List ℕ → List Block

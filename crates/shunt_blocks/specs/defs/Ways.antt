@@ -1,5 +1,5 @@
 -- Ways between trains and tracks.
-use Rattle.std.specs.Prelude.{ℕ, ◌+◌, ◌==◌, Bool, Option, Some, None, if◌then◌else◌}
+use Rattle.std.specs.Prelude.{ℕ, ◌+◌, ◌≤◌, ◌==◌, Bool, Option, Some, None, IfSome, if◌then◌else◌}
 use Rattle.shunt_lists.specs.defs.Below.{all_below}
 use Rattle.shunt_base.specs.declared.ids.ArrId.{ArrId}
 use Rattle.shunt_base.specs.declared.ids.DepId.{DepId}
@@ -35,7 +35,15 @@ park_way_in night arr k = way_from night.station (train_at night.arrive arr.0).o
 abbrev pub park_way_out : Night → DepId → Park → Option ℕ
 park_way_out night dep k = way_to night.station (train_at night.depart dep.0).origin k.track k.side_out
 
--- the same where something is parked; what isn't parked has no way
+-- the way in of an arriving train, where there is one, costs no less
+abbrev pub IsUnderIn : Night → ArrId → Park → ℕ → Type 0
+IsUnderIn night a k least = IfSome (park_way_in night a k) (λ c. least ≤ c)
+
+-- the way out to a departing train, where there is one, costs no less
+abbrev pub IsUnderOut : Night → DepId → Park → ℕ → Type 0
+IsUnderOut night d k least = IfSome (park_way_out night d k) (λ c. least ≤ c)
+
+-- the cost of the way in where something is parked; what isn't parked has no way
 abbrev pub option_way_in : Night → ArrId → Option Park → Option ℕ
 option_way_in night arr None = None
 option_way_in night arr (Some k) = park_way_in night arr k

@@ -1,5 +1,5 @@
 -- Shapes with options that weigh less than their duals, and where they are looked for.
-use Rattle.std.specs.Prelude.{◌≡◌, ℕ, ◌+◌, ◌*◌, ◌≤◌, ◌<◌, ℤ, pos, ◌<ℤ◌, true, false, length, slice_index_or, List, Option, Some, None}
+use Rattle.std.specs.Prelude.{◌≡◌, ℕ, ◌+◌, ◌*◌, ◌≤◌, ◌<◌, ℤ, pos, ◌<ℤ◌, true, false, length, List, Option, Some, None}
 use Rattle.shunt_base.specs.declared.ids.Side.{Side}
 use Rattle.shunt_base.specs.declared.ids.TrackId.{TrackId}
 use Rattle.shunt_base.specs.declared.duals.Price.{Price}
@@ -7,7 +7,6 @@ use Rattle.shunt_base.specs.declared.duals.Case.{Case}
 use Rattle.shunt_instance.specs.defs.Instance.{Night}
 use Rattle.shunt_blocks.specs.declared.records.Shape.{Shape}
 use Rattle.shunt_blocks.specs.declared.records.Park.{Park}
-use Rattle.shunt_blocks.specs.defs.Shapes.{IsPair}
 use Rattle.shunt_blocks.specs.defs.Blocks.{IsOption, IsParkable}
 use Rattle.shunt_blocks.specs.defs.Costs.{cost_with}
 use Rattle.shunt_blocks.specs.defs.Stays.{shape_length}
@@ -57,12 +56,6 @@ IsLightShape version night case s = IsOneOfShape (IsLight version night case) s
 -- the same of a free shape
 abbrev pub IsFreeLight : Version → Night → Masks → Case → PathChoice → Type 0
 IsFreeLight version night covered case = IsFreeOne night covered (IsLight version night case)
-
--- neither is covered, and they are matchable
-pub record IsFreePair (night : Night) (covered : Masks) (u v : ℕ) : Type 0 where
-  pub unit : slice_index_or covered.units u true ≡ false
-  pub position : slice_index_or covered.places v true ≡ false
-  pub pair : IsPair night u v
 
 -- a shape's option that is parked, or none
 abbrev pub offered : Shape → Option Park → Option PathChoice

@@ -130,6 +130,10 @@ NodeFaultBefore night f g = (node_rank f < node_rank g) ⊎ ((node_rank f ≡ no
 abbrev pub IsNodeSound : Night → List Block → Certificate → ℕ → Type 0
 IsNodeSound night start c k = (f : NodeFault) (r : Reason) → IsNodeFault night start c k f r → ⊥
 
+-- the nodes before a number are sound
+abbrev pub AreSound : Night → List Block → Certificate → ℕ → Type 0
+AreSound night start c k = (j : ℕ) → j < k → IsNodeSound night start c j
+
 -- what is told is wrong with a node, and nothing that is wrong with it comes before
 pub record IsFirstNodeFault (night : Night) (start : List Block) (c : Certificate) (k : ℕ) (r : Reason) : Type 0 where
   pub fault : NodeFault

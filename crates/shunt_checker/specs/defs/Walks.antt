@@ -15,7 +15,7 @@ use Rattle.shunt_proof.specs.defs.Trees.{depth_at, nearest, path_at, duals_at, b
 use Rattle.shunt_checker.specs.declared.verdict.Reason.{Reason}
 use Rattle.shunt_checker.specs.declared.walk.Frame.{Frame}
 use Rattle.shunt_checker.specs.declared.walk.Fault.{Fault}
-use Rattle.shunt_checker.specs.defs.NodeFaults.{IsNodeSound, IsFirstNodeFault}
+use Rattle.shunt_checker.specs.defs.NodeFaults.{IsNodeSound, IsFirstNodeFault, AreSound}
 
 -- a node's duals are the own ones of another
 pub record IsOwner (nodes : List Node) (j owner : ℕ) : Type 0 where
@@ -48,10 +48,6 @@ path_before night start nodes (suc k) = path_at night start nodes k
 -- the front of a path that a parent of a node behind it has
 abbrev pub front_of : List Node → ℕ → Trail → List Block
 front_of nodes k t = take (t.pins + (depth_at nodes k - 1)) t.blocks
-
--- the nodes before a number are sound
-abbrev pub AreSound : Night → List Block → Certificate → ℕ → Type 0
-AreSound night start c k = (j : ℕ) → j < k → IsNodeSound night start c j
 
 -- what is known before a number
 pub record IsWalk (night : Night) (start : List Block) (c : Certificate) (k : ℕ) (t : Trail) (table : List Frame) (least : ℕ) : Type 0 where

@@ -9,11 +9,12 @@ use Rattle.shunt_instance.specs.defs.Instance.{Night, unit_at, position_at, unit
 use Rattle.shunt_blocks.specs.declared.records.Shape.{Shape}
 use Rattle.shunt_blocks.specs.declared.records.Block.{Block}
 use Rattle.shunt_blocks.specs.declared.records.Park.{Park}
-use Rattle.shunt_blocks.specs.defs.Shapes.{unit_from, HasUnit, HasPosition, IsShape}
+use Rattle.shunt_blocks.specs.defs.Shapes.{unit_from, HasUnit, HasPosition, IsShape, IsPair}
 use Rattle.shunt_blocks.specs.defs.Blocks.{IsOption, is_option}
 use Rattle.shunt_blocks.specs.defs.Lists.{track_lengths, stays_of, placed}
 use Rattle.shunt_choices.specs.defs.Paths.{Masks, masks_of, next_of}
 use Rattle.shunt_choices.specs.defs.Free.{is_free_run}
+use Rattle.shunt_lists.specs.defs.Members.{In}
 
 -- a shape of uncovered units and positions that begins at a unit
 pub record IsFreeShape (night : Night) (covered : Masks) (u : ℕ) (s : Shape) : Type 0 where
@@ -21,6 +22,21 @@ pub record IsFreeShape (night : Night) (covered : Masks) (u : ℕ) (s : Shape) :
   pub first : unit_from night s ≡ u
   pub units : (k : ℕ) → HasUnit night s k → slice_index_or covered.units k true ≡ false
   pub positions : (k : ℕ) → HasPosition night s k → slice_index_or covered.places k true ≡ false
+
+-- a shape of uncovered units and positions
+abbrev pub IsFree : Night → Masks → Shape → Type 0
+IsFree night covered s = IsFreeShape night covered (unit_from night s) s
+
+-- all free shapes
+pub record AreFreeShapes (night : Night) (covered : Masks) (shapes : List Shape) : Type 0 where
+  pub each : (s : Shape) → In s shapes → IsFree night covered s
+  pub all : (s : Shape) → IsFree night covered s → In s shapes
+
+-- neither is covered, and they are matchable
+pub record IsFreePair (night : Night) (covered : Masks) (u v : ℕ) : Type 0 where
+  pub unit : slice_index_or covered.units u true ≡ false
+  pub position : slice_index_or covered.places v true ≡ false
+  pub pair : IsPair night u v
 
 -- of shapes with one first unit: by the number of units, then by departing train, then by place there
 abbrev pub LaterBefore : Shape → Shape → Type 0

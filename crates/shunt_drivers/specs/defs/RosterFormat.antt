@@ -1,5 +1,5 @@
 -- The format of a roster over a plan's moves.
-use Rattle.std.specs.Prelude.{ℕ, ◌<◌, ◌≤◌, ◌^◌, ◌==◌, Bool, true, false, not, ◌&&◌, All, nat_lt, List, [], ◌∷◌, ◌++◌, length, map, find, Option, Some, None, if◌then◌else◌, codes, bytes_eq}
+use Rattle.std.specs.Prelude.{ℕ, ◌<◌, ◌≤◌, ◌^◌, ◌==◌, Bool, true, false, not, ◌&&◌, All, nat_lt, List, [], ◌∷◌, ◌++◌, length, map, find, Option, if◌then◌else◌, codes}
 use Rattle.std.specs.List.{list_any}
 use Rattle.shunt_lists.specs.defs.Members.{In, AreDistinct}
 use Rattle.shunt_base.specs.declared.ids.Side.TheVariants.{A}
@@ -7,7 +7,7 @@ use Rattle.shunt_base.specs.defs.Spelling.{decimal_of}
 use Rattle.shunt_rows.specs.declared.fault.RowKind.TheVariants as kinds
 use Rattle.shunt_rows.specs.defs.Records.{at}
 use Rattle.shunt_rows.specs.defs.Checks.{Judged, must, says, found, ◌>>=◌}
-use Rattle.shunt_rows.specs.defs.Fields.{is_word, no_word, fields_in, number_in}
+use Rattle.shunt_rows.specs.defs.Fields.{is_word, no_word, fields_in, number_in, enters_of}
 use Rattle.shunt_rows.specs.defs.Formats.{Format}
 use Rattle.shunt_plan.specs.defs.BlockRecords.{first_in}
 use Rattle.shunt_tracks.specs.declared.run.Event.{Event}
@@ -36,10 +36,6 @@ move_named name moves = find (λ e. is_one (name_of e) name) moves
 -- whether one of these is the duty of the move with a name
 abbrev pub has_duty : MoveName → List Duty → Bool
 has_duty name duties = list_any (λ d. is_one (named_by d) name) duties
-
--- whether a word says that a move enters
-unfoldable pub enters_of : List ℕ → Option Bool
-enters_of bytes = if bytes_eq bytes (codes "enter") then Some true else if bytes_eq bytes (codes "leave") then Some false else None
 
 -- fills a place where there is no move
 abbrev pub no_move : Event

@@ -1,8 +1,9 @@
 -- The records of a roster as they are written.
-use Rattle.std.specs.Prelude.{◌≡◌, ℕ, Bool, true, false, List, [], ◌∷◌, map, Ok, codes}
+use Rattle.std.specs.Prelude.{◌≡◌, ℕ, List, [], ◌∷◌, map, Ok, codes}
 use Rattle.std.specs.Fmt.{decimal}
 use Rattle.shunt_rows.specs.defs.Records.{records_of}
 use Rattle.shunt_rows.specs.defs.Formats.{reading}
+use Rattle.shunt_rows.specs.defs.Written.{move_word}
 use Rattle.shunt_tracks.specs.declared.run.Event.{Event}
 use Rattle.shunt_drivers.specs.declared.records.Duty.{Duty}
 use Rattle.shunt_drivers.specs.defs.RosterFormat.{roster_format}
@@ -10,11 +11,6 @@ use Rattle.shunt_drivers.specs.defs.RosterFormat.{roster_format}
 -- the version that is written
 abbrev pub written_version : ℕ
 written_version = 1
-
--- the word of an entry or a leave
-abbrev pub move_word : Bool → List ℕ
-move_word true = codes "enter"
-move_word false = codes "leave"
 
 -- `roster,1`
 abbrev pub head_row : List (List ℕ)

@@ -10,7 +10,7 @@ use Rattle.shunt_blocks.specs.defs.Blocks.{IsOption}
 use Rattle.shunt_blocks.specs.defs.Costs.{cost_with}
 use Rattle.shunt_blocks.specs.defs.Stays.{shape_length}
 use Rattle.shunt_choices.specs.defs.Paths.{Masks}
-use Rattle.shunt_choices.specs.defs.Choices.{IsFreeShape}
+use Rattle.shunt_choices.specs.defs.Choices.{IsFree, AreFreeShapes}
 use Rattle.shunt_prices.specs.defs.Sums.{sum_z_below}
 use Rattle.shunt_prices.specs.defs.Prices.{price_part_with}
 use Rattle.shunt_prices.specs.defs.Cases.{HasRoom}
@@ -78,10 +78,6 @@ pub record AreAsksOf (night : Night) (beta : List ℤ) (prices : List Price) (sh
   pub long : length asks ≡ length shapes
   pub each : (i : ℕ) (s : Shape) (a : Ask) → i < length shapes → IsAskOf night beta prices (slice_index_or shapes i s) (slice_index_or asks i a)
 
--- a shape of uncovered units and positions
-abbrev pub IsFree : Night → Masks → Shape → Type 0
-IsFree night covered s = IsFreeShape night covered (unit_from night s) s
-
 -- free shapes, and each one that begins below a unit
 pub record AreFreeBelow (night : Night) (covered : Masks) (u : ℕ) (shapes : List Shape) : Type 0 where
   pub each : (s : Shape) → In s shapes → IsFree night covered s
@@ -99,11 +95,6 @@ pub record IsDemand (night : Night) (d : Demand) : Type 0 where
 -- their shapes
 abbrev pub shapes_asked : List Demand → List Shape
 shapes_asked = map (λ d. d.shape)
-
--- all free shapes
-pub record AreFreeShapes (night : Night) (covered : Masks) (shapes : List Shape) : Type 0 where
-  pub each : (s : Shape) → In s shapes → IsFree night covered s
-  pub all : (s : Shape) → IsFree night covered s → In s shapes
 
 -- the same with their lengths and costs
 pub record AreDemands (night : Night) (covered : Masks) (demands : List Demand) : Type 0 where

@@ -6,8 +6,8 @@ use Rattle.shunt_blocks.specs.defs.Shapes.{shape_of, IsInRange}
 use Rattle.shunt_blocks.specs.defs.Blocks.{IsBlockButId}
 use Rattle.shunt_blocks.specs.defs.Lists.{RunsThrough, placed}
 use Rattle.shunt_choices.specs.defs.Paths.{IsTrailOf, masks_of}
+use Rattle.shunt_choices.specs.defs.Choices.{AreFreeShapes}
 use Rattle.shunt_prices.specs.defs.Cases.{IsFreeBlock}
-use Rattle.shunt_dual.specs.defs.Asks.{AreFreeShapes}
 use Rattle.shunt_stacks.specs.defs.Stacks.{stacks}
 use Rattle.shunt_gains.specs.defs.Events.{AreEvents}
 use Rattle.shunt_fillings.specs.declared.scenes.Scene.{Scene}

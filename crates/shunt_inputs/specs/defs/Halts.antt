@@ -1,7 +1,7 @@
 -- What a step of a run may answer in place of its value.
 use Rattle.std.specs.Prelude.{◌≡◌, ◌<◌, ◌≤◌, ℕ, List, length, Result, Ok, Err, Vec, None}
-use Rattle.shunt_report.specs.declared.words.FileWord.{FileWord}
-use Rattle.shunt_report.specs.defs.Texts.{input_of}
+use Rattle.shunt_rows.specs.declared.words.FileWord.{FileWord}
+use Rattle.shunt_rows.specs.defs.InputTexts.{input_of}
 use Rattle.shunt_inputs.specs.declared.file_loader.Halt.{Halt}
 use Rattle.shunt_inputs.specs.declared.file_loader.Halt.TheVariants as halt
 use Rattle.shunt_inputs.specs.defs.Inputs.{most_bytes_of}

@@ -17,9 +17,9 @@ use Rattle.shunt_plan.specs.defs.PinsFormat.{pins_format}
 use Rattle.shunt_plan.specs.defs.PlanFormat.{plan_format}
 use Rattle.shunt_proof.specs.declared.records.Certificate.{Certificate}
 use Rattle.shunt_proof.specs.defs.CertificateFormat.{certificate_format}
-use Rattle.shunt_report.specs.declared.words.FileWord.{FileWord}
-use Rattle.shunt_report.specs.declared.words.FileWord.TheVariants as word
-use Rattle.shunt_report.specs.defs.Texts.{input_of}
+use Rattle.shunt_rows.specs.declared.words.FileWord.{FileWord}
+use Rattle.shunt_rows.specs.declared.words.FileWord.TheVariants as word
+use Rattle.shunt_rows.specs.defs.InputTexts.{input_of}
 use Rattle.shunt_station.specs.defs.StatedStations.{station_format}
 use Rattle.shunt_timetable.specs.defs.TimetableFormat.{timetable_format}
 use Rattle.shunt_zones.specs.declared.records.Zones.{Zones as ThroatZones}

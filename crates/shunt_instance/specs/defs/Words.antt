@@ -19,9 +19,13 @@ abbrev pub is_open : Track → Side → Bool
 is_open t A = t.side_a
 is_open t B = t.side_b
 
--- whether the station has a track with this number that is open at a side
+-- whether there is a track with this number that is open at a side
+abbrev pub open_in : List Track → ℕ → Side → Bool
+open_in tracks k side = unwrap_or (option_map (λ t. is_open t side) (slice_get tracks k)) false
+
+-- the same of a station's tracks
 abbrev pub is_open_at : Station → TrackId → Side → Bool
-is_open_at s track side = unwrap_or (option_map (λ t. is_open t side) (slice_get s.tracks track.0)) false
+is_open_at s track side = open_in s.tracks track.0 side
 
 -- what a route joins
 abbrev pub way_of : Route → PlatformId × (TrackId × Side)
@@ -35,9 +39,13 @@ joins platform track side r = r.platform.0 == platform.0 && r.track.0 == track.0
 abbrev pub route_cost : Station → PlatformId → TrackId → Side → Option ℕ
 route_cost s platform track side = option_map (λ r. r.cost) (find (joins platform track side) s.routes)
 
+-- whether a permit names a track and a type
+abbrev pub is_permitted : Station → TrackId → TypeId → Bool
+is_permitted s track kind = list_any (λ p. p.track.0 == track.0 && p.kind.0 == kind.0) s.permits
+
 -- whether a track permits a type: no permit names the track, or one names both
 abbrev pub permits : Station → TrackId → TypeId → Bool
-permits s track kind = not (list_any (λ p. p.track.0 == track.0) s.permits) || list_any (λ p. p.track.0 == track.0 && p.kind.0 == kind.0) s.permits
+permits s track kind = not (list_any (λ p. p.track.0 == track.0) s.permits) || is_permitted s track kind
 
 -- the turn of a type in minutes
 abbrev pub turn_of : Station → TypeId → ℕ

@@ -15,9 +15,9 @@ use Rattle.shunt_report.specs.defs.PlanTexts.{lost_of}
 use Rattle.shunt_report.specs.defs.VerdictTexts.{verdict_of}
 use Rattle.shunt_inputs.specs.declared.answers.Outcome.TheVariants as outcome
 use Rattle.shunt_inputs.specs.defs.Inputs.{stated_certificate, stated_pinned, stated_plan, then_stated}
-use Rattle.shunt_inputs.specs.defs.Pins.{IsUnusable}
 use Rattle.shunt_inputs.specs.defs.Replies.{Reply, says}
 use Rattle.shunt_judging.specs.defs.Checked.{check_outcome}
+use Rattle.shunt_judging.specs.defs.Pins.{IsUnusable}
 
 -- a night, pins in it, a plan, and a certificate that is to be checked with the plan and the pins
 pub record PinChecked : Type 0 where

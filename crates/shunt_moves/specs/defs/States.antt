@@ -4,7 +4,7 @@ use Rattle.std.specs.List.{AllByRecursion}
 use Rattle.shunt_instance.specs.defs.Instance.{Night}
 use Rattle.shunt_blocks.specs.declared.records.Block.{Block}
 use Rattle.shunt_blocks.specs.defs.Shapes.{IsInRange}
-use Rattle.shunt_timeline.specs.defs.Kept.{Ascends}
+use Rattle.shunt_lists.specs.defs.Members.{Ascends}
 
 -- blocks by ascending id, and the id that the next new block gets
 pub record State : Type 0 where

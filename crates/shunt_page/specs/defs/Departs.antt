@@ -9,11 +9,12 @@ use Rattle.shunt_blocks.specs.defs.Lists.{has_position}
 use Rattle.shunt_page.specs.declared.records.Filling.{Filling}
 use Rattle.shunt_page.specs.declared.records.Seat.{Seat}
 use Rattle.shunt_page.specs.declared.records.DepartRow.{DepartRow}
-use Rattle.shunt_page.specs.defs.Told.{unit_told, train_told, parked_on}
+use Rattle.shunt_page.specs.defs.Told.{unit_told, train_told}
+use Rattle.shunt_picture.specs.defs.Told.{track_name}
 
 -- the unit of a block at a place of it, from 0
 abbrev pub filling_of : Night → Block → ℕ → Filling
-filling_of night b place = record { unit = unit_told night (unit_from night (shape_of b) + place); id = b.id; track = parked_on night b.park }
+filling_of night b place = record { unit = unit_told night (unit_from night (shape_of b) + place); id = b.id; track = track_name night b.park }
 
 -- the one at the position with a number, where the block has it
 abbrev pub filling_at : Night → ℕ → Block → List Filling

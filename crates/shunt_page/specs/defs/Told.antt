@@ -1,15 +1,15 @@
 -- What is told of units, trains and tracks.
-use Rattle.std.specs.Prelude.{ℕ, ◌+◌, List, [], ◌∷◌, map, is_some, slice_index_or, Option, option_map, if◌then◌else◌}
+use Rattle.std.specs.Prelude.{ℕ, ◌+◌, List, [], ◌∷◌, map, is_some, slice_index_or, if◌then◌else◌}
 use Rattle.std.specs.List.{range_with_len, flat_map}
 use Rattle.shunt_instance.specs.declared.records.Station.{Station}
 use Rattle.shunt_instance.specs.declared.records.Train.{Train}
-use Rattle.shunt_instance.specs.defs.Words.{train_at, track_names, is_standing}
+use Rattle.shunt_instance.specs.defs.Words.{train_at, is_standing}
 use Rattle.shunt_instance.specs.defs.Instance.{Night, unit_at}
 use Rattle.shunt_blocks.specs.declared.records.Block.{Block}
-use Rattle.shunt_blocks.specs.declared.records.Park.{Park}
 use Rattle.shunt_blocks.specs.defs.Shapes.{shape_of, unit_from}
 use Rattle.shunt_blocks.specs.defs.Stays.{stay_of}
 use Rattle.shunt_picture.specs.defs.Marks.{origin_name}
+use Rattle.shunt_picture.specs.defs.Told.{track_name}
 use Rattle.shunt_page.specs.declared.records.UnitTold.{UnitTold}
 use Rattle.shunt_page.specs.declared.records.TrainTold.{TrainTold}
 use Rattle.shunt_page.specs.declared.records.LooseRow.{LooseRow}
@@ -40,13 +40,9 @@ arrive_told night b = train_told night.station (train_at night.arrive b.arr.0)
 abbrev pub depart_told : Night → Block → TrainTold
 depart_told night b = train_told night.station (train_at night.depart b.dep.0)
 
--- the name of the track on which a block is parked
-abbrev pub parked_on : Night → Option Park → Option (List ℕ)
-parked_on night park = option_map (λ k. slice_index_or (track_names night.station) k.track.0 []) park
-
 -- a block that has no stay
 abbrev pub loose_of : Night → Block → LooseRow
-loose_of night b = record { id = b.id; units = units_told night b; arr = arrive_told night b; dep = depart_told night b; track = parked_on night b.park }
+loose_of night b = record { id = b.id; units = units_told night b; arr = arrive_told night b; dep = depart_told night b; track = track_name night b.park }
 
 -- a block, where it has none
 abbrev pub loose_at : Night → Block → List LooseRow

@@ -24,16 +24,6 @@ first_in word s row = do
   _ ← number_in row 2 1 1
   says s
 
--- the numbers of the arriving train, the departing train and the track with a name
-unfoldable pub arr_number : Night → List ℕ → Option ArrId
-arr_number night name = arr_of_name night name
-
-unfoldable pub dep_number : Night → List ℕ → Option DepId
-dep_number night name = dep_of_name night name
-
-unfoldable pub track_number : Station → List ℕ → Option TrackId
-track_number s name = track_of_name s name
-
 -- how many units an arriving train has, and how many a departing one
 unfoldable pub arr_units : Night → ArrId → ℕ
 arr_units night a = length (train_at night.arrive a.0).units
@@ -43,13 +33,13 @@ dep_units night d = length (train_at night.depart d.0).units
 
 -- the field is an arriving train, a departing train, a track
 abbrev pub arr_in : Night → List (List ℕ) → ℕ → Judged ArrId
-arr_in night row k = found (record { 0 = 0 }) (arr_number night (at row k)) k kinds.Unknown
+arr_in night row k = found (record { 0 = 0 }) (arr_of_name night (at row k)) k kinds.Unknown
 
 abbrev pub dep_in : Night → List (List ℕ) → ℕ → Judged DepId
-dep_in night row k = found (record { 0 = 0 }) (dep_number night (at row k)) k kinds.Unknown
+dep_in night row k = found (record { 0 = 0 }) (dep_of_name night (at row k)) k kinds.Unknown
 
 abbrev pub track_in : Station → List (List ℕ) → ℕ → Judged TrackId
-track_in s row k = found (record { 0 = 0 }) (track_number s (at row k)) k kinds.Unknown
+track_in s row k = found (record { 0 = 0 }) (track_of_name s (at row k)) k kinds.Unknown
 
 -- `unparked` at this field
 unfoldable pub unparked_in : List (List ℕ) → ℕ → Judged (Option Park)

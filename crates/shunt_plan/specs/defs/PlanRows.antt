@@ -46,9 +46,13 @@ block_row night b = codes "block" ∷ decimal b.id ∷ arr_name night b.arr ∷ 
 abbrev pub cost_row : ℕ → List (List ℕ)
 cost_row stated = codes "cost" ∷ decimal stated ∷ []
 
--- the records of a plan: its blocks in their order, and its stated cost
+-- the records behind the first one: the blocks in their order, and the stated cost
+abbrev pub rest_rows : Night → Plan → List (List (List ℕ))
+rest_rows night plan = map (block_row night) plan.blocks ++ cost_row plan.cost ∷ []
+
+-- the records of a plan
 abbrev pub rows_of : Night → Plan → List (List (List ℕ))
-rows_of night plan = head_row ∷ (map (block_row night) plan.blocks ++ cost_row plan.cost ∷ [])
+rows_of night plan = head_row ∷ rest_rows night plan
 
 -- the records of a text are those of the plan, and state it
 pub record ReadsAsPlan (night : Night) (plan : Plan) (text : List ℕ) : Type 0 where

@@ -1,5 +1,5 @@
 -- The sum of a case at a path, and the bound of the path.
-use Rattle.std.specs.Prelude.{◌≡◌, ℕ, ◌+◌, ◌<◌, ◌==◌, nat_le, Bool, true, ◌||◌, ℤ, pos, ◌+ℤ◌, ◌-ℤ◌, ◌*ℤ◌, ◌≤ℤ◌, ◌<ℤ◌, if◌then◌else◌, is_none, count_by, length, slice_index_or, List}
+use Rattle.std.specs.Prelude.{◌≡◌, ◌⊎◌, ℕ, ◌+◌, ◌<◌, ◌==◌, nat_le, Bool, true, ◌||◌, ℤ, pos, ◌+ℤ◌, ◌-ℤ◌, ◌*ℤ◌, ◌≤ℤ◌, ◌<ℤ◌, if◌then◌else◌, is_none, count_by, length, slice_index_or, List}
 use Rattle.std.specs.Int.{int_max}
 use Rattle.shunt_base.specs.declared.duals.Duals.{Duals}
 use Rattle.shunt_base.specs.declared.duals.Case.{Case}
@@ -61,6 +61,13 @@ pub record IsCasesBound (night : Night) (path : List Block) (cases : List Case) 
   pub opens : IsOpenAt cases path number
   pub is : IsBoundOf (case_sum night path cases number) bound
   pub least : (k : ℕ) (other : ℤ) → IsOpenAt cases path k → IsBoundOf (case_sum night path cases k) other → bound ≤ℤ other
+
+-- the bound of an open case, and at most that of the last case and of each open one before a number
+pub record IsLeastBelow (night : Night) (path : List Block) (cases : List Case) (k : ℕ) (bound : ℤ) : Type 0 where
+  pub number : ℕ
+  pub opens : IsOpenAt cases path number
+  pub is : IsBoundOf (case_sum night path cases number) bound
+  pub least : (j : ℕ) (other : ℤ) → (j < k) ⊎ (j + 1 ≡ length cases) → IsOpenAt cases path j → IsBoundOf (case_sum night path cases j) other → bound ≤ℤ other
 
 -- the bound of a path by plain duals
 abbrev pub IsDualsBound : Night → List Block → Duals → ℤ → Type 0

@@ -1,5 +1,5 @@
 -- Free shapes, what they are worth, and what they offer to a stack.
-use Rattle.std.specs.Prelude.{◌≡◌, ◌⊎◌, ℕ, ◌≤◌, pos, ◌<ℤ◌, true, false, filter, map, slice_index_or, List, Option, Some, None}
+use Rattle.std.specs.Prelude.{◌≡◌, ◌⊎◌, ℕ, ◌≤◌, pos, ◌<ℤ◌, true, false, filter, map, List, Option, Some, None}
 use Rattle.shunt_lists.specs.defs.Members.{In}
 use Rattle.shunt_base.specs.declared.duals.Case.{Case}
 use Rattle.shunt_instance.specs.declared.records.Station.{Station}
@@ -8,11 +8,11 @@ use Rattle.shunt_instance.specs.defs.Words.{is_open_at}
 use Rattle.shunt_instance.specs.defs.Instance.{Night}
 use Rattle.shunt_blocks.specs.declared.records.Shape.{Shape}
 use Rattle.shunt_blocks.specs.declared.records.Block.{Block}
-use Rattle.shunt_blocks.specs.defs.Shapes.{AreRunsWithin, IsPair, unit_from}
+use Rattle.shunt_blocks.specs.defs.Shapes.{AreRunsWithin, unit_from}
 use Rattle.shunt_blocks.specs.defs.Stays.{shape_length}
 use Rattle.shunt_blocks.specs.defs.Blocks.{IsOption}
 use Rattle.shunt_choices.specs.defs.Paths.{Masks}
-use Rattle.shunt_choices.specs.defs.Choices.{IsFreeShape}
+use Rattle.shunt_choices.specs.defs.Choices.{IsFree}
 use Rattle.shunt_prices.specs.defs.Sums.{IsWithin}
 use Rattle.shunt_prices.specs.defs.Cases.{HasRoom, duals_over}
 use Rattle.shunt_stacks.specs.defs.Stacks.{Stack, both_sides, sides_below}
@@ -41,16 +41,6 @@ open_below s t = filter (λ k. is_open_at s k.track k.side) (sides_below t)
 abbrev pub block_on : Stack → Shape → Block
 block_on stack s = record { id = 1; arr = s.arr; p = s.p; n = s.n; dep = s.dep; q = s.q; park = Some (record { track = stack.track; side_in = stack.side; side_out = stack.side }) }
 
--- neither is covered, and they are matchable
-pub record IsFreePair (night : Night) (covered : Masks) (u v : ℕ) : Type 0 where
-  pub unit : slice_index_or covered.units u true ≡ false
-  pub position : slice_index_or covered.places v true ≡ false
-  pub pair : IsPair night u v
-
--- a shape of uncovered units and positions
-abbrev pub IsFree : Night → Masks → Shape → Type 0
-IsFree night covered s = IsFreeShape night covered (unit_from night s) s
-
 -- a shape begins at the unit with a number
 abbrev pub BeginsAt : Night → ℕ → Shape → Type 0
 BeginsAt night u s = unit_from night s ≡ u
@@ -72,11 +62,6 @@ pub record GoesOn (night : Night) (covered : Masks) (Holds : Shape → Type 0) (
   pub kept : (s : Shape) → In s old → In s new
   pub each : (s : Shape) → In s new → In s old ⊎ IsFree night covered s
   pub all : (s : Shape) → IsFree night covered s → Holds s → In s new
-
--- all free shapes
-pub record AreFreeShapes (night : Night) (covered : Masks) (shapes : List Shape) : Type 0 where
-  pub each : (s : Shape) → In s shapes → IsFree night covered s
-  pub all : (s : Shape) → IsFree night covered s → In s shapes
 
 -- a shape with its length and its worth in a case
 pub record IsCandidate (night : Night) (c : Case) (k : Candidate) : Type 0 where

@@ -5,7 +5,7 @@ use Rattle.serde_json.specs.View.{items_of}
 use Rattle.serde_json.specs.Written.{compact_text}
 use Rattle.shunt_base.specs.defs.Spelling.{minute_text}
 use Rattle.shunt_stays.specs.defs.Run.{run_of}
-use Rattle.shunt_rows.specs.defs.Written.{side_text}
+use Rattle.shunt_rows.specs.defs.Written.{side_text, move_word}
 use Rattle.shunt_instance.specs.defs.Instance.{Night}
 use Rattle.shunt_blocks.specs.declared.records.Block.{Block}
 use Rattle.shunt_blocks.specs.defs.Ways.{way_in, way_out}
@@ -15,7 +15,6 @@ use Rattle.shunt_tracks.specs.declared.run.Ran.{Ran}
 use Rattle.shunt_tracks.specs.declared.run.Ran.TheVariants as ran
 use Rattle.shunt_tracks.specs.defs.Answer.{answer}
 use Rattle.shunt_plan.specs.defs.PlanRows.{track_name}
-use Rattle.shunt_drivers.specs.defs.RosterRows.{move_word}
 use Rattle.shunt_report.specs.defs.PlanTexts.{unparked_in, splits_in, couples_in}
 
 -- what the ways in and out of a block cost, of which an absent one counts 0

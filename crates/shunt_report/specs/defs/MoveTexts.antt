@@ -1,6 +1,6 @@
 -- The words for entries and leaves.
 use Rattle.std.specs.Prelude.{ℕ, Bool, List, ◌++◌, codes, decimal}
-use Rattle.shunt_drivers.specs.defs.RosterRows.{move_word}
+use Rattle.shunt_rows.specs.defs.Written.{move_word}
 
 -- `MOVE ID`: whether it enters or leaves, and its block
 abbrev pub move_words : Bool → ℕ → List ℕ

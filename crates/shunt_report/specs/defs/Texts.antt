@@ -1,5 +1,5 @@
 -- The printed texts, line by line.
-use Rattle.std.specs.Prelude.{◌≡◌, ℕ, zero, suc, ◌<◌, List, [], ◌++◌, length, map, slice_index_or, codes, decimal, Option, Some, None}
+use Rattle.std.specs.Prelude.{◌≡◌, ℕ, zero, suc, ◌<◌, List, [], ◌++◌, length, map, slice_index_or, codes, decimal}
 use Rattle.shunt_base.specs.declared.ids.TypeId.{TypeId}
 use Rattle.shunt_base.specs.defs.Spelling.{minute_text}
 use Rattle.shunt_instance.specs.declared.records.Train.{Train}
@@ -10,10 +10,6 @@ use Rattle.shunt_instance.specs.defs.Instance.{Night, unit_total, position_total
 use Rattle.shunt_instance.specs.defs.Matching.{place_of}
 use Rattle.shunt_matching.specs.declared.types.Shortage.{Shortage}
 use Rattle.shunt_matching.specs.declared.types.Shortage.TheVariants.{Balance, ByMinute}
-use Rattle.shunt_rows.specs.declared.fault.RowFault.{RowFault}
-use Rattle.shunt_rows.specs.defs.Faults.{kind_number}
-use Rattle.shunt_report.specs.declared.words.FileWord.{FileWord}
-use Rattle.shunt_report.specs.declared.words.FileWord.TheVariants as word
 
 -- the list has a position of the night for each unit
 pub record ArePlaces (night : Night) (place : List ℕ) : Type 0 where
@@ -47,23 +43,3 @@ shortage_of night (Balance kind arrive depart) = codes "no matching type " ++ ty
     ++ codes "\n"
 shortage_of night (ByMinute kind minute need have) = codes "no matching type " ++ type_name night kind ++ codes " by " ++ minute_text minute ++ codes " need " ++ decimal need
     ++ codes " have " ++ decimal have ++ codes "\n"
-
--- the word for a file
-abbrev pub file_word : FileWord → List ℕ
-file_word word.Station = codes "station"
-file_word word.Timetable = codes "timetable"
-file_word word.Plan = codes "plan"
-file_word word.Other = codes "other"
-file_word word.Edits = codes "edits"
-file_word word.Certificate = codes "certificate"
-file_word word.Pins = codes "pins"
-file_word word.Zones = codes "zones"
-file_word word.Crew = codes "crew"
-file_word word.Roster = codes "roster"
-file_word word.Sheet = codes "sheet"
-
--- `input FILE record R field F kind K` at a first fault, or `input FILE too long`
-unfoldable pub input_of : FileWord → Option RowFault → List ℕ
-input_of file None = codes "input " ++ file_word file ++ codes " too long\n"
-input_of file (Some fault) = codes "input " ++ file_word file ++ codes " record " ++ decimal fault.row ++ codes " field " ++ decimal fault.field ++ codes " kind "
-    ++ decimal (kind_number fault.kind) ++ codes "\n"

@@ -1,5 +1,5 @@
 -- What a field may be.
-use Rattle.std.specs.Prelude.{ℕ, Bool, false, ◌&&◌, nat_le, List, [], ◌∷◌, length, Option, Some, None, position, if◌then◌else◌, codes}
+use Rattle.std.specs.Prelude.{ℕ, Bool, true, false, ◌&&◌, nat_le, List, [], ◌∷◌, length, Option, Some, None, position, if◌then◌else◌, codes}
 use Rattle.std.specs.Str.{bytes_eq}
 use Rattle.shunt_base.specs.declared.ids.Side.{Side}
 use Rattle.shunt_base.specs.declared.ids.Side.TheVariants as sides
@@ -38,6 +38,10 @@ minute_in row k = found 0 (minute_of (at row k)) k kinds.Time
 -- the side that a text names
 unfoldable pub side_of : List ℕ → Option Side
 side_of bytes = if bytes_eq bytes (codes "A") then Some sides.A else if bytes_eq bytes (codes "B") then Some sides.B else None
+
+-- whether a word says that something enters
+unfoldable pub enters_of : List ℕ → Option Bool
+enters_of bytes = if bytes_eq bytes (codes "enter") then Some true else if bytes_eq bytes (codes "leave") then Some false else None
 
 -- the field is a side
 abbrev pub side_in : List (List ℕ) → ℕ → Judged Side

@@ -1,12 +1,12 @@
 -- The format of a sheet over a station.
-use Rattle.std.specs.Prelude.{◌≡◌, ◌≢◌, ℕ, ◌-◌, ◌<◌, ◌≤◌, ◌==◌, Bool, true, false, not, ◌&&◌, ◌||◌, nat_lt, nat_le, List, [], ◌∷◌, ◌++◌, length, map, slice_index, Option, Some, None, is_some, if◌then◌else◌, codes, bytes_eq}
+use Rattle.std.specs.Prelude.{◌≡◌, ◌≢◌, ℕ, ◌-◌, ◌<◌, ◌≤◌, ◌==◌, Bool, true, false, not, ◌&&◌, ◌||◌, nat_lt, nat_le, List, [], ◌∷◌, ◌++◌, length, map, slice_index, Option, Some, None, is_some, if◌then◌else◌, codes}
 use Rattle.std.specs.List.{list_any}
 use Rattle.shunt_lists.specs.defs.Members.{In}
 use Rattle.shunt_base.specs.defs.Spelling.{decimal_of}
 use Rattle.shunt_rows.specs.declared.fault.RowKind.TheVariants as kinds
 use Rattle.shunt_rows.specs.defs.Records.{at}
 use Rattle.shunt_rows.specs.defs.Checks.{Judged, must, says, found, ◌>>=◌}
-use Rattle.shunt_rows.specs.defs.Fields.{is_word, is_within, no_word, fields_in, number_in, minute_in, named_in, side_in}
+use Rattle.shunt_rows.specs.defs.Fields.{is_word, is_within, no_word, fields_in, number_in, minute_in, named_in, side_in, enters_of}
 use Rattle.shunt_rows.specs.defs.Formats.{Format}
 use Rattle.shunt_instance.specs.declared.records.Station.{Station}
 use Rattle.shunt_plan.specs.defs.BlockRecords.{first_in}
@@ -52,10 +52,6 @@ keeps_track orders m track = m.enters || keeps (λ e. e.track.0 == track) (entry
 -- the minute of the last of these orders, or 0
 unfoldable pub last_minute : List Order → ℕ
 last_minute orders = slice_index (map (λ o. o.minute) orders) (length orders - 1)
-
--- whether a word says that a block enters
-unfoldable pub enters_of : List ℕ → Option Bool
-enters_of bytes = if bytes_eq bytes (codes "enter") then Some true else if bytes_eq bytes (codes "leave") then Some false else None
 
 -- `MINUTE` at field 2, behind these orders; the 801st order is Limit at field 1
 unfoldable pub start_in : List Order → List (List ℕ) → Judged ℕ

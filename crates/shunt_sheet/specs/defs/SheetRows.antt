@@ -1,9 +1,9 @@
 -- The records of a sheet as they are written.
-use Rattle.std.specs.Prelude.{◌≡◌, ℕ, Bool, true, false, List, [], ◌∷◌, map, Ok, codes}
+use Rattle.std.specs.Prelude.{◌≡◌, ℕ, List, [], ◌∷◌, map, Ok, codes}
 use Rattle.std.specs.Fmt.{decimal}
 use Rattle.shunt_base.specs.defs.Spelling.{minute_text}
 use Rattle.shunt_rows.specs.defs.Records.{records_of}
-use Rattle.shunt_rows.specs.defs.Written.{side_text}
+use Rattle.shunt_rows.specs.defs.Written.{side_text, move_word}
 use Rattle.shunt_rows.specs.defs.Formats.{reading}
 use Rattle.shunt_instance.specs.declared.records.Station.{Station}
 use Rattle.shunt_plan.specs.defs.PlanRows.{track_name}
@@ -13,11 +13,6 @@ use Rattle.shunt_sheet.specs.defs.SheetFormat.{sheet_format}
 -- the version that is written
 abbrev pub written_version : ℕ
 written_version = 1
-
--- the word of an entry or a leave
-abbrev pub move_word : Bool → List ℕ
-move_word true = codes "enter"
-move_word false = codes "leave"
 
 -- `sheet,1`
 abbrev pub head_row : List (List ℕ)

@@ -1,7 +1,7 @@
 -- The blocks that stand on a track, and what an order does there.
-use Rattle.std.specs.Prelude.{◌≡◌, ◌≤◌, ◌<◌, ℕ, List, map, Ok, Err, slice_index, slice_index_or, length}
+use Rattle.std.specs.Prelude.{◌≡◌, ℕ, List, map, Ok, Err}
 use Rattle.shunt_stays.specs.defs.Events.{Move}
-use Rattle.shunt_stays.specs.defs.Run.{Standing, moved, load}
+use Rattle.shunt_stays.specs.defs.Run.{Standing, moved}
 use Rattle.shunt_stays.specs.defs.Run.Stop.{Blocked, Over}
 use Rattle.shunt_sheet.specs.declared.tracks.Parked.{Parked}
 use Rattle.shunt_sheet.specs.declared.tracks.Did.{Did}
@@ -20,7 +20,3 @@ abbrev pub Does : Did → Move → ℕ → List Standing → List Standing → T
 Does did.Moved m room old new = moved room m old ≡ Ok new
 Does did.Blocked m room old new = moved room m old ≡ Err (Blocked m)
 Does (did.Over n) m room old new = moved room m old ≡ Err (Over m n)
-
--- what stands on each track fits it
-abbrev pub Fit : {X : Type 0} → (X → List Standing) → List ℕ → List X → Type 0
-Fit {X} view lengths tracks = (k : ℕ) (d : X) → k < length tracks → load (view (slice_index_or tracks k d)) ≤ slice_index lengths k

@@ -87,9 +87,13 @@ greatest_of (o ∷ os) = greater o (greatest_of os)
 abbrev pub coming_at : ℕ → List Span → List Span
 coming_at x spans = filter (λ s. s.from == x) spans
 
--- the gain of a span with the greatest inside it and behind it, where it is gone before y and is no longer than the room
+-- the gain of a span with the greatest inside it and behind it
+abbrev pub sum_with : (ℕ → ℕ → ℕ → Option ℤ) → ℕ → ℕ → Span → Option ℤ
+sum_with rest y room s = plus (Some s.gain) (plus (rest s.inside s.until (room - s.length)) (rest s.past y room))
+
+-- the same, where it is gone before y and is no longer than the room
 abbrev pub best_with : (ℕ → ℕ → ℕ → Option ℤ) → ℕ → ℕ → Span → Option ℤ
-best_with rest y room s = if nat_le s.past y && nat_le s.length room then plus (Some s.gain) (plus (rest s.inside s.until (room - s.length)) (rest s.past y room)) else None
+best_with rest y room s = if nat_le s.past y && nat_le s.length room then sum_with rest y room s else None
 
 -- the greatest gain at an event: with the fixed span that comes there, and where none does, with a free one or with none
 abbrev pub best_at : List Span → List Span → Option ℤ → (Span → Option ℤ) → Option ℤ

@@ -14,7 +14,7 @@ use Rattle.shunt_rows.specs.defs.Formats.{Format}
 use Rattle.shunt_instance.specs.declared.records.Track.{Track}
 use Rattle.shunt_instance.specs.declared.records.UnitType.{UnitType}
 use Rattle.shunt_instance.specs.declared.records.Station.{Station}
-use Rattle.shunt_instance.specs.defs.Words.{is_open_at, joins, track_of_name}
+use Rattle.shunt_instance.specs.defs.Words.{is_open_at, joins, track_of_name, is_permitted}
 
 -- What the records so far state: the file's version, the station, and whether its cost record was read.
 pub record StationDraft : Type 0 where
@@ -60,10 +60,6 @@ pub record OpenSides : Type 0 where
   pub side_a : Bool
   pub side_b : Bool
 
--- the number of the track with a name
-unfoldable pub track_number : Station → List ℕ → Option TrackId
-track_number s name = track_of_name s name
-
 -- the sides that `A`, `B` and `AB` name
 unfoldable pub open_sides_of : List ℕ → Option OpenSides
 open_sides_of text =
@@ -103,10 +99,6 @@ track_of d row = do
   sides ← found (record { side_a = true; side_b = true }) (open_sides_of (at row 4)) 4 kinds.Kind
   says record d { station = record d.station { tracks = d.station.tracks ++ record { name = at row 2; length = size; side_a = sides.side_a; side_b = sides.side_b } ∷ [] } }
 
--- whether the track with a number is open at a side
-unfoldable pub opens : Station → TrackId → Side → Bool
-opens s track side = is_open_at s track side
-
 -- whether a route joins these three already
 unfoldable pub stands : Station → PlatformId → TrackId → Side → Bool
 stands s platform track side = list_any (joins platform track side) s.routes
@@ -116,22 +108,18 @@ unfoldable pub route_of : StationDraft → List (List ℕ) → Judged StationDra
 route_of d row = do
   _ ← fields_in row 5 5
   platform ← found (record { 0 = 0 }) (platform_of_name d.station (at row 2)) 2 kinds.Unknown
-  track ← found (record { 0 = 0 }) (track_number d.station (at row 3)) 3 kinds.Unknown
+  track ← found (record { 0 = 0 }) (track_of_name d.station (at row 3)) 3 kinds.Unknown
   side ← side_in row 4
   _ ← must (not (stands d.station platform track side)) 4 kinds.Repeat
-  _ ← must (opens d.station track side) 4 kinds.ClosedSide
+  _ ← must (is_open_at d.station track side) 4 kinds.ClosedSide
   price ← number_in row 5 0 1000000
   says record d { station = record d.station { routes = d.station.routes ++ record { platform = platform; track = track; side = side; cost = price } ∷ [] } }
-
--- whether a permit names both already
-unfoldable pub is_permitted : Station → TrackId → TypeId → Bool
-is_permitted s track kind = list_any (λ p. p.track.0 == track.0 && p.kind.0 == kind.0) s.permits
 
 -- `permit,TRACK,TYPE`; both together once
 unfoldable pub permit_of : StationDraft → List (List ℕ) → Judged StationDraft
 permit_of d row = do
   _ ← fields_in row 3 3
-  track ← found (record { 0 = 0 }) (track_number d.station (at row 2)) 2 kinds.Unknown
+  track ← found (record { 0 = 0 }) (track_of_name d.station (at row 2)) 2 kinds.Unknown
   kind ← found (record { 0 = 0 }) (type_of_name d.station (at row 3)) 3 kinds.Unknown
   _ ← must (not (is_permitted d.station track kind)) 3 kinds.Repeat
   says record d { station = record d.station { permits = d.station.permits ++ record { track = track; kind = kind } ∷ [] } }

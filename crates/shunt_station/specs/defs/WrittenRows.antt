@@ -64,10 +64,14 @@ permit_row s p = codes "permit" ∷ track_name s.tracks p.track ∷ type_name s.
 abbrev pub cost_row : Station → List (List ℕ)
 cost_row s = codes "cost" ∷ decimal s.split ∷ decimal s.couple ∷ decimal s.unparked ∷ []
 
--- the records of a station: its name, types, platforms, tracks, routes and permits, each list in its own order, and the costs
+-- the records behind the name: the types, platforms, tracks, routes and permits, each list in its own order, and the costs
+abbrev pub rest_rows : Station → List (List (List ℕ))
+rest_rows s = map type_row s.types ++ (map platform_row s.platforms ++ (map track_row s.tracks
+    ++ (map (route_row s) s.routes ++ (map (permit_row s) s.permits ++ cost_row s ∷ []))))
+
+-- the records of a station: its name, and those behind it
 abbrev pub rows_of : Station → List (List (List ℕ))
-rows_of s = head_row s ∷ (map type_row s.types ++ (map platform_row s.platforms ++
-    (map track_row s.tracks ++ (map (route_row s) s.routes ++ (map (permit_row s) s.permits ++ cost_row s ∷ [])))))
+rows_of s = head_row s ∷ rest_rows s
 
 -- the records of a text are those of the station, and state it
 pub record ReadsAsStation (s : Station) (text : List ℕ) : Type 0 where

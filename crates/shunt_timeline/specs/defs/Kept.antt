@@ -1,18 +1,12 @@
 -- What is kept at the events of a track, each number as a fresh count of all stays.
-use Rattle.std.specs.Prelude.{◌≡◌, ℕ, ◌<◌, ◌==◌, true, false, sum_by, count_by, List, [], ◌∷◌, if◌then◌else◌}
-use Rattle.std.specs.List.{AllByRecursion}
-use Rattle.shunt_lists.specs.defs.Members.{In}
+use Rattle.std.specs.Prelude.{◌≡◌, ℕ, ◌==◌, true, false, sum_by, count_by, List, if◌then◌else◌}
+use Rattle.shunt_lists.specs.defs.Members.{In, Ascends}
 use Rattle.shunt_base.specs.declared.keys.Stay.{Stay}
 use Rattle.shunt_stays.specs.defs.Crossings.{crosses, stands_at, load_at}
 use Rattle.shunt_base.specs.declared.keys.EventKey.{EventKey}
 use Rattle.shunt_timeline.specs.declared.events.StayEvent.{StayEvent}
 use Rattle.shunt_timeline.specs.declared.events.TrackLoad.{TrackLoad}
 use Rattle.shunt_timeline.specs.defs.Levels.{key_of, at}
-
--- each is below all that follow
-abbrev pub Ascends : {X : Type 0} → (X → ℕ) → List X → Type 0
-Ascends f [] = Unit {0}
-Ascends f (x ∷ xs) = AllByRecursion (λ y. f x < f y) xs × Ascends f xs
 
 -- an event is of one of these stays on track t; it knows how many stays cross it by coming before it, and what stands just after it
 pub record IsKeptAt (stays : List Stay) (t : ℕ) (e : StayEvent) : Type 0 where

@@ -5,7 +5,8 @@ use Rattle.shunt_base.specs.defs.Keys.{AreStays}
 use Rattle.shunt_stays.specs.defs.Run.{AreOnTracks}
 use Rattle.shunt_stays.specs.defs.Crossings.{pairs_in, overs_in}
 use Rattle.shunt_timeline.specs.declared.track.TrackTimeline.{TrackTimeline}
-use Rattle.shunt_timeline.specs.defs.Kept.{Ascends, IsKeptTrack}
+use Rattle.shunt_timeline.specs.defs.Kept.{IsKeptTrack}
+use Rattle.shunt_lists.specs.defs.Members.{Ascends}
 
 abbrev pub lengths_of : List TrackTimeline → List ℕ
 lengths_of tracks = map (λ t. t.length) tracks

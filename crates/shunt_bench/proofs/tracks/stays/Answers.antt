@@ -3,8 +3,8 @@ use Rattle.std.specs.List.{All}
 use Rattle.std.proofs.lemmas.List.Elements.{All-push}
 use Rattle.shunt_base.specs.declared.keys.Stay.{Stay}
 use Rattle.shunt_base.specs.defs.Keys.{AreStays}
-use Rattle.shunt_bench.proofs.Numbers.{AreBelow, stays_more, below_more}
 use Rattle.shunt_bench.proofs.tracks.stays.Goals as goal
+use Rattle.shunt_stays.proofs.NumberedStays.{AreBelow, stays_more, below_more}
 
 pub loop-number-preserved : goal.loop-number-preserved
 loop-number-preserved c =

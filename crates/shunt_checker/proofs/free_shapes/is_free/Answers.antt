@@ -1,7 +1,7 @@
 use Rattle.std.proofs.Common.{ℕ, subst, refl, arith}
 use Rattle.shunt_blocks.specs.defs.Shapes.{position_from}
-use Rattle.shunt_checker.proofs.FreeShapes.{FreePairs, free_from}
 use Rattle.shunt_checker.proofs.free_shapes.is_free.Goals as goal
+use Rattle.shunt_choices.proofs.Pairwise.{FreePairs, free_from}
 
 pub returns : goal.returns
 returns c = (

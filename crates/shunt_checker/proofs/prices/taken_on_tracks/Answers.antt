@@ -1,9 +1,8 @@
 use Rattle.std.proofs.Common.{◌≤◌, length, arith, ◌∙◌, subst}
 use Rattle.std.proofs.lemmas.List.{length-set}
 use Rattle.shunt_instance.specs.declared.records.Station.{Station}
-use Rattle.shunt_checker.proofs.Taken.{no_price}
 use Rattle.shunt_checker.proofs.prices.taken_on_tracks.Goals as goal
-use Rattle.shunt_prices.proofs.Counts.{small_more, taken_more}
+use Rattle.shunt_prices.proofs.Counts.{small_more, taken_more, no_price}
 
 pub loop-price-preserved : goal.loop-price-preserved
 loop-price-preserved c =

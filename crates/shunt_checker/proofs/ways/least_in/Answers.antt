@@ -1,6 +1,6 @@
 use Rattle.shunt_instance.specs.defs.Words.{train_at}
 use Rattle.shunt_blocks.specs.defs.Ways.{way_from}
-use Rattle.shunt_checker.proofs.Dear.{under_both}
+use Rattle.shunt_blocks.proofs.UnderWays.{under_both}
 use Rattle.shunt_checker.proofs.ways.least_in.Goals as goal
 
 pub returns-clause-least : goal.returns-clause-least

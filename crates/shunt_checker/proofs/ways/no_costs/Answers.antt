@@ -1,5 +1,5 @@
-use Rattle.shunt_checker.proofs.Taken.{zero_at}
 use Rattle.shunt_checker.proofs.ways.no_costs.Goals as goal
+use Rattle.shunt_lists.proofs.Numbers.{zero_at}
 
 pub returns : goal.returns
 returns c = λ t. zero_at 100 t

@@ -3,11 +3,11 @@ use mir.Val.{to_z, of_z}
 use Rattle.std.proofs.Common.{◌+◌, ap, sym, subst, arith}
 use Rattle.std.proofs.lemmas.Int.{ints, to_z-of_z}
 use Rattle.shunt_base.specs.declared.duals.Case.{Case}
-use Rattle.shunt_dual.specs.defs.Opened.{IsLeastBelow}
-use Rattle.shunt_dual.proofs.LeastBounds.{closed, taken, kept}
 use Rattle.shunt_dual.proofs.bounds.improved.Goals as goal
 use Rattle.shunt_prices.proofs.Signed.{below, not_below}
 use Rattle.shunt_prices.proofs.Counts.{got}
+use Rattle.shunt_prices.specs.defs.Bounds.{IsLeastBelow}
+use Rattle.shunt_prices.proofs.LeastBelow.{closed, taken, kept}
 
 pub returns-then-unparked-get : goal.returns-then-unparked-get
 returns-then-unparked-get c =

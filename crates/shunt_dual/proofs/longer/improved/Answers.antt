@@ -3,12 +3,12 @@ use mir.Val.{to_z, of_z}
 use Rattle.std.proofs.Common.{◌+◌, ◌∷◌, ◌++◌, [], ap, sym, subst, arith}
 use Rattle.std.proofs.lemmas.Int.{ints, to_z-of_z}
 use Rattle.shunt_base.specs.declared.duals.Case.{Case}
-use Rattle.shunt_dual.specs.defs.Opened.{IsLeastBelow}
-use Rattle.shunt_dual.proofs.LeastBounds.{closed, taken, kept}
 use Rattle.shunt_dual.proofs.Lengthened.{unparked_now, is_few, is_many}
 use Rattle.shunt_dual.proofs.longer.improved.Goals as goal
 use Rattle.shunt_prices.proofs.Signed.{below, not_below}
 use Rattle.shunt_prices.proofs.Counts.{got}
+use Rattle.shunt_prices.specs.defs.Bounds.{IsLeastBelow}
+use Rattle.shunt_prices.proofs.LeastBelow.{closed, taken, kept}
 
 pub returns-then-not-are_at_most : goal.returns-then-not-are_at_most
 returns-then-not-are_at_most c = λ path at free.

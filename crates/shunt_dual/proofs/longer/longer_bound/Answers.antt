@@ -1,9 +1,9 @@
 use mir.Syntax.{w64}
 use Rattle.std.proofs.Common.{◌+◌, ◌-◌, ◌∷◌, ◌++◌, [], sym, subst, arith}
 use Rattle.std.proofs.lemmas.Int.{to_z-of_z}
-use Rattle.shunt_dual.specs.defs.Opened.{IsLeastBelow}
-use Rattle.shunt_dual.proofs.LeastBounds.{last_first, all_of}
 use Rattle.shunt_dual.proofs.longer.longer_bound.Goals as goal
+use Rattle.shunt_prices.specs.defs.Bounds.{IsLeastBelow}
+use Rattle.shunt_prices.proofs.LeastBelow.{last_first, all_of}
 
 pub loop-k-init : goal.loop-k-init
 loop-k-init c = λ path at free.

@@ -3,10 +3,11 @@ use Rattle.std.proofs.Common.{length, refl, subst, sym}
 use Rattle.shunt_choices.specs.defs.Paths.{Masks}
 use Rattle.shunt_dual.specs.declared.unit_values.Ask.{Ask}
 use Rattle.shunt_dual.specs.defs.Refits.{IsMet, AreUnitsRefit}
-use Rattle.shunt_dual.specs.defs.Asks.{AreFreeShapes, shapes_asked}
+use Rattle.shunt_dual.specs.defs.Asks.{shapes_asked}
 use Rattle.shunt_dual.proofs.Refitted.{hold_to, refit_is}
 use Rattle.shunt_dual.proofs.price_raises.refitted.Goals as goal
 use Rattle.shunt_choices.proofs.Trails.{units_long, as_many_units}
+use Rattle.shunt_choices.specs.defs.Choices.{AreFreeShapes}
 
 pub refit_values-requires-clause-met : goal.refit_values-requires-clause-met
 refit_values-requires-clause-met c =

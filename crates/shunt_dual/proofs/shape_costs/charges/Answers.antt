@@ -1,9 +1,8 @@
 use Rattle.std.proofs.Common.{◌≤◌, length, arith, ◌∙◌, subst}
 use Rattle.std.proofs.lemmas.List.{length-set}
 use Rattle.shunt_instance.specs.declared.records.Station.{Station}
-use Rattle.shunt_dual.proofs.Charged.{no_price}
 use Rattle.shunt_dual.proofs.shape_costs.charges.Goals as goal
-use Rattle.shunt_prices.proofs.Counts.{small_more as charges_small, taken_more as charged}
+use Rattle.shunt_prices.proofs.Counts.{small_more as charges_small, taken_more as charged, no_price}
 
 pub loop-price-preserved : goal.loop-price-preserved
 loop-price-preserved c =

@@ -1,6 +1,6 @@
 use Rattle.std.proofs.Common.{◌<◌, ◌≤◌}
 use Rattle.shunt_blocks.specs.declared.records.Park.{Park}
-use Rattle.shunt_dual.specs.defs.Ways.{IsUnderIn}
+use Rattle.shunt_blocks.specs.defs.Ways.{IsUnderIn}
 use Rattle.shunt_dual.proofs.ways.least_in_anywhere.Given as goal
 
 abbrev pub invariant-loop-t : goal.invariant-loop-t

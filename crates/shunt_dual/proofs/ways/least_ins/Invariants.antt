@@ -1,6 +1,6 @@
 use Rattle.std.proofs.Common.{◌≡◌, ◌<◌, ◌≤◌, ℕ, get_or, length}
 use Rattle.shunt_blocks.specs.declared.records.Park.{Park}
-use Rattle.shunt_dual.specs.defs.Ways.{IsUnderIn}
+use Rattle.shunt_blocks.specs.defs.Ways.{IsUnderIn}
 use Rattle.shunt_dual.proofs.ways.least_ins.Given as goal
 
 abbrev pub invariant-loop-a : goal.invariant-loop-a

@@ -1,6 +1,6 @@
 use Rattle.shunt_instance.specs.defs.Words.{train_at}
 use Rattle.shunt_blocks.specs.defs.Ways.{way_to}
-use Rattle.shunt_dual.proofs.Dear.{under_both}
+use Rattle.shunt_blocks.proofs.UnderWays.{under_both}
 use Rattle.shunt_dual.proofs.ways.least_out.Goals as goal
 
 pub returns-clause-least : goal.returns-clause-least

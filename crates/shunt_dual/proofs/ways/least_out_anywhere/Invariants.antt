@@ -1,6 +1,6 @@
 use Rattle.std.proofs.Common.{◌<◌, ◌≤◌}
 use Rattle.shunt_blocks.specs.declared.records.Park.{Park}
-use Rattle.shunt_dual.specs.defs.Ways.{IsUnderOut}
+use Rattle.shunt_blocks.specs.defs.Ways.{IsUnderOut}
 use Rattle.shunt_dual.proofs.ways.least_out_anywhere.Given as goal
 
 abbrev pub invariant-loop-t : goal.invariant-loop-t

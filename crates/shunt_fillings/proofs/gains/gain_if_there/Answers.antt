@@ -4,11 +4,12 @@ use Rattle.shunt_prices.specs.defs.Prices.{track_length}
 use Rattle.shunt_stacks.specs.defs.Fillings.{IsStackGain}
 use Rattle.shunt_stacks.specs.defs.Numbers.{free_spans}
 use Rattle.shunt_gains.specs.defs.Events.{entry_of, leave_of, events_in}
-use Rattle.shunt_gains.specs.defs.Tables.{spans_of, IsGain}
+use Rattle.shunt_gains.specs.defs.Tables.{spans_of, IsGain, AreSmall}
 use Rattle.shunt_fillings.specs.defs.Pieces.{seen, blocks_in, fixed_of_stack, spans_with}
-use Rattle.shunt_fillings.proofs.Tabled.{all_within, little_gains, small_lists, all_small, free_same, gain_tells}
+use Rattle.shunt_fillings.proofs.Tabled.{all_within, little_gains, all_small, free_same, gain_tells}
 use Rattle.shunt_fillings.proofs.gains.gain_if_there.Goals as goal
 use Rattle.shunt_lists.proofs.Options.{if_ok}
+use Rattle.shunt_lists.proofs.Lists.{moved_both}
 use Rattle.shunt_blocks.proofs.Shapes.{all_within as blocks_within}
 use Rattle.shunt_stacks.proofs.Sums.{own_lists}
 
@@ -45,7 +46,7 @@ greatest_gain-requires-clause-small c =
     let path = c.args.path.now in
     let stack = seen c.args.stack in
     let ks = c.args.candidates.now in
-    small_lists (fixed_of_stack night e path stack) (spans_with night e ks) (spans_of c.in_ok-fixed.fixed.items) (spans_of c.in_ok-free.free.items)
+    moved_both AreSmall (fixed_of_stack night e path stack) (spans_with night e ks) (spans_of c.in_ok-fixed.fixed.items) (spans_of c.in_ok-free.free.items)
     c.in_ok-fixed.ensures c.in_ok-free.ensures (all_small night e c.requires.candidates.0 path stack ks c.requires.candidates.2)
 
 pub returns : goal.returns

@@ -1,12 +1,12 @@
 use Rattle.std.specs.Prelude.{pos, None}
-use Rattle.std.proofs.Common.{◌≡◌, inl, inr, ◌∙◌, ◌<◌, ◌+◌, ◌≤◌, subst, length, slice_index_or, ap, sym, arith}
+use Rattle.std.proofs.Common.{◌≡◌, inl, inr, ⊎_elim, ◌∙◌, ◌<◌, ◌+◌, ◌≤◌, subst, length, slice_index_or, ap, sym, arith}
 use Rattle.shunt_prices.specs.defs.Sums.{IsWithin}
 use Rattle.shunt_stacks.specs.defs.Spans.{best, best_with}
 use Rattle.shunt_gains.specs.declared.pieces.Piece.{Piece}
 use Rattle.shunt_gains.specs.defs.Tables.{span_of, spans_at, fixed_in, free_in}
 use Rattle.shunt_gains.proofs.Known.{in_row}
 use Rattle.shunt_gains.proofs.Small.{gain_small, seen}
-use Rattle.shunt_gains.proofs.Stepped.{left_with, turned, by_fixed, by_free}
+use Rattle.shunt_gains.proofs.Stepped.{left_with, turned, by_fixed, by_free, none_by_end, none_by_room}
 use Rattle.shunt_gains.proofs.Listed.{taken, here, enough, listed, some_there, none_there, some_long, none_long}
 use Rattle.shunt_gains.proofs.values.+values.Goals as goal
 use Rattle.shunt_lists.proofs.Options.{if_ok}
@@ -182,6 +182,12 @@ with_piece-plus-requires-clause-behind t c =
     let e = c.requires.end in
     let few = p.few in
     gain_small _ _ (λ s i. (p.own.spans s i, p.small s i)) _ _ _ _ (omega (arith, e, few)) behind
+
+pub with_piece-returns-then-piece-key-clause-is : goal.with_piece-returns-then-piece-key-clause-is
+with_piece-returns-then-piece-key-clause-is t c n le =
+    let rest = best n (fixed_in c.args.pieces.now) (free_in c.args.pieces.now) in
+    let piece = span_of c.args.piece in
+    ⊎_elim (none_by_end rest c.args.key.end c.args.key.room piece) (λ long. none_by_room rest c.args.key.end c.args.key.room piece long.1) c.then-piece-key.either
 
 pub with_piece-returns-clause-is : goal.with_piece-returns-clause-is
 with_piece-returns-clause-is t c =

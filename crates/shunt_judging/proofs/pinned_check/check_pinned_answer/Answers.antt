@@ -1,7 +1,7 @@
 use Rattle.std.proofs.Common.{inl, inr, subst}
 use Rattle.shunt_rows.proofs.Texts.{if_ok}
-use Rattle.shunt_inputs.specs.defs.Pins.{PinFaults}
 use Rattle.shunt_judging.proofs.pinned_check.check_pinned_answer.Goals as goal
+use Rattle.shunt_judging.specs.defs.Pins.{PinFaults}
 
 pub returns-in-Some-lost_pin : goal.returns-in-Some-lost_pin
 returns-in-Some-lost_pin c =

@@ -4,8 +4,9 @@ use Rattle.std.proofs.Common.{◌≡◌, List, sym, subst, arith}
 use Rattle.std.proofs.lemmas.Int.{ints}
 use Rattle.shunt_blocks.specs.declared.records.Block.{Block}
 use Rattle.shunt_choices.specs.defs.Paths.{Masks}
+use Rattle.shunt_choices.specs.defs.Choices.{AreFreeShapes}
 use Rattle.shunt_stacks.specs.defs.Fillings.{IsStackGain}
-use Rattle.shunt_recount.specs.defs.Offers.{stack_at, AreFreeShapes, IsCandidate, AreOffersOf}
+use Rattle.shunt_recount.specs.defs.Offers.{stack_at, IsCandidate, AreOffersOf}
 use Rattle.shunt_recount.proofs.TakenOffers.{taken}
 use Rattle.shunt_recount.proofs.counts.count_of.Goals as goal
 use Rattle.shunt_lists.proofs.Members.{to_all as from_members}

@@ -8,13 +8,14 @@ use Rattle.shunt_prices.specs.defs.Prices.{track_length}
 use Rattle.shunt_stacks.specs.defs.Stacks.{blocks_of}
 use Rattle.shunt_stacks.specs.defs.Fillings.{IsStackGain}
 use Rattle.shunt_stacks.specs.defs.Numbers.{fixed_spans, free_spans, entry_number, leave_number}
-use Rattle.shunt_recount.specs.defs.Visits.{spans_of}
+use Rattle.shunt_recount.specs.defs.Visits.{spans_of, AreSmall}
 use Rattle.shunt_recount.specs.defs.Offers.{stack_at, blocks_in, offer_spans, AreOffersOf}
 use Rattle.shunt_recount.proofs.Spanned.{same_spans, offers_within, offers_small, all_small}
-use Rattle.shunt_recount.proofs.Gained.{moved_small, tells}
+use Rattle.shunt_recount.proofs.Gained.{tells}
 use Rattle.shunt_recount.proofs.gains.stack_gain.Goals as goal
 use Rattle.shunt_blocks.proofs.Shapes.{all_within}
 use Rattle.shunt_stacks.proofs.Sums.{own_lists as moved_own}
+use Rattle.shunt_lists.proofs.Lists.{moved_both}
 
 pub free_visits-requires-clause-within : goal.free_visits-requires-clause-within
 free_visits-requires-clause-within c = offers_within c.args.instance.now c.args.blocks.now c.requires.offers.0 (stack_at c.args.end) c.args.offers.now c.requires.offers.2
@@ -44,7 +45,7 @@ greatest_gain-requires-clause-small c =
     let case = c.requires.offers.0 in
     let of = c.requires.offers.2 in
     let places : PlaceLaws = record { unit_in = c.places.ensures.unit_in; position_in = c.places.ensures.position_in } in
-    moved_small (fixed_spans night (entry_number night) (leave_number night) (blocks_of stack c.args.blocks.now)) (offer_spans night c.args.offers.now)
+    moved_both AreSmall (fixed_spans night (entry_number night) (leave_number night) (blocks_of stack c.args.blocks.now)) (offer_spans night c.args.offers.now)
     (spans_of c.in_ok-fixed.fixed.items) (spans_of c.in_ok-free.free.items)
     c.in_ok-fixed.ensures c.in_ok-free.ensures
     (all_small night places (c.gains_by_events.ensures.numbers night formed) c.args.blocks.now stack c.args.offers.now (all_within night c.args.blocks.now c.requires.each)

@@ -3,8 +3,9 @@ use Rattle.shunt_stays.specs.defs.Run.{empty_tracks}
 use Rattle.shunt_sheet.specs.defs.Tracks.{blocks_of}
 use Rattle.shunt_sheet.proofs.RoundTrip.{on_tracks}
 use Rattle.shunt_sheet.proofs.Runs.{nothing_on}
-use Rattle.shunt_sheet.proofs.Turns.{fit_empty, lengths_for}
+use Rattle.shunt_sheet.proofs.Turns.{lengths_for}
 use Rattle.shunt_sheet.proofs.follower.follow.Goals as goal
+use Rattle.shunt_tracks.proofs.Turns.{fit_empty}
 
 pub follow_on-requires-clause-on : goal.follow_on-requires-clause-on
 follow_on-requires-clause-on c = lengths_for c.args.station.now c.deref-2.result.now c.args.orders.now.items c.deref-3.result.now c.deref-3.ensures.value

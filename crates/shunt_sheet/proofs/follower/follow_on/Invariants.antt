@@ -1,7 +1,8 @@
 use Rattle.std.proofs.Common.{◌≡◌, ◌+◌, map, drop, length}
-use Rattle.shunt_sheet.specs.defs.Tracks.{blocks_of, Fit}
+use Rattle.shunt_sheet.specs.defs.Tracks.{blocks_of}
 use Rattle.shunt_sheet.specs.defs.FollowedOrders.{follow_from}
 use Rattle.shunt_sheet.proofs.follower.follow_on.Given as goal
+use Rattle.shunt_tracks.specs.defs.Blocks.{Fit}
 
 abbrev pub invariant-loop-order : goal.invariant-loop-order
 invariant-loop-order l = record {

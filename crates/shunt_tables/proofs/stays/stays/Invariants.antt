@@ -1,8 +1,8 @@
 use Rattle.std.proofs.Common.{◌≡◌, ◌<◌, length}
 use Rattle.std.specs.List.{All}
 use Rattle.shunt_base.specs.defs.Keys.{AreStays}
-use Rattle.shunt_tables.proofs.Numbers.{AreBelow}
 use Rattle.shunt_tables.proofs.stays.stays.Given as goal
+use Rattle.shunt_stays.proofs.NumberedStays.{AreBelow}
 
 abbrev pub invariant-loop-number : goal.invariant-loop-number
 invariant-loop-number l = record {

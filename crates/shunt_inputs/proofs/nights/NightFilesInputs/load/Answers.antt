@@ -1,5 +1,5 @@
 use Rattle.std.proofs.Common.{[], ◌∷◌}
-use Rattle.shunt_report.specs.declared.words.FileWord.TheVariants as word
+use Rattle.shunt_rows.specs.declared.words.FileWord.TheVariants as word
 use Rattle.shunt_inputs.proofs.Heard.{heard_memory}
 use Rattle.shunt_inputs.proofs.Held.{texts_map}
 use Rattle.shunt_inputs.proofs.NightTexts.{night_refused, night_stated_in}

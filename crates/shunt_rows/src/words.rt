@@ -1,8 +1,8 @@
-// Words for files.
+// Words for input files, and the line for one that isn't accepted.
 ghost use Rattle.std.specs.Prelude.{◌≡◌, IfOk, option_map};
-ghost use Rattle.shunt_report.specs.defs.Texts.{file_word, input_of};
+ghost use Rattle.shunt_rows.specs.defs.InputTexts.{file_word, input_of};
 
-use shunt_rows::RowFault;
+use crate::fault::RowFault;
 use shunt_text::Text;
 use std::alloc::{AllocError, Global};
 
@@ -42,7 +42,7 @@ fn word_of(file: FileWord) -> &'static [u8]
 
 /// The line for an input file that isn't accepted: `input FILE record R field F kind K` with its first fault, or
 /// `input FILE too long` where there is none to tell, since the file is longer than it may be.
-#[tactic(auto, unfolding(crate::specs::defs::Texts::input_of))]
+#[tactic(auto, unfolding(crate::specs::defs::InputTexts::input_of))]
 pub fn input_text(
     alloc: Global,
     file: FileWord,

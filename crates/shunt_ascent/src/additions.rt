@@ -2,10 +2,10 @@
 ghost use Rattle.std.specs.Prelude.{◌<◌, length};
 
 use crate::drafts::{MOST, is_moment, parts_beside};
-use crate::gains::Place;
 use crate::groups::leaving;
 use crate::lifts::Held;
 use crate::numbers::{NOTHING, Number, at};
+use crate::places::Place;
 use crate::points::{Point, Values};
 use crate::scenes::{Row, Stand};
 use crate::slots::{Slot, has_slot, length_slot};
@@ -142,7 +142,7 @@ struct Worth {
 }
 
 fn price_at(held: &Held, number: usize) -> Number {
-    at(&held.values.point.prices, number)
+    at(&held.case.values.point.prices, number)
 }
 
 /// The 64 prices of a place that are worth most in some case: in the last, or in the first if there is one. Err is want of memory.

@@ -2,7 +2,7 @@
 use crate::ascent::{Ascent, ascend};
 use crate::drafts::FIRST;
 use crate::numbers::{Number, ONE};
-use crate::points::{EVERY, Point, Span};
+use crate::points::{Point, Span};
 use crate::scenes::Scene;
 use crate::valuation::Work;
 use crate::whole_numbers::{Found, settle};
@@ -71,16 +71,10 @@ fn two(
     goal: Number,
     work: &mut Work,
 ) -> Result<(Found, Found), AllocError> {
-    let multiplier = Wrapping(scene.unparked.0 / 100 * 94);
-    let few = Span {
-        from: 0,
-        to: many.saturating_sub(1),
-    };
+    let multiplier = scene.most_of_unparked();
+    let few = Span::below(many);
     let first = part(alloc, scene, few, one, multiplier, goal, work)?;
-    let rest = Span {
-        from: many,
-        ..EVERY
-    };
+    let rest = Span::at_least(many);
     let last = part(alloc, scene, rest, one, -multiplier, goal, work)?;
     Ok((first, last))
 }

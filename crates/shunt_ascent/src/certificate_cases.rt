@@ -9,7 +9,7 @@ ghost use Rattle.shunt_prices.specs.defs.Limits.{place_of_price, IsValue, IsCase
 
 use crate::case_pairs::Parted;
 use crate::numbers::{Number, at, whole};
-use crate::points::Point;
+use crate::points::{Fixed, Values};
 use crate::scenes::Scene;
 use crate::slots::Slot;
 use crate::valuation::Work;
@@ -152,13 +152,12 @@ fn alphas_of(alloc: Global, instance: &Instance, alpha: &[Number]) -> Result<Vec
     Ok(values)
 }
 
-// The case of a point whose numbers are whole, with values of units.
+// The case of whole numbers.
 fn case_of(
     alloc: Global,
     instance: &Instance,
     scene: &Scene,
-    point: &Point,
-    alpha: &[Number],
+    values: &Values,
     to: u8,
 ) -> Result<Case, AllocError>
     requires { to ≤ 160 }
@@ -166,7 +165,8 @@ fn case_of(
     ensures apart { IfOk result (λ c. AreApart c.duals.prices) }
     ensures to { IfOk result (λ c. c.to ≡ to) }
 {
-    let alpha = alphas_of(alloc, instance, alpha)?;
+    let point = &values.point;
+    let alpha = alphas_of(alloc, instance, &values.alpha)?;
     let beta = betas_of(alloc, instance, &point.beta)?;
     let prices = prices_of(alloc, instance, &scene.slots, &point.prices)?;
     Ok(Case {
@@ -180,25 +180,21 @@ fn case_of(
     })
 }
 
-// What was found as a case, with whole numbers, and values of units that let it hold.
-fn state(
+// What was found with whole numbers, and values of units that let it hold.
+fn made_whole(
     alloc: Global,
-    instance: &Instance,
     scene: &Scene,
     found: &Found,
-    to: u8,
     work: &mut Work,
-) -> Result<Case, AllocError>
-    requires { to ≤ 160 }
-    ensures case { IfOk result (IsCase instance.now) }
-    ensures apart { IfOk result (λ c. AreApart c.duals.prices) }
-    ensures to { IfOk result (λ c. c.to ≡ to) }
-{
+) -> Result<Fixed, AllocError> {
     let mut point = found.point.copied(alloc)?;
     round(&mut point);
     work.evaluate(scene, found.span, &point);
     let alpha = work.growths(alloc, scene)?;
-    case_of(alloc, instance, scene, &point, &alpha, to)
+    Ok(Fixed {
+        span: found.span,
+        values: Values { alpha, point },
+    })
 }
 
 /// What was found as a case that speaks of all numbers of unparked blocks. Err is want of memory.
@@ -212,7 +208,8 @@ pub(crate) fn case_for(
     ensures case { IfOk result (IsCase instance.now) }
     ensures apart { IfOk result (λ c. AreApart c.duals.prices) }
 {
-    state(alloc, instance, scene, found, 160, work)
+    let case = made_whole(alloc, scene, found, work)?;
+    case_of(alloc, instance, scene, &case.values, 160)
 }
 
 // These as cases.
@@ -223,30 +220,22 @@ fn two_cases(first: Case, last: Case) -> Cases
     Cases::two(first, last)
 }
 
-/// The numbers of a case, with values of units, and the greatest number of unparked blocks that it speaks of.
-#[derive(Clone, Copy)]
-pub(crate) struct Sketch<'c> {
-    pub point: &'c Point,
-    pub alpha: &'c [Number],
-    pub to: u8,
-}
-
 /// A case, or two of which the first speaks of fewer unparked blocks, as a certificate states them. Err is want of memory.
 pub(crate) fn cases_with(
     alloc: Global,
     instance: &Instance,
     scene: &Scene,
-    first: Option<Sketch<'_>>,
-    last: Sketch<'_>,
+    first: Option<&Fixed>,
+    last: &Fixed,
 ) -> Result<Cases, AllocError>
     ensures cases { IfOk result (AreCases instance.now) }
     ensures apart { IfOk result (All (λ c. AreApart c.duals.prices)) }
 {
-    let last = case_of(alloc, instance, scene, last.point, last.alpha, 160)?;
+    let last = case_of(alloc, instance, scene, &last.values, 160)?;
     match first {
-        Some(draft) => {
-            let to = draft.to.min(159);
-            let first = case_of(alloc, instance, scene, draft.point, draft.alpha, to)?;
+        Some(first) => {
+            let to = first.to().min(159);
+            let first = case_of(alloc, instance, scene, &first.values, to)?;
             Ok(two_cases(first, last))
         }
         None => Ok(Cases::one(last)),
@@ -264,13 +253,10 @@ pub(crate) fn cases_of(
     ensures cases { IfOk result (AreCases instance.now) }
     ensures apart { IfOk result (All (λ c. AreApart c.duals.prices)) }
 {
-    let last = state(alloc, instance, scene, &parted.last, 160, work)?;
-    match &parted.first {
-        Some(first) => {
-            let to = first.span.to.min(159);
-            let first = state(alloc, instance, scene, first, to, work)?;
-            Ok(two_cases(first, last))
-        }
-        None => Ok(Cases::one(last)),
-    }
+    let last = made_whole(alloc, scene, &parted.last, work)?;
+    let first = match &parted.first {
+        Some(first) => Some(made_whole(alloc, scene, first, work)?),
+        None => None,
+    };
+    cases_with(alloc, instance, scene, first.as_ref(), &last)
 }

@@ -1,23 +1,17 @@
 // What a case with stacks comes to at a path, with the slopes of its numbers, the values of units among them.
+use crate::fillings::{Fillings, Next};
 use crate::groups::{Group, NO_WAY};
 use crate::numbers::{NOTHING, Number, add_at, at, fill};
+use crate::places::Place;
 use crate::points::{Point, Span, Values};
 use crate::rests::{Pick, Rests};
-use crate::scenes::{Row, Scene, Stand};
+use crate::scenes::{Entry, Row, Scene, Stand};
 use crate::slopes::Slopes;
-use crate::stacks::{Space, Stacks, Ways};
-use crate::tables::{Offer, Part, Piece, Table};
+use crate::stacks::{Space, Ways};
+use crate::tables::Piece;
 use crate::totals::Totals;
-use crate::valuation::Lightest;
+use crate::valuation::{Lightest, UNKNOWN};
 use std::alloc::{AllocError, Global};
-
-/// A path as stacks see it: what it leaves free of trains, and of each stack.
-#[derive(Drop)]
-pub(crate) struct Place {
-    pub scene: Scene,
-    pub stacks: Stacks,
-    pub spaces: Vec<Space>,
-}
 
 /// What the shapes of a group weigh but for their ends: what prices take of them on each track, the lightest option that goes by no stack, and
 /// the lightest way by one.
@@ -36,11 +30,17 @@ pub(crate) struct Gains {
     betas: Totals,
     // By how much the values of trains are above what has to hold, as less than nothing.
     falls: Rests,
-    // For each stack the blocks that bring something.
-    pieces: Vec<Vec<Piece>>,
-    table: Table,
-    chosen: Vec<Piece>,
+    fillings: Fillings,
+    /// What the sum grows by with each of the blocks that may come next.
+    pub steps: Vec<Number>,
     pub slopes: Slopes,
+}
+
+/// The block that may come next with which the sum grows least, and by how much.
+#[derive(Clone, Copy)]
+struct Nearest {
+    next: Next,
+    step: Number,
 }
 
 // Finds what the shapes of a group weigh.
@@ -86,23 +86,11 @@ fn weights_of(alloc: Global, scene: &Scene) -> Result<Vec<Weights>, AllocError> 
     for _group in &scene.groups {
         weights.push(Weights {
             taken: vec![in alloc; NOTHING; scene.tracks]?,
-            held: Lightest {
-                weight: NOTHING,
-                track: None,
-            },
+            held: UNKNOWN,
             stacked: NO_WAY,
         })?;
     }
     Ok(weights)
-}
-
-// Room for the pieces of each stack.
-fn no_pieces(alloc: Global, stacks: &Stacks) -> Result<Vec<Vec<Piece>>, AllocError> {
-    let mut pieces = Vec::with_capacity(alloc, stacks.len())?;
-    for _stack in 0..stacks.len() {
-        pieces.push(Vec::new(alloc))?;
-    }
-    Ok(pieces)
 }
 
 // Whether a piece goes in the part of a stack in which it comes, is short enough, and crosses no block of the path.
@@ -126,16 +114,15 @@ fn add_piece(
     ways: &Ways,
     worth: Number,
     piece: Piece,
-    pieces: &mut [Vec<Piece>],
+    fillings: &mut Fillings,
 ) -> Result<(), AllocError> {
     for way in &ways.same {
         let gain = worth - way.weight - at(&weights.taken, way.place / 2);
-        let (Some(space), Some(into)) = (place.spaces.get(way.place), pieces.get_mut(way.place))
-        else {
+        let Some(space) = place.spaces.get(way.place) else {
             return Ok(());
         };
         if gain > NOTHING && fits(place, way.place, space, &piece) {
-            into.push(Piece { gain, ..piece })?;
+            fillings.add(way.place, Piece { gain, ..piece })?;
         }
     }
     Ok(())
@@ -151,9 +138,8 @@ impl Gains {
             alphas: Totals::new(alloc, units)?,
             betas: Totals::new(alloc, scene.free.len())?,
             falls: Rests::new(alloc, units)?,
-            pieces: no_pieces(alloc, &place.stacks)?,
-            table: Table::new(alloc),
-            chosen: Vec::new(alloc),
+            fillings: Fillings::new(alloc, &place.stacks)?,
+            steps: Vec::new(alloc),
             slopes: Slopes::new(alloc, scene)?,
         })
     }
@@ -178,10 +164,7 @@ impl Gains {
     fn held_at(&self, group: usize) -> Lightest {
         match self.weights.get(group) {
             Some(weights) => weights.held,
-            None => Lightest {
-                weight: NOTHING,
-                track: None,
-            },
+            None => UNKNOWN,
         }
     }
 
@@ -240,7 +223,7 @@ impl Gains {
             u,
             place: number,
         };
-        add_piece(place, weights, ways, worth, piece, &mut self.pieces)
+        add_piece(place, weights, ways, worth, piece, &mut self.fillings)
     }
 
     // Offers the shapes that begin at a unit.
@@ -253,69 +236,63 @@ impl Gains {
 
     // Finds for each stack the blocks that bring something.
     fn gather(&mut self, place: &Place) -> Result<(), AllocError> {
-        for pieces in &mut self.pieces {
-            pieces.clear();
-        }
+        self.fillings.clear();
         for (u, stand) in place.scene.stands.iter().enumerate() {
             self.offer_all(place, u, stand)?;
         }
         Ok(())
     }
 
-    // What the stacks bring together, whose chosen blocks are counted.
-    fn fill_stacks(&mut self, place: &Place) -> Result<Number, AllocError> {
-        let mut sum = NOTHING;
-        for stack in 0..self.pieces.len() {
-            sum += self.fill_stack(place, stack)?;
+    // What prices take of the shapes of a group on a track.
+    fn taken_on(&self, group: usize, track: usize) -> Number {
+        match self.weights.get(group) {
+            Some(weights) => at(&weights.taken, track),
+            None => NOTHING,
         }
-        Ok(sum)
     }
 
-    // What a stack brings.
-    fn fill_stack(&mut self, place: &Place, stack: usize) -> Result<Number, AllocError> {
-        let (Some(pieces), Some(space), Some(rooms)) = (
-            self.pieces.get_mut(stack),
-            place.spaces.get(stack),
-            place.stacks.rooms_of(stack),
-        ) else {
-            return Ok(NOTHING);
+    // What the sum grows by with a block that comes next, but for what its stack brings less beside it.
+    fn step(&self, point: &Point, entry: &Entry) -> Number {
+        let row = &entry.row;
+        let taken = match entry.track {
+            Some(track) => self.taken_on(row.group, track),
+            None => point.multiplier,
         };
-        if pieces.is_empty() {
-            return Ok(NOTHING);
-        }
-        pieces.sort_unstable_by_key(|piece| (piece.enters, piece.leaves, piece.n));
-        self.chosen.clear();
-        let offer = Offer { pieces, rooms };
-        let sum = fill_parts(&mut self.table, offer, &space.parts, &mut self.chosen)?;
-        for piece in &self.chosen {
-            choose(&place.scene, stack / 2, piece, &mut self.slopes);
-        }
-        Ok(sum)
+        let values = self.alphas.sum(entry.u, row.n) + self.betas.sum(row.v, row.n);
+        let behind = self.falls.behind(entry.u.saturating_add(row.n));
+        entry.cost + taken - values + behind - self.falls.at(entry.u)
     }
 
-    // What the values of units come to with what they have to fall by, whose chosen shapes are counted.
-    fn add_trains(&mut self, scene: &Scene, alpha: &[Number]) -> Number {
+    fn find_steps(&mut self, point: &Point, nexts: &[Next]) -> Result<(), AllocError> {
+        self.steps.clear();
+        for next in nexts {
+            let step = self.step(point, &next.entry);
+            self.steps.push(step)?;
+        }
+        Ok(())
+    }
+
+    // What the values of units come to with what they have to fall by.
+    fn trains(&self, scene: &Scene, alpha: &[Number]) -> Number {
         let mut sum = NOTHING;
-        let mut covered = true;
         for (u, stand) in scene.stands.iter().enumerate() {
             if !stand.covered {
                 sum += at(alpha, u);
-                if covered || !stand.follows {
-                    self.falls.choose_from(scene, u, &mut self.slopes);
-                    sum += self.falls.at(u);
-                }
             }
-            covered = stand.covered;
+            if scene.begins(u) {
+                sum += self.falls.at(u);
+            }
         }
         sum
     }
 
-    /// The sum of a case at a path; its slopes are kept. Err is want of memory.
-    pub(crate) fn evaluate(
+    /// The sum of a case at a path; what it grows by with each of the blocks that may come next is kept. Err is want of memory.
+    pub(crate) fn sum(
         &mut self,
         place: &Place,
         span: Span,
         values: &Values,
+        nexts: &[Next],
     ) -> Result<Number, AllocError> {
         let point = &values.point;
         self.weigh(place, point);
@@ -323,10 +300,46 @@ impl Gains {
         self.betas.read(&point.beta);
         self.find_falls(&place.scene);
         self.gather(place)?;
-        self.slopes.begin(&place.scene, span, point.multiplier);
-        let trains = self.add_trains(&place.scene, &values.alpha);
-        let gains = self.fill_stacks(place)?;
-        Ok(place.scene.stated(span, point) + trains - gains)
+        self.find_steps(point, nexts)?;
+        let gains = self.fillings.fill(place, nexts, &mut self.steps)?;
+        Ok(place.scene.stated(span, point) + self.trains(&place.scene, &values.alpha) - gains)
+    }
+
+    // The block that may come next with which the sum grows least, if there are any.
+    fn nearest(&self, nexts: &[Next]) -> Option<Nearest> {
+        let mut found: Option<Nearest> = None;
+        for (next, step) in nexts.iter().zip(&self.steps) {
+            if found.is_none_or(|least| *step < least.step) {
+                found = Some(Nearest {
+                    next: *next,
+                    step: *step,
+                });
+            }
+        }
+        found
+    }
+
+    /// The sum of a case at a path, and where blocks may come next the least of its sums at the longer paths; its slopes are kept. Err is want
+    /// of memory.
+    pub(crate) fn evaluate(
+        &mut self,
+        place: &Place,
+        span: Span,
+        values: &Values,
+        nexts: &[Next],
+    ) -> Result<Number, AllocError> {
+        let sum = self.sum(place, span, values, nexts)?;
+        let nearest = self.nearest(nexts);
+        let next = nearest.map(|nearest| nearest.next);
+        let entry = next.map(|next| next.entry);
+        let scene = &place.scene;
+        self.slopes.begin(scene, span, values.point.multiplier);
+        self.falls.choose_all(scene, entry, &mut self.slopes);
+        self.fillings.choose(place, next, &mut self.slopes)?;
+        Ok(match nearest {
+            Some(nearest) => sum + nearest.step,
+            None => sum,
+        })
     }
 
     /// Lowers values of units so that all that has to hold does, by what the last evaluation found.
@@ -336,31 +349,5 @@ impl Gains {
                 add_at(alpha, u, self.falls.growth(u));
             }
         }
-    }
-}
-
-// The greatest sum in the parts of a stack, whose pieces are added to those that are chosen.
-fn fill_parts(
-    table: &mut Table,
-    offer: Offer<'_>,
-    parts: &[Part],
-    chosen: &mut Vec<Piece>,
-) -> Result<Number, AllocError> {
-    table.prepare(offer)?;
-    let mut sum = NOTHING;
-    for part in parts {
-        sum += table.greatest(offer, *part);
-        table.choose(offer, *part, chosen)?;
-    }
-    Ok(sum)
-}
-
-// Counts a chosen block on a track.
-fn choose(scene: &Scene, track: usize, piece: &Piece, slopes: &mut Slopes) {
-    let Some(stand) = scene.stands.get(piece.u) else {
-        return;
-    };
-    if let Some(row) = stand.rows.get(piece.place) {
-        slopes.choose(scene, piece.u, row, Some(track));
     }
 }

@@ -1,36 +1,27 @@
 // Better numbers of a case with stacks by an ascent, in which the values of units change too.
-use crate::certificate_cases::Sketch;
 use crate::changes::{Changes, farthest, free_positions, free_units, longest, step_of};
 use crate::climbs::{Pace, Valued, highest};
-use crate::gains::{Gains, Place};
+use crate::fillings::Next;
+use crate::gains::Gains;
 use crate::numbers::{Number, ONE};
-use crate::points::{Span, Values};
+use crate::places::Place;
+use crate::points::{Fixed, Span, Values};
 use crate::whole_numbers::{round, rounded};
 use std::alloc::{AllocError, Global};
 use std::num::Wrapping;
 
-/// A case with stacks at a place: what it speaks of, its numbers, which are whole and let it hold, and its sum.
+/// A case with stacks at a place, whose numbers let it hold, and its sum.
 #[derive(Drop)]
 pub(crate) struct Held {
-    pub span: Span,
-    pub values: Values,
+    pub case: Fixed,
     pub sum: Number,
 }
 
-impl Held {
-    /// Its numbers, to be stated.
-    pub(crate) fn sketch(&self) -> Sketch<'_> {
-        Sketch {
-            point: &self.values.point,
-            alpha: &self.values.alpha,
-            to: self.span.to,
-        }
-    }
-}
-
-/// Where an ascent goes: whether the multiplier changes too, how far it goes at first, which counts in grains, and when it ends.
-#[derive(Clone, Copy, Drop)]
-pub(crate) struct Lift {
+/// Where an ascent goes: what it raises, whether the multiplier changes too, how far it goes at first, which counts in grains, and when it ends.
+#[derive(Clone, Copy)]
+pub(crate) struct Lift<'n> {
+    /// The blocks that may come next, of whose sums the least is raised; the sum at the place is where there are none.
+    pub nexts: &'n [Next],
     pub multiplier: bool,
     pub step: i64,
     /// How many evaluations it takes at most.
@@ -38,11 +29,12 @@ pub(crate) struct Lift {
     pub goal: Number,
 }
 
-/// The sum of a case with stacks as a value of the numbers that change.
+/// What is raised of a case with stacks as a value of the numbers that change.
 #[derive(Drop)]
 struct Stacked<'s> {
     place: &'s Place,
     span: Span,
+    nexts: &'s [Next],
     changes: Changes,
     values: Values,
     gains: &'s mut Gains,
@@ -52,10 +44,12 @@ impl<'s> Valued for Stacked<'s> {
     fn value(&mut self, numbers: &[Number], slope: &mut [Number]) -> Result<Number, AllocError> {
         let place = self.place;
         write(place, &self.changes, numbers, &mut self.values);
-        let sum = self.gains.evaluate(place, self.span, &self.values)?;
+        let value = self
+            .gains
+            .evaluate(place, self.span, &self.values, self.nexts)?;
         self.changes
             .read_slopes(&place.scene, &self.gains.slopes, numbers, slope);
-        Ok(sum)
+        Ok(value)
     }
 }
 
@@ -80,7 +74,7 @@ fn changes_of(alloc: Global, place: &Place, multiplier: bool) -> Result<Changes,
     })
 }
 
-fn pace_of(place: &Place, lift: &Lift) -> Pace {
+fn pace_of(place: &Place, lift: &Lift<'_>) -> Pace {
     Pace {
         step: step_of(&place.scene, lift.step),
         longest: longest(&place.scene),
@@ -103,36 +97,54 @@ pub(crate) fn hold(
         *alpha = rounded(*alpha);
     }
     round(&mut values.point);
-    gains.evaluate(place, span, &values)?;
+    gains.sum(place, span, &values, &[])?;
     gains.lower(&place.scene, &mut values.alpha);
-    let sum = gains.evaluate(place, span, &values)?;
-    Ok(Held { span, values, sum })
+    let sum = gains.sum(place, span, &values, &[])?;
+    Ok(Held {
+        case: Fixed { span, values },
+        sum,
+    })
+}
+
+// What is raised of a case.
+fn value_of(
+    place: &Place,
+    nexts: &[Next],
+    held: &Held,
+    gains: &mut Gains,
+) -> Result<Number, AllocError> {
+    if nexts.is_empty() {
+        return Ok(held.sum);
+    }
+    gains.evaluate(place, held.case.span, &held.case.values, nexts)
 }
 
 /// The best case that an ascent from one finds, which is that one where none is better. Err is want of memory.
 pub(crate) fn lifted(
     alloc: Global,
     place: &Place,
-    lift: Lift,
+    lift: Lift<'_>,
     start: Held,
     gains: &mut Gains,
 ) -> Result<Held, AllocError> {
-    if start.sum >= lift.goal {
+    let before = value_of(place, lift.nexts, &start, gains)?;
+    if before >= lift.goal {
         return Ok(start);
     }
     let changes = changes_of(alloc, place, lift.multiplier)?;
-    let values = start.values.copied(alloc)?;
+    let values = start.case.values.copied(alloc)?;
     let numbers = changes.numbers(alloc, &place.scene, &values.alpha, &values.point)?;
     let mut stacked = Stacked {
         place,
-        span: start.span,
+        span: start.case.span,
+        nexts: lift.nexts,
         changes,
         values,
-        gains,
+        gains: &mut *gains,
     };
     let peak = highest(alloc, &mut stacked, numbers, pace_of(place, &lift))?;
     let found = best_of(stacked, &peak.numbers)?;
-    if found.sum > start.sum {
+    if value_of(place, lift.nexts, &found, gains)? > before {
         return Ok(found);
     }
     Ok(start)
@@ -146,6 +158,7 @@ fn best_of(stacked: Stacked<'_>, numbers: &[Number]) -> Result<Held, AllocError>
         changes,
         values,
         gains,
+        ..
     } = stacked;
     let mut best = values;
     write(place, &changes, numbers, &mut best);

@@ -25,10 +25,33 @@ pub(crate) struct Span {
     pub to: u8,
 }
 
+/// A case with whole numbers: what it speaks of, and its numbers.
+#[derive(Drop)]
+pub struct Fixed {
+    pub(crate) span: Span,
+    pub(crate) values: Values,
+}
+
 /// All numbers of unparked blocks.
 pub(crate) const EVERY: Span = Span { from: 0, to: 160 };
 
 impl Span {
+    /// The numbers below one.
+    pub(crate) fn below(many: u8) -> Span {
+        Span {
+            from: 0,
+            to: many.saturating_sub(1),
+        }
+    }
+
+    /// One number and those above.
+    pub(crate) fn at_least(many: u8) -> Span {
+        Span {
+            from: many,
+            ..EVERY
+        }
+    }
+
     /// The number of unparked blocks for which a multiplier takes most.
     pub(crate) fn dearest(&self, multiplier: Number) -> Number {
         let many = if multiplier >= NOTHING {
@@ -58,5 +81,12 @@ impl Values {
             alpha: Vec::from_slice(alloc, &self.alpha)?,
             point: self.point.copied(alloc)?,
         })
+    }
+}
+
+impl Fixed {
+    /// The greatest number of unparked blocks that it speaks of.
+    pub fn to(&self) -> u8 {
+        self.span.to
     }
 }

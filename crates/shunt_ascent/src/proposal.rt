@@ -85,7 +85,7 @@ impl Proposal {
         ensures cases { IfOk result (AreCases instance.now) }
         ensures apart { IfOk result (All (λ c. AreApart c.duals.prices)) }
     {
-        let slots = slots_with(alloc, instance, self, cases)?;
+        let slots = slots_with(instance, self.slots(alloc)?, cases)?;
         let known = Known {
             unparked,
             goal: goal_for(cost),
@@ -95,18 +95,17 @@ impl Proposal {
     }
 }
 
-/// The prices of a proposal and of these cases. Err is want of memory.
+/// These prices and those of cases. Err is want of memory.
 pub(crate) fn slots_with(
-    alloc: Global,
     instance: &Instance,
-    proposal: &Proposal,
+    slots: Vec<Slot>,
     cases: &Cases,
 ) -> Result<Vec<Slot>, AllocError> {
-    let mut slots = proposal.slots(alloc)?;
+    let mut all = slots;
     for k in 0..cases.len() {
-        add_slots(instance, cases.get(k).duals.prices.as_slice(), &mut slots)?;
+        add_slots(instance, cases.get(k).duals.prices.as_slice(), &mut all)?;
     }
-    Ok(slots)
+    Ok(all)
 }
 
 // Adds the prices of a case that aren't among these.

@@ -1,6 +1,6 @@
 // What covering trains comes to from each of their units on, and by which shapes.
 use crate::numbers::{NOTHING, Number, at, put_at};
-use crate::scenes::{Row, Scene, Stand};
+use crate::scenes::{Entry, Row, Scene, Stand};
 use crate::slopes::Slopes;
 use std::alloc::{AllocError, Global};
 
@@ -66,8 +66,8 @@ impl Rests {
         self.picks.get(u).copied().unwrap_or(None)
     }
 
-    /// Counts the shapes that are chosen for a train from a unit on.
-    pub(crate) fn choose_from(&self, scene: &Scene, first: usize, slopes: &mut Slopes) {
+    // Counts the shapes that are chosen for a train from a unit on.
+    fn choose_from(&self, scene: &Scene, first: usize, slopes: &mut Slopes) {
         let mut u = first;
         'units: for _ in 0..LONGEST {
             match self.pick_at(u) {
@@ -79,6 +79,34 @@ impl Rests {
             }
             if !scene.continues(u) {
                 return;
+            }
+        }
+    }
+    // Counts a block that comes next, and the shapes that are chosen for its train behind it.
+    fn choose_next(&self, scene: &Scene, next: &Entry, slopes: &mut Slopes) {
+        slopes.choose(scene, next.u, &next.row, next.track);
+        let behind = next.u.saturating_add(next.row.n);
+        if scene.continues(behind) {
+            self.choose_from(scene, behind, slopes);
+        }
+    }
+
+    // Counts the shapes that are chosen for a train from its first uncovered unit on, where the block that comes next may begin.
+    fn choose_train(&self, scene: &Scene, u: usize, next: Option<Entry>, slopes: &mut Slopes) {
+        if let Some(next) = next {
+            if next.u == u {
+                self.choose_next(scene, &next, slopes);
+                return;
+            }
+        }
+        self.choose_from(scene, u, slopes);
+    }
+
+    /// Counts the shapes that are chosen for trains, and the block that comes next if there is one.
+    pub(crate) fn choose_all(&self, scene: &Scene, next: Option<Entry>, slopes: &mut Slopes) {
+        for u in 0..scene.stands.len() {
+            if scene.begins(u) {
+                self.choose_train(scene, u, next, slopes);
             }
         }
     }

@@ -5,13 +5,12 @@ ghost use Rattle.shunt_prices.specs.defs.Limits.{AreApart, AreCases};
 
 use crate::additions::{dearest, moved, slots_beside};
 use crate::certificate_cases::cases_with;
-use crate::gains::{Gains, Place};
+use crate::gains::Gains;
 use crate::lifts::{Held, Lift, hold, lifted};
 use crate::numbers::{NOTHING, Number, ONE};
-use crate::points::{EVERY, Span, Values};
-use crate::scenes::Scene;
+use crate::places::Place;
+use crate::points::{EVERY, Fixed, Span, Values};
 use crate::slots::Slot;
-use crate::stacks::Stacks;
 use crate::stated::values_of;
 use shunt_base::{Case, Cases};
 use shunt_choices::Path;
@@ -49,6 +48,15 @@ struct Halves {
     last: Held,
 }
 
+impl Halves {
+    fn one(case: Held) -> Halves {
+        Halves {
+            first: None,
+            last: case,
+        }
+    }
+}
+
 // A number of thousandths of a grain.
 fn grains(place: &Place, thousandths: i64) -> Number {
     Wrapping(thousandths) * Wrapping(ONE) * Wrapping(place.scene.grain)
@@ -67,6 +75,7 @@ fn raised(
     'ascents: for step in STEPS {
         let least = best.sum + grains(place, LITTLE);
         let lift = Lift {
+            nexts: &[],
             multiplier,
             step,
             most: LONG,
@@ -96,43 +105,6 @@ fn part(
     raised(alloc, place, start, goal, true, gains)
 }
 
-// The case below a number of unparked blocks.
-fn first_part(
-    alloc: Global,
-    place: &Place,
-    one: &Values,
-    many: u8,
-    goal: Number,
-    gains: &mut Gains,
-) -> Result<Held, AllocError> {
-    let span = Span {
-        from: 0,
-        to: many.saturating_sub(1),
-    };
-    part(alloc, place, span, one, most_of(place), goal, gains)
-}
-
-// The case from a number of unparked blocks on.
-fn last_part(
-    alloc: Global,
-    place: &Place,
-    one: &Values,
-    many: u8,
-    goal: Number,
-    gains: &mut Gains,
-) -> Result<Held, AllocError> {
-    let span = Span {
-        from: many,
-        ..EVERY
-    };
-    part(alloc, place, span, one, -most_of(place), goal, gains)
-}
-
-// Most of what an unparked block costs.
-fn most_of(place: &Place) -> Number {
-    Wrapping(place.scene.unparked.0 / 100 * 94)
-}
-
 // Two cases near the number of a plan's unparked blocks, where they bound more than one.
 fn parted(
     alloc: Global,
@@ -141,15 +113,13 @@ fn parted(
     known: Known,
     gains: &mut Gains,
 ) -> Result<Halves, AllocError> {
-    let values = one.values.copied(alloc)?;
+    let values = one.case.values.copied(alloc)?;
+    let multiplier = place.scene.most_of_unparked();
     let little = one.sum + grains(place, CLOSE);
     let mut least = little;
     let mut many = known.unparked.max(1);
     let mut seen = Vec::with_capacity(alloc, TRIES)?;
-    let mut best = Halves {
-        first: None,
-        last: one,
-    };
+    let mut best = Halves::one(one);
     if best.last.sum >= known.goal {
         return Ok(best);
     }
@@ -158,12 +128,14 @@ fn parted(
             return Ok(best);
         }
         seen.push(many)?;
-        let first = first_part(alloc, place, &values, many, known.goal, gains)?;
+        let few = Span::below(many);
+        let first = part(alloc, place, few, &values, multiplier, known.goal, gains)?;
         if first.sum <= little {
             many = many.saturating_sub(1);
             continue 'numbers;
         }
-        let last = last_part(alloc, place, &values, many, known.goal, gains)?;
+        let rest = Span::at_least(many);
+        let last = part(alloc, place, rest, &values, -multiplier, known.goal, gains)?;
         if last.sum <= little {
             many = many.saturating_add(1);
         }
@@ -206,29 +178,18 @@ fn again(
     multiplier: bool,
     gains: &mut Gains,
 ) -> Result<Held, AllocError> {
-    let start = hold(place, case.span, case.values, gains)?;
+    let Fixed { span, values } = case.case;
+    let start = hold(place, span, values, gains)?;
     raised(alloc, place, start, goal, multiplier, gains)
-}
-
-// The place of a path, without prices.
-fn place_at(alloc: Global, instance: &Instance, path: &Path) -> Result<Place, AllocError>
-    requires { IsTrailOf instance.now path.now }
-{
-    let scene = Scene::new(alloc, instance, path)?;
-    let stacks = Stacks::new(alloc, instance, &scene)?;
-    let spaces = stacks.spaces(alloc, instance, &scene, path.blocks())?;
-    Ok(Place {
-        scene,
-        stacks,
-        spaces,
-    })
 }
 
 // A case without stacks as one with stacks, whose sum isn't known.
 fn case_at(alloc: Global, case: &Case, from: u8, slots: &[Slot]) -> Result<Held, AllocError> {
     Ok(Held {
-        span: Span { from, to: case.to },
-        values: values_of(alloc, case, slots)?,
+        case: Fixed {
+            span: Span { from, to: case.to },
+            values: values_of(alloc, case, slots)?,
+        },
         sum: NOTHING,
     })
 }
@@ -236,13 +197,11 @@ fn case_at(alloc: Global, case: &Case, from: u8, slots: &[Slot]) -> Result<Held,
 // Cases without stacks as cases with stacks.
 fn halves_of(alloc: Global, cases: &Cases, slots: &[Slot]) -> Result<Halves, AllocError> {
     if cases.len() < 2 {
-        return Ok(Halves {
-            first: None,
-            last: case_at(alloc, cases.get(0), 0, slots)?,
-        });
+        let one = case_at(alloc, cases.get(0), 0, slots)?;
+        return Ok(Halves::one(one));
     }
     let first = case_at(alloc, cases.get(0), 0, slots)?;
-    let from = first.span.to.saturating_add(1);
+    let from = first.case.to().saturating_add(1);
     Ok(Halves {
         first: Some(first),
         last: case_at(alloc, cases.get(1), from, slots)?,
@@ -250,11 +209,15 @@ fn halves_of(alloc: Global, cases: &Cases, slots: &[Slot]) -> Result<Halves, All
 }
 
 // The same case for other prices, whose sum isn't known.
-fn repriced(alloc: Global, case: Held, from: &[Slot], to: &[Slot]) -> Result<Held, AllocError> {
+fn repriced(alloc: Global, held: Held, from: &[Slot], to: &[Slot]) -> Result<Held, AllocError> {
+    let Held { case, sum } = held;
+    let Fixed { span, values } = case;
     Ok(Held {
-        span: case.span,
-        values: moved(alloc, case.values, from, to)?,
-        sum: case.sum,
+        case: Fixed {
+            span,
+            values: moved(alloc, values, from, to)?,
+        },
+        sum,
     })
 }
 
@@ -304,7 +267,7 @@ pub(crate) fn cases_with_stacks(
     ensures cases { IfOk result (AreCases instance.now) }
     ensures apart { IfOk result (All (λ c. AreApart c.duals.prices)) }
 {
-    let mut place = place_at(alloc, instance, path)?;
+    let mut place = Place::new(alloc, instance, path)?;
     let slots = slots_beside(alloc, instance, &place, slots)?;
     let halves = halves_of(alloc, cases, &slots)?;
     place.scene.price(alloc, instance, path.blocks(), slots)?;
@@ -324,8 +287,8 @@ fn state(
     ensures apart { IfOk result (All (λ c. AreApart c.duals.prices)) }
 {
     let first = match &halves.first {
-        Some(first) => Some(first.sketch()),
+        Some(first) => Some(&first.case),
         None => None,
     };
-    cases_with(alloc, instance, &place.scene, first, halves.last.sketch())
+    cases_with(alloc, instance, &place.scene, first, &halves.last.case)
 }

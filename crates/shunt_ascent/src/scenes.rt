@@ -14,6 +14,7 @@ use shunt_choices::{Covered, Path, shapes_from};
 use shunt_instance::Instance;
 use std::alloc::{AllocError, Global};
 use std::mem;
+use std::num::Wrapping;
 
 /// A free shape: its first position, its number of units, its group, and what its ends weigh.
 #[derive(Clone, Copy)]
@@ -248,6 +249,11 @@ impl Scene {
         Ok(())
     }
 
+    /// Most of what an unparked block weighs but for its ends.
+    pub(crate) fn most_of_unparked(&self) -> Number {
+        Wrapping(self.unparked.0 / 100 * 94)
+    }
+
     /// The least ways for each track of the shapes of a group.
     pub(crate) fn ways(&self, group: &Group) -> &[Number] {
         match self.kinds.get(group.kind) {
@@ -288,11 +294,32 @@ impl Scene {
         count_blocks(instance, &self.slots, blocks, &mut self.counts);
     }
 
-    /// Whether a unit continues its train, and isn't covered.
-    pub(crate) fn continues(&self, u: usize) -> bool {
+    // Whether there is a unit that isn't covered.
+    fn is_free(&self, u: usize) -> bool {
         match self.stands.get(u) {
-            Some(stand) => stand.follows && !stand.covered,
+            Some(stand) => !stand.covered,
             None => false,
         }
+    }
+
+    // Whether the unit before one is of its train.
+    fn follows(&self, u: usize) -> bool {
+        match self.stands.get(u) {
+            Some(stand) => stand.follows,
+            None => false,
+        }
+    }
+
+    /// Whether a unit continues its train, and isn't covered.
+    pub(crate) fn continues(&self, u: usize) -> bool {
+        self.follows(u) && self.is_free(u)
+    }
+
+    /// Whether a unit isn't covered, and the one before it isn't of its train or is covered.
+    pub(crate) fn begins(&self, u: usize) -> bool {
+        if !self.is_free(u) {
+            return false;
+        }
+        !self.follows(u) || !self.is_free(u.saturating_sub(1))
     }
 }

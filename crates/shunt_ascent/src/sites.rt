@@ -4,42 +4,37 @@ ghost use Rattle.shunt_choices.specs.defs.Paths.{IsTrailOf};
 ghost use Rattle.shunt_prices.specs.defs.Limits.{IsCase, AreApart, AreCases};
 
 use crate::ascent::{Ascent, ascend};
-use crate::certificate_cases::{Sketch, cases_with};
-use crate::groups::{NO_WAY, block_with, weight};
+use crate::certificate_cases::cases_with;
+use crate::entries::{Choice, choices_from};
+use crate::masks::Masks;
 use crate::numbers::{NOTHING, Number, at, whole};
-use crate::points::{Point, Span};
+use crate::points::{Fixed, Point, Span, Values};
 use crate::proposal::{Proposal, slots_with};
-use crate::scenes::{Entry, Row, Scene, Stand};
+use crate::scenes::{Entry, Scene};
 use crate::stated::{point_of, scaled};
 use crate::valuation::Work;
 use crate::whole_numbers::{round, settle};
 use shunt_base::{Case, Cases};
-use shunt_blocks::{Block, Park, are_runs_within, position_from, shape_of, unit_from};
-use shunt_choices::{Path, options};
+use shunt_blocks::Block;
+use shunt_choices::Path;
 use shunt_instance::Instance;
 use std::alloc::{AllocError, Global};
 use std::num::Wrapping;
 
-/// A case with whole numbers while a tree grows by it: what it speaks of, its numbers and its values of units, that many to one.
-#[derive(Drop)]
-pub struct Fixed {
-    span: Span,
-    point: Point,
-    alpha: Vec<Number>,
-}
+/// How far the first step of an ascent goes, and that of the one behind it, once prices of length are whole, in grains.
+const STEPS: [i64; 2] = [6_000, 300];
+
+/// How many evaluations that one takes at most.
+const FEW: usize = 20;
+
+/// How far above its goal an ascent goes, in thousandths of a grain.
+const MORE: i64 = 3_000;
 
 /// A case with its sum at a path, in thousandths of a cost unit.
 #[derive(Drop)]
 pub struct Raised {
     pub case: Fixed,
     pub sum: i64,
-}
-
-/// A block that may come next; its id says nothing.
-#[derive(Clone, Copy)]
-pub struct SiteChoice {
-    pub block: Block,
-    entry: Entry,
 }
 
 /// How far a case is raised: to a sum in thousandths of a cost unit, by that many evaluations at most, and whether its multiplier changes.
@@ -55,80 +50,7 @@ pub struct Raise {
 pub struct Site {
     scene: Scene,
     work: Work,
-    // For each unit the shapes that are free at the first path.
-    shapes: Vec<Vec<Row>>,
-    // For each unit whether it is free.
-    free: Vec<bool>,
-    // How many free units follow each other from each one on, and how many free positions.
-    unit_runs: Vec<usize>,
-    position_runs: Vec<usize>,
-}
-
-impl Fixed {
-    // Its numbers, to be stated.
-    fn sketch(&self) -> Sketch<'_> {
-        Sketch {
-            point: &self.point,
-            alpha: &self.alpha,
-            to: self.span.to,
-        }
-    }
-
-    /// The greatest number of unparked blocks that it speaks of.
-    pub fn to(&self) -> u8 {
-        self.span.to
-    }
-}
-
-// All free shapes of a scene, by unit.
-fn shapes_of(alloc: Global, scene: &Scene) -> Result<Vec<Vec<Row>>, AllocError> {
-    let mut shapes = Vec::with_capacity(alloc, scene.stands.len())?;
-    for stand in &scene.stands {
-        shapes.push(Vec::from_slice(alloc, &stand.rows)?)?;
-    }
-    Ok(shapes)
-}
-
-// Marks that many from one on.
-fn mark(marks: &mut [bool], from: usize, n: usize) {
-    for k in 0..n {
-        if let Some(free) = marks.get_mut(from.saturating_add(k)) {
-            *free = false;
-        }
-    }
-}
-
-fn free_all(marks: &mut [bool]) {
-    for free in marks.iter_mut() {
-        *free = true;
-    }
-}
-
-// Finds how many free ones follow each other from each on.
-fn find_runs(free: &[bool], runs: &mut [usize]) {
-    let mut run = 0usize;
-    for (free, old) in free.iter().zip(runs.iter_mut()).rev() {
-        run = if *free { run.saturating_add(1) } else { 0 };
-        *old = run;
-    }
-}
-
-// Keeps the shapes of a unit that are free, where that many units and positions follow each other.
-fn keep_free(
-    stand: &mut Stand,
-    shapes: &[Row],
-    units: usize,
-    positions: &[usize],
-) -> Result<(), AllocError> {
-    stand.covered = units == 0;
-    stand.rows.clear();
-    for row in shapes {
-        let positions = positions.get(row.v).copied().unwrap_or(0);
-        if row.n <= units && row.n <= positions {
-            stand.rows.push(*row)?;
-        }
-    }
-    Ok(())
+    masks: Masks,
 }
 
 // The sum of that many values from one on.
@@ -138,6 +60,13 @@ fn run_sum(values: &[Number], from: usize, n: usize) -> Number {
         sum += at(values, from.saturating_add(k));
     }
     sum
+}
+
+impl Raise {
+    /// The sum that an ascent goes to: more than the goal, since its numbers aren't whole yet.
+    pub(crate) fn height(&self, grain: i64) -> Number {
+        scaled(self.goal) + scaled(MORE) * Wrapping(grain)
+    }
 }
 
 impl Site {
@@ -151,63 +80,24 @@ impl Site {
     ) -> Result<Site, AllocError>
         requires { IsTrailOf instance.now path.now }
     {
-        let slots = slots_with(alloc, instance, proposal, cases)?;
+        let slots = slots_with(instance, proposal.slots(alloc)?, cases)?;
         let mut scene = Scene::new(alloc, instance, path)?;
         scene.price(alloc, instance, path.blocks(), slots)?;
         let work = Work::new(alloc, &scene)?;
-        let shapes = shapes_of(alloc, &scene)?;
-        let units = scene.stands.len();
-        let positions = scene.free.len();
-        let mut site = Site {
-            scene,
-            work,
-            shapes,
-            free: vec![in alloc; true; units]?,
-            unit_runs: vec![in alloc; 0; units]?,
-            position_runs: vec![in alloc; 0; positions]?,
-        };
+        let masks = Masks::new(alloc, &scene)?;
+        let mut site = Site { scene, work, masks };
         site.go_to(instance, path.blocks())?;
         Ok(site)
     }
 
-    fn cover(&mut self, instance: &Instance, block: &Block) {
-        let shape = shape_of(block);
-        if !are_runs_within(instance, shape) {
-            return;
-        }
-        let n = shape.n as usize;
-        mark(&mut self.free, unit_from(instance, shape), n);
-        mark(&mut self.scene.free, position_from(instance, shape), n);
-    }
-
-    // Finds the shapes that are free.
-    fn find_free(&mut self) -> Result<(), AllocError> {
-        find_runs(&self.free, &mut self.unit_runs);
-        find_runs(&self.scene.free, &mut self.position_runs);
-        for (u, stand) in self.scene.stands.iter_mut().enumerate() {
-            let units = self.unit_runs.get(u).copied().unwrap_or(0);
-            if let Some(shapes) = self.shapes.get(u) {
-                keep_free(stand, shapes, units, &self.position_runs)?;
-            }
-        }
-        Ok(())
-    }
-
     /// Goes to the path of these blocks, of which the first path's are some. Err is want of memory.
     pub fn go_to(&mut self, instance: &Instance, blocks: &[Block]) -> Result<(), AllocError> {
-        free_all(&mut self.free);
-        free_all(&mut self.scene.free);
-        for block in blocks {
-            self.cover(instance, block);
-        }
-        self.scene.count(instance, blocks);
-        self.scene.entries.clear();
-        self.find_free()
+        self.masks.go_to(instance, blocks, &mut self.scene)
     }
 
     /// How many units are free.
     pub fn units_left(&self) -> usize {
-        self.free.iter().filter(|free| **free).count()
+        self.masks.units_left()
     }
 
     /// How many blocks of the path are unparked.
@@ -215,62 +105,15 @@ impl Site {
         self.scene.left.0
     }
 
-    // Whether a group has a way to an option's track.
-    fn has_way(&self, group: usize, option: Option<Park>) -> bool {
-        let Some(park) = option else {
-            return true;
-        };
-        let Some(group) = self.scene.groups.get(group) else {
-            return false;
-        };
-        match self.scene.ways(group).get(park.track.0 as usize) {
-            Some(way) => *way < NO_WAY,
-            None => false,
-        }
-    }
-
-    // Adds a shape at a unit with each of its options.
-    fn add_choices(
-        &self,
-        instance: &Instance,
-        u: usize,
-        row: &Row,
-        choices: &mut Vec<SiteChoice>,
-    ) -> Result<(), AllocError> {
-        if !are_runs_within(instance, row.shape) {
-            return Ok(());
-        }
-        for option in options(instance, row.shape) {
-            if self.has_way(row.group, option) {
-                choices.push(choice_of(instance, u, row, option))?;
-            }
-        }
-        Ok(())
-    }
-
     /// The blocks that may come next, also those with which the run doesn't go through. Err is want of memory.
-    pub fn choices(
-        &self,
-        alloc: Global,
-        instance: &Instance,
-    ) -> Result<Vec<SiteChoice>, AllocError> {
-        let mut choices = Vec::new(alloc);
-        let Some(u) = self.free.iter().position(|free| *free) else {
-            return Ok(choices);
-        };
-        let Some(stand) = self.scene.stands.get(u) else {
-            return Ok(choices);
-        };
-        for row in &stand.rows {
-            self.add_choices(instance, u, row, &mut choices)?;
-        }
-        Ok(choices)
+    pub fn choices(&self, alloc: Global, instance: &Instance) -> Result<Vec<Choice>, AllocError> {
+        choices_from(alloc, instance, &self.scene, self.masks.next_unit())
     }
 
     // What a case comes to with the next block, from what it comes to at the path, in thousandths.
     fn sum_with(&self, case: &Fixed, sum: i64, entry: &Entry) -> i64 {
-        let weight = self.work.reduced(&self.scene, &case.point, entry);
-        let alphas = run_sum(&case.alpha, entry.u, entry.row.n);
+        let weight = self.work.reduced(&self.scene, &case.values.point, entry);
+        let alphas = run_sum(&case.values.alpha, entry.u, entry.row.n);
         (Wrapping(sum) + whole(weight - alphas)).0
     }
 
@@ -280,9 +123,9 @@ impl Site {
         alloc: Global,
         case: &Fixed,
         sum: i64,
-        choices: &[SiteChoice],
+        choices: &[Choice],
     ) -> Result<Vec<i64>, AllocError> {
-        self.work.weigh_all(&self.scene, &case.point);
+        self.work.weigh_all(&self.scene, &case.values.point);
         let mut sums = Vec::with_capacity(alloc, choices.len())?;
         for choice in choices {
             sums.push(self.sum_with(case, sum, &choice.entry))?;
@@ -308,7 +151,10 @@ impl Site {
         let sum = self.work.evaluate(&self.scene, span, &point);
         let alpha = self.work.growths(alloc, &self.scene)?;
         Ok(Raised {
-            case: Fixed { span, point, alpha },
+            case: Fixed {
+                span,
+                values: Values { alpha, point },
+            },
             sum: whole(sum).0,
         })
     }
@@ -326,7 +172,7 @@ impl Site {
     }
 
     // Lets these be the blocks that may come next.
-    fn enter(&mut self, choices: &[SiteChoice]) -> Result<(), AllocError> {
+    fn enter(&mut self, choices: &[Choice]) -> Result<(), AllocError> {
         self.scene.entries.clear();
         for choice in choices {
             self.scene.entries.push(choice.entry)?;
@@ -339,25 +185,25 @@ impl Site {
         &mut self,
         alloc: Global,
         case: &Fixed,
-        choices: &[SiteChoice],
+        choices: &[Choice],
         raise: Raise,
     ) -> Result<Raised, AllocError> {
         self.enter(choices)?;
-        let goal = scaled(raise.goal);
         let ascent = Ascent {
             lengths: true,
             multiplier: raise.multiplier,
-            step: 6_000,
+            step: STEPS[0],
             most: raise.most,
-            goal: goal + scaled(3_000) * Wrapping(self.scene.grain),
+            goal: raise.height(self.scene.grain),
         };
         let scene = &self.scene;
-        let (point, _) = ascend(alloc, scene, case.span, ascent, &case.point, &mut self.work)?;
+        let start = &case.values.point;
+        let (point, _) = ascend(alloc, scene, case.span, ascent, start, &mut self.work)?;
         let ascent = Ascent {
             lengths: false,
-            step: 300,
-            most: 20,
-            goal,
+            step: STEPS[1],
+            most: FEW,
+            goal: scaled(raise.goal),
             ..ascent
         };
         let found = settle(alloc, scene, case.span, ascent, point, &mut self.work)?;
@@ -375,31 +221,6 @@ impl Site {
         ensures cases { IfOk result (AreCases instance.now) }
         ensures apart { IfOk result (All (λ c. AreApart c.duals.prices)) }
     {
-        let first = match first {
-            Some(first) => Some(first.sketch()),
-            None => None,
-        };
-        cases_with(alloc, instance, &self.scene, first, last.sketch())
-    }
-}
-
-// A shape at a unit with an option.
-fn choice_of(instance: &Instance, u: usize, row: &Row, option: Option<Park>) -> SiteChoice {
-    let block = block_with(row.shape, option);
-    SiteChoice {
-        block,
-        entry: Entry {
-            u,
-            row: *row,
-            track: track_of(option),
-            cost: weight(instance, &block),
-        },
-    }
-}
-
-fn track_of(option: Option<Park>) -> Option<usize> {
-    match option {
-        Some(park) => Some(park.track.0 as usize),
-        None => None,
+        cases_with(alloc, instance, &self.scene, first, last)
     }
 }

@@ -41,7 +41,7 @@ pub(crate) struct Stacks {
 
 /// A block of a path on a stack: the numbers of its first entry and its last leave, how many units it has, and its length in dm.
 #[derive(Clone, Copy)]
-struct Fixed {
+struct Parked {
     enters: u16,
     leaves: u16,
     n: u16,
@@ -54,7 +54,7 @@ pub(crate) struct Space {
     /// The parts of the order of events, from the entry of the first uncovered unit on.
     pub parts: Vec<Part>,
     // The blocks of the path that come later.
-    later: Vec<Fixed>,
+    later: Vec<Parked>,
 }
 
 /// The stack of blocks that are parked so. None where they go by another side than they came.
@@ -158,12 +158,12 @@ fn all_ways(
 }
 
 // A block of a path that goes by some stack.
-fn fixed_of(instance: &Instance, events: &Events, block: &Block) -> Option<Fixed> {
+fn parked_of(instance: &Instance, events: &Events, block: &Block) -> Option<Parked> {
     if !in_range(instance, block) {
         return None;
     }
     let shape = shape_of(block);
-    Some(Fixed {
+    Some(Parked {
         enters: events.entry(unit_from(instance, shape)),
         leaves: events.leave(position_from(instance, shape)),
         n: u16::from(block.n),
@@ -172,28 +172,28 @@ fn fixed_of(instance: &Instance, events: &Events, block: &Block) -> Option<Fixed
 }
 
 // The blocks of a path that go by a stack.
-fn fixed_on(
+fn parked_on(
     alloc: Global,
     instance: &Instance,
     events: &Events,
     blocks: &[Block],
     stack: usize,
-) -> Result<Vec<Fixed>, AllocError> {
-    let mut fixed = Vec::new(alloc);
+) -> Result<Vec<Parked>, AllocError> {
+    let mut parked = Vec::new(alloc);
     for block in blocks {
         if block.park.and_then(stack_of) == Some(stack) {
-            if let Some(found) = fixed_of(instance, events, block) {
-                fixed.push(found)?;
+            if let Some(found) = parked_of(instance, events, block) {
+                parked.push(found)?;
             }
         }
     }
-    Ok(fixed)
+    Ok(parked)
 }
 
 // Those of these blocks that stand when an event comes, in the order in which they leave.
-fn standing_at(alloc: Global, fixed: &[Fixed], event: u16) -> Result<Vec<Fixed>, AllocError> {
+fn standing_at(alloc: Global, parked: &[Parked], event: u16) -> Result<Vec<Parked>, AllocError> {
     let mut standing = Vec::new(alloc);
-    for block in fixed {
+    for block in parked {
         if block.enters < event && event < block.leaves {
             standing.push(*block)?;
         }
@@ -203,9 +203,9 @@ fn standing_at(alloc: Global, fixed: &[Fixed], event: u16) -> Result<Vec<Fixed>,
 }
 
 // Those of these blocks that come at an event or later.
-fn later_than(alloc: Global, fixed: &[Fixed], event: u16) -> Result<Vec<Fixed>, AllocError> {
+fn later_than(alloc: Global, parked: &[Parked], event: u16) -> Result<Vec<Parked>, AllocError> {
     let mut later = Vec::new(alloc);
-    for block in fixed {
+    for block in parked {
         if event <= block.enters {
             later.push(*block)?;
         }
@@ -213,7 +213,7 @@ fn later_than(alloc: Global, fixed: &[Fixed], event: u16) -> Result<Vec<Fixed>, 
     Ok(later)
 }
 
-fn length_together(standing: &[Fixed]) -> u32 {
+fn length_together(standing: &[Parked]) -> u32 {
     let mut sum = 0u32;
     for block in standing {
         sum = sum.saturating_add(block.long);
@@ -225,7 +225,7 @@ fn length_together(standing: &[Fixed]) -> u32 {
 fn parts_of(
     alloc: Global,
     rooms: &Rooms,
-    standing: &[Fixed],
+    standing: &[Parked],
     first: u16,
     count: u16,
 ) -> Result<Vec<Part>, AllocError> {
@@ -343,14 +343,14 @@ impl Stacks {
         stack: usize,
         first: u16,
     ) -> Result<Space, AllocError> {
-        let fixed = fixed_on(alloc, instance, &self.events, blocks, stack)?;
-        let standing = standing_at(alloc, &fixed, first)?;
+        let parked = parked_on(alloc, instance, &self.events, blocks, stack)?;
+        let standing = standing_at(alloc, &parked, first)?;
         Ok(Space {
             parts: match self.rooms_of(stack) {
                 Some(rooms) => parts_of(alloc, rooms, &standing, first, self.events.count)?,
                 None => Vec::new(alloc),
             },
-            later: later_than(alloc, &fixed, first)?,
+            later: later_than(alloc, &parked, first)?,
         })
     }
 

@@ -19,6 +19,12 @@ pub(crate) struct Lightest {
     pub track: Option<usize>,
 }
 
+/// What isn't known weighs nothing.
+pub(crate) const UNKNOWN: Lightest = Lightest {
+    weight: NOTHING,
+    track: None,
+};
+
 /// What the shapes of a group weigh but for their ends: for each track, and by the lightest option.
 #[derive(Drop)]
 struct Weights {
@@ -76,10 +82,7 @@ fn weights_of(alloc: Global, scene: &Scene) -> Result<Vec<Weights>, AllocError> 
     for _group in &scene.groups {
         weights.push(Weights {
             parked: vec![in alloc; NOTHING; scene.tracks]?,
-            lightest: Lightest {
-                weight: NOTHING,
-                track: None,
-            },
+            lightest: UNKNOWN,
         })?;
     }
     Ok(weights)
@@ -112,10 +115,7 @@ impl Work {
     fn lightest_at(&self, group: usize) -> Lightest {
         match self.weights.get(group) {
             Some(weights) => weights.lightest,
-            None => Lightest {
-                weight: NOTHING,
-                track: None,
-            },
+            None => UNKNOWN,
         }
     }
 
@@ -185,38 +185,23 @@ impl Work {
         found
     }
 
-    // What a train comes to from its first uncovered unit on, where the next block begins there.
-    fn add_nearest(&mut self, scene: &Scene, next: &Nearest) -> Number {
-        let row = next.entry.row;
-        self.slopes
-            .choose(scene, next.entry.u, &row, next.entry.track);
-        let behind = next.entry.u.saturating_add(row.n);
-        if scene.continues(behind) {
-            self.rests.choose_from(scene, behind, &mut self.slopes);
-        }
-        next.weight
-    }
-
-    // What a train comes to from its first uncovered unit on.
-    fn add_train(&mut self, scene: &Scene, u: usize, next: Option<Nearest>) -> Number {
+    // What a train comes to from its first uncovered unit on, where the next block may begin.
+    fn train(&self, u: usize, next: Option<Nearest>) -> Number {
         if let Some(next) = next {
             if next.entry.u == u {
-                return self.add_nearest(scene, &next);
+                return next.weight;
             }
         }
-        self.rests.choose_from(scene, u, &mut self.slopes);
         self.rests.at(u)
     }
 
-    // What the trains come to, whose chosen shapes are counted.
-    fn add_trains(&mut self, scene: &Scene, next: Option<Nearest>) -> Number {
+    // What the trains come to.
+    fn trains(&self, scene: &Scene, next: Option<Nearest>) -> Number {
         let mut sum = NOTHING;
-        let mut covered = true;
-        for (u, stand) in scene.stands.iter().enumerate() {
-            if !stand.covered && (covered || !stand.follows) {
-                sum += self.add_train(scene, u, next);
+        for u in 0..scene.stands.len() {
+            if scene.begins(u) {
+                sum += self.train(u, next);
             }
-            covered = stand.covered;
         }
         sum
     }
@@ -233,7 +218,9 @@ impl Work {
         self.cover(scene);
         self.slopes.begin(scene, span, point.multiplier);
         let next = self.nearest(scene, point);
-        scene.stated(span, point) + self.add_trains(scene, next)
+        let entry = next.map(|nearest| nearest.entry);
+        self.rests.choose_all(scene, entry, &mut self.slopes);
+        scene.stated(span, point) + self.trains(scene, next)
     }
 
     /// For each unit by how much covering its train from there on comes to more than from the unit behind it on, and nothing where it is

@@ -1,5 +1,5 @@
 -- From what a search found to the answers of `plan`, `pinned` and `improve`.
-use Rattle.std.proofs.Common.{◌≡◌, ◌≢◌, ◌∙◌, ℕ, zero, suc, Bool, List, [], ◌∷◌, ◌++◌, length, map, Option, Some, None, Result, Ok, Err, refl, subst, sym, ap, inl, inr, arith, rules, IsPermutation}
+use Rattle.std.proofs.Common.{◌≡◌, ◌≢◌, ◌∙◌, ℕ, ◌≤◌, zero, suc, Bool, List, [], ◌∷◌, ◌++◌, length, map, Option, Some, None, Result, Ok, Err, refl, subst, sym, ap, inl, inr, arith, rules, IsPermutation}
 use Rattle.std.proofs.lemmas.List.Sorted.{sum_by-IsPermutation}
 use Rattle.std.specs.List.{range_with_len}
 use Rattle.std.specs.Prelude.{◌==◌, not, IfNone, IfSome}
@@ -17,14 +17,15 @@ use Rattle.shunt_blocks.specs.defs.Lists.{times_unit, times_position, units_take
 use Rattle.shunt_blocks.specs.defs.Pins.{AreUsable}
 use Rattle.shunt_plan.specs.defs.Plans.{IsPlanInRange}
 use Rattle.shunt_proof.specs.declared.records.Version.{Version}
-use Rattle.shunt_proof.specs.declared.records.Version.TheVariants.{Prices}
+use Rattle.shunt_proof.specs.declared.records.Version.TheVariants.{Prices, Stacks}
 use Rattle.shunt_proof.specs.declared.records.Certificate.{Certificate}
+use Rattle.shunt_proof.specs.defs.Numbers.{CanBeRead}
 use Rattle.shunt_proof.specs.defs.Recorders.{Finished}
 use Rattle.shunt_proof.specs.defs.TextRecorders.{Streamed, stage_of, told_of, KeepsStream}
 use Rattle.shunt_proof.proofs.Stages.{finished}
 use Rattle.shunt_report.specs.defs.PlanTexts.{plan_of}
 use Rattle.shunt_search.specs.declared.solved.Solved.{Solved}
-use Rattle.shunt_search.specs.defs.Endings.{certificate_of, IsShown}
+use Rattle.shunt_search.specs.defs.Endings.{certificate_in, IsShownIn}
 use Rattle.shunt_inputs.specs.declared.answers.Answer.{Answer}
 use Rattle.shunt_inputs.specs.declared.file_loader.Halt.{Halt}
 use Rattle.shunt_inputs.specs.declared.file_loader.Halt.TheVariants as halt
@@ -43,23 +44,31 @@ use Rattle.shunt_planning.proofs.Certified.{finished_text}
 
 -- ---- what a recorder leaves
 
-pub stream_found : (night : Night) (pins : List Block) (most : ℕ) (name : List ℕ) (s t : Streamed) (solved : Solved) → s.version ≡ Prices → s.night ≡ night → s.name ≡ name
+pub stream_found : (night : Night) (pins : List Block) (most : ℕ) (name : List ℕ) (s t : Streamed) (solved : Solved) → s.version ≡ solved.version → s.night ≡ night
+    → s.name ≡ name
     → KeepsStream s t → stage_of t ≡ Finished solved.cost solved.bound → solved.cost ≡ solved.plan.cost
-    → IsShown night pins most solved.plan solved.bound solved.nodes (told_of t) → IsFound night pins most name t.place solved
-stream_found night pins most name s t solved of_version of_night called keeps stage cost shown = record {
+    → IsShownIn solved.version night pins most solved.plan solved.bound solved.nodes (told_of t) → (most ≤ 16 → solved.version ≡ Prices)
+    → IsFound night pins most name t.place solved
+stream_found night pins most name s t solved of_version of_night called keeps stage cost shown few = record {
   nodes = shown.nodes;
   many = shown.many;
   statable = shown.stated;
   meet = shown.meet;
+  few = few;
   written = (finished t solved.cost solved.bound stage).place ∙ ap (λ n. Writing n (text_of t.place)) (keeps.name ∙ called) ∙ ap (Writing name) text;
 }
   where
-    text : text_of t.place ≡ certificate_file night (certificate_of solved.plan solved.bound shown.nodes)
+    text : text_of t.place ≡ certificate_file night (certificate_in solved.version solved.plan solved.bound shown.nodes)
     text =
         finished_text t solved.cost solved.bound shown.nodes stage shown.tells
         ∙ ap (λ (v : Version). certificate_file t.night (record { version = v; nodes = shown.nodes; cost = solved.cost; bound = solved.bound })) (keeps.version ∙ of_version)
-        ∙ ap (λ (n : Night). certificate_file n (record { version = Prices; nodes = shown.nodes; cost = solved.cost; bound = solved.bound })) (keeps.night ∙ of_night)
-        ∙ ap (λ (x : ℕ). certificate_file night (record { version = Prices; nodes = shown.nodes; cost = x; bound = solved.bound })) cost
+        ∙ ap (λ (n : Night). certificate_file n (record { version = solved.version; nodes = shown.nodes; cost = solved.cost; bound = solved.bound })) (keeps.night ∙ of_night)
+        ∙ ap (λ (x : ℕ). certificate_file night (record { version = solved.version; nodes = shown.nodes; cost = x; bound = solved.bound })) cost
+
+-- either version can be read
+pub readable : (v : Version) → CanBeRead v
+readable Prices = omega arith
+readable Stacks = omega arith
 
 -- a file is being written where a search has found
 pub found_open : (night : Night) (pins : List Block) (most : ℕ) (name : List ℕ) (place : Stage) (s : Solved) → IsFound night pins most name place s → IsWriting place
@@ -69,13 +78,13 @@ writing_closed : (name text : List ℕ) → Writing name text ≡ Closed → ⊥
 writing_closed name text e = absurd cc
 
 pub found_not_closed : (night : Night) (pins : List Block) (most : ℕ) (name : List ℕ) (place : Stage) (s : Solved) → IsFound night pins most name place s → place ≢ Closed
-found_not_closed night pins most name place s h e = writing_closed name (certificate_file night (certificate_of s.plan s.bound h.nodes)) (sym h.written ∙ e)
+found_not_closed night pins most name place s h e = writing_closed name (certificate_file night (certificate_in s.version s.plan s.bound h.nodes)) (sym h.written ∙ e)
 
 -- ---- the answer for a night
 
 module _ (pins : List Block) (most : ℕ) (p k : List ℕ) (night : Night) (place : Stage) (s : Solved) (h : IsFound night pins most k place s) where
   abbrev its : Certificate
-  its = certificate_of s.plan s.bound h.nodes
+  its = certificate_in s.version s.plan s.bound h.nodes
 
   abbrev rest : ℕ → ℕ → Reply
   rest cost count = record { outcome = search_outcome cost s.bound; writes = (p, plan_file night s.plan) ∷ []; text = plan_of s.plan s.bound count }
@@ -96,6 +105,7 @@ module _ (pins : List Block) (most : ℕ) (p k : List ℕ) (night : Night) (plac
         in_range = in_range;
         statable = h.statable;
         meet = h.meet;
+        few = h.few;
         reply = ap (with_first its_write) (is ∙ ap (λ (x : ℕ). rest x s.nodes) cost ∙ ap (rest s.plan.cost) h.many);
       };
       cost = subst fits cost fit;
@@ -211,3 +221,10 @@ usable_none night = record {
   apart = record { units = λ u. omega arith; positions = λ v. omega arith };
   through = refl;
 }
+
+-- ---- costs
+
+-- what costs no more than something that is no dearer than what is given
+pub no_dearer : {A : Type 0} (given : Option A) (cost : A → ℕ) (known now : ℕ) → now ≤ known → IfSome given (λ a. known ≤ cost a) → IfSome given (λ a. now ≤ cost a)
+no_dearer None cost known now le h = tt
+no_dearer (Some a) cost known now le h = omega (arith, le, h)

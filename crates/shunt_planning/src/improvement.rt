@@ -16,9 +16,9 @@ ghost use Rattle.shunt_planning.specs.defs.Begun.{IsImprovedOver};
 
 use crate::plan_search::search_answer;
 use shunt_blocks::Block;
-use shunt_inputs::{Answer, Halt, Inputs, Outcome, PinnedFiles, PlanFile, Then, pins_answer};
+use shunt_inputs::{Answer, Halt, Inputs, Outcome, PinnedFiles, PlanFile, Then};
 use shunt_instance::Instance;
-use shunt_judging::fault_answer;
+use shunt_judging::{fault_answer, pins_answer};
 use shunt_plan::{Plan, lost_pin};
 use shunt_report::lost_text;
 use shunt_search::laws::kept_matchings;

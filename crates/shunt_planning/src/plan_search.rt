@@ -9,13 +9,13 @@ ghost use Rattle.shunt_blocks.specs.defs.Pins.{AreUsable, Keeps as KeepsPins};
 ghost use Rattle.shunt_matching.specs.declared.types.Shortage.{Shortage as OneShortage};
 ghost use Rattle.shunt_matching.specs.defs.Nights.{IsShortageOf};
 ghost use Rattle.shunt_plan.specs.defs.Plans.{IsPlanInRange};
-ghost use Rattle.shunt_proof.specs.declared.records.Version.TheVariants.{Prices};
 ghost use Rattle.shunt_proof.specs.defs.CertificateRows.{head_row};
 ghost use Rattle.shunt_proof.specs.defs.Recorders.{Open, Finished};
 ghost use Rattle.shunt_proof.specs.defs.TextRecorders.{KeepsStream, seen, stage_of, told_of};
 ghost use Rattle.shunt_report.specs.defs.PlanTexts.{plan_of};
 ghost use Rattle.shunt_search.specs.defs.Conditions.{MeetsConditions};
-ghost use Rattle.shunt_search.specs.defs.Endings.{IsShown};
+ghost use Rattle.shunt_search.specs.defs.Finding.{IsFound as IsSearched};
+ghost use Rattle.shunt_search.specs.defs.Endings.{IsShownIn};
 ghost use Rattle.shunt_inputs.specs.defs.Replies.{reply_of};
 ghost use Rattle.shunt_inputs.specs.defs.Writes.{LeavesOne, known};
 ghost use Rattle.shunt_planning.specs.defs.Planned.{IsPlannedAt, plan_file, search_outcome};
@@ -25,25 +25,22 @@ use shunt_blocks::Block;
 use shunt_inputs::{Answer, Halt, Outcome, one_file};
 use shunt_instance::Instance;
 use shunt_plan::write_plan;
-use shunt_proof::{TextRecorder, Version, begin_certificate};
+use shunt_proof::{TextRecorder, begin_certificate};
 use shunt_report::plan_text;
-use shunt_search::{SolveError, Solved, solve_pinned};
+use shunt_search::{Found, SolveError, Solved, find, note_found};
 use shunt_store::{Store, StoreError};
 use std::alloc::{AllocError, Global};
 
-// Searches, and hands the nodes to a recorder that writes them. The store that it borrows stays the one that it borrowed.
-fn solve_into<S: Store>(
+// Hands the nodes of what was found to a recorder that writes them. The store that it borrows stays the one that it borrowed.
+fn note_into<S: Store>(
     alloc: Global,
     instance: &Instance,
     pins: &[Block],
-    given: Option<&[Block]>,
     nodes: u32,
+    found: Found,
     recorder: &mut TextRecorder<'_, S>,
 ) -> Result<Solved, SolveError>
-    requires usable { AreUsable instance.now pins.now }
-    requires feasible { IfSome given (λ p. IsFeasible instance.now p.now) }
-    requires keeps { IfSome given (λ p. KeepsPins p.now pins.now) }
-    requires some { 1 ≤ nodes }
+    requires found { IsSearched instance.now pins.now nodes found }
     requires few { nodes ≤ 5000 }
     requires stage { stage_of
         (seen recorder.old.version recorder.old.instance.now recorder.old.name.now
@@ -59,17 +56,17 @@ fn solve_into<S: Store>(
     ensures same_reference { recorder.new.store.ghost_name ≡ recorder.old.store.ghost_name }
     ensures meets { IfOk result (MeetsConditions instance.now pins.now nodes) }
     ensures in_range { IfOk result (λ s. IsPlanInRange instance.now s.plan) }
-    ensures never_worse { IfOk result
-        (λ s. IfSome given.entry (λ p. s.cost ≤ total_cost instance.now p.now)) }
-    ensures shown { IfOk result (λ s. IsShown instance.now pins.now nodes s.plan s.bound s.nodes
+    ensures cheaper { IfOk result (λ s. s.cost ≤ found.walk.search.known.cost) }
+    ensures version { IfOk result (λ s. s.version ≡ found.walk.version) }
+    ensures shown { IfOk result
+        (λ s. IsShownIn found.walk.version instance.now pins.now nodes s.plan s.bound s.nodes
         (told_of (seen recorder.new.version recorder.new.instance.now recorder.new.name.now (S.stage
         recorder.new.store.now) recorder.new.doing recorder.new.nodes recorder.new.cases))) }
     ensures finished { IfOk result
         (λ s. stage_of (seen recorder.new.version recorder.new.instance.now recorder.new.name.now
         (S.stage recorder.new.store.now) recorder.new.doing recorder.new.nodes recorder.new.cases)
         ≡ Finished s.cost s.bound) }
-    ensures exact { (s : OneShortage) → IsErrOf result (SolveError.NoMatching s) → IsShortageOf
-        instance.now (units_taken instance.now pins.now) (positions_taken instance.now pins.now) s }
+    ensures no_matching { (s : OneShortage) → IsErrOf result (SolveError.NoMatching s) → ⊥ }
     ensures cause { HasCause SolveError.Recorder (S.faults recorder.old.store.now)
         (S.faults recorder.new.store.now) result }
     ensures keeps { KeepsStream
@@ -81,41 +78,37 @@ fn solve_into<S: Store>(
     ensures heard { S.heard recorder.new.store.now ≡ S.heard recorder.old.store.now }
     ensures stored { S.stored recorder.new.store.now ≡ S.stored recorder.old.store.now }
 {
-    solve_pinned(alloc, instance, pins, given, nodes, recorder)
+    note_found(alloc, instance, pins, nodes, found, recorder)
 }
 
-// Searches, and writes on in the certificate that was begun. What was written of it is given up where nothing is found.
+// Writes what was found on in the certificate that was begun. What was written of it is given up where that fails.
 fn stream<S: Store>(
     alloc: Global,
     store: &mut S,
     instance: &Instance,
     pins: &[Block],
-    given: Option<&[Block]>,
     nodes: u32,
+    found: Found,
     certificate: &str,
 ) -> Result<Solved, StoreError>
-    requires writing { S.stage store.old ≡ Writing certificate.now (text_of_row (head_row Prices)) }
-    requires usable { AreUsable instance.now pins.now }
-    requires feasible { IfSome given (λ p. IsFeasible instance.now p.now) }
-    requires keeps { IfSome given (λ p. KeepsPins p.now pins.now) }
-    requires some { 1 ≤ nodes }
+    requires writing { S.stage store.old
+        ≡ Writing certificate.now (text_of_row (head_row found.walk.version)) }
+    requires found { IsSearched instance.now pins.now nodes found }
     requires few { nodes ≤ 5000 }
-    requires matching { (s : OneShortage) → IsShortageOf instance.now
-        (units_taken instance.now pins.now) (positions_taken instance.now pins.now) s → ⊥ }
     ensures found { IfOk result
         (IsFound instance.now pins.now nodes certificate.now (S.stage store.new)) }
     ensures in_range { IfOk result (λ s. IsPlanInRange instance.now s.plan) }
     ensures cost { IfOk result (λ s. s.cost ≡ s.plan.cost) }
-    ensures never_worse { IfOk result
-        (λ s. IfSome given.entry (λ p. s.cost ≤ total_cost instance.now p.now)) }
+    ensures cheaper { IfOk result (λ s. s.cost ≤ found.walk.search.known.cost) }
     ensures closed { OnErr result (S.stage store.new ≡ Closed) }
     ensures files { S.told store.new ≡ S.told store.old }
     ensures heard { S.heard store.new ≡ S.heard store.old }
     ensures stored { S.stored store.new ≡ S.stored store.old }
     ensures cause { HasCause StoreError.Fault (S.faults store.old) (S.faults store.new) result }
 {
-    let mut recorder = TextRecorder::over(alloc, instance, store, certificate, Version::Prices);
-    match solve_into(alloc, instance, pins, given, nodes, &mut recorder) {
+    let version = found.version();
+    let mut recorder = TextRecorder::over(alloc, instance, store, certificate, version);
+    match note_into(alloc, instance, pins, nodes, found, &mut recorder) {
         Ok(solved) => Ok(solved),
         Err(SolveError::NoMatching(_)) => unreachable!(),
         Err(SolveError::Recorder) => {
@@ -129,7 +122,65 @@ fn stream<S: Store>(
     }
 }
 
-// Searches with at most so many nodes, and writes the certificate node by node. It isn't stored yet.
+// Searches with at most so many nodes, which are kept in memory. Err is want of memory.
+fn search_in_memory(
+    alloc: Global,
+    instance: &Instance,
+    pins: &[Block],
+    given: Option<&[Block]>,
+    nodes: u32,
+) -> Result<Found, AllocError>
+    requires usable { AreUsable instance.now pins.now }
+    requires feasible { IfSome given (λ p. IsFeasible instance.now p.now) }
+    requires keeps { IfSome given (λ p. KeepsPins p.now pins.now) }
+    requires some { 1 ≤ nodes }
+    requires few { nodes ≤ 5000 }
+    requires matching { (s : OneShortage) → IsShortageOf instance.now
+        (units_taken instance.now pins.now) (positions_taken instance.now pins.now) s → ⊥ }
+    ensures found { IfOk result (IsSearched instance.now pins.now nodes) }
+    ensures never_worse { IfOk result
+        (λ f. IfSome given.entry (λ p. f.walk.search.known.cost ≤ total_cost instance.now p.now)) }
+{
+    match find(alloc, instance, pins, given, nodes) {
+        Ok(found) => Ok(found),
+        Err(SolveError::NoMatching(_)) => unreachable!(),
+        Err(SolveError::Recorder) => unreachable!(),
+        Err(SolveError::Memory) => Err(AllocError),
+    }
+}
+
+// Begins the certificate of what was found, in its version, and writes it node by node. It isn't stored yet.
+fn write_found<S: Store>(
+    alloc: Global,
+    store: &mut S,
+    instance: &Instance,
+    pins: &[Block],
+    nodes: u32,
+    found: Found,
+    certificate: &str,
+) -> Result<Solved, StoreError>
+    requires closed { S.stage store.old ≡ Closed }
+    requires found { IsSearched instance.now pins.now nodes found }
+    requires few { nodes ≤ 5000 }
+    ensures found { IfOk result
+        (IsFound instance.now pins.now nodes certificate.now (S.stage store.new)) }
+    ensures in_range { IfOk result (λ s. IsPlanInRange instance.now s.plan) }
+    ensures cost { IfOk result (λ s. s.cost ≡ s.plan.cost) }
+    ensures cheaper { IfOk result (λ s. s.cost ≤ found.walk.search.known.cost) }
+    ensures closed { OnErr result (S.stage store.new ≡ Closed) }
+    ensures files { S.told store.new ≡ S.told store.old }
+    ensures heard { S.heard store.new ≡ S.heard store.old }
+    ensures stored { S.stored store.new ≡ S.stored store.old }
+    ensures cause { HasCause StoreError.Fault (S.faults store.old) (S.faults store.new) result }
+{
+    let version = found.version();
+    match begin_certificate(alloc, store, certificate, version) {
+        Ok(()) => stream(alloc, store, instance, pins, nodes, found, certificate),
+        Err(e) => Err(e),
+    }
+}
+
+// Searches with at most so many nodes, and writes the certificate. It isn't stored yet.
 fn search<S: Store>(
     alloc: Global,
     store: &mut S,
@@ -159,9 +210,9 @@ fn search<S: Store>(
     ensures stored { S.stored store.new ≡ S.stored store.old }
     ensures cause { HasCause StoreError.Fault (S.faults store.old) (S.faults store.new) result }
 {
-    match begin_certificate(alloc, store, certificate, Version::Prices) {
-        Ok(()) => stream(alloc, store, instance, pins, given, nodes, certificate),
-        Err(e) => Err(e),
+    match search_in_memory(alloc, instance, pins, given, nodes) {
+        Ok(found) => write_found(alloc, store, instance, pins, nodes, found, certificate),
+        Err(_) => Err(StoreError::Memory),
     }
 }
 

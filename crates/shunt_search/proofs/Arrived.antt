@@ -32,7 +32,7 @@ use Rattle.shunt_proof.proofs.LongerLists.{one_more, placed_front, lean_more, li
 use Rattle.shunt_proof.proofs.Ancestors.{path_size, front_path}
 use Rattle.shunt_proof.proofs.Few.{CountLaws}
 use Rattle.shunt_proof.proofs.Noted.{last_path, last_duals, last_best, last_leans, last_placed, known_listed}
-use Rattle.shunt_search.specs.declared.children.Child.{Child}
+use Rattle.shunt_search.specs.declared.child.Child.{Child}
 use Rattle.shunt_search.specs.declared.walk_stack.Pending.{Pending}
 use Rattle.shunt_search.specs.defs.Yards.{choice_of, more_by, choices_in, IsNextBlock, AreChildren}
 use Rattle.shunt_search.specs.defs.WalkStates.{kept, goal_of, cases_in, IsPending, IsApart, IsKnown, IsWalked, OpensAbove, AddsChildren, IsWalk}

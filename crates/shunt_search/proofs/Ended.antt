@@ -163,13 +163,8 @@ module _ (laws : EndLaws) (version : Version) (night : Night) (i : IsInstance ni
           from_front m L more le (subst (λ (l : List Block). ProvesIn version night l (take m S.nodes) L 0) same proves);
     }
 
-    -- where no child is left and none was passed over, the bound is the best cost
-    none_left : s.waiting.items ≡ [] → s.low ≡ pos s.known.cost → plan.cost ≤ b
-    none_left e low = ⊎_elim (λ best. let states = for_plan.states in omega (arith, ints, best, low, cheap, states))
-        (λ t. absurd (subst (λ (l : List Pending). In t.0 l) e t.1)) left.least
-
     all : b < plan.cost → number ≡ most
-    all lt = ⊎_elim (λ e. e) (λ e. let le = none_left e.0 e.1 in absurd (omega (arith, le, lt))) done
+    all lt = ⊎_elim (λ e. e) (λ over. let high = over (pos b) left in let states = for_plan.states in absurd (omega (arith, ints, high, states, cheap, lt))) done
 
     optimal : partial_plans night pins < most → b ≡ plan.cost
     optimal fewer = laws.all_plans night pins plan.blocks plan.cost most c i S.walk.formed S.usable accepted

@@ -1,3 +1,4 @@
+mod HandedOn
 mod Stays
 mod Changed
 mod Through
@@ -24,8 +25,11 @@ mod Rooted
 mod Climbed
 mod Lowest
 mod Searched
-mod Begun
+mod Opened
 mod Restarted
+mod Renewed
+mod Kept
+mod FirstBounds
 mod Stocked
 mod Ended
 mod Prepared

@@ -10,7 +10,7 @@ use Rattle.shunt_blocks.specs.defs.Lists.{RunsThrough, placed}
 use Rattle.shunt_choices.specs.defs.Choices.{Choice, longer_by}
 use Rattle.shunt_proof.specs.declared.records.Version.{Version}
 use Rattle.shunt_proof.specs.defs.Versions.{IsStepBoundIn, StepReachesIn}
-use Rattle.shunt_search.specs.declared.children.Child.{Child}
+use Rattle.shunt_search.specs.declared.child.Child.{Child}
 use Rattle.shunt_search.specs.defs.Yards.{choice_of, more_by, IsOpen, IsClosed, AreChildren}
 use Rattle.shunt_search.specs.defs.WalkStates.{OpensAbove}
 use Rattle.shunt_search.proofs.Offered.{longer_is, of_choices}

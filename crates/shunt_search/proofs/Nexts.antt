@@ -5,6 +5,7 @@ use Rattle.std.proofs.Common.{◌≡◌, ℕ, ◌≤◌, true, false, List, [], 
 use Rattle.shunt_instance.specs.defs.Instance.{Night}
 use Rattle.shunt_blocks.specs.declared.records.Block.{Block}
 use Rattle.shunt_blocks.specs.defs.Shapes.{shape_of, begins_at, IsInRange, IsWithinTrains, HasUnit, HasPosition}
+use Rattle.shunt_blocks.specs.defs.Blocks.{IsBlockButId}
 use Rattle.shunt_blocks.specs.defs.Lists.{ShareNothing}
 use Rattle.shunt_choices.specs.defs.Paths.{Trail, IsTrailOf, masks_of, next_of}
 use Rattle.shunt_choices.specs.defs.Choices.{IsChoice}
@@ -31,6 +32,16 @@ pub next_within : (night : Night) (path : List Block) (b : Block) → IsNextBloc
 next_within night path b next =
     let r = at_unit (next_of (masks_of night path)) (λ u. IsChoice night (masks_of night path) u (choice_of b)) next.choice in
     record { runs = r.2.shape.shape.within; track = on_track night (shape_of b) b.park r.2.option }
+
+pub next_in_range : (night : Night) (path : List Block) (b : Block) → length path ≤ 160 → IsNextBlock night path b → IsInRange night b
+next_in_range night path b few next =
+    let id = next.id in
+    record { from = omega (arith, id); to = omega (arith, id, few); within = next_within night path b next }
+
+pub next_fits : (night : Night) (path : List Block) (b : Block) → IsNextBlock night path b → IsBlockButId night b
+next_fits night path b next =
+    let r = at_unit (next_of (masks_of night path)) (λ u. IsChoice night (masks_of night path) u (choice_of b)) next.choice in
+    record { shape = r.2.shape.shape; option = r.2.option }
 
 pub next_free : (night : Night) (path : List Block) (b : Block) → IsNextBlock night path b → IsFreeBlock night (masks_of night path) (shape_of b) b.park
 next_free night path b next =

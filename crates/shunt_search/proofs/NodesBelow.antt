@@ -19,7 +19,7 @@ use Rattle.shunt_proof.specs.declared.records.NodeDuals.{NodeDuals}
 use Rattle.shunt_proof.specs.declared.records.NodeDuals.TheVariants.{Same, New, Bare}
 use Rattle.shunt_proof.specs.defs.Nodes.{AreStatable, FitsChoice, FitDuals}
 use Rattle.shunt_proof.specs.defs.Trees.{next_unit, choice_at, choice_from}
-use Rattle.shunt_search.specs.declared.children.Child.{Child}
+use Rattle.shunt_search.specs.declared.child.Child.{Child}
 use Rattle.shunt_search.specs.defs.Yards.{choice_of, IsNextBlock}
 use Rattle.shunt_search.specs.declared.notes.NodeNoted.{NodeNoted}
 use Rattle.shunt_search.specs.declared.notes.NodeNoted.TheVariants as noted

@@ -1,5 +1,5 @@
 -- The children of a path, while its choices are tried one by one.
-use Rattle.std.specs.Prelude.{pos, All, Option, Some, None}
+use Rattle.std.specs.Prelude.{pos, All, IfNone, Option, Some, None}
 use Rattle.std.specs.List.{flat_map}
 use Rattle.std.proofs.Common.{◌≡◌, inl, inr, ⊎_elim, ◌↔◌, ℕ, zero, suc, ◌+◌, ◌<◌, ◌≤◌, List, [], ◌∷◌, ◌++◌, length, map, take, get_or, refl, sym, subst, ap, ◌∙◌, arith}
 use Rattle.std.proofs.lemmas.List.{append-nil, append_assoc, map-append, take_more, take_all}
@@ -19,7 +19,7 @@ use Rattle.shunt_choices.proofs.Trails.{length_units, length_places}
 use Rattle.shunt_choices.specs.defs.Free.{AreMasksOf}
 use Rattle.shunt_proof.specs.declared.records.Version.{Version}
 use Rattle.shunt_proof.specs.defs.Versions.{StepReachesIn}
-use Rattle.shunt_search.specs.declared.children.Child.{Child}
+use Rattle.shunt_search.specs.declared.child.Child.{Child}
 use Rattle.shunt_search.specs.defs.Yards.{choice_of, more_by, choices_in, IsNextBlock, IsOpen, IsClosed, IsTried, AreOpen, AreChildren}
 use Rattle.shunt_choices.proofs.AtPaths.{next_in}
 
@@ -32,6 +32,10 @@ pub is_closed : (version : Version) (night : Night) (path : List Block) (cases :
     → (RunsThrough night (placed (more_by path b)) → StepReachesIn version night path (more_by path b) cases (pos best)) → IsClosed version night path cases best (choice_of b)
 is_closed version night path cases best b e h = subst (λ (l : List Block). RunsThrough night (placed l) → StepReachesIn version night path l cases (pos best))
     (sym (longer_is path b e)) h
+
+pub none_then : {X P Q : Type 0} (o : Option X) → IfNone o P → (P → Q) → IfNone o Q
+none_then None p leads = leads p
+none_then (Some x) p leads = tt
 
 -- ---- lists without doubles
 

@@ -10,7 +10,7 @@ use Rattle.shunt_base.specs.declared.duals.Case.{Case}
 use Rattle.shunt_instance.specs.defs.Instance.{Night}
 use Rattle.shunt_blocks.specs.declared.records.Block.{Block}
 use Rattle.shunt_proof.specs.declared.records.Version.{Version}
-use Rattle.shunt_search.specs.declared.children.Child.{Child}
+use Rattle.shunt_search.specs.declared.child.Child.{Child}
 use Rattle.shunt_search.specs.defs.Yards.{choice_of, choices_in, AreChildren}
 
 -- no element stands at two places

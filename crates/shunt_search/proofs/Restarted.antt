@@ -4,6 +4,7 @@ use Rattle.std.proofs.Common.{◌≡◌, ◌⊎◌, inl, inr, ⊎_elim, ℕ, ◌
 use Rattle.std.proofs.lemmas.Int.{ints}
 use Rattle.std.proofs.lemmas.List.Sorted.{length_permutation}
 use Rattle.shunt_store.specs.defs.Files.{BothTold}
+use Rattle.shunt_lists.specs.defs.Members.{In}
 use Rattle.shunt_base.specs.declared.duals.Case.{Case}
 use Rattle.shunt_instance.specs.defs.Instance.{Night}
 use Rattle.shunt_blocks.specs.declared.records.Block.{Block}
@@ -18,7 +19,7 @@ use Rattle.shunt_search.specs.declared.search_state.Search.{Search}
 use Rattle.shunt_search.specs.defs.WalkStates.{cases_in}
 use Rattle.shunt_search.specs.defs.Roots.{IsAbove, IsFloor}
 use Rattle.shunt_search.specs.defs.SearchStates.{IsSearch, IsFresh, StartsAgain}
-use Rattle.shunt_search.specs.defs.Endings.{IsDone}
+use Rattle.shunt_search.specs.defs.Endings.{IsLeft, IsOver, IsDone}
 use Rattle.shunt_search.proofs.Searched.{same_best}
 
 -- what the laws of the crates below say
@@ -26,6 +27,15 @@ pub record RestartLaws : Type 0 where
   pub one : (night : Night) (pins start other : List Block) → IsStart night pins start → IsStart night pins other → start ≡ other
   pub opening : (night : Night) (pins others : List Block) → IsPermutation pins others → opening_cost night others ≡ opening_cost night pins
   pub before_opening : (night : Night) (start : List Block) (nodes : List Node) (k : ℕ) → best_before night start nodes k ≤ opening_cost night start
+
+-- the plan of a search costs no more than the opening cost
+pub low_opening : RestartLaws → (version : Version) (night : Night) (pins : List Block) (stock : List (List Case)) (told : Option (List Node)) (number owned : ℕ) (s : Search)
+    → IsSearch version night pins stock told number owned s.waiting.items s → s.known.cost ≤ opening_cost night pins
+low_opening laws version night pins stock told number owned s S =
+    let cheap = S.walk.cheap in
+    let most = laws.before_opening night S.start S.nodes (length S.nodes) in
+    let same = laws.opening night pins S.start S.begins.same in
+    omega (arith, cheap, most, same)
 
 pub restarted : RestartLaws → (version : Version) (night : Night) (pins : List Block) (stock : List (List Case)) (told : Option (List Node)) (number owned : ℕ) (s z : Search)
     → IsSearch version night pins stock told number owned s.waiting.items s → StartsAgain night pins s z → IsFresh version night pins stock z
@@ -49,11 +59,7 @@ restarted laws version night pins stock told number owned s z S a =
       yard = a.yard;
       long = let many = a.many in let same = length_permutation pins z.yard.path.blocks a.begins.same in omega (arith, many, same);
       best = same_best night pins s.known z.known a.known S.best;
-      opening =
-          let cheap = S.walk.cheap in
-          let most = laws.before_opening night S.start S.nodes (length S.nodes) in
-          let same = laws.opening night pins S.start S.begins.same in
-          omega (arith, same_cost, cheap, most, same);
+      opening = let low = low_opening laws version night pins stock told number owned s S in omega (arith, same_cost, low);
       small = let small = S.small in omega (arith, small, same_cost);
       low = a.low;
       empty = a.empty;
@@ -66,9 +72,22 @@ told_none None (Some y) both = absurd both
 told_none (Some x) None both = absurd both
 told_none (Some x) (Some y) both = both
 
-pub done_at : {number most count cost : ℕ} {low : ℤ} {waiting : List Pending} → count ≡ number → number ≤ most → low ≤ℤ pos cost → (number ≡ most) ⊎ (waiting ≡ [])
+-- where nothing is left, what is left is the low bound
+pub over_where_none : (waiting : List Pending) (best : ℕ) (low : ℤ) → waiting ≡ [] → pos best ≤ℤ low → IsOver waiting best low
+over_where_none waiting best low none high = λ bound left. ⊎_elim
+    (λ e. omega (arith, ints, e, high))
+    (λ t. absurd (subst (λ (l : List Pending). In t.0 l) none t.1))
+    left.least
+
+pub over_at_least : (waiting : List Pending) (best : ℕ) (low least : ℤ) → IsLeft waiting low least → pos best ≤ℤ least → IsOver waiting best low
+over_at_least waiting best low least own high = λ bound is. ⊎_elim
+    (λ e. let within = own.within in omega (arith, ints, e, high, within))
+    (λ t. let le = own.left t.0 t.1 in let e = t.2 in omega (arith, ints, e, high, le))
+    is.least
+
+pub done_at : {number most count cost : ℕ} {low : ℤ} {waiting : List Pending} → count ≡ number → number ≤ most → (number ≡ most) ⊎ (waiting ≡ [])
     → (most ≤ count) ⊎ (pos cost ≤ℤ low) → IsDone number most waiting cost low
-done_at counted few within done which = ⊎_elim
+done_at counted few done which = ⊎_elim
     (λ all. inl (omega (arith, counted, few, all)))
-    (λ high. ⊎_elim inl (λ none. inr (none, omega (arith, ints, within, high))) done)
+    (λ high. ⊎_elim inl (λ none. inr (over_where_none _ _ _ none high)) done)
     which

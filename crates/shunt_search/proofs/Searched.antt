@@ -255,7 +255,7 @@ module _ (laws : SearchLaws) (version : Version) (night : Night) (i : IsInstance
         (subst (λ (n : Node). CanFollow S.nodes n) (sym (same_node how)) can)) S.tells
 
     pub is_ready : IsReady night stock told s.yard t
-    is_ready = record { pins = pins_kept; there = ready.1; next = ready.2; inherits = inherited.0; place = place }
+    is_ready = record { pins = pins_kept; there = ready.1; next = ready.2; through = plan.through; inherits = inherited.0; place = place }
 
     module _ (z : Search) (how : NodeNoted) (a : Arrives version night stock s z t how left) (now : Option (List Node)) (count cases : ℕ) (more : count ≡ number + 1)
         (owns : cases ≡ owned + cases_of stock how) (both : BothTold told now (λ x y. y ≡ x ++ node_below s.yard.path.pins t.child.block stock how ∷ [])) where

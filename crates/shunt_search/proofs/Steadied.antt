@@ -22,7 +22,7 @@ use Rattle.shunt_proof.proofs.Depths.{nearest_low}
 use Rattle.shunt_proof.proofs.Fronts.{node_front, node_last, parent_front, duals_front, path_front}
 use Rattle.shunt_proof.proofs.LongerLists.{last_parent}
 use Rattle.shunt_proof.proofs.Few.{CountLaws}
-use Rattle.shunt_search.specs.declared.children.Child.{Child}
+use Rattle.shunt_search.specs.declared.child.Child.{Child}
 use Rattle.shunt_search.specs.declared.walk_stack.Pending.{Pending}
 use Rattle.shunt_search.specs.defs.Yards.{choice_of, more_by, AreChildren}
 use Rattle.shunt_search.specs.defs.WalkStates.{kept, goal_of, cases_in, IsPending, IsWalk, AddsChildren, OpensAbove}

@@ -6,7 +6,7 @@ use Rattle.shunt_base.specs.declared.duals.Case.{Case}
 use Rattle.shunt_instance.specs.defs.Instance.{Night, IsInstance}
 use Rattle.shunt_blocks.specs.declared.records.Block.{Block}
 use Rattle.shunt_proof.specs.defs.Nodes.{AreStatable, FitsNode}
-use Rattle.shunt_search.specs.declared.children.Child.{Child}
+use Rattle.shunt_search.specs.declared.child.Child.{Child}
 use Rattle.shunt_search.specs.declared.notes.NodeNoted.{NodeNoted}
 use Rattle.shunt_search.specs.declared.notes.NodeNoted.TheVariants as noted
 use Rattle.shunt_search.specs.defs.Yards.{IsNextBlock}

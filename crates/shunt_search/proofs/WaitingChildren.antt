@@ -3,7 +3,7 @@ use Rattle.std.specs.Prelude.{take}
 use Rattle.std.proofs.Common.{◌≡◌, ⊎_elim, ℕ, ◌+◌, ◌<◌, ◌≤◌, List, [], ◌∷◌, ◌++◌, length, get_or, refl, sym, subst, ap, ◌∙◌}
 use Rattle.std.proofs.lemmas.List.{append-nil, append_assoc, map-append, take_more, take_all}
 use Rattle.shunt_lists.proofs.Members.{in_cases, of_one}
-use Rattle.shunt_search.specs.declared.children.Child.{Child}
+use Rattle.shunt_search.specs.declared.child.Child.{Child}
 use Rattle.shunt_search.specs.declared.walk_stack.Pending.{Pending}
 use Rattle.shunt_search.specs.defs.WalkStates.{Adds}
 

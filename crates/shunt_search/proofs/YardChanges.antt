@@ -3,28 +3,32 @@ use Rattle.std.specs.Prelude.{All, IfSome, IfNone, OnSome, Option, Some, None, m
 use Rattle.std.specs.List.{cons_option}
 use Rattle.std.proofs.Common.{◌≡◌, ◌≢◌, ◌↔◌, ℕ, zero, suc, ◌+◌, ◌<◌, ◌≤◌, List, [], ◌∷◌, ◌++◌, length, take, drop, get_or, refl, sym, subst, ap, ◌∙◌, arith, IsPermutation}
 use Rattle.std.proofs.lemmas.List.{length-append, length-take-le, take_more}
+use Rattle.std.proofs.lemmas.List.Elements.{All-append, All-cons, All-nil}
 use Rattle.std.proofs.lemmas.List.Sorted.{length_permutation}
 use Rattle.std.proofs.Math.Nat.{le-max_right}
 use Rattle.std.proofs.Math.Seq.{get_or-append_seam, take-append_seam}
 use Rattle.shunt_lists.specs.defs.Members.{In}
 use Rattle.shunt_base.specs.declared.keys.Stay.{Stay}
 use Rattle.shunt_base.specs.defs.Keys.{AreStays}
-use Rattle.shunt_instance.specs.defs.Instance.{Night, unit_total}
+use Rattle.shunt_lists.proofs.Members.{in_left, each_one as of_all, to_all}
+use Rattle.shunt_instance.specs.defs.Instance.{Night, IsInstance, unit_total}
 use Rattle.shunt_blocks.specs.declared.records.Block.{Block}
 use Rattle.shunt_blocks.specs.defs.Shapes.{IsWithinTrains}
 use Rattle.shunt_blocks.specs.defs.Stays.{stay_of}
+use Rattle.shunt_blocks.specs.defs.Blocks.{IsBlockButId}
 use Rattle.shunt_blocks.specs.defs.Lists.{CanStand, ShareNothing, RunsThrough, placed}
+use Rattle.shunt_blocks.specs.defs.Pins.{without_id}
 use Rattle.shunt_timeline.specs.defs.Holdings.{Holding}
 use Rattle.shunt_choices.specs.defs.Paths.{Trail, IsTrailOf, masks_of}
 use Rattle.shunt_choices.proofs.Given.{PlaceLaws, FewerLaw}
-use Rattle.shunt_choices.proofs.Trails.{room as trail_room}
+use Rattle.shunt_choices.proofs.Trails.{front_apart, room as trail_room}
 use Rattle.shunt_search.specs.declared.yard.Yard.{Yard}
 use Rattle.shunt_search.specs.defs.Polish.{others_of, Stand, RunsWith}
 use Rattle.shunt_search.specs.defs.Yards.{IsYard, IsNextBlock, more_by}
 use Rattle.shunt_search.proofs.Improved.{Laws, without, room}
 use Rattle.shunt_search.proofs.Placed.{placed_more, none_yet, few_yet, grown, grown_runs}
-use Rattle.shunt_search.proofs.Nexts.{Pushes, pushes}
-use Rattle.shunt_lists.proofs.Members.{each_one as of_all}
+use Rattle.shunt_search.proofs.Nexts.{Pushes, next_fits, pushes}
+use Rattle.shunt_blocks.proofs.Shapes.{all_within}
 
 -- blocks that share nothing are at most as many as the units
 abbrev pub MostLaw : Type 0
@@ -89,9 +93,13 @@ module _ (night : Night) (places : PlaceLaws) (y : Yard) (is : IsYard night y) (
       → IsTrailOf night path
       → held.lengths ≡ y.timelines.lengths → ((s : Stay) → In s held.stays ↔ In s (cons_option (stay_of night b) y.timelines.stays))
       → length held.stays ≡ length (cons_option (stay_of night b) y.timelines.stays)
-      → held.spare + length held.stays ≡ y.timelines.spare + length y.timelines.stays → IsYard night (record { path = path; timelines = held })
-  with_next path held e of lengths came count same = record {
+      → held.spare + length held.stays ≡ y.timelines.spare + length y.timelines.stays → RunsThrough night (placed (more_by y.path.blocks b))
+      → IsYard night (record { path = path; timelines = held })
+  with_next path held e of lengths came count same through = record {
     path = of;
+    each = subst (λ (l : List Block). All (IsBlockButId night) l) (sym (ap (λ (t : Trail). t.blocks) e))
+        (All-append (IsBlockButId night) y.path.blocks (b ∷ []) is.each (All-cons (IsBlockButId night) b [] (next_fits night y.path.blocks b next) (All-nil (IsBlockButId night))));
+    through = subst (λ (l : List Block). RunsThrough night (placed l)) (sym (ap (λ (t : Trail). t.blocks) e)) through;
     pins =
         let blocks : length path.blocks ≡ length y.path.blocks + 1 = ap (λ (t : Trail). length t.blocks) e ∙ length-append y.path.blocks (b ∷ []) in
         let pins : path.pins ≡ y.path.pins = ap (λ (t : Trail). t.pins) e in
@@ -165,14 +173,34 @@ module _ (night : Night) (old new : Trail) (b : Block) (e : old.blocks ≡ new.b
   room_left : after.spare + length after.stays ≡ held.spare + length held.stays
   room_left = room night (placed old.blocks) k c within can.ids held after st gone_now lengths u some_now fewer none
 
-  pub left_yard : IsTrailOf night new → new.pins ≡ old.pins → old.pins < length old.blocks → unit_total night ≤ held.spare + length held.stays
-      → IsYard night (record { path = new; timelines = after })
-  left_yard of pins more enough = record {
+  pub left_yard : All (IsBlockButId night) new.blocks × RunsThrough night (placed new.blocks) → IsTrailOf night new → new.pins ≡ old.pins → old.pins < length old.blocks
+      → unit_total night ≤ held.spare + length held.stays → IsYard night (record { path = new; timelines = after })
+  left_yard runs of pins more enough = record {
     path = of;
+    each = runs.0;
+    through = runs.1;
     pins = let one = shorter old new b e in omega (arith, pins, more, one);
     stand = stand_left;
     room = let same = room_left in omega (arith, same, enough);
   }
+
+-- what is left of blocks whose run goes through
+abbrev pub PartLaw : Type 0
+PartLaw = (night : Night) (blocks others : List Block) → IsInstance night → All (IsWithinTrains night) blocks → ShareNothing night blocks → All (IsWithinTrains night) others
+    → ShareNothing night others
+    → ((c : Block) → In c others → (b : Block) × In b blocks × (without_id b ≡ without_id c)) → RunsThrough night (placed blocks) → RunsThrough night (placed others)
+
+pub front_runs : PartLaw → (night : Night) → IsInstance night → (blocks front : List Block) (b : Block) → blocks ≡ front ++ b ∷ [] → All (IsBlockButId night) blocks
+    → ShareNothing night blocks → RunsThrough night (placed blocks)
+    → All (IsBlockButId night) front × RunsThrough night (placed front)
+front_runs law night i blocks front b e each apart through =
+    let fits = subst (λ (l : List Block). All (IsBlockButId night) l) e each in
+    let all_apart = subst (λ (l : List Block). ShareNothing night l) e apart in
+    let own = to_all (IsBlockButId night) front (λ x j. of_all (IsBlockButId night) (front ++ b ∷ []) x fits (in_left front (b ∷ []) x j)) in (
+      own,
+      law night (front ++ b ∷ []) front i (all_within night (front ++ b ∷ []) fits) all_apart (all_within night front own) (front_apart night front b all_apart)
+          (λ x j. (x, in_left front (b ∷ []) x j, refl)) (subst (λ (l : List Block). RunsThrough night (placed l)) e through),
+    )
 
 -- fronts of fronts
 pub front_again : (init old new : List Block) → old ≡ take (length old) init → new ≡ take (length new) old → length old ≡ length new + 1 → new ≡ take (length new) init
@@ -187,10 +215,12 @@ pub enough_room : (old new : Holding) (n : ℕ) → new ≡ record old { spare =
 enough_room old new n e = subst (λ (h : Holding). n ≤ h.spare) (sym e) (le-max_right old.spare n)
 
 pub start_yard : (night : Night) (pins blocks : List Block) (t : Trail) (held : Holding) (room n : ℕ) → IsTrailOf night t → t.pins ≡ length pins → IsPermutation pins t.blocks
-    → blocks ≡ t.blocks → Stand night (placed blocks) held → held.spare + length held.stays ≡ room → n ≤ room → n ≡ unit_total night
-    → IsYard night (record { path = t; timelines = held })
-start_yard night pins blocks t held room n of many same e stand all enough is = record {
+    → blocks ≡ t.blocks → Stand night (placed blocks) held → held.spare + length held.stays ≡ room → n ≤ room → n ≡ unit_total night → All (IsBlockButId night) t.blocks
+    → RunsThrough night (placed t.blocks) → IsYard night (record { path = t; timelines = held })
+start_yard night pins blocks t held room n of many same e stand all enough is each through = record {
   path = of;
+  each = each;
+  through = through;
   pins = omega (arith, many, length_permutation pins t.blocks same);
   stand = subst (λ (l : List Block). Stand night (placed l) held) e stand;
   room = omega (arith, all, enough, is);

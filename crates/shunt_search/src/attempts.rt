@@ -10,12 +10,13 @@ ghost use Rattle.shunt_blocks.specs.defs.Pins.{AreUsable};
 ghost use Rattle.shunt_matching.specs.declared.types.Shortage.{Shortage as OneShortage};
 ghost use Rattle.shunt_proof.specs.declared.records.Node.{Node as OneNode};
 ghost use Rattle.shunt_proof.specs.declared.records.Version.{Version};
-ghost use Rattle.shunt_proof.specs.declared.records.Version.TheVariants.{Prices};
 ghost use Rattle.shunt_proof.specs.defs.Recorders.{Open, Failed};
 ghost use Rattle.shunt_search.specs.declared.search_state.Search.{Search as OneSearch};
+ghost use Rattle.shunt_search.specs.defs.Judges.{version_of, IsJudge};
 ghost use Rattle.shunt_search.specs.defs.SearchStates.{IsSearch, IsFresh, StartsAgain, TellsOn};
 ghost use Rattle.shunt_search.specs.defs.Endings.{IsDone};
 
+use crate::judge::Guide;
 use crate::root_node::begin;
 use crate::search::walk_on;
 use crate::search_state::Search;
@@ -25,7 +26,6 @@ use shunt_blocks::Block;
 use shunt_instance::Instance;
 use shunt_proof::Recorder;
 use shunt_proof::laws::{best_costs, starts};
-use shunt_tree::ProposedTree;
 use std::alloc::{AllocError, Global};
 
 /// A search that starts again is one that is to begin.
@@ -66,12 +66,14 @@ fn attempt<R: Recorder>(
     alloc: Global,
     instance: &Instance,
     pins: &[Block],
-    tree: &ProposedTree,
+    guide: &Guide,
     nodes: u32,
     search: &mut Search,
     recorder: &mut R,
 ) -> Result<(), SolveError>
-    requires fresh { IsFresh Prices instance.now pins.now tree.now.stock.items search.old }
+    requires judge { IsJudge instance.now guide.now.judge }
+    requires fresh { IsFresh
+        (version_of guide.now.judge) instance.now pins.now guide.now.tree.stock.items search.old }
     requires some { 1 ≤ nodes }
     requires few { nodes ≤ 5000 }
     requires stage { R.stage recorder.old ≡ Open }
@@ -79,13 +81,14 @@ fn attempt<R: Recorder>(
     requires none { R.number recorder.old ≡ 0 }
     requires no_cases { R.cases recorder.old ≡ 0 }
     requires told { IfSome (R.told recorder.old) (λ told. told ≡ []) }
-    ensures search { OnOk result
-        (IsSearch Prices instance.now pins.now tree.now.stock.items (R.told recorder.new)
-        (R.number recorder.new) (R.cases recorder.new) search.new.waiting.items search.new) }
+    ensures search { OnOk result (IsSearch (version_of guide.now.judge) instance.now pins.now
+        guide.now.tree.stock.items (R.told recorder.new) (R.number recorder.new)
+        (R.cases recorder.new) search.new.waiting.items search.new) }
     ensures most { OnOk result (R.number recorder.new ≤ nodes) }
     ensures done { OnOk result ((R.number recorder.new ≡ nodes) ⊎ (search.new.waiting.items ≡ [])) }
     ensures plain { OnOk result (search.new.plain ≡ search.old.plain) }
     ensures cheaper { OnOk result (search.new.known.cost ≤ search.old.known.cost) }
+    ensures floor { OnOk result (search.new.floor ≡ search.old.floor) }
     ensures tells { OnOk result (TellsOn (R.told recorder.old) (R.told recorder.new)) }
     ensures open { OnOk result (R.stage recorder.new ≡ Open) }
     ensures sound { IsErrOf result SolveError.Memory → R.stage recorder.new ≢ Failed }
@@ -96,8 +99,8 @@ fn attempt<R: Recorder>(
         (R.faults recorder.new) result }
     ensures keeps { R.keeps recorder.old recorder.new }
 {
-    begin(alloc, instance, pins, tree, search, recorder)?;
-    walk_on(alloc, instance, pins, tree, nodes, search, recorder)?;
+    begin(alloc, instance, pins, guide, search, recorder)?;
+    walk_on(alloc, instance, pins, guide, nodes, search, recorder)?;
     Ok(())
 }
 
@@ -106,27 +109,29 @@ fn walk_again<R: Recorder>(
     alloc: Global,
     instance: &Instance,
     pins: &[Block],
-    tree: &ProposedTree,
+    guide: &Guide,
     nodes: u32,
     plain: bool,
     spare: u32,
     search: &mut Search,
     recorder: &mut R,
 ) -> Result<(), SolveError>
-    requires search { IsSearch Prices instance.now pins.now tree.now.stock.items
-        (R.told recorder.old) (R.number recorder.old)
+    requires judge { IsJudge instance.now guide.now.judge }
+    requires search { IsSearch (version_of guide.now.judge) instance.now pins.now
+        guide.now.tree.stock.items (R.told recorder.old) (R.number recorder.old)
         (R.cases recorder.old) search.old.waiting.items search.old }
     requires some { 1 ≤ nodes }
     requires few { nodes ≤ 5000 }
     requires stage { R.stage recorder.old ≡ Open }
     requires own { R.owns recorder.old instance.now }
-    ensures search { OnOk result
-        (IsSearch Prices instance.now pins.now tree.now.stock.items (R.told recorder.new)
-        (R.number recorder.new) (R.cases recorder.new) search.new.waiting.items search.new) }
+    ensures search { OnOk result (IsSearch (version_of guide.now.judge) instance.now pins.now
+        guide.now.tree.stock.items (R.told recorder.new) (R.number recorder.new)
+        (R.cases recorder.new) search.new.waiting.items search.new) }
     ensures most { OnOk result (R.number recorder.new ≤ nodes) }
     ensures done { OnOk result ((R.number recorder.new ≡ nodes) ⊎ (search.new.waiting.items ≡ [])) }
     ensures plain { OnOk result (search.new.plain ≡ plain) }
     ensures cheaper { OnOk result (search.new.known.cost ≤ search.old.known.cost) }
+    ensures floor { OnOk result (search.new.floor ≡ search.old.floor) }
     ensures tells { OnOk result (TellsOn (R.told recorder.old) (R.told recorder.new)) }
     ensures open { OnOk result (R.stage recorder.new ≡ Open) }
     ensures sound { IsErrOf result SolveError.Memory → R.stage recorder.new ≢ Failed }
@@ -141,7 +146,7 @@ fn walk_again<R: Recorder>(
     searches_restart();
     recorder.restart()?;
     start_again(alloc, instance, pins, plain, spare, search)?;
-    attempt(alloc, instance, pins, tree, nodes, search, recorder)?;
+    attempt(alloc, instance, pins, guide, nodes, search, recorder)?;
     Ok(())
 }
 
@@ -150,25 +155,27 @@ fn walk_plainly<R: Recorder>(
     alloc: Global,
     instance: &Instance,
     pins: &[Block],
-    tree: &ProposedTree,
+    guide: &Guide,
     nodes: u32,
     search: &mut Search,
     recorder: &mut R,
 ) -> Result<(), SolveError>
-    requires search { IsSearch Prices instance.now pins.now tree.now.stock.items
-        (R.told recorder.old) (R.number recorder.old)
+    requires judge { IsJudge instance.now guide.now.judge }
+    requires search { IsSearch (version_of guide.now.judge) instance.now pins.now
+        guide.now.tree.stock.items (R.told recorder.old) (R.number recorder.old)
         (R.cases recorder.old) search.old.waiting.items search.old }
     requires some { 1 ≤ nodes }
     requires few { nodes ≤ 5000 }
     requires stage { R.stage recorder.old ≡ Open }
     requires own { R.owns recorder.old instance.now }
-    ensures search { OnOk result
-        (IsSearch Prices instance.now pins.now tree.now.stock.items (R.told recorder.new)
-        (R.number recorder.new) (R.cases recorder.new) search.new.waiting.items search.new) }
+    ensures search { OnOk result (IsSearch (version_of guide.now.judge) instance.now pins.now
+        guide.now.tree.stock.items (R.told recorder.new) (R.number recorder.new)
+        (R.cases recorder.new) search.new.waiting.items search.new) }
     ensures most { OnOk result (R.number recorder.new ≤ nodes) }
     ensures done { OnOk result (IsDone (R.number recorder.new) nodes search.new.waiting.items
         search.new.known.cost search.new.low) }
     ensures cheaper { OnOk result (search.new.known.cost ≤ search.old.known.cost) }
+    ensures floor { OnOk result (search.new.floor ≡ search.old.floor) }
     ensures tells { OnOk result (TellsOn (R.told recorder.old) (R.told recorder.new)) }
     ensures open { OnOk result (R.stage recorder.new ≡ Open) }
     ensures sound { IsErrOf result SolveError.Memory → R.stage recorder.new ≢ Failed }
@@ -180,7 +187,7 @@ fn walk_plainly<R: Recorder>(
     ensures keeps { R.keeps recorder.old recorder.new }
 {
     walk_again(
-        alloc, instance, pins, tree, nodes, true, 0, search, recorder,
+        alloc, instance, pins, guide, nodes, true, 0, search, recorder,
     )?;
     Ok(())
 }
@@ -203,12 +210,14 @@ fn walk_twice<R: Recorder>(
     alloc: Global,
     instance: &Instance,
     pins: &[Block],
-    tree: &ProposedTree,
+    guide: &Guide,
     nodes: u32,
     search: &mut Search,
     recorder: &mut R,
 ) -> Result<(), SolveError>
-    requires fresh { IsFresh Prices instance.now pins.now tree.now.stock.items search.old }
+    requires judge { IsJudge instance.now guide.now.judge }
+    requires fresh { IsFresh
+        (version_of guide.now.judge) instance.now pins.now guide.now.tree.stock.items search.old }
     requires some { 1 ≤ nodes }
     requires few { nodes ≤ 5000 }
     requires stage { R.stage recorder.old ≡ Open }
@@ -216,12 +225,13 @@ fn walk_twice<R: Recorder>(
     requires none { R.number recorder.old ≡ 0 }
     requires no_cases { R.cases recorder.old ≡ 0 }
     requires told { IfSome (R.told recorder.old) (λ told. told ≡ []) }
-    ensures search { OnOk result
-        (IsSearch Prices instance.now pins.now tree.now.stock.items (R.told recorder.new)
-        (R.number recorder.new) (R.cases recorder.new) search.new.waiting.items search.new) }
+    ensures search { OnOk result (IsSearch (version_of guide.now.judge) instance.now pins.now
+        guide.now.tree.stock.items (R.told recorder.new) (R.number recorder.new)
+        (R.cases recorder.new) search.new.waiting.items search.new) }
     ensures most { OnOk result (R.number recorder.new ≤ nodes) }
     ensures done { OnOk result ((R.number recorder.new ≡ nodes) ⊎ (search.new.waiting.items ≡ [])) }
     ensures cheaper { OnOk result (search.new.known.cost ≤ search.old.known.cost) }
+    ensures floor { OnOk result (search.new.floor ≡ search.old.floor) }
     ensures tells { OnOk result (TellsOn (R.told recorder.old) (R.told recorder.new)) }
     ensures open { OnOk result (R.stage recorder.new ≡ Open) }
     ensures sound { IsErrOf result SolveError.Memory → R.stage recorder.new ≢ Failed }
@@ -232,14 +242,14 @@ fn walk_twice<R: Recorder>(
         (R.faults recorder.new) result }
     ensures keeps { R.keeps recorder.old recorder.new }
 {
-    attempt(alloc, instance, pins, tree, nodes, search, recorder)?;
+    attempt(alloc, instance, pins, guide, nodes, search, recorder)?;
     let enough = is_done(search, nodes);
     if enough {
         return Ok(());
     }
     let spare = nodes.saturating_sub(search.count);
     walk_again(
-        alloc, instance, pins, tree, nodes, false, spare, search, recorder,
+        alloc, instance, pins, guide, nodes, false, spare, search, recorder,
     )?;
     Ok(())
 }
@@ -250,12 +260,14 @@ pub(crate) fn walk_whole<R: Recorder>(
     alloc: Global,
     instance: &Instance,
     pins: &[Block],
-    tree: &ProposedTree,
+    guide: &Guide,
     nodes: u32,
     search: &mut Search,
     recorder: &mut R,
 ) -> Result<(), SolveError>
-    requires fresh { IsFresh Prices instance.now pins.now tree.now.stock.items search.old }
+    requires judge { IsJudge instance.now guide.now.judge }
+    requires fresh { IsFresh
+        (version_of guide.now.judge) instance.now pins.now guide.now.tree.stock.items search.old }
     requires some { 1 ≤ nodes }
     requires few { nodes ≤ 5000 }
     requires stage { R.stage recorder.old ≡ Open }
@@ -263,13 +275,14 @@ pub(crate) fn walk_whole<R: Recorder>(
     requires none { R.number recorder.old ≡ 0 }
     requires no_cases { R.cases recorder.old ≡ 0 }
     requires told { IfSome (R.told recorder.old) (λ told. told ≡ []) }
-    ensures search { OnOk result
-        (IsSearch Prices instance.now pins.now tree.now.stock.items (R.told recorder.new)
-        (R.number recorder.new) (R.cases recorder.new) search.new.waiting.items search.new) }
+    ensures search { OnOk result (IsSearch (version_of guide.now.judge) instance.now pins.now
+        guide.now.tree.stock.items (R.told recorder.new) (R.number recorder.new)
+        (R.cases recorder.new) search.new.waiting.items search.new) }
     ensures most { OnOk result (R.number recorder.new ≤ nodes) }
     ensures done { OnOk result (IsDone (R.number recorder.new) nodes search.new.waiting.items
         search.new.known.cost search.new.low) }
     ensures cheaper { OnOk result (search.new.known.cost ≤ search.old.known.cost) }
+    ensures floor { OnOk result (search.new.floor ≡ search.old.floor) }
     ensures tells { OnOk result (TellsOn (R.told recorder.old) (R.told recorder.new)) }
     ensures open { OnOk result (R.stage recorder.new ≡ Open) }
     ensures sound { IsErrOf result SolveError.Memory → R.stage recorder.new ≢ Failed }
@@ -280,11 +293,11 @@ pub(crate) fn walk_whole<R: Recorder>(
         (R.faults recorder.new) result }
     ensures keeps { R.keeps recorder.old recorder.new }
 {
-    walk_twice(alloc, instance, pins, tree, nodes, search, recorder)?;
+    walk_twice(alloc, instance, pins, guide, nodes, search, recorder)?;
     let done = is_done(search, nodes);
     if done {
         return Ok(());
     }
-    walk_plainly(alloc, instance, pins, tree, nodes, search, recorder)?;
+    walk_plainly(alloc, instance, pins, guide, nodes, search, recorder)?;
     Ok(())
 }

@@ -1,11 +1,13 @@
 // The children of a node come to those that are still to be walked to.
 ghost use Rattle.std.specs.Prelude.{◌≡◌, ◌<◌, ◌≤◌, length, All, OnOk};
-ghost use Rattle.shunt_proof.specs.declared.records.Version.TheVariants.{Prices};
 ghost use Rattle.shunt_proof.specs.defs.Nodes.{AreStatable};
+ghost use Rattle.shunt_search.specs.defs.Judges.{version_of, IsJudge};
 ghost use Rattle.shunt_search.specs.defs.Yards.{IsYard};
 ghost use Rattle.shunt_search.specs.defs.WalkStates.{AddsChildren, Adds};
 
-use crate::children::{Child, plan_children};
+use crate::child::Child;
+use crate::children::plan_children;
+use crate::judge::Guide;
 use crate::notes::cases_in;
 use crate::walk_stack::Pending;
 use crate::yard::Yard;
@@ -84,7 +86,7 @@ fn wait_for(
 pub(crate) fn add_children(
     alloc: Global,
     instance: &Instance,
-    tree: &ProposedTree,
+    guide: &Guide,
     cases: usize,
     parent: usize,
     hint: Option<usize>,
@@ -92,14 +94,16 @@ pub(crate) fn add_children(
     yard: &Yard,
     waiting: &mut Vec<Pending>,
 ) -> Result<(), AllocError>
+    requires judge { IsJudge instance.now guide.now.judge }
     requires yard { IsYard instance.now yard.now }
-    requires stock { All (AreStatable instance.now) tree.now.stock.items }
-    requires cases { cases < length tree.now.stock.items }
+    requires stock { All (AreStatable instance.now) guide.now.tree.stock.items }
+    requires cases { cases < length guide.now.tree.stock.items }
     requires best { best ≤ 1000000000000 }
-    ensures { OnOk result (AddsChildren Prices instance.now tree.now.stock.items best
+    ensures { OnOk result
+        (AddsChildren (version_of guide.now.judge) instance.now guide.now.tree.stock.items best
         yard.now.path.blocks parent cases waiting.old.items waiting.new.items) }
 {
-    let own = cases_in(tree, cases);
-    let children = plan_children(alloc, instance, yard, own, best)?;
-    wait_for(tree, hint, &children, parent, cases, waiting)
+    let own = cases_in(&guide.tree, cases);
+    let children = plan_children(alloc, instance, &guide.judge, yard, own, best)?;
+    wait_for(&guide.tree, hint, &children, parent, cases, waiting)
 }

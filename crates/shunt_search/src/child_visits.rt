@@ -6,16 +6,18 @@ ghost use Rattle.shunt_store.specs.defs.Files.{BothTold};
 ghost use Rattle.shunt_instance.specs.defs.Instance.{Night};
 ghost use Rattle.shunt_choices.specs.defs.Paths.{next_of};
 ghost use Rattle.shunt_matching.specs.declared.types.Shortage.{Shortage as OneShortage};
-ghost use Rattle.shunt_proof.specs.declared.records.Version.TheVariants.{Prices};
 ghost use Rattle.shunt_proof.specs.defs.Nodes.{AreStatable};
 ghost use Rattle.shunt_proof.specs.defs.Recorders.{Open, Failed};
+ghost use Rattle.shunt_search.specs.defs.Judges.{version_of, IsJudge};
 ghost use Rattle.shunt_search.specs.defs.Yards.{IsYard};
 ghost use Rattle.shunt_search.specs.defs.WalkStates.{cases_in, node_below, cases_of, place_of};
 ghost use Rattle.shunt_search.specs.defs.WalkStates.{IsInStock, IsLifted, IsNoted, Opens};
 ghost use Rattle.shunt_search.specs.defs.SearchStates.{IsStock, IsReady, Arrives};
 
+use crate::child::Child;
 use crate::child_list::add_children;
-use crate::children::{Child, plan_children};
+use crate::children::plan_children;
+use crate::judge::{Guide, hold};
 use crate::notes::{NodeNoted, cases_in, go_to, next_nodes, note_below};
 use crate::search_state::Search;
 use crate::solved::SolveError;
@@ -23,7 +25,6 @@ use crate::walk_stack::Pending;
 use crate::yard::Yard;
 use shunt_blocks::laws::few_blocks;
 use shunt_choices::Path;
-use shunt_dual::cases_hold;
 use shunt_instance::Instance;
 use shunt_proof::Recorder;
 use shunt_proof::version_laws::bounds_by_version;
@@ -53,28 +54,29 @@ fn are_above(children: &[Child], least: i64) -> bool
 fn lifts(
     alloc: Global,
     instance: &Instance,
-    tree: &ProposedTree,
+    guide: &Guide,
     place: usize,
     least: i64,
     best: u64,
     yard: &Yard,
 ) -> Result<bool, AllocError>
+    requires judge { IsJudge instance.now guide.now.judge }
     requires yard { IsYard instance.now yard.now }
-    requires stock { All (AreStatable instance.now) tree.now.stock.items }
+    requires stock { All (AreStatable instance.now) guide.now.tree.stock.items }
     requires best { best ≤ 1000000000000 }
-    ensures { IfOk result (λ yes. yes ≡ true
-        → IsLifted Prices instance.now tree.now.stock.items yard.now.path.blocks best least place) }
+    ensures { IfOk result (λ yes. yes ≡ true → IsLifted (version_of guide.now.judge) instance.now
+        guide.now.tree.stock.items yard.now.path.blocks best least place) }
 {
     // The call tells that a path has one bound by cases.
     bounds_by_version();
-    if place >= tree.stock.len() {
+    if place >= guide.tree.stock.len() {
         return Ok(false);
     }
-    let cases = cases_in(tree, place);
-    if !cases_hold(instance, &yard.path, cases) {
+    let cases = cases_in(&guide.tree, place);
+    if !hold(instance, &guide.judge, &yard.path, cases) {
         return Ok(false);
     }
-    let children = plan_children(alloc, instance, yard, cases, best)?;
+    let children = plan_children(alloc, instance, &guide.judge, yard, cases, best)?;
     Ok(are_above(&children, least))
 }
 
@@ -101,23 +103,25 @@ fn count_cases(tree: &ProposedTree, how: NodeNoted) -> u32
 pub(crate) fn root_place(
     alloc: Global,
     instance: &Instance,
-    tree: &ProposedTree,
+    guide: &Guide,
     search: &Search,
 ) -> Result<usize, AllocError>
+    requires judge { IsJudge instance.now guide.now.judge }
     requires yard { IsYard instance.now search.now.yard }
-    requires stock { All (AreStatable instance.now) tree.now.stock.items }
+    requires stock { All (AreStatable instance.now) guide.now.tree.stock.items }
     requires best { search.now.known.cost ≤ 1000000000000 }
-    requires first { IsLifted Prices instance.now tree.now.stock.items search.now.yard.path.blocks
-        search.now.known.cost search.now.floor 0 }
-    ensures { IfOk result (IsLifted Prices instance.now tree.now.stock.items
+    requires first { IsLifted (version_of guide.now.judge) instance.now guide.now.tree.stock.items
+        search.now.yard.path.blocks search.now.known.cost search.now.floor 0 }
+    ensures { IfOk result
+        (IsLifted (version_of guide.now.judge) instance.now guide.now.tree.stock.items
         search.now.yard.path.blocks search.now.known.cost search.now.floor) }
 {
-    let Some(place) = proposed_cases(tree, Some(0)) else {
+    let Some(place) = proposed_cases(&guide.tree, Some(0)) else {
         return Ok(0);
     };
     let least = search.floor;
     let best = search.known.cost;
-    let better = lifts(alloc, instance, tree, place, least, best, &search.yard)?;
+    let better = lifts(alloc, instance, guide, place, least, best, &search.yard)?;
     if !better {
         return Ok(0);
     }
@@ -129,34 +133,36 @@ pub(crate) fn root_place(
 fn noted_as(
     alloc: Global,
     instance: &Instance,
-    tree: &ProposedTree,
+    guide: &Guide,
     next: &Pending,
     search: &Search,
 ) -> Result<NodeNoted, AllocError>
+    requires judge { IsJudge instance.now guide.now.judge }
     requires yard { IsYard instance.now search.now.yard }
-    requires stock { All (AreStatable instance.now) tree.now.stock.items }
+    requires stock { All (AreStatable instance.now) guide.now.tree.stock.items }
     requires best { search.now.known.cost ≤ 1000000000000 }
     requires room { search.now.owned ≤ 8000 }
-    ensures noted { IfOk result (IsNoted Prices instance.now tree.now.stock.items
+    ensures noted { IfOk result
+        (IsNoted (version_of guide.now.judge) instance.now guide.now.tree.stock.items
         search.now.yard.path.blocks search.now.known.cost next.now.child.bound) }
-    ensures there { IfOk result (IsInStock tree.now.stock.items) }
+    ensures there { IfOk result (IsInStock guide.now.tree.stock.items) }
     ensures room { IfOk result
-        (λ how. search.now.owned + cases_of tree.now.stock.items how ≤ 8000) }
+        (λ how. search.now.owned + cases_of guide.now.tree.stock.items how ≤ 8000) }
 {
     let whole = is_whole(&search.yard.path);
     if whole {
         return Ok(NodeNoted::Whole);
     }
-    let Some(place) = proposed_cases(tree, next.hint) else {
+    let Some(place) = proposed_cases(&guide.tree, next.hint) else {
         return Ok(NodeNoted::Same);
     };
     let least = next.child.bound;
     let best = search.known.cost;
-    let better = lifts(alloc, instance, tree, place, least, best, &search.yard)?;
+    let better = lifts(alloc, instance, guide, place, least, best, &search.yard)?;
     if !better {
         return Ok(NodeNoted::Same);
     }
-    if cases_in(tree, place).len() as u32 > 8000 - search.owned {
+    if cases_in(&guide.tree, place).len() as u32 > 8000 - search.owned {
         return Ok(NodeNoted::Same);
     }
     Ok(NodeNoted::Own(place))
@@ -177,17 +183,19 @@ fn cases_place(how: NodeNoted, above: usize) -> Option<usize>
 fn list_children(
     alloc: Global,
     instance: &Instance,
-    tree: &ProposedTree,
+    guide: &Guide,
     next: &Pending,
     how: NodeNoted,
     search: &mut Search,
 ) -> Result<(), AllocError>
+    requires judge { IsJudge instance.now guide.now.judge }
     requires yard { IsYard instance.now search.old.yard }
-    requires stock { All (AreStatable instance.now) tree.now.stock.items }
-    requires inherits { next.now.cases < length tree.now.stock.items }
-    requires there { IsInStock tree.now.stock.items how }
+    requires stock { All (AreStatable instance.now) guide.now.tree.stock.items }
+    requires inherits { next.now.cases < length guide.now.tree.stock.items }
+    requires there { IsInStock guide.now.tree.stock.items how }
     requires best { search.old.known.cost ≤ 1000000000000 }
-    ensures opens { OnOk result (Opens Prices instance.now tree.now.stock.items
+    ensures opens { OnOk result
+        (Opens (version_of guide.now.judge) instance.now guide.now.tree.stock.items
         search.old.known.cost search.old.yard.path.blocks search.old.count
         (place_of how next.now.cases) search.old.waiting.items search.new.waiting.items) }
     ensures yard { search.new.yard ≡ search.old.yard }
@@ -204,7 +212,7 @@ fn list_children(
     add_children(
         alloc,
         instance,
-        tree,
+        guide,
         place,
         search.count as usize,
         next.hint,
@@ -219,14 +227,15 @@ fn list_children(
 pub(crate) fn visit<R: Recorder>(
     alloc: Global,
     instance: &Instance,
-    tree: &ProposedTree,
+    guide: &Guide,
     next: &Pending,
     search: &mut Search,
     recorder: &mut R,
 ) -> Result<NodeNoted, SolveError>
+    requires judge { IsJudge instance.now guide.now.judge }
     requires yard { IsYard instance.now search.old.yard }
-    requires stocked { IsStock instance.now tree.now.stock.items }
-    requires ready { IsReady instance.now tree.now.stock.items
+    requires stocked { IsStock instance.now guide.now.tree.stock.items }
+    requires ready { IsReady instance.now guide.now.tree.stock.items
         (R.told recorder.old) search.old.yard next.now }
     requires best { search.old.known.cost ≤ 1000000000000 }
     requires stage { R.stage recorder.old ≡ Open }
@@ -235,14 +244,14 @@ pub(crate) fn visit<R: Recorder>(
     requires count { search.old.count ≡ R.number recorder.old }
     requires cases { search.old.owned ≡ R.cases recorder.old }
     requires case_room { R.cases recorder.old ≤ 8000 }
-    ensures arrives { IfOk result (λ how. Arrives Prices instance.now tree.now.stock.items
-        search.old search.new next.now how search.old.waiting.items) }
+    ensures arrives { IfOk result (λ how. Arrives (version_of guide.now.judge) instance.now
+        guide.now.tree.stock.items search.old search.new next.now how search.old.waiting.items) }
     ensures told { IfOk result (λ how. BothTold (R.told recorder.old) (R.told recorder.new)
         (λ old new. new ≡ old ++ node_below search.old.yard.path.pins next.now.child.block
-        tree.now.stock.items how ∷ [])) }
+        guide.now.tree.stock.items how ∷ [])) }
     ensures number { OnOk result (R.number recorder.new ≡ R.number recorder.old + 1) }
-    ensures cases { IfOk result
-        (λ how. R.cases recorder.new ≡ R.cases recorder.old + cases_of tree.now.stock.items how) }
+    ensures cases { IfOk result (λ how. R.cases recorder.new ≡ R.cases recorder.old
+        + cases_of guide.now.tree.stock.items how) }
     ensures open { OnOk result (R.stage recorder.new ≡ Open) }
     ensures sound { IsErrOf result SolveError.Memory → R.stage recorder.new ≢ Failed }
     ensures failed { IsErrOf result SolveError.Recorder → R.stage recorder.new ≡ Failed }
@@ -258,18 +267,18 @@ pub(crate) fn visit<R: Recorder>(
     instance.units();
     let pins = search.yard.path.pins();
     go_to(instance, &mut search.yard, &next.child);
-    let how = noted_as(alloc, instance, tree, next, search)?;
-    let own = count_cases(tree, how);
+    let how = noted_as(alloc, instance, guide, next, search)?;
+    let own = count_cases(&guide.tree, how);
     note_below(
         alloc,
         instance,
         pins,
         &next.child.block,
-        tree,
+        &guide.tree,
         how,
         recorder,
     )?;
-    list_children(alloc, instance, tree, next, how, search)?;
+    list_children(alloc, instance, guide, next, how, search)?;
     search.count += 1;
     search.owned += own;
     Ok(how)

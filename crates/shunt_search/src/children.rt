@@ -8,9 +8,13 @@ ghost use Rattle.shunt_prices.specs.defs.Limits.{AreCases};
 ghost use Rattle.shunt_prices.specs.defs.Bounds.{IsCasesBound};
 ghost use Rattle.shunt_dual.specs.defs.Longer.{AreSumsAt};
 ghost use Rattle.shunt_proof.specs.declared.records.Version.TheVariants.{Prices};
+ghost use Rattle.shunt_search.specs.defs.Judges.{version_of, IsJudge};
 ghost use Rattle.shunt_search.specs.defs.Yards.{IsYard, IsNextBlock, IsOpen, IsClosed, IsTried};
 ghost use Rattle.shunt_search.specs.defs.Yards.{AreOpen, AreChildren, more_by, choice_of};
 
+use crate::child::Child;
+use crate::judge::Judge;
+use crate::sights::open_with_stacks;
 use crate::yard::Yard;
 use shunt_base::Cases;
 use shunt_blocks::laws::few_blocks;
@@ -20,13 +24,6 @@ use shunt_choices::{Path, options, shapes_from};
 use shunt_dual::{PathSums, longer_bound, path_sums};
 use shunt_instance::Instance;
 use std::alloc::{AllocError, Global};
-
-/// A block that may come next, and the bound of the path with it.
-#[derive(Clone, Copy)]
-pub struct Child {
-    pub block: Block,
-    pub bound: i64,
-}
 
 /// The bound of the yard's path with the next block by cases, from what these come to at the path.
 fn bound_with(
@@ -101,29 +98,52 @@ fn offer(
     Ok(())
 }
 
-/// Of these next blocks those that are open. Err is want of memory.
-fn open_ones(
+/// Of these next blocks those that are open by cases with prices. Err is want of memory.
+fn open_by_prices(
     alloc: Global,
     instance: &Instance,
     yard: &Yard,
     cases: &Cases,
-    sums: &PathSums,
     best: u64,
     blocks: &[Block],
 ) -> Result<Vec<Child>, AllocError>
     requires yard { IsYard instance.now yard.now }
     requires next { All (IsNextBlock instance.now yard.now.path.blocks) blocks.now }
     requires cases { AreCases instance.now cases.now }
-    requires sums { AreSumsAt instance.now yard.now.path.blocks cases.now sums.now }
     requires best { best ≤ 1000000000000 }
     ensures { IfOk result (λ v. AreOpen Prices instance.now yard.now.path.blocks cases.now best
         (map choice_of blocks.now) v.items) }
 {
+    let sums = path_sums(alloc, instance, &yard.path, cases)?;
     let mut children = Vec::new(alloc);
     for block in blocks {
-        offer(instance, yard, block, cases, sums, best, &mut children)?;
+        offer(instance, yard, block, cases, &sums, best, &mut children)?;
     }
     Ok(children)
+}
+
+/// Of these next blocks those that are open. Err is want of memory.
+fn open_ones(
+    alloc: Global,
+    instance: &Instance,
+    judge: &Judge,
+    yard: &Yard,
+    cases: &Cases,
+    best: u64,
+    blocks: &[Block],
+) -> Result<Vec<Child>, AllocError>
+    requires judge { IsJudge instance.now judge.now }
+    requires yard { IsYard instance.now yard.now }
+    requires next { All (IsNextBlock instance.now yard.now.path.blocks) blocks.now }
+    requires cases { AreCases instance.now cases.now }
+    requires best { best ≤ 1000000000000 }
+    ensures { IfOk result (λ v. AreOpen (version_of judge.now) instance.now yard.now.path.blocks
+        cases.now best (map choice_of blocks.now) v.items) }
+{
+    match judge {
+        Judge::Prices => open_by_prices(alloc, instance, yard, cases, best, blocks),
+        Judge::Stacks(ends) => open_with_stacks(alloc, instance, ends, yard, cases, best, blocks),
+    }
 }
 
 /// The block of a shape with an option, and an id.
@@ -220,22 +240,23 @@ fn next_blocks(alloc: Global, instance: &Instance, path: &Path) -> Result<Vec<Bl
 pub(crate) fn plan_children(
     alloc: Global,
     instance: &Instance,
+    judge: &Judge,
     yard: &Yard,
     cases: &Cases,
     best: u64,
 ) -> Result<Vec<Child>, AllocError>
+    requires judge { IsJudge instance.now judge.now }
     requires yard { IsYard instance.now yard.now }
     requires cases { AreCases instance.now cases.now }
     requires best { best ≤ 1000000000000 }
-    ensures { IfOk result
-        (λ v. AreChildren Prices instance.now yard.now.path.blocks cases.now best v.items) }
+    ensures { IfOk result (λ v. AreChildren
+        (version_of judge.now) instance.now yard.now.path.blocks cases.now best v.items) }
 {
     // The calls tell that the choices are all and differ.
     choices();
     instance.units();
     let blocks = next_blocks(alloc, instance, &yard.path)?;
-    let sums = path_sums(alloc, instance, &yard.path, cases)?;
-    let mut children = open_ones(alloc, instance, yard, cases, &sums, best, &blocks)?;
+    let mut children = open_ones(alloc, instance, judge, yard, cases, best, &blocks)?;
     // The least bound comes last, where a walk goes on.
     children.sort_unstable_by_key(|child| !child.bound);
     Ok(children)

@@ -6,16 +6,17 @@ ghost use Rattle.shunt_store.specs.defs.Files.{BothTold};
 ghost use Rattle.shunt_base.specs.declared.duals.Case.{Case as OneCase};
 ghost use Rattle.shunt_instance.specs.defs.Instance.{Night, IsInstance};
 ghost use Rattle.shunt_blocks.specs.declared.records.Block.{Block as OneBlock};
+ghost use Rattle.shunt_blocks.specs.defs.Lists.{RunsThrough, placed};
 ghost use Rattle.shunt_matching.specs.declared.types.Shortage.{Shortage as OneShortage};
 ghost use Rattle.shunt_proof.specs.defs.Nodes.{AreStatable, FitsNode, CanFollow};
 ghost use Rattle.shunt_proof.specs.defs.Recorders.{Open, Failed};
-ghost use Rattle.shunt_search.specs.declared.children.Child.{Child as OneChild};
+ghost use Rattle.shunt_search.specs.declared.child.Child.{Child as OneChild};
 ghost use Rattle.shunt_search.specs.declared.notes.NodeNoted.{NodeNoted as OneNoted};
 ghost use Rattle.shunt_search.specs.defs.Yards.{IsYard, IsNextBlock};
 ghost use Rattle.shunt_search.specs.defs.WalkStates.{kept, goal_of, cases_in, IsNodeOf, stated};
 ghost use Rattle.shunt_search.specs.defs.WalkStates.{node_below, IsInStock, cases_of};
 
-use crate::children::Child;
+use crate::child::Child;
 use crate::solved::SolveError;
 use crate::yard::Yard;
 use shunt_base::{Cases, copy_cases};
@@ -117,6 +118,7 @@ pub(crate) fn go_to(instance: &Instance, yard: &mut Yard, next: &Child)
     requires there { kept next.now ≤ length yard.old.path.blocks }
     requires next { IsNextBlock instance.now
         (take (kept next.now) yard.old.path.blocks) next.now.block }
+    requires through { RunsThrough instance.now (placed (goal_of yard.old.path.blocks next.now)) }
     ensures path { yard.new.path.blocks ≡ goal_of yard.old.path.blocks next.now }
     ensures pins { yard.new.path.pins ≡ yard.old.path.pins }
     ensures yard { IsYard instance.now yard.new }

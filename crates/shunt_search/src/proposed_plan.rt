@@ -8,13 +8,16 @@ ghost use Rattle.shunt_blocks.specs.defs.Pins.{AreUsable};
 ghost use Rattle.shunt_choices.specs.defs.Paths.{IsPartialPlan};
 ghost use Rattle.shunt_prices.specs.defs.Limits.{AreCases};
 ghost use Rattle.shunt_proof.specs.declared.records.Version.{Version};
-ghost use Rattle.shunt_search.specs.declared.children.Child.{Child as OneChild};
+ghost use Rattle.shunt_search.specs.declared.child.Child.{Child as OneChild};
+ghost use Rattle.shunt_search.specs.defs.Judges.{IsJudge};
 ghost use Rattle.shunt_search.specs.defs.Yards.{IsYard, IsOpen, more_by};
 ghost use Rattle.shunt_search.specs.defs.WalkStates.{IsBest};
 
+use crate::child::Child;
 use crate::child_list::is_same_choice;
 use crate::child_visits::is_whole;
-use crate::children::{Child, plan_children};
+use crate::children::plan_children;
+use crate::judge::Judge;
 use crate::known::{KnownPlan, keep_cheaper, kept_plans};
 use crate::yard::{Yard, start};
 use shunt_base::Cases;
@@ -60,11 +63,13 @@ fn child_in(children: &[Child], plan: &[Block]) -> Option<Child>
 fn follow(
     alloc: Global,
     instance: &Instance,
+    judge: &Judge,
     cases: &Cases,
     best: u64,
     plan: &[Block],
     yard: &mut Yard,
 ) -> Result<bool, AllocError>
+    requires judge { IsJudge instance.now judge.now }
     requires yard { IsYard instance.now yard.old }
     requires cases { AreCases instance.now cases.now }
     requires best { best ≤ 1000000000000 }
@@ -73,7 +78,7 @@ fn follow(
         → OnOk result (IsPartialPlan instance.now pins yard.new.path.blocks) }
 {
     open_plans();
-    let children = plan_children(alloc, instance, yard, cases, best)?;
+    let children = plan_children(alloc, instance, judge, yard, cases, best)?;
     let Some(child) = child_in(&children, plan) else {
         return Ok(false);
     };
@@ -86,11 +91,13 @@ fn follow(
 fn followed(
     alloc: Global,
     instance: &Instance,
+    judge: &Judge,
     pins: &[Block],
     cases: &Cases,
     best: u64,
     plan: &[Block],
 ) -> Result<Yard, AllocError>
+    requires judge { IsJudge instance.now judge.now }
     requires usable { AreUsable instance.now pins.now }
     requires cases { AreCases instance.now cases.now }
     requires best { best ≤ 1000000000000 }
@@ -102,7 +109,7 @@ fn followed(
     instance.units();
     let mut yard = start(alloc, instance, pins)?;
     'steps: for _ in 0..instance.units() {
-        let more = follow(alloc, instance, cases, best, plan, &mut yard)?;
+        let more = follow(alloc, instance, judge, cases, best, plan, &mut yard)?;
         if !more {
             return Ok(yard);
         }
@@ -115,11 +122,13 @@ fn followed(
 pub(crate) fn take_proposed(
     alloc: Global,
     instance: &Instance,
+    judge: &Judge,
     pins: &[Block],
     cases: &Cases,
     plan: &[Block],
     known: &mut KnownPlan,
 ) -> Result<(), AllocError>
+    requires judge { IsJudge instance.now judge.now }
     requires usable { AreUsable instance.now pins.now }
     requires even { position_total instance.now ≡ unit_total instance.now }
     requires cases { AreCases instance.now cases.now }
@@ -135,7 +144,7 @@ pub(crate) fn take_proposed(
     if plan.is_empty() {
         return Ok(());
     }
-    let yard = followed(alloc, instance, pins, cases, known.cost, plan)?;
+    let yard = followed(alloc, instance, judge, pins, cases, known.cost, plan)?;
     let whole = is_whole(&yard.path);
     if whole {
         keep_cheaper(alloc, instance, &yard.path, known)?;

@@ -155,7 +155,7 @@ fn if_better(instance: &Instance, path: &Path, known: Root, proposed: Cases) -> 
 }
 
 /// How many of a plan's blocks are unparked, and 160 where there are more.
-fn unparked_in(blocks: &[Block]) -> u8 {
+pub(crate) fn unparked_in(blocks: &[Block]) -> u8 {
     let mut unparked = 0;
     for block in blocks {
         if block.park.is_none() && unparked < 160 {

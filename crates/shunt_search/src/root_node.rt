@@ -10,10 +10,10 @@ ghost use Rattle.shunt_choices.specs.defs.Paths.{masks_of, next_of};
 ghost use Rattle.shunt_matching.specs.declared.types.Shortage.{Shortage as OneShortage};
 ghost use Rattle.shunt_proof.specs.declared.records.Node.{Node as OneNode};
 ghost use Rattle.shunt_proof.specs.declared.records.Version.{Version};
-ghost use Rattle.shunt_proof.specs.declared.records.Version.TheVariants.{Prices};
 ghost use Rattle.shunt_proof.specs.defs.Nodes.{AreStatable};
 ghost use Rattle.shunt_proof.specs.defs.Recorders.{Open, Failed};
 ghost use Rattle.shunt_search.specs.declared.search_state.Search.{Search as OneSearch};
+ghost use Rattle.shunt_search.specs.defs.Judges.{version_of, IsJudge};
 ghost use Rattle.shunt_search.specs.defs.WalkStates.{cases_in, IsLifted, AddsChildren};
 ghost use Rattle.shunt_search.specs.defs.SearchStates.{IsSearch, IsFresh, Begins, Takes};
 ghost use Rattle.shunt_search.specs.defs.SearchStates.{whole_root, branch_root, TellsRoot, TellsOn};
@@ -21,6 +21,7 @@ ghost use Rattle.shunt_search.specs.defs.SearchStates.{whole_root, branch_root, 
 use crate::child_list::add_children;
 use crate::child_visits::{is_whole, root_place};
 use crate::floors::floors;
+use crate::judge::Guide;
 use crate::known::kept_plans;
 use crate::monotonicity::bounds_rise_in_versions;
 use crate::notes::cases_in;
@@ -145,23 +146,26 @@ pub(crate) fn begin<R: Recorder>(
     alloc: Global,
     instance: &Instance,
     pins: &[Block],
-    tree: &ProposedTree,
+    guide: &Guide,
     search: &mut Search,
     recorder: &mut R,
 ) -> Result<(), SolveError>
-    requires fresh { IsFresh Prices instance.now pins.now tree.now.stock.items search.old }
+    requires judge { IsJudge instance.now guide.now.judge }
+    requires fresh { IsFresh
+        (version_of guide.now.judge) instance.now pins.now guide.now.tree.stock.items search.old }
     requires stage { R.stage recorder.old ≡ Open }
     requires own { R.owns recorder.old instance.now }
     requires none { R.number recorder.old ≡ 0 }
     requires no_cases { R.cases recorder.old ≡ 0 }
     requires told { IfSome (R.told recorder.old) (λ nodes. nodes ≡ []) }
-    ensures search { OnOk result
-        (IsSearch Prices instance.now pins.now tree.now.stock.items (R.told recorder.new)
-        (R.number recorder.new) (R.cases recorder.new) search.new.waiting.items search.new) }
+    ensures search { OnOk result (IsSearch (version_of guide.now.judge) instance.now pins.now
+        guide.now.tree.stock.items (R.told recorder.new) (R.number recorder.new)
+        (R.cases recorder.new) search.new.waiting.items search.new) }
     ensures number { OnOk result (R.number recorder.new ≡ 1) }
     ensures tells { OnOk result (TellsOn (R.told recorder.old) (R.told recorder.new)) }
     ensures plain { OnOk result (search.new.plain ≡ search.old.plain) }
     ensures cheaper { OnOk result (search.new.known.cost ≤ search.old.known.cost) }
+    ensures floor { OnOk result (search.new.floor ≡ search.old.floor) }
     ensures open { OnOk result (R.stage recorder.new ≡ Open) }
     ensures sound { IsErrOf result SolveError.Memory → R.stage recorder.new ≢ Failed }
     ensures failed { IsErrOf result SolveError.Recorder → R.stage recorder.new ≡ Failed }
@@ -182,13 +186,13 @@ pub(crate) fn begin<R: Recorder>(
         take_whole(alloc, instance, search)?;
         return Ok(());
     }
-    let place = root_place(alloc, instance, tree, search)?;
-    search.owned = cases_in(tree, place).len() as u32;
-    note_branch(alloc, instance, tree, place, recorder)?;
+    let place = root_place(alloc, instance, guide, search)?;
+    search.owned = cases_in(&guide.tree, place).len() as u32;
+    note_branch(alloc, instance, &guide.tree, place, recorder)?;
     add_children(
         alloc,
         instance,
-        tree,
+        guide,
         place,
         0,
         Some(0),

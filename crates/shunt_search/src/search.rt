@@ -10,18 +10,19 @@ ghost use Rattle.shunt_blocks.specs.declared.records.Block.{Block as OneBlock};
 ghost use Rattle.shunt_matching.specs.declared.types.Shortage.{Shortage as OneShortage};
 ghost use Rattle.shunt_proof.specs.declared.records.Node.{Node as OneNode};
 ghost use Rattle.shunt_proof.specs.declared.records.Version.{Version};
-ghost use Rattle.shunt_proof.specs.declared.records.Version.TheVariants.{Prices};
 ghost use Rattle.shunt_proof.specs.defs.Recorders.{Open, Failed};
 ghost use Rattle.shunt_search.specs.declared.walk_stack.Pending.{Pending as OnePending};
 ghost use Rattle.shunt_search.specs.declared.notes.NodeNoted.{NodeNoted as OneNoted};
 ghost use Rattle.shunt_search.specs.declared.notes.NodeNoted.TheVariants as noted;
 ghost use Rattle.shunt_search.specs.declared.search_state.Search.{Search as OneSearch};
 ghost use Rattle.shunt_search.specs.defs.Yards.{IsYard};
+ghost use Rattle.shunt_search.specs.defs.Judges.{version_of, IsJudge};
 ghost use Rattle.shunt_search.specs.defs.WalkStates.{node_below, cases_of, IsLesser};
 ghost use Rattle.shunt_search.specs.defs.SearchStates.{IsSearch, IsReady, Arrives, Takes, Falls};
 ghost use Rattle.shunt_search.specs.defs.SearchStates.{TellsOn};
 
 use crate::child_visits::visit;
+use crate::judge::Guide;
 use crate::known::{keep_cheaper, kept_plans};
 use crate::monotonicity::bounds_rise_in_versions;
 use crate::notes::{NodeNoted, next_nodes};
@@ -37,7 +38,6 @@ use shunt_instance::laws::unit_numbers;
 use shunt_proof::Recorder;
 use shunt_proof::laws::few_nodes;
 use shunt_proof::version_laws::bounds_by_version;
-use shunt_tree::ProposedTree;
 use std::alloc::{AllocError, Global};
 
 /// How a search goes on: its next child can become a node, a branch whose children come in its place, or a whole path; and children that
@@ -122,24 +122,26 @@ fn arrive<R: Recorder>(
     alloc: Global,
     instance: &Instance,
     pins: &[Block],
-    tree: &ProposedTree,
+    guide: &Guide,
     next: Pending,
     search: &mut Search,
     recorder: &mut R,
 ) -> Result<(), SolveError>
-    requires search { IsSearch Prices instance.now pins.now tree.now.stock.items
-        (R.told recorder.old) (R.number recorder.old) (R.cases recorder.old)
-        (search.old.waiting.items ++ next ∷ []) search.old }
+    requires judge { IsJudge instance.now guide.now.judge }
+    requires search { IsSearch (version_of guide.now.judge) instance.now pins.now
+        guide.now.tree.stock.items (R.told recorder.old) (R.number recorder.old)
+        (R.cases recorder.old) (search.old.waiting.items ++ next ∷ []) search.old }
     requires below { next.child.bound <ℤ pos search.old.known.cost }
     requires stage { R.stage recorder.old ≡ Open }
     requires own { R.owns recorder.old instance.now }
     requires room { R.number recorder.old < 5000 }
-    ensures search { OnOk result
-        (IsSearch Prices instance.now pins.now tree.now.stock.items (R.told recorder.new)
-        (R.number recorder.new) (R.cases recorder.new) search.new.waiting.items search.new) }
+    ensures search { OnOk result (IsSearch (version_of guide.now.judge) instance.now pins.now
+        guide.now.tree.stock.items (R.told recorder.new) (R.number recorder.new)
+        (R.cases recorder.new) search.new.waiting.items search.new) }
     ensures number { OnOk result (R.number recorder.new ≡ R.number recorder.old + 1) }
     ensures plain { OnOk result (search.new.plain ≡ search.old.plain) }
     ensures cheaper { OnOk result (search.new.known.cost ≤ search.old.known.cost) }
+    ensures floor { OnOk result (search.new.floor ≡ search.old.floor) }
     ensures tells { OnOk result (TellsOn (R.told recorder.old) (R.told recorder.new)) }
     ensures open { OnOk result (R.stage recorder.new ≡ Open) }
     ensures sound { IsErrOf result SolveError.Memory → R.stage recorder.new ≢ Failed }
@@ -153,7 +155,7 @@ fn arrive<R: Recorder>(
     // The calls tell that the child's node can be noted, and what the search is behind it.
     searches_go_on();
     instance.units();
-    let how = visit(alloc, instance, tree, &next, search, recorder)?;
+    let how = visit(alloc, instance, guide, &next, search, recorder)?;
     let whole = is_noted_whole(how);
     if whole {
         take_whole(alloc, instance, search)?;
@@ -192,25 +194,27 @@ fn advance<R: Recorder>(
     alloc: Global,
     instance: &Instance,
     pins: &[Block],
-    tree: &ProposedTree,
+    guide: &Guide,
     search: &mut Search,
     recorder: &mut R,
 ) -> Result<bool, SolveError>
-    requires search { IsSearch Prices instance.now pins.now tree.now.stock.items
-        (R.told recorder.old) (R.number recorder.old)
+    requires judge { IsJudge instance.now guide.now.judge }
+    requires search { IsSearch (version_of guide.now.judge) instance.now pins.now
+        guide.now.tree.stock.items (R.told recorder.old) (R.number recorder.old)
         (R.cases recorder.old) search.old.waiting.items search.old }
     requires stage { R.stage recorder.old ≡ Open }
     requires own { R.owns recorder.old instance.now }
     requires room { R.number recorder.old < 5000 }
-    ensures search { OnOk result
-        (IsSearch Prices instance.now pins.now tree.now.stock.items (R.told recorder.new)
-        (R.number recorder.new) (R.cases recorder.new) search.new.waiting.items search.new) }
+    ensures search { OnOk result (IsSearch (version_of guide.now.judge) instance.now pins.now
+        guide.now.tree.stock.items (R.told recorder.new) (R.number recorder.new)
+        (R.cases recorder.new) search.new.waiting.items search.new) }
     ensures more { IfOk result
         (λ more. more ≡ true → R.number recorder.new ≡ R.number recorder.old + 1) }
     ensures done { IfOk result (λ more. more ≡ false
         → (R.number recorder.new ≡ R.number recorder.old) × (search.new.waiting.items ≡ [])) }
     ensures plain { OnOk result (search.new.plain ≡ search.old.plain) }
     ensures cheaper { OnOk result (search.new.known.cost ≤ search.old.known.cost) }
+    ensures floor { OnOk result (search.new.floor ≡ search.old.floor) }
     ensures tells { OnOk result (TellsOn (R.told recorder.old) (R.told recorder.new)) }
     ensures open { OnOk result (R.stage recorder.new ≡ Open) }
     ensures sound { IsErrOf result SolveError.Memory → R.stage recorder.new ≢ Failed }
@@ -226,7 +230,7 @@ fn advance<R: Recorder>(
     let Some(next) = take_next(search) else {
         return Ok(false);
     };
-    arrive(alloc, instance, pins, tree, next, search, recorder)?;
+    arrive(alloc, instance, pins, guide, next, search, recorder)?;
     Ok(true)
 }
 
@@ -235,26 +239,28 @@ pub(crate) fn walk_on<R: Recorder>(
     alloc: Global,
     instance: &Instance,
     pins: &[Block],
-    tree: &ProposedTree,
+    guide: &Guide,
     nodes: u32,
     search: &mut Search,
     recorder: &mut R,
 ) -> Result<(), SolveError>
-    requires search { IsSearch Prices instance.now pins.now tree.now.stock.items
-        (R.told recorder.old) (R.number recorder.old)
+    requires judge { IsJudge instance.now guide.now.judge }
+    requires search { IsSearch (version_of guide.now.judge) instance.now pins.now
+        guide.now.tree.stock.items (R.told recorder.old) (R.number recorder.old)
         (R.cases recorder.old) search.old.waiting.items search.old }
     requires first { R.number recorder.old ≡ 1 }
     requires some { 1 ≤ nodes }
     requires few { nodes ≤ 5000 }
     requires stage { R.stage recorder.old ≡ Open }
     requires own { R.owns recorder.old instance.now }
-    ensures search { OnOk result
-        (IsSearch Prices instance.now pins.now tree.now.stock.items (R.told recorder.new)
-        (R.number recorder.new) (R.cases recorder.new) search.new.waiting.items search.new) }
+    ensures search { OnOk result (IsSearch (version_of guide.now.judge) instance.now pins.now
+        guide.now.tree.stock.items (R.told recorder.new) (R.number recorder.new)
+        (R.cases recorder.new) search.new.waiting.items search.new) }
     ensures most { OnOk result (R.number recorder.new ≤ nodes) }
     ensures done { OnOk result ((R.number recorder.new ≡ nodes) ⊎ (search.new.waiting.items ≡ [])) }
     ensures plain { OnOk result (search.new.plain ≡ search.old.plain) }
     ensures cheaper { OnOk result (search.new.known.cost ≤ search.old.known.cost) }
+    ensures floor { OnOk result (search.new.floor ≡ search.old.floor) }
     ensures tells { OnOk result (TellsOn (R.told recorder.old) (R.told recorder.new)) }
     ensures open { OnOk result (R.stage recorder.new ≡ Open) }
     ensures sound { IsErrOf result SolveError.Memory → R.stage recorder.new ≢ Failed }
@@ -267,7 +273,7 @@ pub(crate) fn walk_on<R: Recorder>(
 {
     let mut count = 1;
     'walk: while count < nodes {
-        let more = advance(alloc, instance, pins, tree, search, recorder)?;
+        let more = advance(alloc, instance, pins, guide, search, recorder)?;
         if !more {
             return Ok(());
         }

@@ -6,7 +6,7 @@ ghost use Rattle.shunt_search.specs.defs.Conditions.{search_error};
 
 use shunt_matching::types::Shortage;
 use shunt_plan::Plan;
-use shunt_proof::RecordError;
+use shunt_proof::{RecordError, Version};
 use std::alloc::{AllocError, AllocFailed};
 
 /// What a search found: a plan, and a bound that the nodes prove which it noted.
@@ -20,6 +20,8 @@ pub struct Solved {
     pub bound: u64,
     /// How many nodes were noted, from 1 to 5,000.
     pub nodes: u32,
+    /// The version of a certificate that has them.
+    pub version: Version,
 }
 
 /// Why a search found nothing.

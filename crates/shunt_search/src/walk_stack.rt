@@ -20,7 +20,7 @@ ghost use Rattle.shunt_search.specs.defs.Yards.{IsNextBlock};
 ghost use Rattle.shunt_search.specs.defs.WalkStates.{kept, goal_of, cases_in, IsNodeOf, IsWalk};
 ghost use Rattle.shunt_search.specs.defs.WalkStates.{Passes, AddsChildren, OpensAbove, IsLesser};
 
-use crate::children::Child;
+use crate::child::Child;
 use crate::monotonicity::bounds_rise_in_versions;
 use shunt_blocks::laws::few_blocks;
 use shunt_choices::laws::{choices, plans_grow};

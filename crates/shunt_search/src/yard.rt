@@ -2,8 +2,9 @@
 ghost use Rattle.std.specs.Prelude.{◌≡◌, ◌↔◌, ◌+◌, ◌<◌, ◌≤◌, [], ◌∷◌, take, length, All, IsTrue};
 ghost use Rattle.std.specs.Prelude.{IfOk};
 ghost use Rattle.shunt_instance.specs.defs.Instance.{unit_total};
-ghost use Rattle.shunt_blocks.specs.defs.Shapes.{IsWithinTrains, IsInRange};
-ghost use Rattle.shunt_blocks.specs.defs.Lists.{ShareNothing, RunsThrough, placed, track_lengths};
+ghost use Rattle.shunt_blocks.specs.defs.Shapes.{IsWithinTrains};
+ghost use Rattle.shunt_blocks.specs.defs.Lists.{RunsThrough, placed, track_lengths};
+ghost use Rattle.shunt_blocks.specs.defs.Pins.{AreUsable};
 ghost use Rattle.shunt_choices.specs.defs.Paths.{masks_of};
 ghost use Rattle.shunt_proof.specs.defs.Trees.{IsStart};
 ghost use Rattle.shunt_search.specs.defs.Polish.{Stand};
@@ -13,6 +14,7 @@ use crate::polisher::{block_at, goes_through, settle};
 use shunt_blocks::{Block, laws, track_lengths};
 use shunt_choices::Path;
 use shunt_instance::Instance;
+use shunt_proof::laws::starts;
 use shunt_stays::laws::part_of_a_run;
 use shunt_timeline::Timelines;
 use std::alloc::{AllocError, Global};
@@ -53,13 +55,14 @@ fn stand_placed(instance: &Instance, timelines: &mut Timelines, blocks: &[Block]
 
 /// The pins in the order of their first units. Err is want of memory.
 pub(crate) fn start(alloc: Global, instance: &Instance, pins: &[Block]) -> Result<Yard, AllocError>
-    requires in_range { All (IsInRange instance.now) pins.now }
-    requires apart { ShareNothing instance.now pins.now }
+    requires { AreUsable instance.now pins.now }
     ensures start { IfOk result (λ y. IsStart instance.now pins.now y.path.blocks) }
     ensures pins { IfOk result (λ y. y.path.pins ≡ length pins.now) }
     ensures yard { IfOk result (IsYard instance.now) }
 {
+    // The calls tell that the pins in order are a partial plan of at most 160 blocks.
     laws::few_blocks();
+    starts();
     let path = Path::start_with(alloc, instance, pins)?;
     let mut timelines = Timelines::new(alloc, &track_lengths(alloc, instance)?)?;
     timelines.reserve(instance.units())?;
@@ -89,6 +92,7 @@ impl Yard {
     pub(crate) fn push(&mut self, instance: &Instance, block: Block)
         requires yard { IsYard instance.now self.old }
         requires next { IsNextBlock instance.now self.old.path.blocks block }
+        requires through { RunsThrough instance.now (placed (more_by self.old.path.blocks block)) }
         ensures path { self.new.path
             ≡ record self.old.path {
               blocks = more_by self.old.path.blocks block;
@@ -113,7 +117,9 @@ impl Yard {
         ensures pins { self.new.path.pins ≡ self.old.path.pins }
         ensures yard { IsYard instance.now self.new }
     {
+        // The calls say how the stays of blocks stand, and that the run of those that are left goes through.
         laws::stays_of_blocks();
+        laws::ids_do_not_matter();
         laws::few_blocks();
         instance.units();
         self.timelines.remove(self.path.blocks().len() as u32);

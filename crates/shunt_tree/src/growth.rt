@@ -1,9 +1,10 @@
 // A tree of partial plans, best first: the node whose bound is least grows next.
+use crate::grounds::Ground;
 use crate::levels::{NodeLevel, share_of};
 use crate::lifts::{Aim, Lifted, lift};
-use crate::nodes::{CasePair, Open, Opened, Sums, TreeNode, first_at, last_at, path_to};
+use crate::nodes::{CasePair, Open, Opened, Sums, TreeNode, Which, case_at, path_to};
 use crate::open_choices::{Range, choices_at, count_up_to, open_by};
-use shunt_ascent::{Fixed, Raised, Site, grain};
+use shunt_ascent::{Choice, Fixed, Raised, grain};
 use shunt_blocks::{Block, block_cost, in_range};
 use shunt_instance::Instance;
 use std::alloc::{AllocError, Global};
@@ -26,7 +27,7 @@ const OWNERS: usize = 7_996;
 #[derive(Drop)]
 pub(crate) struct Tree {
     start: Vec<Block>,
-    site: Site,
+    ground: Ground,
     pub nodes: Vec<TreeNode>,
     queue: BinaryHeap<Waiting>,
     /// What the best plan that is known costs.
@@ -86,7 +87,7 @@ impl Tree {
     pub(crate) fn new(
         alloc: Global,
         instance: &Instance,
-        site: Site,
+        ground: Ground,
         start: &[Block],
         first: Option<Raised>,
         last: Raised,
@@ -101,12 +102,12 @@ impl Tree {
             last: last.sum,
         };
         let paid = cost_of_all(instance, start);
-        let mut root = TreeNode::root(alloc, site.units_left(), paid, sums);
+        let mut root = TreeNode::root(alloc, ground.units_left(), paid, sums);
         put_case(&mut root.first, first);
         root.last = Some(last.case);
         let mut tree = Tree {
             start: Vec::from_slice(alloc, start)?,
-            site,
+            ground,
             nodes: Vec::new(alloc),
             queue: BinaryHeap::new(alloc),
             cost,
@@ -117,12 +118,8 @@ impl Tree {
             owners: 0,
             most_owners,
         };
-        tree.queue.push(Waiting {
-            key: Reverse(root.key),
-            depth: 0,
-            place: Reverse(0),
-        })?;
         tree.nodes.push(root)?;
+        tree.put_back(alloc, 0)?;
         Ok(tree)
     }
 
@@ -143,18 +140,28 @@ impl Tree {
         Ok(())
     }
 
+    // The choices at a node that go through, once the ground is there.
+    fn choices(
+        &mut self,
+        alloc: Global,
+        instance: &Instance,
+        place: usize,
+    ) -> Result<Vec<Choice>, AllocError> {
+        let blocks = path_to(alloc, &self.start, &self.nodes, place)?;
+        choices_at(alloc, instance, &mut self.ground, &blocks)
+    }
+
     // Finds the next choices of a node by the cases that it has.
     fn open(&mut self, alloc: Global, instance: &Instance, place: usize) -> Result<(), AllocError> {
-        let blocks = path_to(alloc, &self.start, &self.nodes, place)?;
-        let found = choices_at(alloc, instance, &mut self.site, &blocks)?;
-        let Some(last) = last_at(&self.nodes, place) else {
+        let found = self.choices(alloc, instance, place)?;
+        let Some(last) = case_at(&self.nodes, place, Which::Last) else {
             return Ok(());
         };
         let Some(node) = self.nodes.get(place) else {
             return Ok(());
         };
         let cases = CasePair {
-            first: first_at(&self.nodes, place),
+            first: case_at(&self.nodes, place, Which::First),
             last,
         };
         let range = Range {
@@ -162,7 +169,7 @@ impl Tree {
             cost: self.cost,
             grain: self.grain,
         };
-        let opened = open_by(alloc, &mut self.site, &found, &cases, node.sums, range)?;
+        let opened = open_by(alloc, &mut self.ground, &found, &cases, node.sums, range)?;
         if let Some(node) = self.nodes.get_mut(place) {
             node.open(opened);
         }
@@ -177,16 +184,15 @@ impl Tree {
         place: usize,
         key: i64,
     ) -> Result<Option<(Lifted, Opened)>, AllocError> {
-        let blocks = path_to(alloc, &self.start, &self.nodes, place)?;
-        let found = choices_at(alloc, instance, &mut self.site, &blocks)?;
-        let Some(last) = last_at(&self.nodes, place) else {
+        let found = self.choices(alloc, instance, place)?;
+        let Some(last) = case_at(&self.nodes, place, Which::Last) else {
             return Ok(None);
         };
         let Some(node) = self.nodes.get(place) else {
             return Ok(None);
         };
         let cases = CasePair {
-            first: first_at(&self.nodes, place),
+            first: case_at(&self.nodes, place, Which::First),
             last,
         };
         let aim = Aim {
@@ -195,19 +201,20 @@ impl Tree {
             depth: node.depth,
             grain: self.grain,
         };
-        let lifted = lift(alloc, &mut self.site, &found, &cases, node.sums, &aim)?;
+        let range = Range {
+            from: i64::MIN,
+            cost: self.cost,
+            grain: self.grain,
+        };
+        let lifted = lift(alloc, &mut self.ground, &found, &cases, node.sums, &aim)?;
         let sums = lifted.sums(node.sums);
         let opened = open_by(
             alloc,
-            &mut self.site,
+            &mut self.ground,
             &found,
             &lifted.over(&cases),
             sums,
-            Range {
-                from: i64::MIN,
-                cost: self.cost,
-                grain: self.grain,
-            },
+            range,
         )?;
         if opened.least > node.key {
             return Ok(Some((lifted, opened)));
@@ -245,7 +252,6 @@ impl Tree {
             if !node.is_lifted {
                 self.owners = self.owners.saturating_add(1);
             }
-            node.sums = lifted.sums(node.sums);
             take_over(node, lifted, opened);
         }
         Ok(())
@@ -420,9 +426,9 @@ impl Tree {
         Ok(self.cost)
     }
 
-    /// The site of its paths.
-    pub(crate) fn site(&self) -> &Site {
-        &self.site
+    /// The ground on which it grows.
+    pub(crate) fn ground(&self) -> &Ground {
+        &self.ground
     }
 
     /// The cheaper plan that was found, and nothing where none was. Err is want of memory.
@@ -452,6 +458,7 @@ fn put_case(old: &mut Option<Fixed>, raised: Option<Raised>) {
 fn take_over(node: &mut TreeNode, lifted: Lifted, opened: Opened) {
     let Lifted { first, last } = lifted;
     let Opened {
+        sums,
         choices,
         least,
         beyond,
@@ -459,6 +466,7 @@ fn take_over(node: &mut TreeNode, lifted: Lifted, opened: Opened) {
     put_case(&mut node.first, first);
     put_case(&mut node.last, last);
     node.is_lifted = true;
+    node.sums = sums;
     node.key = least;
     node.choices = choices;
     node.beyond = beyond;

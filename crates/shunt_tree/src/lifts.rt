@@ -1,7 +1,8 @@
 // Cases of a node that are to bound all its choices above its key.
+use crate::grounds::Ground;
 use crate::nodes::{CasePair, Sums, up};
 use crate::open_choices::unparked_with;
-use shunt_ascent::{Fixed, Raise, Raised, Site, SiteChoice};
+use shunt_ascent::{Choice, Fixed, Raise, Raised};
 use std::alloc::{AllocError, Global};
 
 /// How far above a node's key its cases are lifted, in grains.
@@ -50,8 +51,8 @@ impl Aim {
 // A case that is lifted for some choices, where there are any and its sum is low.
 fn lift_case(
     alloc: Global,
-    site: &mut Site,
-    choices: &[SiteChoice],
+    ground: &mut Ground,
+    choices: &[Choice],
     case: &Fixed,
     sum: i64,
     aim: &Aim,
@@ -60,20 +61,20 @@ fn lift_case(
     if choices.is_empty() || !aim.reaches(sum) {
         return Ok(None);
     }
-    let raised = site.raised(alloc, case, choices, aim.raise(two))?;
+    let raised = ground.raised(alloc, case, choices, aim.raise(two))?;
     Ok(Some(raised))
 }
 
 // The choices with which no more blocks are unparked than a case speaks of.
 fn choices_within(
     alloc: Global,
-    site: &Site,
-    choices: &[SiteChoice],
+    ground: &Ground,
+    choices: &[Choice],
     to: u8,
-) -> Result<Vec<SiteChoice>, AllocError> {
+) -> Result<Vec<Choice>, AllocError> {
     let mut some = Vec::new(alloc);
     for choice in choices {
-        if unparked_with(site, choice) <= i64::from(to) {
+        if unparked_with(ground, choice) <= i64::from(to) {
             some.push(*choice)?;
         }
     }
@@ -83,8 +84,8 @@ fn choices_within(
 // The first case, lifted where there is one.
 fn lift_first(
     alloc: Global,
-    site: &mut Site,
-    choices: &[SiteChoice],
+    ground: &mut Ground,
+    choices: &[Choice],
     cases: &CasePair<'_>,
     sum: i64,
     aim: &Aim,
@@ -92,22 +93,22 @@ fn lift_first(
     let Some(first) = cases.first else {
         return Ok(None);
     };
-    let some = choices_within(alloc, site, choices, first.to())?;
-    lift_case(alloc, site, &some, first, sum, aim, true)
+    let some = choices_within(alloc, ground, choices, first.to())?;
+    lift_case(alloc, ground, &some, first, sum, aim, true)
 }
 
-/// Cases of a site, from others that come to some sums there. Err is want of memory.
+/// Cases at a path, from others that come to some sums there. Err is want of memory.
 pub(crate) fn lift(
     alloc: Global,
-    site: &mut Site,
-    choices: &[SiteChoice],
+    ground: &mut Ground,
+    choices: &[Choice],
     cases: &CasePair<'_>,
     sums: Sums,
     aim: &Aim,
 ) -> Result<Lifted, AllocError> {
     let two = cases.first.is_some();
-    let first = lift_first(alloc, site, choices, cases, sums.first, aim)?;
-    let last = lift_case(alloc, site, choices, cases.last, sums.last, aim, two)?;
+    let first = lift_first(alloc, ground, choices, cases, sums.first, aim)?;
+    let last = lift_case(alloc, ground, choices, cases.last, sums.last, aim, two)?;
     Ok(Lifted { first, last })
 }
 

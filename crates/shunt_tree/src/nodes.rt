@@ -27,6 +27,23 @@ pub(crate) struct CasePair<'a> {
     pub last: &'a Fixed,
 }
 
+/// Which case of a node: the first of two, or the one that is the only one or the last.
+#[derive(Clone, Copy)]
+pub(crate) enum Which {
+    First,
+    Last,
+}
+
+/// What cases come to at a path; choices of a range there that bound little, the least last, with the least bound of all, which is at most the
+/// cost, and that of those that weren't kept, which is the greatest number where there are none.
+#[derive(Drop)]
+pub(crate) struct Opened {
+    pub sums: Sums,
+    pub choices: Vec<Open>,
+    pub least: i64,
+    pub beyond: i64,
+}
+
 /// A partial plan, or a whole one.
 #[derive(Drop)]
 pub(crate) struct TreeNode {
@@ -135,15 +152,22 @@ impl TreeNode {
             share,
         }
     }
-}
 
-impl TreeNode {
+    // A case of its own.
+    fn own(&self, which: Which) -> Option<&Fixed> {
+        match which {
+            Which::First => self.first.as_ref(),
+            Which::Last => self.last.as_ref(),
+        }
+    }
+
     /// Its next choices are found. The first ones, which no case of its own bounds yet, say what the inherited cases bound.
     pub(crate) fn open(&mut self, opened: Opened) {
         self.key = self.key.max(opened.least);
         if self.children.is_empty() {
             self.inherited = self.key;
         }
+        self.sums = opened.sums;
         self.choices = opened.choices;
         self.beyond = opened.beyond;
         self.is_open = true;
@@ -161,12 +185,12 @@ impl TreeNode {
     }
 }
 
-/// The first case at a node, its own or that of the nearest node above; None where there is one case.
-pub(crate) fn first_at(nodes: &[TreeNode], place: usize) -> Option<&Fixed> {
+// A case at a node, its own or that of the nearest node above that has one.
+pub(crate) fn case_at(nodes: &[TreeNode], place: usize, which: Which) -> Option<&Fixed> {
     let mut at = place;
     for _ in 0..nodes.len() {
         let node = nodes.get(at)?;
-        if let Some(case) = &node.first {
+        if let Some(case) = node.own(which) {
             return Some(case);
         }
         if node.block.is_none() {
@@ -177,20 +201,12 @@ pub(crate) fn first_at(nodes: &[TreeNode], place: usize) -> Option<&Fixed> {
     None
 }
 
-/// The last case at a node, its own or that of the nearest node above.
-pub(crate) fn last_at(nodes: &[TreeNode], place: usize) -> Option<&Fixed> {
-    let mut at = place;
-    for _ in 0..nodes.len() {
-        let node = nodes.get(at)?;
-        if let Some(case) = &node.last {
-            return Some(case);
-        }
-        if node.block.is_none() {
-            return None;
-        }
-        at = node.above;
-    }
-    None
+/// The cases at a node. Each is its own or that of the nearest node above that has one.
+pub(crate) fn cases_at(nodes: &[TreeNode], place: usize) -> Option<CasePair<'_>> {
+    Some(CasePair {
+        first: case_at(nodes, place, Which::First),
+        last: case_at(nodes, place, Which::Last)?,
+    })
 }
 
 /// The blocks of a node's path, behind those of the root's.
@@ -223,13 +239,4 @@ fn way_up(alloc: Global, nodes: &[TreeNode], place: usize) -> Result<Vec<Block>,
         at = node.above;
     }
     Ok(blocks)
-}
-
-/// Choices of a range that bound little, the least last, with the least bound of all, which is at most the cost, and that of those that weren't
-/// kept, which is the greatest number where there are none.
-#[derive(Drop)]
-pub(crate) struct Opened {
-    pub choices: Vec<Open>,
-    pub least: i64,
-    pub beyond: i64,
 }

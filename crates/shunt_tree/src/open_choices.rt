@@ -1,7 +1,8 @@
 // The choices at a node with their bounds.
+use crate::grounds::Ground;
 use crate::nodes::{CasePair, Open, Opened, Sums};
 use crate::occupancy::Standing;
-use shunt_ascent::{Site, SiteChoice};
+use shunt_ascent::{Choice, Reached};
 use shunt_blocks::Block;
 use shunt_instance::Instance;
 use std::alloc::{AllocError, Global};
@@ -19,16 +20,16 @@ pub(crate) struct Range {
     pub grain: i64,
 }
 
-/// The choices at a path that go through, once the site is there. Err is want of memory.
+/// The choices at a path that go through, once the ground is there. Err is want of memory.
 pub(crate) fn choices_at(
     alloc: Global,
     instance: &Instance,
-    site: &mut Site,
+    ground: &mut Ground,
     blocks: &[Block],
-) -> Result<Vec<SiteChoice>, AllocError> {
-    site.go_to(instance, blocks)?;
+) -> Result<Vec<Choice>, AllocError> {
+    ground.go_to(alloc, instance, blocks)?;
     let standing = Standing::of(alloc, instance, blocks)?;
-    let all = site.choices(alloc, instance)?;
+    let all = ground.choices(alloc, instance)?;
     let mut found = Vec::new(alloc);
     for choice in &all {
         if standing.goes_through(instance, &choice.block) {
@@ -39,23 +40,31 @@ pub(crate) fn choices_at(
 }
 
 /// How many blocks are unparked at the path with a choice.
-pub(crate) fn unparked_with(site: &Site, choice: &SiteChoice) -> i64 {
+pub(crate) fn unparked_with(ground: &Ground, choice: &Choice) -> i64 {
     let more = if choice.block.park.is_none() { 1 } else { 0 };
-    site.unparked().saturating_add(more)
+    ground.unparked().saturating_add(more)
 }
 
-// What the first case comes to with each choice, if there is one.
+// What the first case comes to; the greatest number where there is one case.
 fn first_sums(
     alloc: Global,
-    site: &mut Site,
-    found: &[SiteChoice],
+    ground: &mut Ground,
+    found: &[Choice],
     cases: &CasePair<'_>,
     sums: Sums,
-) -> Result<Vec<i64>, AllocError> {
+) -> Result<Reached, AllocError> {
     match cases.first {
-        Some(first) => site.sums(alloc, first, sums.first, found),
-        None => Ok(Vec::new(alloc)),
+        Some(first) => ground.sums(alloc, first, sums.first, found),
+        None => Ok(Reached {
+            sum: i64::MAX,
+            longer: Vec::new(alloc),
+        }),
     }
+}
+
+// What a case comes to with the choice of a number.
+fn sum_with(reached: &Reached, number: usize) -> i64 {
+    reached.longer.get(number).copied().unwrap_or(i64::MAX)
 }
 
 // Whether a case speaks of that many unparked blocks.
@@ -80,25 +89,29 @@ pub(crate) fn count_up_to(choices: &[Open], bound: i64) -> usize {
 /// Of choices that go through those that bound little by some cases, of a range. Err is want of memory.
 pub(crate) fn open_by(
     alloc: Global,
-    site: &mut Site,
-    found: &[SiteChoice],
+    ground: &mut Ground,
+    found: &[Choice],
     cases: &CasePair<'_>,
     sums: Sums,
     range: Range,
 ) -> Result<Opened, AllocError> {
-    let firsts = first_sums(alloc, site, found, cases, sums)?;
-    let lasts = site.sums(alloc, cases.last, sums.last, found)?;
+    let firsts = first_sums(alloc, ground, found, cases, sums)?;
+    let lasts = ground.sums(alloc, cases.last, sums.last, found)?;
     let mut opened = Opened {
+        sums: Sums {
+            first: firsts.sum,
+            last: lasts.sum,
+        },
         choices: Vec::new(alloc),
         least: range.cost,
         beyond: i64::MAX,
     };
     for (place, choice) in found.iter().enumerate() {
         let sums = Sums {
-            first: firsts.get(place).copied().unwrap_or(i64::MAX),
-            last: lasts.get(place).copied().unwrap_or(i64::MAX),
+            first: sum_with(&firsts, place),
+            last: sum_with(&lasts, place),
         };
-        let bound = sums.bound(is_open(cases, unparked_with(site, choice)));
+        let bound = sums.bound(is_open(cases, unparked_with(ground, choice)));
         opened.offer(
             Open {
                 block: choice.block,

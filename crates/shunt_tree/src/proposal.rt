@@ -3,38 +3,43 @@ ghost use Rattle.std.specs.Prelude.{All, IfOk, OnOk};
 ghost use Rattle.shunt_choices.specs.defs.Paths.{IsTrailOf};
 ghost use Rattle.shunt_prices.specs.defs.Limits.{AreApart, AreCases};
 
+use crate::grounds::Ground;
 use crate::growth::Tree;
-use crate::nodes::{TreeNode, first_at, last_at};
+use crate::nodes::{TreeNode, cases_at};
 use crate::tree::{Proposed, ProposedTree};
-use shunt_ascent::{Proposal, Raised, Site};
+use shunt_ascent::{Proposal, Raised, Site, StackSite};
 use shunt_base::Cases;
 use shunt_choices::Path;
 use shunt_instance::Instance;
 use std::alloc::{AllocError, Global};
 
-// The first of two cases at a site, with its sum.
-fn first_case(alloc: Global, site: &mut Site, cases: &Cases) -> Result<Option<Raised>, AllocError> {
+// The first of two cases at a root, with its sum.
+fn first_case(
+    alloc: Global,
+    ground: &mut Ground,
+    cases: &Cases,
+) -> Result<Option<Raised>, AllocError> {
     if cases.len() < 2 {
         return Ok(None);
     }
-    let first = site.taken_over(alloc, cases.get(0), 0)?;
+    let first = ground.taken_over(alloc, cases.get(0), 0)?;
     Ok(Some(first))
 }
 
-// The last case at a site, with its sum.
-fn last_case(alloc: Global, site: &mut Site, cases: &Cases) -> Result<Raised, AllocError> {
+// The last case at a root, with its sum.
+fn last_case(alloc: Global, ground: &mut Ground, cases: &Cases) -> Result<Raised, AllocError> {
     if cases.len() < 2 {
-        return site.taken_over(alloc, cases.get(0), 0);
+        return ground.taken_over(alloc, cases.get(0), 0);
     }
     let from = cases.get(0).to.saturating_add(1);
-    site.taken_over(alloc, cases.get(1), from)
+    ground.taken_over(alloc, cases.get(1), from)
 }
 
 // The cases of a root.
 fn root_cases(
     alloc: Global,
     instance: &Instance,
-    site: &Site,
+    ground: &Ground,
     first: &Option<Raised>,
     last: &Raised,
 ) -> Result<Cases, AllocError>
@@ -42,8 +47,8 @@ fn root_cases(
     ensures apart { IfOk result (All (λ c. AreApart c.duals.prices)) }
 {
     match first {
-        Some(first) => site.stated(alloc, instance, Some(&first.case), &last.case),
-        None => site.stated(alloc, instance, None, &last.case),
+        Some(first) => ground.stated(alloc, instance, Some(&first.case), &last.case),
+        None => ground.stated(alloc, instance, None, &last.case),
     }
 }
 
@@ -73,11 +78,10 @@ fn add_own(
     ensures cases { OnOk result (All (AreCases instance.now) stock.new.items) }
     ensures apart { OnOk result (All (All (λ c. AreApart c.duals.prices)) stock.new.items) }
 {
-    let Some(last) = last_at(&tree.nodes, place) else {
+    let Some(own) = cases_at(&tree.nodes, place) else {
         return Ok(None);
     };
-    let first = first_at(&tree.nodes, place);
-    let cases = tree.site().stated(alloc, instance, first, last)?;
+    let cases = tree.ground().stated(alloc, instance, own.first, own.last)?;
     let at = stock.len();
     add_cases(instance, cases, stock)?;
     Ok(Some(at))
@@ -186,6 +190,28 @@ fn proposed(
     })
 }
 
+// A tree that grows on a ground to that many nodes at most, from the cases at its root, where the best plan that is known costs so much.
+fn grown(
+    alloc: Global,
+    instance: &Instance,
+    start: &Path,
+    mut ground: Ground,
+    cases: &Cases,
+    cost: u64,
+    nodes: u32,
+) -> Result<ProposedTree, AllocError>
+    ensures cases { IfOk result (λ t. All (AreCases instance.now) t.stock.items) }
+    ensures apart { IfOk result (λ t. All (All (λ c. AreApart c.duals.prices)) t.stock.items) }
+{
+    let first = first_case(alloc, &mut ground, cases)?;
+    let last = last_case(alloc, &mut ground, cases)?;
+    let root = root_cases(alloc, instance, &ground, &first, &last)?;
+    let cost = i64::try_from(cost).unwrap_or(i64::MAX);
+    let mut tree = Tree::new(alloc, instance, ground, start.blocks(), first, last, cost)?;
+    let bound = tree.grow(alloc, instance, nodes as usize)?;
+    proposed(alloc, instance, &tree, bound, root)
+}
+
 /// A tree of partial plans from a path on, best first, of that many nodes at most: from the cases at its root, the proposal that these came
 /// from, and what the best plan that is known costs in cost units. Node 0 is the root, and the first of the stock are those cases. Nothing
 /// is said of what the tree is worth. Err is want of memory.
@@ -202,12 +228,40 @@ pub fn propose(
     ensures cases { IfOk result (λ t. All (AreCases instance.now) t.stock.items) }
     ensures apart { IfOk result (λ t. All (All (λ c. AreApart c.duals.prices)) t.stock.items) }
 {
-    let mut site = Site::new(alloc, instance, start, proposal, cases)?;
-    let first = first_case(alloc, &mut site, cases)?;
-    let last = last_case(alloc, &mut site, cases)?;
-    let root = root_cases(alloc, instance, &site, &first, &last)?;
-    let cost = i64::try_from(cost).unwrap_or(i64::MAX);
-    let mut tree = Tree::new(alloc, instance, site, start.blocks(), first, last, cost)?;
-    let bound = tree.grow(alloc, instance, nodes as usize)?;
-    proposed(alloc, instance, &tree, bound, root)
+    let site = Site::new(alloc, instance, start, proposal, cases)?;
+    grown(
+        alloc,
+        instance,
+        start,
+        Ground::Prices(site),
+        cases,
+        cost,
+        nodes,
+    )
+}
+
+/// The same with stacks: the cases at the root are cases with stacks, as are those at nodes, and a node's bound is that of its block with
+/// stacks. The prices at nodes are those of the root's cases, so no proposal is asked for. Err is want of memory.
+pub fn propose_with_stacks(
+    alloc: Global,
+    instance: &Instance,
+    start: &Path,
+    cases: &Cases,
+    cost: u64,
+    nodes: u32,
+) -> Result<ProposedTree, AllocError>
+    requires { IsTrailOf instance.now start.now }
+    ensures cases { IfOk result (λ t. All (AreCases instance.now) t.stock.items) }
+    ensures apart { IfOk result (λ t. All (All (λ c. AreApart c.duals.prices)) t.stock.items) }
+{
+    let site = StackSite::new(alloc, instance, start, cases)?;
+    grown(
+        alloc,
+        instance,
+        start,
+        Ground::Stacks(site),
+        cases,
+        cost,
+        nodes,
+    )
 }

@@ -16,7 +16,7 @@ use Rattle.shunt_proof.specs.defs.CertificateFormat.{certificate_format}
 use Rattle.shunt_proof.specs.defs.CertificateRows.{ReadsAsCertificate}
 use Rattle.shunt_proof.specs.defs.Certificates.{IsCertificate}
 use Rattle.shunt_proof.proofs.Lengths.{text_short}
-use Rattle.shunt_report.specs.declared.words.FileWord.TheVariants as word
+use Rattle.shunt_rows.specs.declared.words.FileWord.TheVariants as word
 use Rattle.shunt_inputs.specs.defs.Names.{AreNames}
 use Rattle.shunt_inputs.specs.defs.Inputs.{stated_certificate, stated_night, stated_plan, then_stated}
 use Rattle.shunt_inputs.proofs.Stated.{plans_are, stated_again}

@@ -17,7 +17,7 @@ use Rattle.shunt_timetable.proofs.Plain.{timetable_read}
 use Rattle.shunt_plan.specs.declared.records.Plan.{Plan}
 use Rattle.shunt_proof.specs.declared.records.Certificate.{Certificate}
 use Rattle.shunt_make.specs.defs.Made.{station_of}
-use Rattle.shunt_report.specs.declared.words.FileWord.TheVariants as word
+use Rattle.shunt_rows.specs.declared.words.FileWord.TheVariants as word
 use Rattle.shunt_inputs.specs.declared.answers.Outcome.TheVariants as outcome
 use Rattle.shunt_inputs.specs.defs.Names.{AreNames}
 use Rattle.shunt_inputs.specs.defs.Inputs.{stated_night, stated_station, stated_timetable, then_stated}
@@ -135,6 +135,7 @@ answer_is number units most s t p k names files after line told text writes star
       in_range = fit.in_range;
       statable = fit.statable;
       meet = fit.meet;
+      few = fit.few;
       reply = same_reply writes (tried number units s t p k plan c).writes text (tried number units s t p k plan c).text files_are text_is;
     }
 

@@ -95,7 +95,7 @@ module _ (files : Files) (s t : List ℕ) (most : ℕ) (p k : List ℕ) (night :
       let wrote : mid ≡ written led.first files = led.files in (
         found.plan,
         found.certificate,
-        record { in_range = found.in_range; statable = found.statable; meet = found.meet },
+        record { in_range = found.in_range; statable = found.statable; meet = found.meet; few = found.few },
         put ∙ ap (written (map pair_of a.writes.items)) wrote ∙ sym (written-append led.first (map pair_of a.writes.items) files)
             ∙ ap (λ (q : Reply). written q.writes files) found.reply,
         ap (λ (q : Reply). q.text) found.reply,

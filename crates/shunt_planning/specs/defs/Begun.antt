@@ -1,13 +1,14 @@
 -- What a search has found and is writing, and over which contents an answer is meant.
-use Rattle.std.specs.Prelude.{◌≡◌, ℕ, List, length, Option, Result}
+use Rattle.std.specs.Prelude.{◌≡◌, ℕ, ◌≤◌, List, length, Option, Result}
 use Rattle.shunt_store.specs.defs.Files.{Files, Stage, Writing, content}
 use Rattle.shunt_instance.specs.defs.Instance.{Night}
 use Rattle.shunt_blocks.specs.declared.records.Block.{Block}
 use Rattle.shunt_proof.specs.declared.records.Node.{Node}
+use Rattle.shunt_proof.specs.declared.records.Version.TheVariants.{Prices}
 use Rattle.shunt_proof.specs.defs.Certificates.{IsCertificate}
 use Rattle.shunt_search.specs.declared.solved.Solved.{Solved}
 use Rattle.shunt_search.specs.defs.Conditions.{MeetConditions}
-use Rattle.shunt_search.specs.defs.Endings.{certificate_of}
+use Rattle.shunt_search.specs.defs.Endings.{certificate_in}
 use Rattle.shunt_inputs.specs.defs.Inputs.{Agrees, stated_night, pinned_in}
 use Rattle.shunt_inputs.specs.defs.Replies.{Reply, Decided}
 use Rattle.shunt_planning.specs.defs.Planned.{IsPinned, IsSought, certificate_file}
@@ -34,10 +35,11 @@ abbrev pub IsImprovedOver : Option Files → List ℕ → List ℕ → List ℕ 
 IsImprovedOver told s t i h most p k r = IsOverTold told (in_hand_in s t i h) (IsImproved most p k) r
 
 -- what a search found: with its nodes the certificate whose text was written whole under this name and isn't stored yet, which meets
--- the eight conditions with the plan
+-- the eight conditions with the plan; with at most 16 nodes it is of version 1
 pub record IsFound (night : Night) (pins : List Block) (most : ℕ) (name : List ℕ) (place : Stage) (s : Solved) : Type 0 where
   pub nodes : List Node
   pub many : s.nodes ≡ length nodes
-  pub statable : IsCertificate night (certificate_of s.plan s.bound nodes)
-  pub meet : MeetConditions night pins most s.plan (certificate_of s.plan s.bound nodes)
-  pub written : place ≡ Writing name (certificate_file night (certificate_of s.plan s.bound nodes))
+  pub statable : IsCertificate night (certificate_in s.version s.plan s.bound nodes)
+  pub meet : MeetConditions night pins most s.plan (certificate_in s.version s.plan s.bound nodes)
+  pub few : most ≤ 16 → s.version ≡ Prices
+  pub written : place ≡ Writing name (certificate_file night (certificate_in s.version s.plan s.bound nodes))

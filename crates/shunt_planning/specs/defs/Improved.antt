@@ -13,9 +13,9 @@ use Rattle.shunt_inputs.specs.declared.answers.Answer.{Answer}
 use Rattle.shunt_inputs.specs.declared.answers.Outcome.TheVariants as outcome
 use Rattle.shunt_inputs.specs.declared.pins.Pinned.{Pinned}
 use Rattle.shunt_inputs.specs.defs.Inputs.{then_stated, stated_plan, pinned_in}
-use Rattle.shunt_inputs.specs.defs.Pins.{IsUnusable}
 use Rattle.shunt_inputs.specs.defs.Replies.{Reply, reply_of, says}
 use Rattle.shunt_judging.specs.defs.Audited.{IsClean, IsFaulty}
+use Rattle.shunt_judging.specs.defs.Pins.{IsUnusable}
 use Rattle.shunt_planning.specs.defs.Planned.{IsPlannedAt}
 
 -- the night and the pins that the station file, the timetable file and the pins file of these names state, and the plan in hand that the

@@ -1,5 +1,5 @@
 -- The answers of `plan` and of `pinned`.
-use Rattle.std.specs.Prelude.{◌≡◌, ◌⊎◌, ◌==◌, ℕ, Bool, List, [], ◌∷◌, length, Option, Some, None, if◌then◌else◌}
+use Rattle.std.specs.Prelude.{◌≡◌, ◌⊎◌, ◌==◌, ℕ, ◌≤◌, Bool, List, [], ◌∷◌, length, Option, Some, None, if◌then◌else◌}
 use Rattle.shunt_rows.specs.defs.Records.{text_of_rows}
 use Rattle.shunt_instance.specs.defs.Instance.{Night}
 use Rattle.shunt_matching.specs.declared.types.Shortage.{Shortage}
@@ -10,6 +10,7 @@ use Rattle.shunt_blocks.specs.defs.Pins.{AreUsable}
 use Rattle.shunt_plan.specs.declared.records.Plan.{Plan}
 use Rattle.shunt_plan.specs.defs.Plans.{IsPlanInRange}
 use Rattle.shunt_plan.specs.defs.PlanRows.{rows_of}
+use Rattle.shunt_proof.specs.declared.records.Version.TheVariants.{Prices}
 use Rattle.shunt_proof.specs.declared.records.Certificate.{Certificate}
 use Rattle.shunt_proof.specs.defs.Certificates.{IsCertificate}
 use Rattle.shunt_proof.specs.defs.CertificateRows as certificate_rows
@@ -18,9 +19,9 @@ use Rattle.shunt_report.specs.defs.PlanTexts.{plan_of}
 use Rattle.shunt_inputs.specs.declared.answers.Outcome.{Outcome}
 use Rattle.shunt_inputs.specs.declared.answers.Outcome.TheVariants as outcome
 use Rattle.shunt_inputs.specs.declared.pins.Pinned.{Pinned}
-use Rattle.shunt_inputs.specs.defs.Pins.{IsUnusable}
 use Rattle.shunt_inputs.specs.defs.Replies.{Reply}
 use Rattle.shunt_planning.specs.defs.Matched.{IsShortBeside}
+use Rattle.shunt_judging.specs.defs.Pins.{IsUnusable}
 
 -- the texts of a plan and of a certificate
 abbrev pub plan_file : Night → Plan → List ℕ
@@ -41,13 +42,15 @@ planned outcome p k night plan certificate = record {
   text = plan_of plan certificate.bound (length certificate.nodes);
 }
 
--- a plan and a certificate that files can state are written, which meet the eight conditions over these pins with at most that many nodes
+-- a plan and a certificate that files can state are written, which meet the eight conditions over these pins with at most that many nodes;
+-- with at most 16 nodes the certificate is of version 1
 pub record IsPlanned (pins : List Block) (most : ℕ) (p k : List ℕ) (night : Night) (r : Reply) : Type 0 where
   pub plan : Plan
   pub certificate : Certificate
   pub in_range : IsPlanInRange night plan
   pub statable : IsCertificate night certificate
   pub meet : MeetConditions night pins most plan certificate
+  pub few : most ≤ 16 → certificate.version ≡ Prices
   pub reply : r ≡ planned (search_outcome certificate.cost certificate.bound) p k night plan certificate
 
 -- the same, and what the plan costs is as wanted

@@ -1,5 +1,5 @@
 -- What a search has found when it ends.
-use Rattle.std.specs.Prelude.{◌≡◌, ◌⊎◌, ℕ, ◌≤◌, ℤ, pos, ◌≤ℤ◌, List, [], length, Option, IfSome}
+use Rattle.std.specs.Prelude.{◌≡◌, ◌⊎◌, ℕ, ◌≤◌, ℤ, pos, ◌≤ℤ◌, List, length, Option, IfSome}
 use Rattle.shunt_lists.specs.defs.Members.{In}
 use Rattle.shunt_instance.specs.defs.Instance.{Night}
 use Rattle.shunt_blocks.specs.declared.records.Block.{Block}
@@ -8,7 +8,6 @@ use Rattle.shunt_blocks.specs.defs.Pins.{opening_cost}
 use Rattle.shunt_plan.specs.declared.records.Plan.{Plan}
 use Rattle.shunt_proof.specs.declared.records.Node.{Node}
 use Rattle.shunt_proof.specs.declared.records.Version.{Version}
-use Rattle.shunt_proof.specs.declared.records.Version.TheVariants.{Prices}
 use Rattle.shunt_proof.specs.declared.records.Certificate.{Certificate}
 use Rattle.shunt_proof.specs.defs.Certificates.{IsCertificate}
 use Rattle.shunt_search.specs.declared.walk_stack.Pending.{Pending}
@@ -20,17 +19,17 @@ pub record IsLeft (waiting : List Pending) (low bound : ℤ) : Type 0 where
   pub left : (t : Pending) → In t waiting → bound ≤ℤ t.child.bound
   pub least : (bound ≡ low) ⊎ ((t : Pending) × In t waiting × (bound ≡ t.child.bound))
 
--- a search is done: it has noted that many nodes, or no child is left and none was passed over
+-- what is left bounds no less than the best plan costs
+abbrev pub IsOver : List Pending → ℕ → ℤ → Type 0
+IsOver waiting best low = (bound : ℤ) → IsLeft waiting low bound → pos best ≤ℤ bound
+
+-- a search is done: it has noted that many nodes, or it is over
 abbrev pub IsDone : ℕ → ℕ → List Pending → ℕ → ℤ → Type 0
-IsDone number most waiting best low = (number ≡ most) ⊎ ((waiting ≡ []) × (low ≡ pos best))
+IsDone number most waiting best low = (number ≡ most) ⊎ IsOver waiting best low
 
 -- nodes of a version with a plan's cost and a bound
 abbrev pub certificate_in : Version → Plan → ℕ → List Node → Certificate
 certificate_in version plan bound nodes = record { version = version; cost = plan.cost; bound = bound; nodes = nodes }
-
--- nodes of version 1 with them
-abbrev pub certificate_of : Plan → ℕ → List Node → Certificate
-certificate_of plan bound nodes = certificate_in Prices plan bound nodes
 
 -- some nodes, that many, and those that are told where any are told, are with the plan's cost and the bound a certificate that a file can
 -- state, and meet the conditions with the plan
@@ -40,10 +39,6 @@ pub record IsShownIn (version : Version) (night : Night) (pins : List Block) (mo
   pub many : number ≡ length nodes
   pub stated : IsCertificate night (certificate_in version plan b nodes)
   pub meet : MeetConditions night pins most plan (certificate_in version plan b nodes)
-
--- the same in version 1
-abbrev pub IsShown : Night → List Block → ℕ → Plan → ℕ → ℕ → Option (List Node) → Type 0
-IsShown night pins most plan b number told = IsShownIn Prices night pins most plan b number told
 
 -- the plan costs at most the opening cost, the bound is one for all plans, and what speaks of no node holds; the nodes that are told, where any are told, are a certificate that a
 -- file can state, and meet the conditions

@@ -4,22 +4,26 @@ use Rattle.shunt_store.specs.defs.Files.{BothTold}
 use Rattle.shunt_base.specs.declared.duals.Case.{Case}
 use Rattle.shunt_instance.specs.defs.Instance.{Night, unit_total, position_total}
 use Rattle.shunt_blocks.specs.declared.records.Block.{Block}
+use Rattle.shunt_blocks.specs.defs.Lists.{RunsThrough, placed}
 use Rattle.shunt_blocks.specs.defs.Pins.{AreUsable, opening_cost}
 use Rattle.shunt_proof.specs.declared.records.NodeKind.TheVariants.{Branch, Whole}
 use Rattle.shunt_proof.specs.declared.records.NodeDuals.TheVariants.{New, Bare}
 use Rattle.shunt_proof.specs.declared.records.Node.{Node}
 use Rattle.shunt_proof.specs.declared.records.Version.{Version}
+use Rattle.shunt_proof.specs.declared.records.Version.TheVariants.{Prices}
 use Rattle.shunt_proof.specs.defs.Nodes.{AreStatable, CanFollow}
 use Rattle.shunt_proof.specs.defs.Certificates.{case_total}
 use Rattle.shunt_proof.specs.defs.Trees.{IsStart}
 use Rattle.shunt_search.specs.declared.yard.Yard.{Yard}
+use Rattle.shunt_search.specs.declared.known.KnownPlan.{KnownPlan}
+use Rattle.shunt_search.specs.declared.root_bounds.Root.{Root}
 use Rattle.shunt_search.specs.declared.walk_stack.Pending.{Pending}
 use Rattle.shunt_search.specs.declared.notes.NodeNoted.{NodeNoted}
 use Rattle.shunt_search.specs.declared.search_state.Search.{Search}
 use Rattle.shunt_search.specs.defs.Yards.{IsYard, IsNextBlock}
 use Rattle.shunt_search.specs.defs.WalkStates.{kept, goal_of, cases_in, node_below, IsInStock, cases_of, place_of, IsNoted, Opens, IsLesser, Passes, IsWalk, KeepsCheaper, IsBest}
 use Rattle.shunt_search.specs.defs.Steady.{IsSteady}
-use Rattle.shunt_search.specs.defs.Roots.{AreRooted, IsFloor, IsBase}
+use Rattle.shunt_search.specs.defs.Roots.{AreRooted, IsFloor, IsBase, IsRoot}
 
 -- a stock of cases that a file can state, the root's first
 pub record IsStock (night : Night) (stock : List (List Case)) : Type 0 where
@@ -61,6 +65,7 @@ pub record IsReady (night : Night) (stock : List (List Case)) (told : Option (Li
   pub pins : y.path.pins ≤ kept t.child
   pub there : kept t.child ≤ length y.path.blocks
   pub next : IsNextBlock night (take (kept t.child) y.path.blocks) t.child.block
+  pub through : RunsThrough night (placed (goal_of y.path.blocks t.child))
   pub inherits : t.cases < length stock
   pub place : (how : NodeNoted) → IsInStock stock how → IfSome told (λ nodes. CanFollow nodes (node_below y.path.pins t.child.block stock how))
 
@@ -116,6 +121,16 @@ pub record IsFresh (version : Version) (night : Night) (pins : List Block) (stoc
   pub small : s.known.cost ≤ 1000000000000
   pub low : s.low ≡ pos s.known.cost
   pub empty : s.waiting.items ≡ []
+
+-- what a search can begin with again: cases by prices for the root of the pins, with a floor, and a plan that costs at most the one that
+-- parks nothing else
+pub record IsGround (night : Night) (pins : List Block) (r : Root) (k : KnownPlan) : Type 0 where
+  pub usable : AreUsable night pins
+  pub even : position_total night ≡ unit_total night
+  pub root : (start : List Block) → IsStart night pins start → IsRoot Prices night start r
+  pub best : IsBest night pins k.blocks.items k.cost
+  pub opening : k.cost ≤ opening_cost night pins
+  pub small : k.cost ≤ 1000000000000
 
 -- its root was noted, with that many cases
 pub record Begins (s z : Search) (cases : ℕ) : Type 0 where

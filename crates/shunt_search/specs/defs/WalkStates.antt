@@ -18,7 +18,7 @@ use Rattle.shunt_proof.specs.defs.Trees.{depth_at, nearest, choice_from, path_at
 use Rattle.shunt_proof.specs.defs.Versions.{HoldIn, IsStepBoundIn}
 use Rattle.shunt_proof.specs.defs.Proves.{ShowsIn, IsListed, IsPlaced}
 use Rattle.shunt_proof.specs.defs.Accepted.{AreLeanIn}
-use Rattle.shunt_search.specs.declared.children.Child.{Child}
+use Rattle.shunt_search.specs.declared.child.Child.{Child}
 use Rattle.shunt_search.specs.declared.known.KnownPlan.{KnownPlan}
 use Rattle.shunt_search.specs.declared.walk_stack.Pending.{Pending}
 use Rattle.shunt_search.specs.declared.notes.NodeNoted.{NodeNoted}

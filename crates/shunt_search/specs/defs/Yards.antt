@@ -1,23 +1,26 @@
 -- Paths with the stays of their blocks, and the choices that are worth a node.
-use Rattle.std.specs.Prelude.{◌≡◌, ◌⊎◌, ℕ, ◌+◌, ◌≤◌, ℤ, pos, ◌<ℤ◌, List, ◌++◌, ◌∷◌, [], length, map}
+use Rattle.std.specs.Prelude.{◌≡◌, ◌⊎◌, ℕ, ◌+◌, ◌≤◌, ℤ, pos, ◌<ℤ◌, All, List, ◌++◌, ◌∷◌, [], length, map}
 use Rattle.shunt_lists.specs.defs.Members.{In, AreDistinct}
 use Rattle.shunt_base.specs.declared.duals.Case.{Case}
 use Rattle.shunt_instance.specs.defs.Instance.{Night, unit_total}
 use Rattle.shunt_blocks.specs.declared.records.Block.{Block}
 use Rattle.shunt_blocks.specs.defs.Shapes.{shape_of}
+use Rattle.shunt_blocks.specs.defs.Blocks.{IsBlockButId}
 use Rattle.shunt_blocks.specs.defs.Lists.{RunsThrough, placed}
 use Rattle.shunt_choices.specs.defs.Paths.{IsTrailOf}
 use Rattle.shunt_choices.specs.defs.Choices.{Choice, IsChoiceAt, longer_by}
 use Rattle.shunt_proof.specs.declared.records.Version.{Version}
 use Rattle.shunt_proof.specs.defs.Versions.{IsStepBoundIn, StepReachesIn}
 use Rattle.shunt_search.specs.declared.yard.Yard.{Yard}
-use Rattle.shunt_search.specs.declared.children.Child.{Child}
+use Rattle.shunt_search.specs.declared.child.Child.{Child}
 use Rattle.shunt_search.specs.defs.Polish.{Stand}
 
--- the path is the night's, the timelines have the stay of each of its blocks, with the block's place as id, and there is room for one
--- of each unit
+-- the path is one of the night's blocks whose run goes through, the timelines have the stay of each of them, with the block's place as
+-- id, and there is room for one of each unit
 pub record IsYard (night : Night) (y : Yard) : Type 0 where
   pub path : IsTrailOf night y.path
+  pub each : All (IsBlockButId night) y.path.blocks
+  pub through : RunsThrough night (placed y.path.blocks)
   pub pins : y.path.pins ≤ length y.path.blocks
   pub stand : Stand night (placed y.path.blocks) y.timelines
   pub room : unit_total night ≤ y.timelines.spare + length y.timelines.stays

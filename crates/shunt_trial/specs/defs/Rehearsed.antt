@@ -1,5 +1,5 @@
 -- What the files in memory hold while a night is planned, checked and audited.
-use Rattle.std.specs.Prelude.{◌≡◌, ℕ, List, [], ◌∷◌, Result, Ok, Err}
+use Rattle.std.specs.Prelude.{◌≡◌, ◌≤◌, ℕ, List, [], ◌∷◌, Result, Ok, Err}
 use Rattle.std.specs.FinMap as finite
 use Rattle.shunt_store.specs.defs.Files.{Files, content}
 use Rattle.shunt_instance.specs.declared.records.Station.{Station}
@@ -9,6 +9,7 @@ use Rattle.shunt_matching.specs.defs.Nights.{HasMatching}
 use Rattle.shunt_plan.specs.declared.records.Plan.{Plan}
 use Rattle.shunt_plan.specs.defs.Plans.{IsPlanInRange}
 use Rattle.shunt_proof.specs.declared.records.Certificate.{Certificate}
+use Rattle.shunt_proof.specs.declared.records.Version.TheVariants.{Prices}
 use Rattle.shunt_proof.specs.defs.Certificates.{IsCertificate}
 use Rattle.shunt_search.specs.defs.Conditions.{MeetConditions}
 use Rattle.shunt_inputs.specs.declared.file_loader.Halt.{Halt}
@@ -36,11 +37,12 @@ with_both p k night plan certificate files = finite.insert (finite.insert files 
 abbrev pub held_files : List ℕ → List ℕ → List ℕ → List ℕ → Files → List (List ℕ × List ℕ)
 held_files s t p k files = (s, content files s) ∷ (t, content files t) ∷ (p, content files p) ∷ (k, content files k) ∷ []
 
--- a plan and a certificate that files can state, which meet the eight conditions over the night
+-- a plan and a certificate that files can state, which meet the eight conditions over the night; with at most 16 nodes the version is 1
 pub record AreFit (night : Night) (most : ℕ) (plan : Plan) (certificate : Certificate) : Type 0 where
   pub in_range : IsPlanInRange night plan
   pub statable : IsCertificate night certificate
   pub meet : MeetConditions night [] most plan certificate
+  pub few : most ≤ 16 → certificate.version ≡ Prices
 
 -- the files state these, which can be stated, and the certificate is accepted with the plan
 pub record IsProvedIn (s t p k : List ℕ) (files : Files) (x : Checkable) : Type 0 where

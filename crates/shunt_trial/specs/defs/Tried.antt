@@ -1,5 +1,5 @@
 -- The answer of `trial`.
-use Rattle.std.specs.Prelude.{◌≡◌, ℕ, List, [], ◌∷◌, ◌++◌, length, codes, decimal}
+use Rattle.std.specs.Prelude.{◌≡◌, ◌≤◌, ℕ, List, [], ◌∷◌, ◌++◌, length, codes, decimal}
 use Rattle.shunt_rows.specs.defs.Records.{text_of_rows}
 use Rattle.shunt_instance.specs.declared.records.Station.{Station}
 use Rattle.shunt_instance.specs.declared.records.Timetable.{Timetable}
@@ -10,6 +10,7 @@ use Rattle.shunt_blocks.specs.defs.Lists.{total_cost}
 use Rattle.shunt_plan.specs.declared.records.Plan.{Plan}
 use Rattle.shunt_plan.specs.defs.Plans.{IsPlanInRange}
 use Rattle.shunt_proof.specs.declared.records.Certificate.{Certificate}
+use Rattle.shunt_proof.specs.declared.records.Version.TheVariants.{Prices}
 use Rattle.shunt_proof.specs.defs.Certificates.{IsCertificate}
 use Rattle.shunt_checker.specs.declared.verdict.Verdict.TheVariants as verdict
 use Rattle.shunt_search.specs.defs.Conditions.{MeetConditions}
@@ -67,11 +68,12 @@ tried number units s t p k plan certificate = record {
 }
 
 -- the answer of `trial`, with at most that many nodes: of a plan and a certificate that files can state, which meet the eight conditions
--- over the made night
+-- over the made night; with at most 16 nodes the version is 1
 pub record IsTried (number units most : ℕ) (s t p k : List ℕ) (r : Reply) : Type 0 where
   pub plan : Plan
   pub certificate : Certificate
   pub in_range : IsPlanInRange (made_night number units) plan
   pub statable : IsCertificate (made_night number units) certificate
   pub meet : MeetConditions (made_night number units) [] most plan certificate
+  pub few : most ≤ 16 → certificate.version ≡ Prices
   pub reply : r ≡ tried number units s t p k plan certificate

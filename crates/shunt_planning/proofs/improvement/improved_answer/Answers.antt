@@ -1,12 +1,12 @@
 use Rattle.std.proofs.Common.{refl, inl, inr, subst}
 use Rattle.shunt_blocks.specs.defs.Pins.{AreUsable}
 use Rattle.shunt_inputs.specs.declared.pins.Pinned.{Pinned}
-use Rattle.shunt_inputs.specs.defs.Pins.{IsUnusable, PinFaults}
 use Rattle.shunt_inputs.specs.defs.Replies.{reply_of}
 use Rattle.shunt_inputs.specs.defs.Writes.{known}
 use Rattle.shunt_inputs.proofs.FirstFiles.{leads_with, none_first}
 use Rattle.shunt_planning.specs.defs.Improved.{IsImproved, IsImprovedBeside}
 use Rattle.shunt_planning.proofs.improvement.improved_answer.Goals as goal
+use Rattle.shunt_judging.specs.defs.Pins.{IsUnusable, PinFaults}
 
 pub improved_beside-requires-clause-usable : goal.improved_beside-requires-clause-usable
 improved_beside-requires-clause-usable g c = subst (PinFaults c.args.instance.now c.args.pins.now) c.in-Ok-None.field-0-is c.in-Ok-None.ensures

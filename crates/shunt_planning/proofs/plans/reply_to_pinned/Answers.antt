@@ -1,6 +1,6 @@
 use Rattle.std.proofs.Common.{List, [], ◌∷◌, get_or, subst, Err}
 use Rattle.shunt_blocks.specs.declared.records.Block.{Block}
-use Rattle.shunt_report.specs.declared.words.FileWord.TheVariants as word
+use Rattle.shunt_rows.specs.declared.words.FileWord.TheVariants as word
 use Rattle.shunt_inputs.proofs.Heard.{heard_first}
 use Rattle.shunt_inputs.proofs.Stated.{cause_later}
 use Rattle.shunt_inputs.proofs.HeardSteps.{first_still, hears_all, view_still}

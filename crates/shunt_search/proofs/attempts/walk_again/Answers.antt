@@ -1,6 +1,6 @@
 use Rattle.std.proofs.Common.{◌≡◌, [], ap, ◌∙◌, arith}
-use Rattle.shunt_proof.specs.declared.records.Version.TheVariants.{Prices}
 use Rattle.shunt_search.specs.declared.known.KnownPlan.{KnownPlan}
+use Rattle.shunt_search.specs.defs.Judges.{version_of}
 use Rattle.shunt_search.proofs.ToldNodes.{tells_both, tells_then}
 use Rattle.shunt_search.proofs.Restarted.{told_none}
 use Rattle.shunt_search.proofs.attempts.walk_again.Goals as goal
@@ -13,7 +13,7 @@ start_again-requires-clause-small g c = c.requires.search.small
 
 pub attempt-requires-clause-fresh : goal.attempt-requires-clause-fresh
 attempt-requires-clause-fresh g c =
-    c.searches_restart.ensures Prices c.args.instance.now c.args.pins.now c.args.tree.now.stock.items (g.R.Recorder.told c.args.recorder.now)
+    c.searches_restart.ensures (version_of c.args.guide.now.judge) c.args.instance.now c.args.pins.now c.args.guide.now.tree.stock.items (g.R.Recorder.told c.args.recorder.now)
     (g.R.Recorder.number c.args.recorder.now) (g.R.Recorder.cases c.args.recorder.now) c.args.search.now c.start_again.new.search c.requires.search
     c.in_ok-start_again.ensures.again
 
@@ -25,6 +25,9 @@ returns-in_err-attempt-clause-keeps g c = g.R.Recorder.keeps_on _ _ _ c.restart.
 
 pub returns-clause-plain : goal.returns-clause-plain
 returns-clause-plain g c = c.in_ok-attempt.ensures.plain ∙ c.in_ok-start_again.ensures.plain
+
+pub returns-clause-floor : goal.returns-clause-floor
+returns-clause-floor g c = c.in_ok-attempt.ensures.floor ∙ c.in_ok-start_again.ensures.again.floor
 
 pub returns-clause-tells : goal.returns-clause-tells
 returns-clause-tells g c = tells_then _ _ _ (tells_both _ _ (λ x y. y ≡ []) c.in_ok-restart.ensures.told) c.in_ok-attempt.ensures.tells

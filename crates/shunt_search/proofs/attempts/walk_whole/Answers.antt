@@ -8,7 +8,7 @@ is_done-done-requires g c = c.in_ok-walk_twice.ensures.search.small
 pub returns-then-done-clause-done : goal.returns-then-done-clause-done
 returns-then-done-clause-done g c =
     let h = c.in_ok-walk_twice.ensures in
-    done_at h.search.counted h.most h.search.walk.within h.done (c.is_done-done.ensures c.if-done.true)
+    done_at h.search.counted h.most h.done (c.is_done-done.ensures c.if-done.true)
 
 pub returns-in_err-walk_plainly-clause-keeps : goal.returns-in_err-walk_plainly-clause-keeps
 returns-in_err-walk_plainly-clause-keeps g c = g.R.Recorder.keeps_on _ _ _ c.walk_twice.ensures.keeps c.walk_plainly.ensures.keeps

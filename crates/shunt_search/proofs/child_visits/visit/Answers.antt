@@ -2,8 +2,8 @@ use Rattle.std.specs.Prelude.{IfSome}
 use Rattle.std.proofs.Common.{List, sym, subst, ap, ◌∙◌, arith}
 use Rattle.shunt_proof.specs.defs.Nodes.{FitsNode, CanFollow}
 use Rattle.shunt_blocks.specs.declared.records.Block.{Block}
-use Rattle.shunt_proof.specs.declared.records.Version.TheVariants.{Prices}
 use Rattle.shunt_search.specs.declared.yard.Yard.{Yard}
+use Rattle.shunt_search.specs.defs.Judges.{version_of}
 use Rattle.shunt_search.specs.defs.Yards.{IsYard}
 use Rattle.shunt_search.specs.defs.WalkStates.{node_below, place_of, IsNoted, Opens}
 use Rattle.shunt_search.proofs.YardChanges.{few_path}
@@ -19,7 +19,7 @@ note_below-requires-clause-few g c =
 pub note_below-requires-clause-fits : goal.note_below-requires-clause-fits
 note_below-requires-clause-fits g c =
     let night = c.args.instance.now in
-    let stock = c.args.tree.now.stock.items in
+    let stock = c.args.guide.now.tree.stock.items in
     let path = c.args.search.now.yard.path.blocks in
     let next = c.args.next.now.child in
     let pins = c.args.search.now.yard.path.pins in
@@ -31,8 +31,8 @@ note_below-requires-clause-fits g c =
 
 pub note_below-requires-clause-place : goal.note_below-requires-clause-place
 note_below-requires-clause-place g c =
-    subst (λ n. IfSome (g.R.Recorder.told c.args.recorder.now) (λ nodes. CanFollow nodes (node_below n c.args.next.now.child.block c.args.tree.now.stock.items c.in_ok-how.how)))
-    (sym c.pins-pins.ensures)
+    subst (λ n. IfSome (g.R.Recorder.told c.args.recorder.now) (λ nodes. CanFollow nodes
+    (node_below n c.args.next.now.child.block c.args.guide.now.tree.stock.items c.in_ok-how.how))) (sym c.pins-pins.ensures)
     (c.requires.ready.place c.in_ok-how.how c.in_ok-how.ensures.there)
 
 pub returns-clause-arrives : goal.returns-clause-arrives
@@ -41,10 +41,10 @@ returns-clause-arrives g c =
       path = ap (λ (z : Yard). z.path.blocks) c.list_children.ensures.yard ∙ c.go_to.ensures.path;
       pins = ap (λ (z : Yard). z.path.pins) c.list_children.ensures.yard ∙ c.go_to.ensures.pins;
       yard = subst (λ (z : Yard). IsYard c.args.instance.now z) (sym c.list_children.ensures.yard) c.go_to.ensures.yard;
-      is_noted = subst (λ (l : List Block). IsNoted Prices c.args.instance.now c.args.tree.now.stock.items l c.args.search.now.known.cost c.args.next.now.child.bound
-          c.in_ok-how.how) c.go_to.ensures.path c.in_ok-how.ensures.noted;
-      opens = subst (λ (l : List Block). Opens Prices c.args.instance.now c.args.tree.now.stock.items c.args.search.now.known.cost l c.args.search.now.count
-          (place_of c.in_ok-how.how c.args.next.now.cases) c.args.search.now.waiting.items c.list_children.new.search.waiting.items) c.go_to.ensures.path
+      is_noted = subst (λ (l : List Block). IsNoted (version_of c.args.guide.now.judge) c.args.instance.now c.args.guide.now.tree.stock.items l c.args.search.now.known.cost
+          c.args.next.now.child.bound c.in_ok-how.how) c.go_to.ensures.path c.in_ok-how.ensures.noted;
+      opens = subst (λ (l : List Block). Opens (version_of c.args.guide.now.judge) c.args.instance.now c.args.guide.now.tree.stock.items c.args.search.now.known.cost l
+          c.args.search.now.count (place_of c.in_ok-how.how c.args.next.now.cases) c.args.search.now.waiting.items c.list_children.new.search.waiting.items) c.go_to.ensures.path
           c.in_ok-list_children.ensures.opens;
       known = c.list_children.ensures.known;
       low = c.list_children.ensures.low;

@@ -12,13 +12,5 @@ prepared-requires-clause-matching c =
     (c.ready_starts.ensures.matching c.args.instance.now c.args.pins.now c.in_ok-yard.yard.path c.in_ok-matching.matching.place_of c.units.ensures.formed c.requires.usable
     c.in_ok-yard.ensures.yard.path c.in_ok-yard.ensures.start c.in_ok-matching.ensures.matching).0
 
-pub prepared-requires-clause-each : goal.prepared-requires-clause-each
-prepared-requires-clause-each c = (c.ready_starts.ensures.through c.args.instance.now c.args.pins.now c.in_ok-yard.yard.path.blocks c.units.ensures.formed c.requires.usable
-    c.in_ok-yard.ensures.start).0
-
-pub prepared-requires-clause-through : goal.prepared-requires-clause-through
-prepared-requires-clause-through c = (c.ready_starts.ensures.through c.args.instance.now c.args.pins.now c.in_ok-yard.yard.path.blocks c.units.ensures.formed c.requires.usable
-    c.in_ok-yard.ensures.start).1
-
 pub returns-clause-never_worse : goal.returns-clause-never_worse
 returns-clause-never_worse c = no_dearer c.args.given (λ p. total_cost c.args.instance.now p.now) _ _ c.in_ok-found.ensures.cheaper c.in_ok-known.ensures.never_worse

@@ -1,55 +1,26 @@
-use Rattle.std.proofs.Common.{w64, to_z, of_z, ℤ, List, sym, subst, arith, ◌∙◌}
-use Rattle.std.proofs.lemmas.Int.{to_z-of_z, to_z_pos}
-use Rattle.std.proofs.lemmas.List.Sorted.{length_permutation}
-use Rattle.shunt_base.specs.declared.duals.Case.{Case}
-use Rattle.shunt_prices.specs.defs.Cases.{CasesHold}
-use Rattle.shunt_proof.specs.defs.Nodes.{AreStatable}
-use Rattle.shunt_proof.specs.declared.records.Version.TheVariants.{Prices}
-use Rattle.shunt_search.specs.defs.Roots.{IsAbove, IsFloor}
+use Rattle.std.proofs.Common.{arith}
 use Rattle.shunt_search.proofs.preparation.prepared.Goals as goal
 
-pub take_proposed-requires-clause-even : goal.take_proposed-requires-clause-even
-take_proposed-requires-clause-even c = c.requires.even
+pub ready-requires-clause-even : goal.ready-requires-clause-even
+ready-requires-clause-even c = c.requires.even
+
+pub ready-requires-clause-opening : goal.ready-requires-clause-opening
+ready-requires-clause-opening c =
+    let opening = c.requires.opening in
+    let less = c.in_ok-first.ensures.cheaper in
+    let least = c.in_ok-best.ensures.cheaper in
+    omega (arith, least, less, opening)
+
+pub ready-requires-clause-small : goal.ready-requires-clause-small
+ready-requires-clause-small c =
+    let small = c.requires.small in
+    let less = c.in_ok-first.ensures.cheaper in
+    let least = c.in_ok-best.ensures.cheaper in
+    omega (arith, least, less, small)
 
 pub returns-clause-cheaper : goal.returns-clause-cheaper
 returns-clause-cheaper c =
     let less = c.in_ok-first.ensures.cheaper in
     let least = c.in_ok-best.ensures.cheaper in
-    let last = c.in_ok-take_proposed.ensures.cheaper in
+    let last = c.in_ok-found.ensures.cheaper in
     omega (arith, last, least, less)
-
-pub returns-clause-fresh : goal.returns-clause-fresh
-returns-clause-fresh c =
-    let night = c.args.instance.now in
-    let path = c.args.yard.path in
-    let root = c.in_ok-root.ensures in
-    let floor = c.floor-floor.result in
-    let root_is = sym c.in_ok-tree.ensures.root in
-    let small = c.requires.small in
-    let opening = c.requires.opening in
-    let less = c.in_ok-first.ensures.cheaper in
-    let least = c.in_ok-best.ensures.cheaper in
-    let last = c.in_ok-take_proposed.ensures.cheaper in
-    record {
-      usable = c.requires.usable;
-      even = c.requires.even;
-      begins = c.requires.start;
-      stocked = c.in_ok-tree.ensures.stock;
-      rooted = record {
-        statable = subst (λ (l : List Case). AreStatable night l) root_is root.rooted.statable;
-        hold = subst (λ (l : List Case). CasesHold night path.blocks l) root_is root.rooted.hold;
-        floor = root.rooted.floor;
-        assignment = root.rooted.assignment;
-        above = subst (λ (l : List Case). IsAbove Prices night path.blocks l root.rooted.floor) root_is root.rooted.above;
-      };
-      lowest = subst (λ (l : List Case). IsFloor Prices night path.blocks l root.rooted.floor (to_z w64 (of_z w64 floor))) root_is
-          (subst (λ (z : ℤ). IsFloor Prices night path.blocks c.in_ok-root.root.cases root.rooted.floor z)
-          (sym (to_z-of_z w64 floor (record { sfits = c.floor-floor.type_inv }) ∙ c.floor-floor.ensures)) root.low);
-      yard = c.requires.yard;
-      long = let many = c.requires.pins in let same = length_permutation c.args.pins.now path.blocks c.requires.start.same in omega (arith, many, same);
-      best = c.in_ok-take_proposed.ensures.best;
-      opening = omega (arith, last, least, less, opening);
-      small = omega (arith, last, least, less, small);
-      low = to_z_pos w64 c.take_proposed.new.known.cost (omega (arith, last, least, less, small));
-      empty = c.new-2.ensures.items;
-    }

@@ -6,6 +6,5 @@ returns c =
     let laws : MatchLaws = record { of_rest = c.matchings.ensures.of_rest; as_many = c.as_many_positions.ensures } in
     record {
       covered = λ night pins t of start. covered_as night pins t of start;
-      through = λ night pins start i usable begins. (let plan = c.starts.ensures.partial night pins start i usable begins in (plan.each, plan.through));
       matching = λ night pins t place i usable of start matching. matched_all laws night pins t place i usable of start matching;
     }

@@ -1,5 +1,5 @@
 use Rattle.std.proofs.Common.{refl}
-use Rattle.shunt_search.proofs.Begun.{root_follows}
+use Rattle.shunt_search.proofs.Opened.{root_follows}
 use Rattle.shunt_search.proofs.root_node.note_branch.Goals as goal
 
 pub note-requires-clause-place : goal.note-requires-clause-place

@@ -1,4 +1,4 @@
-use Rattle.shunt_search.proofs.Begun.{BeginLaws, first_lifts, whole_begins, branch_begins}
+use Rattle.shunt_search.proofs.Opened.{BeginLaws, first_lifts, whole_begins, branch_begins}
 use Rattle.shunt_search.proofs.root_node.searches_begin.Goals as goal
 
 pub returns : goal.returns

@@ -7,6 +7,7 @@ pub walk-init : goal.walk-init
 walk-init g c = record {
   search = c.requires.search;
   plain = refl;
+  floor = refl;
   cheaper = omega arith;
   tells = tells_same (g.R.Recorder.told c.args.recorder.now);
   number = sym c.requires.first;
@@ -30,6 +31,7 @@ walk-preserved g c =
     record {
       search = more.search;
       plain = more.plain ∙ before.plain;
+      floor = more.floor ∙ before.floor;
       cheaper = omega (arith, cheap, less);
       tells = tells_then _ _ _ before.tells more.tells;
       number = omega (arith, number, one);

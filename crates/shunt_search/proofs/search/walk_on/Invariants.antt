@@ -1,7 +1,7 @@
 use Rattle.std.proofs.Common.{◌≡◌, ◌↔◌, ◌≤◌, ◌-◌}
 use Rattle.shunt_instance.specs.defs.Instance.{Night}
 use Rattle.shunt_proof.specs.defs.Recorders.{Open}
-use Rattle.shunt_proof.specs.declared.records.Version.TheVariants.{Prices}
+use Rattle.shunt_search.specs.defs.Judges.{version_of}
 use Rattle.shunt_search.specs.defs.SearchStates.{IsSearch, TellsOn}
 use Rattle.shunt_search.proofs.search.walk_on.Given as goal
 
@@ -9,8 +9,10 @@ abbrev pub invariant-walk : goal.invariant-walk
 invariant-walk g l =
     let R = g.R.Recorder in
     record {
-      search : IsSearch Prices l.instance l.pins l.tree.stock.items (R.told l.recorder) (R.number l.recorder) (R.cases l.recorder) l.search.waiting.items l.search;
+      search : IsSearch (version_of l.guide.judge) l.instance l.pins l.guide.tree.stock.items (R.told l.recorder) (R.number l.recorder)
+          (R.cases l.recorder) l.search.waiting.items l.search;
       plain : l.search.plain ≡ l.fn.search.plain;
+      floor : l.search.floor ≡ l.fn.search.floor;
       cheaper : l.search.known.cost ≤ l.fn.search.known.cost;
       tells : TellsOn (R.told l.fn.recorder) (R.told l.recorder);
       number : l.count ≡ R.number l.recorder;

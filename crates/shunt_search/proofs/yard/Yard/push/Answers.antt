@@ -58,4 +58,4 @@ returns-clause-yard c =
     let laws : PlaceLaws = record { unit_in = c.places.ensures.unit_in; position_in = c.places.ensures.position_in } in
     let few = few_path c.few_blocks.ensures.most c.args.instance.now c.args.self.now.path c.units.result c.requires.yard.path c.units.ensures.exact c.units.ensures.few in
     with_next c.args.instance.now laws c.args.self.now c.requires.yard few c.args.block c.requires.next c.push.new.self c.settle.new.timelines c.push.ensures.new c.push.ensures.of
-    c.settle.ensures.lengths c.settle.ensures.stays c.settle.ensures.count c.settle.ensures.room
+    c.settle.ensures.lengths c.settle.ensures.stays c.settle.ensures.count c.settle.ensures.room c.requires.through

@@ -7,3 +7,4 @@ mod Apart
 mod Opened
 mod Summed
 mod Chosen
+mod Joined

@@ -13,7 +13,7 @@ use Rattle.shunt_blocks.specs.declared.records.Shape.{Shape}
 use Rattle.shunt_blocks.specs.declared.records.Block.{Block}
 use Rattle.shunt_blocks.specs.declared.records.Park.{Park}
 use Rattle.shunt_blocks.specs.defs.Shapes.{shape_of}
-use Rattle.shunt_blocks.specs.defs.Blocks.{IsOption, IsParkable}
+use Rattle.shunt_blocks.specs.defs.Blocks.{IsOption}
 use Rattle.shunt_blocks.specs.defs.Pins.{without_id}
 use Rattle.shunt_blocks.proofs.Made.{same_park}
 use Rattle.shunt_choices.specs.defs.Paths.{masks_of}
@@ -22,12 +22,11 @@ use Rattle.shunt_prices.specs.defs.Sums.{IsWithin}
 use Rattle.shunt_prices.specs.defs.Prices.{track_length}
 use Rattle.shunt_prices.specs.defs.Cases.{IsFreeBlock, HasRoom, duals_over, weight_with}
 use Rattle.shunt_dual.specs.declared.case_offers.Offer.{Offer}
-use Rattle.shunt_dual.specs.defs.Asks.{weight_of, weight_at}
+use Rattle.shunt_dual.specs.defs.Asks.{weight_of}
 use Rattle.shunt_dual.specs.defs.Offers.{IsOffer, IsSmallOffer, AreOffers, offered}
 use Rattle.shunt_dual.proofs.Offered.{offered_is}
 use Rattle.shunt_stacks.specs.defs.Stacks.{Stack, is_of}
 use Rattle.shunt_stacks.specs.defs.Fillings.{gain}
-use Rattle.shunt_stacks.specs.defs.Numbers.{AreFreeOf}
 use Rattle.shunt_fillings.specs.declared.candidates.Candidate.{Candidate}
 use Rattle.shunt_fillings.specs.defs.Pieces.{park_on, block_on, candidate_on, blocks_in, Brings, AreTaken, AreCandidates}
 

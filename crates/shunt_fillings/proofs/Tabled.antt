@@ -1,5 +1,5 @@
 -- The spans of a stack's pieces: their events are their own, and they gain little; and what the recursion over them tells.
-use Rattle.std.specs.Prelude.{◌↔◌, Option, Some, Result, Ok, IfOk, map, All}
+use Rattle.std.specs.Prelude.{◌↔◌, Option, Some, Result, Ok, IfOk, All}
 use Rattle.std.proofs.Common.{◌≡◌, inl, inr, ℕ, List, [], ◌∷◌, ℤ, pos, refl, sym, subst, ap, ◌∙◌, arith}
 use Rattle.std.proofs.lemmas.Int.{ints}
 use Rattle.shunt_lists.specs.defs.Members.{In}
@@ -16,8 +16,9 @@ use Rattle.shunt_stacks.specs.defs.Fillings.{gain}
 use Rattle.shunt_stacks.specs.defs.Spans.{Span, best}
 use Rattle.shunt_stacks.specs.defs.Numbers.{span_of, free_spans}
 use Rattle.shunt_gains.specs.declared.numbers.Events.{Events}
-use Rattle.shunt_gains.specs.defs.Events.{entry_of, leave_of}
-use Rattle.shunt_gains.specs.defs.Tables.{AreSmall, IsGain}
+use Rattle.shunt_gains.specs.declared.table.Table.{Table}
+use Rattle.shunt_gains.specs.defs.Events.{entry_of, leave_of, events_in}
+use Rattle.shunt_gains.specs.defs.Tables.{AreSmall, IsGain, IsTableOf, fixed_of, free_of, events_of}
 use Rattle.shunt_fillings.specs.declared.candidates.Candidate.{Candidate}
 use Rattle.shunt_fillings.specs.defs.Pieces.{blocks_in, AreCandidates, fixed_of_stack, span_with, spans_with}
 use Rattle.shunt_blocks.proofs.Shapes.{on_track}
@@ -69,3 +70,25 @@ gain_tells P n r events room fixed free xs ys g a b e f is law most =
 
 pub ok_is : {X E : Type 0} (P : X → Type 0) (r : Result X E) (x : X) → r ≡ Ok x → IfOk r P → P x
 ok_is P r x e h = subst (λ s. IfOk s P) e h
+
+-- a table of these spans is one of the same
+pub table_of : (xs ys fixed free : List Span) → xs ≡ fixed → ys ≡ free → (events : ℕ) (t : Table) → IsTableOf xs ys events t → IsTableOf fixed free events t
+table_of xs ys fixed free a b events t is = subst (λ (zs : List Span). IsTableOf fixed zs events t) b (subst (λ (zs : List Span). IsTableOf zs ys events t) a is)
+
+pub table_again : (xs ys : List Span) (events : ℕ) (t u : Table) → IsTableOf xs ys events t → IsTableOf (fixed_of t) (free_of t) (events_of t) u → IsTableOf xs ys events u
+table_again xs ys events t u is next = record {
+  table = next.table;
+  fixed_same = next.fixed_same ∙ is.fixed_same;
+  free_same = next.free_same ∙ is.free_same;
+  events_same = next.events_same ∙ is.events_same;
+}
+
+-- what a table tells of a stack
+pub gain_told : (P : ℤ → Type 0) (night : Night) (e : Events) (c : Case) (path : List Block) (stack : Stack) (ks : List Candidate) → AreCandidates night path c stack ks → (t : Table)
+    → IsTableOf (fixed_of_stack night e path stack) (spans_with night e ks) (events_in e) t → (n r room : ℕ) → n ≡ events_in e → r ≡ room → (g : Option ℤ)
+    → IsGain (fixed_of t) (free_of t) 0 n r g
+    → ((most : ℤ) → (best (events_in e) (fixed_of_stack night e path stack) (free_spans night (entry_of e) (leave_of e) c (blocks_in ks)) 0 (events_in e) room ≡ Some most) ↔ P most)
+    → (most : ℤ) → (g ≡ Some most) ↔ P most
+gain_told P night e c path stack ks are t is n r room a b g gain law =
+    gain_tells P n r (events_in e) room (fixed_of_stack night e path stack) (free_spans night (entry_of e) (leave_of e) c (blocks_in ks)) (fixed_of t) (free_of t) g a b
+    is.fixed_same (is.free_same ∙ free_same night e c path stack ks are) gain law

@@ -3,3 +3,4 @@ pub mod Pieces
 pub mod Scenes
 pub mod Least
 pub mod Prospects
+pub mod Besides

@@ -24,7 +24,7 @@ pub struct Candidate {
 }
 
 /// The way to park on a stack.
-fn park_on(stack: Stack) -> Park
+pub(crate) fn park_on(stack: Stack) -> Park
     ensures { result ≡ park_on (seen stack) }
 {
     Park {
@@ -35,7 +35,7 @@ fn park_on(stack: Stack) -> Park
 }
 
 /// A shape as a block of a stack.
-fn block_on(stack: Stack, shape: Shape) -> Block
+pub(crate) fn block_on(stack: Stack, shape: Shape) -> Block
     ensures { result ≡ block_on (seen stack) shape }
 {
     Block {

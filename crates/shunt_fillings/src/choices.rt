@@ -3,16 +3,17 @@ ghost use Rattle.std.specs.Prelude.{◌≡◌, ◌<◌, ◌+ℤ◌, ◌-ℤ◌, 
 ghost use Rattle.std.specs.Prelude.{IfOk, IfSome, IfNone, slice_index_or};
 ghost use Rattle.shunt_base.specs.declared.duals.Case.{Case as OneCase};
 ghost use Rattle.shunt_prices.specs.defs.Sums.{IsWithin};
-ghost use Rattle.shunt_prices.specs.defs.Limits.{AreCases};
+ghost use Rattle.shunt_prices.specs.defs.Limits.{IsCase, AreCases};
 ghost use Rattle.shunt_prices.specs.defs.Bounds.{unparked_in};
 ghost use Rattle.shunt_stacks.specs.defs.Stacks.{is_of};
 ghost use Rattle.shunt_stacks.specs.defs.Fillings.{IsStackGain};
 ghost use Rattle.shunt_stacks.specs.defs.Bounds.{IsChoiceSum, IsChoiceBound};
 ghost use Rattle.shunt_fillings.specs.declared.ends.Stack.{Stack as OurStack};
-ghost use Rattle.shunt_fillings.specs.defs.Pieces.{seen, AreCandidates, AreOfSomeCase};
+ghost use Rattle.shunt_fillings.specs.defs.Pieces.{seen};
 ghost use Rattle.shunt_fillings.specs.defs.Scenes.{IsScene, MayCome};
-ghost use Rattle.shunt_fillings.specs.defs.Prospects.{IsOutlook, AreOutlooks, AreSums};
+ghost use Rattle.shunt_fillings.specs.defs.Prospects.{IsProspect, IsOutlook, AreOutlooks, AreSums};
 
+use crate::besides::gain_at;
 use crate::bounds::least_bound;
 use crate::candidates::apart_of;
 use crate::ends::{Stack, is_of};
@@ -21,7 +22,7 @@ use crate::prospects::{Outlook, Prospect};
 use crate::scenes::Scene;
 use shunt_base::Cases;
 use shunt_blocks::laws::places;
-use shunt_blocks::{Block, Park};
+use shunt_blocks::{Block, Park, shape_of};
 use shunt_dual::{gain, unparked_in};
 use shunt_stacks::laws::{choices_by_events, stacks_of_stations, sums_fit};
 use std::alloc::{AllocError, Global};
@@ -36,7 +37,8 @@ fn longer(alloc: Global, blocks: &[Block], block: &Block) -> Result<Vec<Block>, 
     Ok(longer)
 }
 
-/// What a stack gains at a path with a block more, by its candidates at the path: those that share nothing with the block are left.
+/// What a stack gains at a path with a block of it more: it stands with what may come next, or else is found anew by the stack's candidates
+/// at the path, of which those are left that share nothing with the block.
 fn gain_with(
     alloc: Global,
     scene: &Scene<'_>,
@@ -47,10 +49,12 @@ fn gain_with(
     requires scene { IsScene scene.now }
     requires track { stack.track.0 < length scene.now.instance.now.station.tracks }
     requires block { MayCome scene.now.instance.now scene.now.path.now.blocks block.now }
-    requires candidates { AreOfSomeCase scene.now.instance.now scene.now.path.now.blocks
-        (seen stack) prospect.now.candidates.items }
-    ensures exact { (c : OneCase) → AreCandidates scene.now.instance.now scene.now.path.now.blocks c
-        (seen stack) prospect.now.candidates.items → IfOk result (IsStackGain scene.now.instance.now
+    requires own { is_of (seen stack) block.now.park ≡ true }
+    requires prospect { (c : OneCase) × IsCase scene.now.instance.now c
+        × IsProspect scene.now.instance.now scene.now.path.now.blocks c
+        (seen stack) prospect.now }
+    ensures exact { (c : OneCase) → IsProspect scene.now.instance.now scene.now.path.now.blocks c
+        (seen stack) prospect.now → IfOk result (IsStackGain scene.now.instance.now
         (scene.now.path.now.blocks ++ block.now ∷ []) c (seen stack)) }
     ensures small { IfOk result (IsWithin 319999999999680) }
 {
@@ -58,9 +62,14 @@ fn gain_with(
     scene.instance.units();
     places();
     choices_by_events();
+    sums_fit();
+    if let Some(gain) = gain_at(&prospect.besides, shape_of(block)) {
+        return Ok(gain);
+    }
     let apart = apart_of(alloc, scene.instance, block, &prospect.candidates)?;
     let path = longer(alloc, scene.path.blocks(), block)?;
-    stack_gain(alloc, scene.instance, scene.events, stack, &path, &apart)
+    let found = stack_gain(alloc, scene.instance, scene.events, stack, &path, &apart)?;
+    Ok(found.gain)
 }
 
 /// The number of the stack that an option is of.

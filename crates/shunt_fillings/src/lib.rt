@@ -1,6 +1,7 @@
 //! What stacks gain at a path in a case: their candidates, their tables, the sums with stacks, and the bounds of paths and of choices.
 #![tactic(auto)]
 
+mod besides;
 mod bounds;
 mod candidates;
 mod choices;
@@ -11,6 +12,7 @@ mod prospects;
 mod scenes;
 mod sums;
 
+pub use besides::Beside;
 pub use bounds::least_bound;
 pub use candidates::Candidate;
 pub use choices::choice_bound;

@@ -15,7 +15,7 @@ use shunt_instance::Instance;
 use std::alloc::{AllocError, Global};
 
 /// What a block takes of the events, with a gain.
-fn piece_of(instance: &Instance, events: &Events, block: &Block, gain: i64) -> Piece
+pub(crate) fn piece_of(instance: &Instance, events: &Events, block: &Block, gain: i64) -> Piece
     requires events { AreEvents instance.now events.now }
     requires within { IsWithinTrains instance.now block.now }
     ensures { piece_span result

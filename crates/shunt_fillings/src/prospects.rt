@@ -10,6 +10,7 @@ ghost use Rattle.shunt_fillings.specs.defs.Pieces.{seen};
 ghost use Rattle.shunt_fillings.specs.defs.Scenes.{IsScene};
 ghost use Rattle.shunt_fillings.specs.defs.Prospects.{IsProspect, IsOutlook, AreOutlooks};
 
+use crate::besides::{Beside, besides};
 use crate::candidates::{Candidate, candidates};
 use crate::ends::Stack;
 use crate::gains::stack_gain;
@@ -19,12 +20,13 @@ use shunt_dual::{Offer, case_sum, offers};
 use shunt_stacks::laws::stacks_of_stations;
 use std::alloc::{AllocError, Global};
 
-/// The free blocks of a stack at a path that gain something in a case, and what the stack gains there at most, in thousandths of a cost
-/// unit.
+/// The free blocks of a stack at a path that gain something in a case, what the stack gains there at most, in thousandths of a cost unit,
+/// and what beside shapes that may come next.
 #[derive(Drop)]
 pub struct Prospect {
     pub candidates: Vec<Candidate>,
     pub gain: i64,
+    pub besides: Vec<Beside>,
 }
 
 /// What the stacks of a station may gain at a path in a case, in their order, and the sum with stacks there, in thousandths of a cost unit.
@@ -53,7 +55,7 @@ fn prospect_of(
     scene.instance.station();
     let candidates = candidates(alloc, scene.instance, stack, offers)?;
     let path = scene.path.blocks();
-    let gain = stack_gain(
+    let mut found = stack_gain(
         alloc,
         scene.instance,
         scene.events,
@@ -61,7 +63,12 @@ fn prospect_of(
         path,
         &candidates,
     )?;
-    Ok(Prospect { candidates, gain })
+    let besides = besides(alloc, scene, stack, &mut found.table)?;
+    Ok(Prospect {
+        candidates,
+        gain: found.gain,
+        besides,
+    })
 }
 
 /// What the stacks of the station may gain at a path in a case. What a shape offers is found once for all of them.

@@ -3,3 +3,4 @@ mod Small
 mod Stepped
 mod Listed
 mod Ordered
+mod Beside

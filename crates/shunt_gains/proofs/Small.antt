@@ -50,5 +50,11 @@ pub gain_small : (fixed free : List Span) → ((s : Span) → In s fixed ⊎ In 
 gain_small fixed free own x y room g few is = subst (λ (o : Option ℤ). IfSome o (IsWithin 4000000000000000000)) (sym (is y (omega arith)))
     (wider (most (y - x)) 4000000000000000000 (best y fixed free x y room) (omega (arith, few)) (best_small fixed free own y x y room))
 
+-- the same of few events
+pub gain_little : (fixed free : List Span) → ((s : Span) → In s fixed ⊎ In s free → IsSpan s × IsWithin 1000000000000000 s.gain) → (x y room : ℕ) (g : Option ℤ) → y ≤ 320 →
+    IsGain fixed free x y room g → IfSome g (IsWithin 320000000000000000)
+gain_little fixed free own x y room g few is = subst (λ (o : Option ℤ). IfSome o (IsWithin 320000000000000000)) (sym (is y (omega arith)))
+    (wider (most (y - x)) 320000000000000000 (best y fixed free x y room) (omega (arith, few)) (best_small fixed free own y x y room))
+
 pub seen : (z : ℤ) → IsWithin 1000000000000000 z → to_z w64 (of_z w64 z) ≡ z
 seen z h = omega (arith, ints, h.low, h.high)

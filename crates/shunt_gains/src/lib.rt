@@ -3,6 +3,7 @@
 
 mod numbers;
 mod pieces;
+mod places;
 mod rows;
 mod table;
 mod values;

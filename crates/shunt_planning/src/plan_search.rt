@@ -29,6 +29,7 @@ use shunt_proof::{TextRecorder, begin_certificate};
 use shunt_report::plan_text;
 use shunt_search::{Found, SolveError, Solved, find, note_found};
 use shunt_store::{Store, StoreError};
+use shunt_tree::Grower;
 use std::alloc::{AllocError, Global};
 
 // Hands the nodes of what was found to a recorder that writes them. The store that it borrows stays the one that it borrowed.
@@ -141,7 +142,7 @@ fn search_in_memory(
     ensures never_worse { IfOk result
         (λ f. IfSome given.entry (λ p. f.walk.search.known.cost ≤ total_cost instance.now p.now)) }
 {
-    match find(alloc, instance, pins, given, nodes) {
+    match find::<Grower>(alloc, instance, pins, given, nodes) {
         Ok(found) => Ok(found),
         Err(SolveError::NoMatching(_)) => unreachable!(),
         Err(SolveError::Recorder) => unreachable!(),

@@ -1,6 +1,6 @@
 -- What a search has found when it ends.
 use Rattle.std.specs.Prelude.{◌≤ℤ◌, Option, Some, None, IfSome}
-use Rattle.std.proofs.Common.{◌≡◌, ◌↔◌, ⊎_elim, ℕ, ◌<◌, ◌≤◌, List, [], length, take, drop, ℤ, pos, negsuc, refl, sym, subst, arith, IsPermutation}
+use Rattle.std.proofs.Common.{◌≡◌, ◌↔◌, ⊎_elim, ℕ, ◌<◌, ◌≤◌, List, length, take, drop, ℤ, pos, negsuc, refl, sym, subst, arith, IsPermutation}
 use Rattle.std.proofs.lemmas.Int.{ints}
 use Rattle.std.proofs.lemmas.List.{length-take, take-append-drop}
 use Rattle.std.proofs.Math.Nat.{le-min}

@@ -9,7 +9,6 @@ use Rattle.shunt_proof.specs.declared.records.Version.TheVariants.{Prices, Stack
 use Rattle.shunt_search.specs.declared.walk_stack.Pending.{Pending}
 use Rattle.shunt_search.specs.declared.memory_search.KeptWalk.{KeptWalk}
 use Rattle.shunt_search.specs.defs.Endings.{IsLeft}
-use Rattle.shunt_search.specs.declared.memory_search.Found.{Found}
 use Rattle.shunt_search.specs.defs.Finding.{IsKept, IsFirst, IsFound}
 use Rattle.shunt_search.proofs.Restarted.{over_at_least}
 

@@ -1,7 +1,7 @@
 -- The options of one block, where timelines have the stays of the others.
 use Rattle.std.specs.Prelude.{All, IfSome, IfNone, OnSome, Option, Some, None}
 use Rattle.std.specs.List.{AllByRecursion, cons_option}
-use Rattle.std.proofs.Common.{◌≡◌, ◌≢◌, ⊎_elim, ◌↔◌, ℕ, ◌+◌, ◌^◌, ◌<◌, ◌≤◌, List, [], ◌∷◌, length, map, get_or, set, refl, sym, subst, ap, ◌∙◌, arith, IsPermutation}
+use Rattle.std.proofs.Common.{◌≡◌, ◌≢◌, ⊎_elim, ◌↔◌, ℕ, ◌+◌, ◌^◌, ◌<◌, ◌≤◌, List, ◌∷◌, length, map, get_or, set, refl, sym, subst, ap, ◌∙◌, arith, IsPermutation}
 use Rattle.std.proofs.lemmas.List.{set-get_or}
 use Rattle.std.proofs.lemmas.List.Elements.{All-set}
 use Rattle.shunt_lists.proofs.Members.{all_from, each_one as of_all, to_all}

@@ -1,5 +1,5 @@
 -- A search that begins again with stacks.
-use Rattle.std.specs.Prelude.{All, ◌≤ℤ◌, Option}
+use Rattle.std.specs.Prelude.{All, Option}
 use Rattle.std.proofs.Common.{◌≡◌, ℕ, List, ℤ, sym, subst, arith}
 use Rattle.std.proofs.lemmas.Int.{ints}
 use Rattle.shunt_base.specs.declared.duals.Case.{Case}

@@ -7,7 +7,6 @@ ghost use Rattle.shunt_search.specs.defs.WalkStates.{IsBest};
 use crate::known::KnownPlan;
 use crate::polisher::polish_around;
 use crate::wholes::path_cost;
-use shunt_ascent::{Proposal, grain};
 use shunt_base::{Case, Cases};
 use shunt_blocks::Block;
 use shunt_blocks::laws::feasible_lists;
@@ -51,19 +50,14 @@ fn last_falls(units: u32) -> [Fall; 2] {
     }
 }
 
-/// A search of that many rounds in each fall, that fits a night's costs and how many units it has. Err is want of memory.
-fn course<'a>(
-    alloc: Global,
-    instance: &Instance,
-    falls: &'a [Fall],
-    rounds: u32,
-) -> Result<Course<'a>, AllocError> {
-    Ok(Course {
+/// A search of that many rounds in each fall, that counts in grains and fits how many units a night has.
+fn course<'a>(instance: &Instance, falls: &'a [Fall], rounds: u32, grain: u32) -> Course<'a> {
+    Course {
         falls,
         rounds,
-        grain: grain(alloc, instance)?,
+        grain,
         is_loud: instance.units() <= MANY as usize,
-    })
+    }
 }
 
 /// The place of the least of some numbers.
@@ -116,23 +110,24 @@ fn cheapened(
     Ok(KnownPlan { blocks, cost })
 }
 
-/// A plan that costs no more than one that is known, guided by a case that is proposed for the root. Err is want of memory.
+/// A plan that costs no more than one that is known, by a search that counts in grains and is guided by a case that is proposed for the
+/// root. Err is want of memory.
 pub(crate) fn first_plan(
     alloc: Global,
     instance: &Instance,
     pins: &[Block],
-    proposal: &Proposal,
+    case: &Case,
+    grain: u32,
     known: &KnownPlan,
 ) -> Result<KnownPlan, AllocError>
     requires { IsBest instance.now pins.now known.now.blocks.items known.now.cost }
     ensures best { IfOk result (λ k. IsBest instance.now pins.now k.blocks.items k.cost) }
     ensures cheaper { IfOk result (λ k. k.cost ≤ known.now.cost) }
 {
-    let case = proposal.case(alloc, instance)?;
     let units = instance.units() as u32;
     let falls = first_falls(units);
-    let course = course(alloc, instance, &falls, first_rounds(units))?;
-    cheapened(alloc, instance, pins, &case, known, &course)
+    let course = course(instance, &falls, first_rounds(units), grain);
+    cheapened(alloc, instance, pins, case, known, &course)
 }
 
 /// The same, guided by the one of the root's cases that bounds it least.
@@ -142,6 +137,7 @@ pub(crate) fn last_plan(
     pins: &[Block],
     path: &Path,
     cases: &Cases,
+    grain: u32,
     known: &KnownPlan,
 ) -> Result<KnownPlan, AllocError>
     requires path { IsTrailOf instance.now path.now }
@@ -153,6 +149,6 @@ pub(crate) fn last_plan(
     let case = lowest(alloc, instance, path, cases)?;
     let units = instance.units() as u32;
     let falls = last_falls(units);
-    let course = course(alloc, instance, &falls, last_rounds(units))?;
+    let course = course(instance, &falls, last_rounds(units), grain);
     cheapened(alloc, instance, pins, case, known, &course)
 }

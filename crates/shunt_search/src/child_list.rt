@@ -13,7 +13,7 @@ use crate::walk_stack::Pending;
 use crate::yard::Yard;
 use shunt_blocks::Block;
 use shunt_instance::Instance;
-use shunt_tree::ProposedTree;
+use shunt_proposals::ProposedTree;
 use std::alloc::{AllocError, Global};
 
 /// Whether two blocks are one choice.

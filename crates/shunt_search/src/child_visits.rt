@@ -28,7 +28,7 @@ use shunt_choices::Path;
 use shunt_instance::Instance;
 use shunt_proof::Recorder;
 use shunt_proof::version_laws::bounds_by_version;
-use shunt_tree::ProposedTree;
+use shunt_proposals::ProposedTree;
 use std::alloc::{AllocError, Global};
 
 /// Whether a path covers all units.

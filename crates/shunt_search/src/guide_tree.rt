@@ -8,11 +8,10 @@ ghost use Rattle.shunt_search.specs.defs.WalkStates.{cases_in};
 ghost use Rattle.shunt_search.specs.defs.SearchStates.{IsStock};
 
 use crate::judge::Judge;
-use shunt_ascent::Proposal;
 use shunt_base::Cases;
 use shunt_choices::Path;
 use shunt_instance::Instance;
-use shunt_tree::{ProposedTree, propose, propose_with_stacks};
+use shunt_proposals::{ProposedTree, Proposer};
 use std::alloc::{AllocError, Global};
 
 /// The tree, with these cases as the first of its stock.
@@ -31,12 +30,12 @@ fn with_root(mut tree: ProposedTree, cases: Cases) -> Result<ProposedTree, Alloc
 }
 
 /// A tree that is proposed for a path, as paths are judged. Err is want of memory.
-fn proposed(
+fn proposed<P: Proposer>(
     alloc: Global,
     instance: &Instance,
     judge: &Judge,
     path: &Path,
-    proposal: &Proposal,
+    proposal: &P,
     cases: &Cases,
     cost: u64,
     nodes: u32,
@@ -46,19 +45,19 @@ fn proposed(
     ensures apart { IfOk result (λ t. All (All (λ c. AreApart c.duals.prices)) t.stock.items) }
 {
     match judge {
-        Judge::Prices => propose(alloc, instance, path, proposal, cases, cost, nodes),
-        Judge::Stacks(_) => propose_with_stacks(alloc, instance, path, cases, cost, nodes),
+        Judge::Prices => proposal.propose(alloc, instance, path, cases, cost, nodes),
+        Judge::Stacks(_) => P::propose_with_stacks(alloc, instance, path, cases, cost, nodes),
     }
 }
 
 /// A tree of at most that many nodes that is proposed for a path, as paths are judged, the first of whose stock are these cases, which came from a proposal. A
 /// plan is known that costs this many cost units. Err is want of memory.
-pub(crate) fn proposed_tree(
+pub(crate) fn proposed_tree<P: Proposer>(
     alloc: Global,
     instance: &Instance,
     judge: &Judge,
     path: &Path,
-    proposal: &Proposal,
+    proposal: &P,
     cases: Cases,
     cost: u64,
     nodes: u32,

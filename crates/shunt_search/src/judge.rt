@@ -5,7 +5,6 @@ ghost use Rattle.shunt_prices.specs.defs.Limits.{AreCases};
 ghost use Rattle.shunt_proof.specs.defs.Versions.{HoldIn};
 ghost use Rattle.shunt_search.specs.defs.Judges.{version_of, AreEnds};
 
-use shunt_ascent::Proposal;
 use shunt_base::Cases;
 use shunt_choices::Path;
 use shunt_dual::{cases_hold, stack_cases_hold};
@@ -13,7 +12,7 @@ use shunt_fillings::{Stack, stacks};
 use shunt_gains::Events;
 use shunt_instance::Instance;
 use shunt_proof::Version;
-use shunt_tree::ProposedTree;
+use shunt_proposals::ProposedTree;
 use std::alloc::{AllocError, Global};
 
 /// The numbers of a night's events, and the stacks of its station.
@@ -36,8 +35,6 @@ pub struct Guide {
     /// The tree that is proposed, with the cases of its stock.
     pub tree: ProposedTree,
     pub judge: Judge,
-    /// What the cases of its root came from.
-    pub proposal: Proposal,
 }
 
 impl Judge {

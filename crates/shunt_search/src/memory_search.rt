@@ -22,11 +22,11 @@ use crate::renewal::{prepare_by_prices, prepare_with_stacks, same_root, searches
 use crate::root_bounds::Root;
 use crate::search_state::Search;
 use crate::solved::SolveError;
-use shunt_ascent::Proposal;
 use shunt_blocks::Block;
 use shunt_instance::Instance;
 use shunt_lists::Items;
 use shunt_proof::{ListRecorder, Node, Recorder, Version};
+use shunt_proposals::Proposer;
 use std::alloc::Global;
 
 /// So many nodes at most are by prices alone, before stacks are asked.
@@ -138,15 +138,15 @@ fn keep_walk(
     })
 }
 
-/// A walk by prices with at most so many nodes, whose plan costs no more than the one that is given, if there is one, and what it went by.
-/// NoMatching comes exactly when what the pins leave has no matching, unless memory runs out first.
-fn walk_by_prices(
+/// A walk by prices with at most so many nodes, whose plan costs no more than the one that is given, if there is one, what it went by, and what its
+/// root's cases came from. NoMatching comes exactly when what the pins leave has no matching, unless memory runs out first.
+fn walk_by_prices<P: Proposer>(
     alloc: Global,
     instance: &Instance,
     pins: &[Block],
     given: Option<&[Block]>,
     nodes: u32,
-) -> Result<(KeptWalk, Guide), SolveError>
+) -> Result<(KeptWalk, Guide, P), SolveError>
     requires usable { AreUsable instance.now pins.now }
     requires feasible { IfSome given (λ p. IsFeasible instance.now p.now) }
     requires keeps { IfSome given (λ p. Keeps p.now pins.now) }
@@ -166,18 +166,18 @@ fn walk_by_prices(
         → IsErrOf result (SolveError.NoMatching s) ⊎ IsErrOf result SolveError.Memory }
     ensures no_fault { IsErrOf result SolveError.Recorder → ⊥ }
 {
-    let (search, guide) = prepare(alloc, instance, pins, given, nodes)?;
+    let (search, guide, proposal) = prepare::<P>(alloc, instance, pins, given, nodes)?;
     let walk = keep_walk(alloc, instance, pins, nodes, &guide, search)?;
-    Ok((walk, guide))
+    Ok((walk, guide, proposal))
 }
 
 /// A walk by prices again, from the same root on, with the plan that is known. NoMatching comes never.
-fn find_by_prices(
+fn find_by_prices<P: Proposer>(
     alloc: Global,
     instance: &Instance,
     pins: &[Block],
     nodes: u32,
-    proposal: Proposal,
+    proposal: &P,
     root: Root,
     known: KnownPlan,
 ) -> Result<KeptWalk, SolveError>
@@ -196,42 +196,43 @@ fn find_by_prices(
     Ok(walk)
 }
 
-/// A walk with stacks, from the root of one by prices on, with the plan that is known, and what it went by. NoMatching comes never.
-fn find_with_stacks(
+/// A walk with stacks, from the root of one by prices on, with the plan that is known. NoMatching comes never.
+fn find_with_stacks<P: Proposer>(
     alloc: Global,
     instance: &Instance,
     pins: &[Block],
     nodes: u32,
-    proposal: Proposal,
+    proposal: &P,
     root: Root,
     known: KnownPlan,
-) -> Result<(KeptWalk, Proposal), SolveError>
+) -> Result<KeptWalk, SolveError>
     requires ground { IsGround instance.now pins.now root known }
     requires some { 1 ≤ nodes }
     requires few { nodes ≤ 5000 }
-    ensures kept { IfOk result (λ w. IsKept instance.now pins.now nodes w.0) }
-    ensures version { IfOk result (λ w. w.0.version ≡ Stacks) }
-    ensures floor { IfOk result (λ w. root.floor ≤ℤ w.0.search.floor) }
-    ensures cheaper { IfOk result (λ w. w.0.search.known.cost ≤ known.cost) }
+    ensures kept { IfOk result (IsKept instance.now pins.now nodes) }
+    ensures version { IfOk result (λ w. w.version ≡ Stacks) }
+    ensures floor { IfOk result (λ w. root.floor ≤ℤ w.search.floor) }
+    ensures cheaper { IfOk result (λ w. w.search.known.cost ≤ known.cost) }
     ensures no_matching { (s : OneShortage) → IsErrOf result (SolveError.NoMatching s) → ⊥ }
     ensures no_fault { IsErrOf result SolveError.Recorder → ⊥ }
 {
     let (search, guide) = prepare_with_stacks(alloc, instance, pins, nodes, proposal, root, known)?;
     let walk = keep_walk(alloc, instance, pins, nodes, &guide, search)?;
-    Ok((walk, guide.proposal))
+    Ok(walk)
 }
 
-/// A walk with all nodes that are allowed, behind a first one by prices that left something open, with what that one went by: one with
-/// stacks, or by prices where stacks bounded less than the first one. NoMatching comes never.
-fn find_more(
+/// A walk with all nodes that are allowed, behind a first one by prices that left something open, with what that one went by, and what its
+/// root's cases came from: one with stacks, or by prices where stacks bounded less than the first one. NoMatching comes never.
+fn find_more<P: Proposer>(
     alloc: Global,
     instance: &Instance,
     pins: &[Block],
     nodes: u32,
-    guide: Guide,
+    guide: &Guide,
+    proposal: &P,
     first: KeptWalk,
 ) -> Result<Found, SolveError>
-    requires search { IsSearch Prices instance.now pins.now guide.tree.stock.items
+    requires search { IsSearch Prices instance.now pins.now guide.now.tree.stock.items
         (Some first.nodes) (length first.nodes)
         (case_total first.nodes) first.search.waiting.items first.search }
     requires first { IsFirst instance.now pins.now nodes first }
@@ -249,15 +250,7 @@ fn find_more(
     let root = same_root(alloc, &guide.tree, &search)?;
     let other = same_root(alloc, &guide.tree, &search)?;
     let plan = search.known;
-    let (walk, proposal) = find_with_stacks(
-        alloc,
-        instance,
-        pins,
-        nodes,
-        guide.proposal,
-        root,
-        plan,
-    )?;
+    let walk = find_with_stacks(alloc, instance, pins, nodes, proposal, root, plan)?;
     if walk.bound >= least {
         return Ok(Found { walk, first: least });
     }
@@ -274,9 +267,9 @@ fn find_more(
 /// in memory that proves a bound on every such plan: 16 nodes at most by prices, and where these leave something open all that are allowed,
 /// with stacks. Where these bound less than the first 16, it goes back to prices.
 ///
-/// The pins are usable, the plan that is given is feasible and keeps them, and `nodes` is from 1 to 5,000. NoMatching comes exactly when what
-/// the pins leave has no matching, unless memory runs out first, and Recorder never.
-pub fn find(
+/// The pins are usable, the plan that is given is feasible and keeps them, and `nodes` is from 1 to 5,000. `P` is what proposes; all that it
+/// proposes is judged. NoMatching comes exactly when what the pins leave has no matching, unless memory runs out first, and Recorder never.
+pub fn find<P: Proposer>(
     alloc: Global,
     instance: &Instance,
     pins: &[Block],
@@ -299,7 +292,7 @@ pub fn find(
     ensures no_fault { IsErrOf result SolveError.Recorder → ⊥ }
 {
     let few = first_nodes(nodes);
-    let (walk, guide) = walk_by_prices(alloc, instance, pins, given, few)?;
+    let (walk, guide, proposal) = walk_by_prices::<P>(alloc, instance, pins, given, few)?;
     let first = walk.bound;
     if nodes <= FEW {
         return Ok(Found { walk, first });
@@ -307,6 +300,6 @@ pub fn find(
     if first >= walk.search.known.cost {
         return Ok(Found { walk, first });
     }
-    let found = find_more(alloc, instance, pins, nodes, guide, walk)?;
+    let found = find_more(alloc, instance, pins, nodes, &guide, &proposal, walk)?;
     Ok(found)
 }

@@ -25,7 +25,7 @@ use shunt_blocks::laws::places;
 use shunt_instance::Instance;
 use shunt_instance::laws::instances;
 use shunt_proof::{Choice, Node, NodeDuals, NodeKind, Recorder};
-use shunt_tree::ProposedTree;
+use shunt_proposals::ProposedTree;
 use std::alloc::{AllocError, Global};
 
 /// As what a path is noted.

@@ -27,12 +27,12 @@ use crate::search_state::Search;
 use crate::solved::SolveError;
 use crate::start_plan::{as_many_positions, first_known};
 use crate::yard::{Yard, start};
-use shunt_ascent::Proposal;
 use shunt_blocks::Block;
 use shunt_blocks::laws::matchings;
 use shunt_choices::Path;
 use shunt_instance::Instance;
 use shunt_matching::{MatchError, Matching, first_fit_rest};
+use shunt_proposals::Proposer;
 use std::alloc::{AllocError, Global};
 
 /// The path of usable pins in order covers what they do; and where what it leaves has a matching, there is one of all units, and there are
@@ -97,13 +97,13 @@ fn matched_rest(
 
 /// A search that is to begin at the path of the pins with these cases as the root's and a plan that costs no more than this one, and what it
 /// is to go by, with a tree of at most that many nodes. Err is want of memory.
-pub(crate) fn ready(
+pub(crate) fn ready<P: Proposer>(
     alloc: Global,
     instance: &Instance,
     pins: &[Block],
     nodes: u32,
     yard: Yard,
-    proposal: Proposal,
+    proposal: &P,
     judge: Judge,
     root: Root,
     known: KnownPlan,
@@ -127,7 +127,7 @@ pub(crate) fn ready(
     let floor = root.floor();
     let mut best = known;
     let tree = proposed_tree(
-        alloc, instance, &judge, &yard.path, &proposal, root.cases, best.cost, nodes,
+        alloc, instance, &judge, &yard.path, proposal, root.cases, best.cost, nodes,
     )?;
     take_proposed(
         alloc,
@@ -150,26 +150,19 @@ pub(crate) fn ready(
         count: 0,
         owned: 0,
     };
-    Ok((
-        search,
-        Guide {
-            tree,
-            judge,
-            proposal,
-        },
-    ))
+    Ok((search, Guide { tree, judge }))
 }
 
-/// A search by prices that is to begin at the path of the pins, with a plan that costs no more than the first one that is known, and the
-/// tree that it is to follow. Err is want of memory.
-fn prepared(
+/// A search by prices that is to begin at the path of the pins, with a plan that costs no more than the first one that is known, the tree
+/// that it is to follow, and what its root's cases came from. Err is want of memory.
+fn prepared<P: Proposer>(
     alloc: Global,
     instance: &Instance,
     pins: &[Block],
     nodes: u32,
     yard: Yard,
     known: &KnownPlan,
-) -> Result<(Search, Guide), AllocError>
+) -> Result<(Search, Guide, P), AllocError>
     requires usable { AreUsable instance.now pins.now }
     requires even { position_total instance.now ≡ unit_total instance.now }
     requires start { IsStart instance.now pins.now yard.path.blocks }
@@ -184,26 +177,37 @@ fn prepared(
     ensures judge { IfOk result (λ s. s.1.judge ≡ Judge.Prices) }
     ensures cheaper { IfOk result (λ s. s.0.known.cost ≤ known.now.cost) }
 {
-    let proposal = Proposal::new(alloc, instance, &yard.path)?;
-    let first = first_plan(alloc, instance, pins, &proposal, known)?;
+    let grain = P::grain(alloc, instance)?;
+    let proposal = P::new(alloc, instance, &yard.path)?;
+    let case = proposal.case(alloc, instance)?;
+    let first = first_plan(alloc, instance, pins, &case, grain, known)?;
     let root = root_cases(alloc, instance, &yard.path, &proposal, &first)?;
-    let best = last_plan(alloc, instance, pins, &yard.path, &root.cases, &first)?;
-    let judge = Judge::Prices;
-    let found = ready(
-        alloc, instance, pins, nodes, yard, proposal, judge, root, best,
+    let best = last_plan(
+        alloc,
+        instance,
+        pins,
+        &yard.path,
+        &root.cases,
+        grain,
+        &first,
     )?;
-    Ok(found)
+    let judge = Judge::Prices;
+    let (search, guide) = ready(
+        alloc, instance, pins, nodes, yard, &proposal, judge, root, best,
+    )?;
+    Ok((search, guide, proposal))
 }
 
-/// A search by prices that is to begin, with a plan that costs no more than the one that is given, and the tree that it is to follow, which has at
-/// most that many nodes. NoMatching comes exactly when what the pins leave has no matching, unless memory runs out before.
-pub(crate) fn prepare(
+/// A search by prices that is to begin, with a plan that costs no more than the one that is given, the tree that it is to follow, which has at
+/// most that many nodes, and what its root's cases came from. NoMatching comes exactly when what the pins leave has no matching, unless memory
+/// runs out before.
+pub(crate) fn prepare<P: Proposer>(
     alloc: Global,
     instance: &Instance,
     pins: &[Block],
     given: Option<&[Block]>,
     nodes: u32,
-) -> Result<(Search, Guide), SolveError>
+) -> Result<(Search, Guide, P), SolveError>
     requires usable { AreUsable instance.now pins.now }
     requires feasible { IfSome given (λ p. IsFeasible instance.now p.now) }
     requires keeps { IfSome given (λ p. Keeps p.now pins.now) }
@@ -232,6 +236,6 @@ pub(crate) fn prepare(
         matching.place_of.as_slice(),
         given,
     )?;
-    let found = prepared(alloc, instance, pins, nodes, yard, &known)?;
+    let found = prepared::<P>(alloc, instance, pins, nodes, yard, &known)?;
     Ok(found)
 }

@@ -25,14 +25,13 @@ use crate::root_bounds::{Root, unparked_in};
 use crate::search_state::Search;
 use crate::sights::bound_at;
 use crate::yard::{Yard, start};
-use shunt_ascent::Proposal;
 use shunt_base::{Cases, copy_cases};
 use shunt_blocks::Block;
 use shunt_dual::stack_cases_hold;
 use shunt_instance::Instance;
 use shunt_proof::laws::{best_costs, starts};
 use shunt_proof::version_laws::bounds_by_version;
-use shunt_tree::ProposedTree;
+use shunt_proposals::{ProposedTree, Proposer};
 use std::alloc::{AllocError, Global};
 
 /// What bounds a yard's path by prices does so with stacks.
@@ -121,12 +120,12 @@ fn better_root(
 
 /// A search with stacks that is to begin with this root and this plan, or with better cases for its root, and the tree of at most that many
 /// nodes that it is to follow. Err is want of memory.
-pub(crate) fn prepare_with_stacks(
+pub(crate) fn prepare_with_stacks<P: Proposer>(
     alloc: Global,
     instance: &Instance,
     pins: &[Block],
     nodes: u32,
-    proposal: Proposal,
+    proposal: &P,
     root: Root,
     known: KnownPlan,
 ) -> Result<(Search, Guide), AllocError>
@@ -153,12 +152,12 @@ pub(crate) fn prepare_with_stacks(
 
 /// A search by prices that is to begin with this root and this plan, and the tree of at most that many nodes that it is to follow. Err is
 /// want of memory.
-pub(crate) fn prepare_by_prices(
+pub(crate) fn prepare_by_prices<P: Proposer>(
     alloc: Global,
     instance: &Instance,
     pins: &[Block],
     nodes: u32,
-    proposal: Proposal,
+    proposal: &P,
     root: Root,
     known: KnownPlan,
 ) -> Result<(Search, Guide), AllocError>

@@ -17,7 +17,6 @@ ghost use Rattle.shunt_proof.specs.declared.records.Version.TheVariants.{Prices}
 ghost use Rattle.shunt_search.specs.defs.Roots.{AreRooted, IsRoot};
 
 use crate::known::KnownPlan;
-use shunt_ascent::Proposal;
 use shunt_base::{Case, Cases};
 use shunt_blocks::Block;
 use shunt_blocks::laws::{ids_do_not_matter, places};
@@ -25,6 +24,7 @@ use shunt_choices::Path;
 use shunt_dual::{assign, cases_bound, cases_hold, raise_prices, shares};
 use shunt_instance::Instance;
 use shunt_prices::laws::{bounds, bounds_rise, longer_paths, weak_duality};
+use shunt_proposals::Proposer;
 use std::alloc::{AllocError, Global};
 
 /// Cases for the root of a tree, and the floor that the bounds of its children have to keep.
@@ -167,11 +167,11 @@ pub(crate) fn unparked_in(blocks: &[Block]) -> u8 {
 
 /// Cases for the root of a tree, with their bound as the floor: those that are proposed, parted near the number of unparked blocks of a good
 /// plan, where they bound no less than the duals of the assignment; or others where these bound less. It needs that there is a matching. Err is want of memory.
-pub(crate) fn root_cases(
+pub(crate) fn root_cases<P: Proposer>(
     alloc: Global,
     instance: &Instance,
     path: &Path,
-    proposal: &Proposal,
+    proposal: &P,
     plan: &KnownPlan,
 ) -> Result<Root, AllocError>
     requires path { IsTrailOf instance.now path.now }

@@ -36,7 +36,7 @@ use shunt_instance::Instance;
 use shunt_proof::laws::starts;
 use shunt_proof::version_laws::bounds_by_version;
 use shunt_proof::{Node, NodeDuals, NodeKind, Recorder};
-use shunt_tree::ProposedTree;
+use shunt_proposals::ProposedTree;
 use std::alloc::Global;
 
 /// How a search begins: with a root that is whole, or with a branch whose children are all still to be walked to. The first cases of the

@@ -1,7 +1,9 @@
-//! Proposals of trees of partial plans, best first, with cases of their own at nodes. What they bound is another's to judge.
+//! What proposes by ascents: cases for a path, and trees of partial plans, best first, with cases of their own at nodes. What they bound is
+//! another's to judge.
 #![tactic(auto)]
 
 mod grounds;
+mod grower;
 mod growth;
 mod levels;
 mod lifts;
@@ -9,7 +11,5 @@ mod nodes;
 mod occupancy;
 mod open_choices;
 mod proposal;
-mod tree;
 
-pub use proposal::{propose, propose_with_stacks};
-pub use tree::{Proposed, ProposedTree};
+pub use grower::Grower;

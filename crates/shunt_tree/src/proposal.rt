@@ -6,11 +6,11 @@ ghost use Rattle.shunt_prices.specs.defs.Limits.{AreApart, AreCases};
 use crate::grounds::Ground;
 use crate::growth::Tree;
 use crate::nodes::{TreeNode, cases_at};
-use crate::tree::{Proposed, ProposedTree};
 use shunt_ascent::{Proposal, Raised, Site, StackSite};
 use shunt_base::Cases;
 use shunt_choices::Path;
 use shunt_instance::Instance;
+use shunt_proposals::{Proposed, ProposedTree};
 use std::alloc::{AllocError, Global};
 
 // The first of two cases at a root, with its sum.
@@ -215,7 +215,7 @@ fn grown(
 /// A tree of partial plans from a path on, best first, of that many nodes at most: from the cases at its root, the proposal that these came
 /// from, and what the best plan that is known costs in cost units. Node 0 is the root, and the first of the stock are those cases. Nothing
 /// is said of what the tree is worth. Err is want of memory.
-pub fn propose(
+pub(crate) fn propose(
     alloc: Global,
     instance: &Instance,
     start: &Path,
@@ -242,7 +242,7 @@ pub fn propose(
 
 /// The same with stacks: the cases at the root are cases with stacks, as are those at nodes, and a node's bound is that of its block with
 /// stacks. The prices at nodes are those of the root's cases, so no proposal is asked for. Err is want of memory.
-pub fn propose_with_stacks(
+pub(crate) fn propose_with_stacks(
     alloc: Global,
     instance: &Instance,
     start: &Path,

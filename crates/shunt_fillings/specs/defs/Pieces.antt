@@ -1,5 +1,5 @@
 -- Stacks as they are seen, their candidates, and what blocks take of the events.
-use Rattle.std.specs.Prelude.{◌≡◌, ℕ, ◌≤◌, ℤ, pos, ◌<ℤ◌, Bool, if◌then◌else◌, map, filter, List, [], ◌∷◌, Some}
+use Rattle.std.specs.Prelude.{◌≡◌, ℕ, ◌≤◌, pos, ◌<ℤ◌, Bool, if◌then◌else◌, map, filter, List, [], ◌∷◌, Some}
 use Rattle.shunt_lists.specs.defs.Members.{In}
 use Rattle.shunt_base.specs.declared.duals.Case.{Case}
 use Rattle.shunt_instance.specs.declared.records.Station.{Station}

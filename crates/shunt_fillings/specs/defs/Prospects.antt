@@ -12,12 +12,14 @@ use Rattle.shunt_stacks.specs.defs.Bounds.{IsStackSum}
 use Rattle.shunt_fillings.specs.declared.prospects.Prospect.{Prospect}
 use Rattle.shunt_fillings.specs.declared.prospects.Outlook.{Outlook}
 use Rattle.shunt_fillings.specs.defs.Pieces.{AreCandidates}
+use Rattle.shunt_fillings.specs.defs.Besides.{AreBesides}
 
--- the candidates of a stack at a path in a case, and what it gains
+-- the candidates of a stack at a path in a case, what it gains, and what beside shapes that may come next
 pub record IsProspect (night : Night) (path : List Block) (c : Case) (stack : Stack) (p : Prospect) : Type 0 where
   pub candidates : AreCandidates night path c stack p.candidates.items
   pub gain : IsStackGain night path c stack p.gain
   pub small : IsWithin 319999999999680 p.gain
+  pub besides : AreBesides night path c stack p.besides.items
 
 -- the same of all stacks of the station, in the case with a number, and the sum with stacks there
 pub record IsOutlook (night : Night) (path : List Block) (cases : List Case) (k : ℕ) (p : Outlook) : Type 0 where

@@ -1,6 +1,6 @@
 use mir.Syntax.{w64}
 use Rattle.std.specs.Prelude.{All}
-use Rattle.std.proofs.Common.{◌≡◌, List, [], ◌∷◌, ◌++◌, length, sym, subst, ap, ◌∙◌}
+use Rattle.std.proofs.Common.{List, [], ◌∷◌, ◌++◌, length, sym, subst, ap, ◌∙◌}
 use Rattle.std.proofs.lemmas.Int.{to_z-of_z}
 use Rattle.shunt_blocks.specs.declared.records.Block.{Block}
 use Rattle.shunt_prices.specs.defs.Sums.{IsWithin}

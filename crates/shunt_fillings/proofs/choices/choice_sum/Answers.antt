@@ -1,17 +1,15 @@
 use mir.Syntax.{w64}
 use mir.Val.{to_z, of_z}
 use Rattle.std.specs.List.{AllZip}
-use Rattle.std.proofs.Common.{◌≡◌, ◌∙◌, List, [], ◌∷◌, ◌++◌, get_or, sym, subst, arith}
+use Rattle.std.proofs.Common.{List, get_or, sym, subst, arith}
 use Rattle.std.proofs.lemmas.Int.{ints}
 use Rattle.shunt_base.specs.declared.ids.Side.TheVariants.{A}
 use Rattle.shunt_base.specs.declared.duals.Case.{Case}
 use Rattle.shunt_blocks.specs.defs.Shapes.{shape_of}
-use Rattle.shunt_prices.specs.defs.Sums.{IsWithin}
-use Rattle.shunt_prices.specs.defs.Limits.{IsCase, case_at}
+use Rattle.shunt_prices.specs.defs.Limits.{case_at}
 use Rattle.shunt_stacks.specs.defs.Stacks.{Stack as OneStack, stacks}
-use Rattle.shunt_stacks.specs.defs.Bounds.{IsChoiceSum}
 use Rattle.shunt_fillings.specs.declared.ends.Stack.{Stack}
-use Rattle.shunt_fillings.specs.defs.Pieces.{seen, all_seen}
+use Rattle.shunt_fillings.specs.defs.Pieces.{seen}
 use Rattle.shunt_fillings.specs.defs.Prospects.{IsProspect}
 use Rattle.shunt_fillings.proofs.Listed.{seen_in, zip_seen, zip_there}
 use Rattle.shunt_fillings.proofs.Chosen.{of_none, sum_of_none, sum_of_stack}
@@ -40,8 +38,8 @@ gain_with-requires-clause-track c =
     let there = seen_in s.stacks.now c.in-Some.s no_stack (stacks s.instance.now.station) c.in-Some.ensures.there c.requires.scene.stacks in
     ((c.stacks_of_stations.ensures.open_at s.instance.now.station (seen (get_or s.stacks.now c.in-Some.s no_stack))).0 there).0
 
-pub gain_with-requires-clause-candidates : goal.gain_with-requires-clause-candidates
-gain_with-requires-clause-candidates c =
+pub gain_with-requires-clause-prospect : goal.gain_with-requires-clause-prospect
+gain_with-requires-clause-prospect c =
     let s = c.args.scene.now in
     let case : Case = case_at c.args.cases.now c.args.k in
     let R = IsProspect s.instance.now s.path.now.blocks case in
@@ -50,7 +48,10 @@ gain_with-requires-clause-candidates c =
     let stack = seen (get_or s.stacks.now c.in-Some.s no_stack) in
     let zip = subst (λ (ks : List OneStack). AllZip R ks items) (sym c.requires.scene.stacks) c.requires.outlook.each in
     let is = subst (R stack) (sym c.index-prospect.ensures) (zip_seen R s.stacks.now items c.in-Some.s no_stack prospect zip c.in-Some.ensures.there) in
-    (case, c.requires.cases.each c.args.k _ c.requires.there, is.candidates)
+    (case, c.requires.cases.each c.args.k _ c.requires.there, is)
+
+pub gain_with-requires-clause-own : goal.gain_with-requires-clause-own
+gain_with-requires-clause-own c = c.in-Some.ensures.of no_stack
 
 pub with_fall-requires-clause-before : goal.with_fall-requires-clause-before
 with_fall-requires-clause-before c =
@@ -108,7 +109,7 @@ returns-clause-exact c =
     sum_of_stack s.instance.now s.path.now.blocks b c.args.cases.now c.args.k c.get.result.now
     (got c.args.cases.now c.args.k c.get.result.now c.get.ensures) c.args.outlook.now.sum c.requires.outlook.sum c.gain-own.result
     c.gain-own.ensures.exact stack ((c.stacks_of_stations.ensures.own stack b.park).0 (c.in-Some.ensures.of no_stack)) prospect.gain c.in_ok-after.after is.gain
-    (c.in_ok-after.ensures.exact case is.candidates)
+    (c.in_ok-after.ensures.exact case is)
     (to_z w64 (of_z w64 c.with_fall.result))
     (omega (arith, ints, c.with_fall.ensures, sum.low, sum.high, own.low, own.high, first.low, first.high, later.low, later.high))
 
@@ -133,6 +134,6 @@ returns-clause-small c =
     (sum_of_stack s.instance.now s.path.now.blocks b c.args.cases.now c.args.k c.get.result.now
     (got c.args.cases.now c.args.k c.get.result.now c.get.ensures) c.args.outlook.now.sum c.requires.outlook.sum c.gain-own.result
     c.gain-own.ensures.exact stack ((c.stacks_of_stations.ensures.own stack b.park).0 (c.in-Some.ensures.of no_stack)) prospect.gain c.in_ok-after.after is.gain
-    (c.in_ok-after.ensures.exact case is.candidates)
+    (c.in_ok-after.ensures.exact case is)
     (to_z w64 (of_z w64 c.with_fall.result))
     (omega (arith, ints, c.with_fall.ensures, sum.low, sum.high, own.low, own.high, first.low, first.high, later.low, later.high)))

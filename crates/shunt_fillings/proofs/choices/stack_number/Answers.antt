@@ -1,5 +1,5 @@
 use Rattle.std.specs.Prelude.{true, false}
-use Rattle.std.proofs.Common.{◌≡◌, ◌∙◌, sym, arith}
+use Rattle.std.proofs.Common.{◌≡◌, ◌∙◌, sym}
 use Rattle.shunt_stacks.specs.defs.Stacks.{is_of}
 use Rattle.shunt_fillings.specs.declared.ends.Stack.{Stack}
 use Rattle.shunt_fillings.specs.defs.Pieces.{seen}

@@ -1,5 +1,3 @@
-use mir.Syntax.{w64}
-use mir.Val.{to_z, of_z}
 use Rattle.std.specs.Prelude.{All, map}
 use Rattle.std.specs.List.{AllZip}
 use Rattle.std.proofs.Common.{◌≡◌, ◌∙◌, ◌≤◌, ℤ, List, length, ap, sym, subst, arith}

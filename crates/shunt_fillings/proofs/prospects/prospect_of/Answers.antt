@@ -10,6 +10,7 @@ use Rattle.shunt_prices.specs.defs.Sums.{IsWithin}
 use Rattle.shunt_stacks.specs.defs.Fillings.{IsStackGain}
 use Rattle.shunt_fillings.specs.defs.Pieces.{seen}
 use Rattle.shunt_fillings.proofs.Looked.{few_tracks, offers_small, looked, candidates_at}
+use Rattle.shunt_fillings.proofs.Joined.{table_moved}
 use Rattle.shunt_fillings.proofs.prospects.prospect_of.Goals as goal
 
 pub candidates-requires-clause-offers : goal.candidates-requires-clause-offers
@@ -36,14 +37,21 @@ stack_gain-requires-clause-candidates c =
           c.blocks-path.ensures c.deref.ensures.value is,
     )
 
+pub besides-requires-clause-table : goal.besides-requires-clause-table
+besides-requires-clause-table c = (
+  c.in_ok-candidates.candidates.items,
+  table_moved c.args.scene.now (seen c.args.stack) c.blocks-path.result.now c.deref.result.now c.in_ok-candidates.candidates.items c.in_ok-found.found.table
+      c.blocks-path.ensures c.deref.ensures.value c.in_ok-found.ensures.table,
+)
+
 pub returns : goal.returns
 returns c =
     let s = c.args.scene.now in
     let night = s.instance.now in
     let stack = seen c.args.stack in
     let few = few_tracks c.station.result.now night.station c.args.stack.track.0 c.station.ensures.exact c.station.ensures.station c.requires.track in
-    let gain = c.in_ok-gain.gain in
-    let small = c.in_ok-gain.ensures.small in
+    let gain = c.in_ok-found.found.gain in
+    let small = c.in_ok-found.ensures.small in
     let own : to_z w64 (of_z w64 gain) ≡ gain = omega (arith, ints, small.low, small.high) in
     λ case is are.
     let there = looked s c.requires.scene case c.args.offers.now are stack few c.in_ok-candidates.candidates.items c.in_ok-candidates.ensures in
@@ -52,6 +60,9 @@ returns c =
     record {
       candidates = there;
       gain = subst (IsStackGain night s.path.now.blocks case stack) (sym own) (subst (λ (p : List Block). IsStackGain night p case stack gain) c.blocks-path.ensures
-          (c.in_ok-gain.ensures.exact case here));
+          (c.in_ok-found.ensures.exact case here));
       small = subst (IsWithin 319999999999680) (sym own) small;
+      besides = c.in_ok-besides.ensures case c.in_ok-candidates.candidates.items there
+          (table_moved s stack c.blocks-path.result.now c.deref.result.now c.in_ok-candidates.candidates.items c.in_ok-found.found.table c.blocks-path.ensures
+          c.deref.ensures.value c.in_ok-found.ensures.table);
     }

@@ -1,4 +1,4 @@
-use Rattle.std.proofs.Common.{◌≡◌, ◌∙◌, ◌≤◌, Err, ap, subst, sym}
+use Rattle.std.proofs.Common.{◌≡◌, ◌∙◌, Err, ap, subst, sym}
 use Rattle.shunt_store.specs.defs.Files.{Writing}
 use Rattle.shunt_rows.specs.defs.Records.{text_of_row}
 use Rattle.shunt_proof.specs.defs.CertificateRows.{head_row}

@@ -3,16 +3,16 @@ use Rattle.std.proofs.lemmas.Int.{ints}
 use Rattle.shunt_search.proofs.memory_search.find_with_stacks.Goals as goal
 
 pub returns-clause-version : goal.returns-clause-version
-returns-clause-version c = c.in_ok-walk.ensures.version ∙ c.in_ok-search.ensures.version
+returns-clause-version g c = c.in_ok-walk.ensures.version ∙ c.in_ok-search.ensures.version
 
 pub returns-clause-cheaper : goal.returns-clause-cheaper
-returns-clause-cheaper c =
+returns-clause-cheaper g c =
     let walked = c.in_ok-walk.ensures.cheaper in
     let begun = c.in_ok-search.ensures.cheaper in
     omega (arith, walked, begun)
 
 pub returns-clause-floor : goal.returns-clause-floor
-returns-clause-floor c =
+returns-clause-floor g c =
     let same = c.in_ok-walk.ensures.floor in
     let least = c.in_ok-search.ensures.floor in
     omega (arith, ints, same, least)

@@ -1,5 +1,5 @@
 use Rattle.std.specs.Prelude.{Option, Some}
-use Rattle.std.proofs.Common.{◌≡◌, ◌≤◌, ℕ, List, length, sym, subst, ap, ◌∙◌, ⊎_elim, arith}
+use Rattle.std.proofs.Common.{◌≡◌, ℕ, List, length, sym, subst, ap, ◌∙◌, arith}
 use Rattle.shunt_proof.specs.declared.records.Node.{Node}
 use Rattle.shunt_search.specs.defs.Judges.{version_of}
 use Rattle.shunt_search.specs.defs.SearchStates.{IsSearch}

@@ -9,10 +9,10 @@ use Rattle.shunt_search.specs.defs.Roots.{IsAbove, IsFloor}
 use Rattle.shunt_search.proofs.preparation.ready.Goals as goal
 
 pub take_proposed-requires-clause-even : goal.take_proposed-requires-clause-even
-take_proposed-requires-clause-even c = c.requires.even
+take_proposed-requires-clause-even g c = c.requires.even
 
 pub returns-clause-fresh : goal.returns-clause-fresh
-returns-clause-fresh c =
+returns-clause-fresh g c =
     let night = c.args.instance.now in
     let path = c.args.yard.path in
     let root = c.requires.root in
@@ -46,4 +46,4 @@ returns-clause-fresh c =
     }
 
 pub returns-clause-floor : goal.returns-clause-floor
-returns-clause-floor c = to_z-of_z w64 c.floor-floor.result (record { sfits = c.floor-floor.type_inv }) ∙ c.floor-floor.ensures
+returns-clause-floor g c = to_z-of_z w64 c.floor-floor.result (record { sfits = c.floor-floor.type_inv }) ∙ c.floor-floor.ensures

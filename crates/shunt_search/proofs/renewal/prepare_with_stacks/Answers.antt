@@ -6,20 +6,20 @@ use Rattle.shunt_search.specs.defs.SearchStates.{IsFresh}
 use Rattle.shunt_search.proofs.renewal.prepare_with_stacks.Goals as goal
 
 pub better_root-requires-clause-known : goal.better_root-requires-clause-known
-better_root-requires-clause-known c = c.requires.root c.in_ok-yard.yard.path.blocks c.in_ok-yard.ensures.start
+better_root-requires-clause-known g c = c.requires.root c.in_ok-yard.yard.path.blocks c.in_ok-yard.ensures.start
 
 pub returns-clause-fresh : goal.returns-clause-fresh
-returns-clause-fresh c = subst (λ (j : Judge). IsFresh (version_of j) c.args.instance.now c.args.pins.now c.in_ok-found.found.1.tree.stock.items c.in_ok-found.found.0)
+returns-clause-fresh g c = subst (λ (j : Judge). IsFresh (version_of j) c.args.instance.now c.args.pins.now c.in_ok-found.found.1.tree.stock.items c.in_ok-found.found.0)
     (sym c.in_ok-found.ensures.judge) c.in_ok-found.ensures.fresh
 
 pub returns-clause-version : goal.returns-clause-version
-returns-clause-version c = ap (λ (j : Judge). version_of j) c.in_ok-found.ensures.judge
+returns-clause-version g c = ap (λ (j : Judge). version_of j) c.in_ok-found.ensures.judge
 
 pub returns-clause-judge : goal.returns-clause-judge
-returns-clause-judge c = subst (λ (j : Judge). IsJudge c.args.instance.now j) (sym c.in_ok-found.ensures.judge) c.in_ok-ends.ensures
+returns-clause-judge g c = subst (λ (j : Judge). IsJudge c.args.instance.now j) (sym c.in_ok-found.ensures.judge) c.in_ok-ends.ensures
 
 pub returns-clause-floor : goal.returns-clause-floor
-returns-clause-floor c =
+returns-clause-floor g c =
     let least = c.in_ok-better.ensures.floor in
     let same = c.in_ok-found.ensures.floor in
     omega (arith, ints, least, same)

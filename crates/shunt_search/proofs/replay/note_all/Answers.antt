@@ -1,4 +1,4 @@
-use Rattle.std.proofs.Common.{◌≡◌, ◌+◌, ◌∙◌, ap, arith}
+use Rattle.std.proofs.Common.{◌∙◌, arith}
 use Rattle.std.proofs.lemmas.Grind.{common_steps}
 use Rattle.shunt_search.proofs.Kept.{its_fit, its_place, its_cases, its_room, told_next, told_first, told_here, told_all, cases_all}
 use Rattle.shunt_search.proofs.replay.note_all.Goals as goal

@@ -1,4 +1,4 @@
-use Rattle.std.specs.Prelude.{IfNone, Option, Some, None, pos, ◌≤ℤ◌}
+use Rattle.std.specs.Prelude.{pos, ◌≤ℤ◌}
 use Rattle.std.proofs.Common.{ℤ, ◌∙◌, sym, subst, w64, rules, SFits}
 use Rattle.std.proofs.lemmas.Int.{to_z-of_z}
 use Rattle.std.proofs.lemmas.Option.{IfSome_then}

@@ -1,11 +1,9 @@
-use Rattle.std.specs.Prelude.{Some}
-use Rattle.std.proofs.Common.{◌≡◌, ◌≤◌, length, sym, subst, ap, ◌∙◌, arith, pos, ℕ, List}
+use Rattle.std.proofs.Common.{◌≡◌, length, sym, subst, ap, ◌∙◌, arith, pos, ℕ, List}
 use Rattle.std.proofs.lemmas.Result.{IfOk-weaker}
 use Rattle.shunt_proof.specs.declared.records.Node.{Node}
 use Rattle.shunt_proof.specs.defs.Nodes.{AreNodes}
 use Rattle.shunt_proof.specs.defs.Certificates.{IsCertificate, case_total}
 use Rattle.shunt_search.specs.defs.Conditions.{MeetConditions}
-use Rattle.shunt_search.specs.defs.SearchStates.{IsSearch}
 use Rattle.shunt_search.specs.defs.Endings.{IsLeft, IsDone, certificate_in}
 use Rattle.shunt_search.proofs.ToldNodes.{tells_both, told_to_end}
 use Rattle.shunt_search.proofs.Kept.{formed_nodes, in_list}

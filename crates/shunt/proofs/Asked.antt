@@ -1,5 +1,5 @@
 -- From the values of input files that were read one after the other to the defined answer of a command.
-use Rattle.std.proofs.Common.{◌≡◌, ℕ, List, [], ◌∷◌, Option, Result, Ok, subst, sym}
+use Rattle.std.proofs.Common.{◌≡◌, ◌<◌, ℕ, List, [], ◌∷◌, Option, Result, Ok, subst, sym}
 use Rattle.shunt_store.specs.defs.Files.{Files, content}
 use Rattle.shunt_instance.specs.defs.Instance.{Night}
 use Rattle.shunt_instance.specs.declared.records.Station.{Station}
@@ -13,8 +13,9 @@ use Rattle.shunt_drivers.specs.declared.records.Duty.{Duty}
 use Rattle.shunt_sheet.specs.declared.records.Order.{Order}
 use Rattle.shunt_inputs.specs.declared.answers.Answer.{Answer}
 use Rattle.shunt_inputs.specs.declared.file_loader.Halt.{Halt}
+use Rattle.shunt_inputs.specs.declared.nights.WholeNight.{WholeNight}
 use Rattle.shunt_inputs.specs.declared.pins.Pinned.{Pinned}
-use Rattle.shunt_inputs.specs.defs.Inputs.{pinned_in, plans_in, stated_certificate, stated_crew, stated_edits, stated_other, stated_plan, stated_roster, stated_sheet, stated_station, stated_timetable, stated_zones, then_stated}
+use Rattle.shunt_inputs.specs.defs.Inputs.{pinned_in, plans_in, stated_certificate, stated_crew, stated_edits, stated_other, stated_plan, stated_roster, stated_sheet, stated_station, stated_timetable, stated_whole, stated_zones, then_stated}
 use Rattle.shunt_inputs.specs.defs.Names.{AreNames}
 use Rattle.shunt_inputs.specs.defs.Replies.{Reply, Decided}
 use Rattle.shunt_inputs.specs.defs.Writes.{Known, LeavesOne}
@@ -29,8 +30,9 @@ use Rattle.shunt_throat.specs.defs.Rostered.{Rosterable, stated_rostering, IsRos
 use Rattle.shunt_throat.specs.defs.Shared.{Sharable, stated_sharing, IsShared}
 use Rattle.shunt_dispatch.specs.defs.Compared.{Comparable, stated_comparison, IsCompared}
 use Rattle.shunt_dispatch.specs.defs.Followed.{Followable, IsFollowed}
+use Rattle.shunt_dispatch.specs.defs.Resumed.{Resumable, stated_resumption, IsResumed}
 use Rattle.shunt_exchange.specs.defs.Upgraded.{Upgradable, IsUpgraded}
-use Rattle.shunt.specs.defs.Calls.{Call, Follow, Check, Compare, Zones, Upgrade, Drivers, Roster, CheckPinned, Replay}
+use Rattle.shunt.specs.defs.Calls.{Call, Follow, Check, Compare, Zones, Upgrade, Drivers, Roster, CheckPinned, Replay, Resume}
 use Rattle.shunt.specs.defs.Words.{IsUsable, inputs_of, outputs_of}
 use Rattle.shunt.specs.defs.Replies.{IsReply, IsReplyOver}
 
@@ -114,6 +116,25 @@ pub pin_checked_over : (files : Files) (s t i p k : List ℕ) (r : Reply)
 unfolding stated_pin_check
 pin_checked_over files s t i p k r h = decided_last (pinned_in s t i files) (λ x. stated_plan x.instance (content files p))
     (λ x plan. stated_certificate x.instance (content files k)) pin_checkable IsPinChecked r h
+
+abbrev resumable : WholeNight → Plan → Resumable
+resumable x plan = record { timetable = x.timetable; night = x.instance; plan = plan }
+
+resumed_at : (files : Files) (s t p : List ℕ) (m : ℕ) (n i : List ℕ) (r : Reply)
+    → Beside (stated_whole (content files s) (content files t)) (λ x. stated_plan x.instance (content files p))
+    (λ (v : WholeNight × Plan). IsResumed m n i (resumable v.0 v.1)) r → IsReply (Resume s t p m n i) files r
+unfolding stated_resumption
+resumed_at files s t p m n i r h = decided_over (stated_whole (content files s) (content files t)) (λ x. stated_plan x.instance (content files p)) resumable (IsResumed m n i) r h
+
+-- the same by a number of that minute
+pub resumed_over : (files : Files) (s t p : List ℕ) (k m : ℕ) (n i : List ℕ) → k ≡ m → (r : Reply)
+    → Beside (stated_whole (content files s) (content files t)) (λ x. stated_plan x.instance (content files p))
+    (λ (v : WholeNight × Plan). IsResumed k n i (resumable v.0 v.1)) r → IsReply (Resume s t p m n i) files r
+resumed_over files s t p k m n i same r h = subst (λ (x : ℕ). IsReply (Resume s t p x n i) files r) same (resumed_at files s t p k n i r h)
+
+-- the minute is one of two days
+pub resumed_minute : (c : Call) (s t p : List ℕ) (m : ℕ) (n i : List ℕ) → c ≡ Resume s t p m n i → IsUsable c → m < 2880
+resumed_minute c s t p m n i is u = (subst IsUsable is u).1.0
 
 abbrev pub followable : Station → List Order → Followable
 followable station orders = record { station = station; orders = orders }

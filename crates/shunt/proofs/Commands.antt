@@ -1,12 +1,14 @@
 -- From what the files of a command hold to its defined answer.
 use Rattle.std.proofs.Common.{arith, ◌≡◌, ℕ, List, [], ◌∷◌, get_or, Option, Some, sym, subst, ap, ◌∙◌, refl, Result}
-use Rattle.std.specs.Prelude.{None, if◌then◌else◌, bytes_eq, codes}
+use Rattle.std.specs.Prelude.{None, unwrap_or, if◌then◌else◌, bytes_eq, codes}
 use Rattle.std.specs.FinMap as finmap
 use Rattle.std.specs.Fmt.{decimal}
 use Rattle.std.specs.Str.Parse.{digits_value}
+use Rattle.shunt_base.specs.defs.Spelling.{minute_of}
 use Rattle.shunt_base.proofs.Decimal.{value_again}
+use Rattle.shunt_base.proofs.Minutes.{read_again}
 use Rattle.shunt_store.specs.defs.Files.{Files}
-use Rattle.shunt.specs.defs.Calls.{Call, Match, Follow, Audit, Delay, Report, Check, Compare, Zones, Sheet, Draw, Page, Upgrade, Trial, Drivers, Roster, CheckPinned, Replay, MakePlan, MakePinned, Improve}
+use Rattle.shunt.specs.defs.Calls.{Call, Match, Follow, Audit, Delay, Report, Check, Compare, Zones, Sheet, Draw, Page, Upgrade, Trial, Drivers, Roster, CheckPinned, Replay, Resume, MakePlan, MakePinned, Improve}
 use Rattle.shunt.specs.defs.Words.{IsUsable, words_of}
 use Rattle.shunt_throat.specs.defs.Shared.{stated_sharing, IsShared}
 use Rattle.shunt_inputs.specs.defs.Inputs.{Agrees, stated_night, stated_plans, Holding}
@@ -64,7 +66,10 @@ asked (w ∷ s ∷ t ∷ p ∷ e ∷ n ∷ []) =
     else if bytes_eq w (codes "replay") then Some (Replay s t p e n)
     else if bytes_eq w (codes "plan") then Some (MakePlan s t (digits_value 10 p) e n)
     else None
-asked (w ∷ s ∷ t ∷ i ∷ m ∷ p ∷ k ∷ []) = if bytes_eq w (codes "pinned") then Some (MakePinned s t i (digits_value 10 m) p k) else None
+asked (w ∷ s ∷ t ∷ i ∷ m ∷ p ∷ k ∷ []) =
+    if bytes_eq w (codes "pinned") then Some (MakePinned s t i (digits_value 10 m) p k)
+    else if bytes_eq w (codes "resume") then Some (Resume s t i (unwrap_or (minute_of m) 0) p k)
+    else None
 asked (w ∷ n ∷ u ∷ m ∷ s ∷ t ∷ p ∷ k ∷ []) =
     if bytes_eq w (codes "trial") then Some (Trial (digits_value 10 n) (digits_value 10 u) (digits_value 10 m) s t p k)
     else if bytes_eq w (codes "improve") then Some (Improve n u m s (digits_value 10 t) p k)
@@ -97,6 +102,7 @@ asked_is (Drivers s t p c d) u = refl
 asked_is (Roster s t p c d) u = refl
 asked_is (CheckPinned s t i p k) u = refl
 asked_is (Replay s t p e n) u = refl
+asked_is (Resume s t p m n i) u = ap (λ (x : Option ℕ). Some (Resume s t p (unwrap_or x 0) n i)) (read_again m u.1.0)
 asked_is (MakePlan s t m p k) u = ap (λ (x : ℕ). Some (MakePlan s t x p k)) (value_again m (let few = u.1.1 in omega (arith, few)))
 asked_is (MakePinned s t i m p k) u = ap (λ (x : ℕ). Some (MakePinned s t i x p k)) (value_again m (let few = u.1.1 in omega (arith, few)))
 asked_is (Improve s t i h m p k) u = ap (λ (x : ℕ). Some (Improve s t i h x p k)) (value_again m (let few = u.1.1 in omega (arith, few)))

@@ -11,7 +11,6 @@ use Rattle.shunt_store.proofs.Texts.{both_map, both_same}
 use Rattle.shunt_store.proofs.TableLaws.{same_elsewhere}
 use Rattle.shunt_audit.specs.declared.types.Finding.{Finding}
 use Rattle.shunt_instance.specs.defs.Instance.{Night}
-use Rattle.shunt_blocks.specs.declared.records.Block.{Block}
 use Rattle.shunt_blocks.specs.defs.Lists.{units_taken, positions_taken}
 use Rattle.shunt_checker.specs.declared.verdict.Verdict.{Verdict}
 use Rattle.shunt_checker.specs.declared.verdict.Verdict.TheVariants as verdict
@@ -23,7 +22,7 @@ use Rattle.shunt_inputs.specs.declared.answers.Outcome.{Outcome}
 use Rattle.shunt_inputs.specs.declared.answers.Outcome.TheVariants as outcome
 use Rattle.shunt.specs.declared.status.Status.{Status}
 use Rattle.shunt.specs.declared.status.Status.TheVariants as status
-use Rattle.shunt.specs.defs.Calls.{Call, Match, Follow, Audit, Delay, Report, Check, Compare, Zones, Sheet, Draw, Page, Upgrade, Trial, Drivers, Roster, CheckPinned, Replay, MakePlan, MakePinned, Improve}
+use Rattle.shunt.specs.defs.Calls.{Call, Match, Follow, Audit, Delay, Report, Check, Compare, Zones, Sheet, Draw, Page, Upgrade, Trial, Drivers, Roster, CheckPinned, Replay, Resume, MakePlan, MakePinned, Improve}
 use Rattle.shunt.specs.defs.Words.{outputs_of}
 use Rattle.shunt.proofs.Writes.{in_some}
 use Rattle.shunt_inputs.specs.defs.Inputs.{Agrees}
@@ -254,6 +253,8 @@ no_input (CheckPinned s t i p k) x r (inl u) o = let e : outcome.Findings ≡ ou
 no_input (CheckPinned s t i p k) x r (inr (usable, inl l)) o = let e : outcome.Findings ≡ outcome.Input = sym (lost_outcome x r l) ∙ o in cc
 no_input (CheckPinned s t i p k) x r (inr (usable, inr v)) o = no_input_told v.verdict (sym (kept_outcome x r v) ∙ o)
 no_input (Replay s t p e n) x r is o = no_input_found is.findings (sym is.outcome ∙ o)
+no_input (Resume s t p m n i) x r (inl f) o = let e : outcome.Findings ≡ outcome.Input = sym (faulty_outcome (x.night, x.plan) r f) ∙ o in cc
+no_input (Resume s t p m n i) x r (inr d) o = let e : outcome.Done ≡ outcome.Input = sym d.outcome ∙ o in cc
 no_input (MakePlan s t m p k) night r is o = no_input_searched [] [] [] m p k night r is o
 no_input (MakePinned s t i m p k) x r (inl f) o = let e : outcome.Findings ≡ outcome.Input = sym (unusable_outcome x.instance x.pins r f) ∙ o in cc
 no_input (MakePinned s t i m p k) x r (inr is) o = no_input_searched x.pins (units_taken x.instance x.pins) (positions_taken x.instance x.pins) m p k x.instance r is.1 o
@@ -317,6 +318,8 @@ own_writes (CheckPinned s t i p k) x r name text (inl u) w = subst (λ (q : Repl
 own_writes (CheckPinned s t i p k) x r name text (inr (usable, inl l)) w = subst (λ (q : Reply). In (name, text) q.writes) l.reply w
 own_writes (CheckPinned s t i p k) x r name text (inr (usable, inr v)) w = subst (λ (q : Reply). In (name, text) q.writes) v.reply w
 own_writes (Replay s t p e n) x r name text is w = one_write n _ name text (subst (λ (ws : List (List ℕ × List ℕ)). In {X = List ℕ × List ℕ} (name, text) ws) is.writes w)
+own_writes (Resume s t p m n i) x r name text (inl f) w = absurd (subst (λ (q : Reply). In (name, text) q.writes) f.reply w)
+own_writes (Resume s t p m n i) x r name text (inr d) w = in_both n i _ _ name text (subst (λ (ws : List (List ℕ × List ℕ)). In {X = List ℕ × List ℕ} (name, text) ws) d.writes w)
 own_writes (MakePlan s t m p k) night r name text is w = search_writes [] [] [] m p k night r name text is w
 own_writes (MakePinned s t i m p k) x r name text (inl f) w = absurd (subst (λ (q : Reply). In (name, text) q.writes) f.reply w)
 own_writes (MakePinned s t i m p k) x r name text (inr is) w = search_writes x.pins (units_taken x.instance x.pins)

@@ -27,3 +27,4 @@ mod Trials
 mod Eight
 mod PinChecks
 mod OwnPinned
+mod Resumed

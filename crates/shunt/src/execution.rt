@@ -22,10 +22,11 @@ use std::alloc::Global;
 /// `audit STATION TIMETABLE PLAN`, `delay STATION TIMETABLE PLAN`, `report STATION TIMETABLE PLAN`, `check STATION TIMETABLE PLAN CERT`,
 /// `check-pinned STATION TIMETABLE PINS PLAN CERT`, `zones STATION TIMETABLE PLAN ZONES`, `sheet STATION TIMETABLE PLAN SHEET`,
 /// `draw STATION TIMETABLE PLAN PICTURE`, `page STATION TIMETABLE PLAN PAGE`, `drivers STATION TIMETABLE PLAN CREW ROSTER`,
-/// `roster STATION TIMETABLE PLAN CREW ROSTER`, `replay STATION TIMETABLE PLAN EDITS NEWPLAN`, `plan STATION TIMETABLE NODES PLAN CERT`,
+/// `roster STATION TIMETABLE PLAN CREW ROSTER`, `replay STATION TIMETABLE PLAN EDITS NEWPLAN`,
+/// `resume STATION TIMETABLE PLAN MINUTE NEWTIMETABLE NEWPINS`, `plan STATION TIMETABLE NODES PLAN CERT`,
 /// `pinned STATION TIMETABLE PINS NODES PLAN CERT`, `improve STATION TIMETABLE PINS PLAN NODES NEWPLAN CERT`,
 /// `upgrade STATION TIMETABLE NEWSTATION NEWTIMETABLE` or `trial NUMBER UNITS NODES STATION TIMETABLE PLAN CERT`, where the files have names
-/// that differ and aren't empty, NODES is a number from 1 to 5,000, NUMBER one up to 2,147,483,647 and UNITS one up to 160, or the answer is
+/// that differ and aren't empty, MINUTE is spelled as in files, NODES is a number from 1 to 5,000, NUMBER one up to 2,147,483,647 and UNITS one up to 160, or the answer is
 /// `Words` and nothing is read, written or printed.
 /// The certificate of `plan`, `pinned` and `improve` is written while it is found, and stored before the other file. A file is replaced
 /// whole or not at all: after `Store` and `Memory` the first of the files of the answer hold their texts, and the others what they held.

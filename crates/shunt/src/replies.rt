@@ -1,5 +1,5 @@
 // From the command to its answer.
-ghost use Rattle.std.specs.Prelude.{◌≡◌, Option};
+ghost use Rattle.std.specs.Prelude.{◌≡◌, ◌<◌, Option};
 ghost use Rattle.shunt_store.specs.defs.Files.{Closed, Files};
 ghost use Rattle.shunt_store.specs.defs.Causes.{HasCause};
 ghost use Rattle.shunt_inputs.specs.defs.Writes.{LeavesOne, known};
@@ -9,7 +9,10 @@ ghost use Rattle.shunt.specs.defs.Words.{inputs_of, IsUsable};
 ghost use Rattle.shunt.specs.defs.Replies.{IsReplyOver};
 
 use crate::words::Command;
-use shunt_dispatch::{CompareCommand, DelayCommand, FollowCommand, SheetCommand};
+use shunt_base::Minute;
+use shunt_dispatch::{
+    CompareCommand, DelayCommand, FollowCommand, RestFiles, ResumeCommand, SheetCommand,
+};
 use shunt_drawing::{DrawCommand, PageCommand};
 use shunt_exchange::{ReportCommand, TrainFiles, UpgradeCommand};
 use shunt_inputs::{
@@ -22,6 +25,17 @@ use shunt_store::Store;
 use shunt_throat::{DriversCommand, RosterCommand, ZonesCommand};
 use shunt_trial::reply_to_trial;
 use std::alloc::Global;
+
+// The minute with a number.
+fn minute_of(number: u16) -> Minute
+    requires { number < 2880 }
+    ensures { result ≡ number }
+{
+    match Minute::new(number) {
+        Some(minute) => minute,
+        None => unreachable!(),
+    }
+}
 
 /// What is to be delivered of the answer of a command, after its input files were read and judged: all of it, but that a certificate is
 /// stored before. If there is no answer, no file is changed.
@@ -138,6 +152,15 @@ pub fn answer_to<S: Store>(
                 store,
                 &Then(inputs, EditsFile(edits)),
                 &ReplayCommand(new_plan),
+            )
+        }
+        Command::Resume(station, timetable, plan, minute, new_timetable, new_pins) => {
+            let inputs = RestFiles(station, timetable, plan);
+            reply(
+                alloc,
+                store,
+                &inputs,
+                &ResumeCommand(minute_of(minute), new_timetable, new_pins),
             )
         }
         Command::MakePlan(station, timetable, nodes, plan, certificate) => {

@@ -6,9 +6,9 @@ ghost use Rattle.shunt_inputs.specs.defs.Names.{AreNames};
 ghost use Rattle.shunt.specs.defs.Calls.{Call, texts, call_of};
 ghost use Rattle.shunt.specs.defs.Words.{Spells};
 
-use shunt_base::parse_decimal;
+use shunt_base::{parse_decimal, parse_minute};
 
-/// What is asked for, by the names of the files, and how many nodes a search may note.
+/// What is asked for, by the names of the files, how many nodes a search may note, and from which minute on a night is resumed.
 #[derive(Clone, Copy, Drop)]
 pub enum Command<'w> {
     /// `match STATION TIMETABLE`
@@ -45,6 +45,8 @@ pub enum Command<'w> {
     CheckPinned(&'w str, &'w str, &'w str, &'w str, &'w str),
     /// `replay STATION TIMETABLE PLAN EDITS NEWPLAN`
     Replay(&'w str, &'w str, &'w str, &'w str, &'w str),
+    /// `resume STATION TIMETABLE PLAN MINUTE NEWTIMETABLE NEWPINS`, with the number of the minute
+    Resume(&'w str, &'w str, &'w str, u16, &'w str, &'w str),
     /// `plan STATION TIMETABLE NODES PLAN CERT`
     MakePlan(&'w str, &'w str, u32, &'w str, &'w str),
     /// `pinned STATION TIMETABLE PINS NODES PLAN CERT`
@@ -243,28 +245,17 @@ fn of_four_files<'w>(
 {
     let (first, second) = (first.as_str(), second.as_str());
     let (third, fourth) = (third.as_str(), fourth.as_str());
+    if !are_four_names(first, second, third, fourth) {
+        return None;
+    }
     match word.as_str() {
-        "check" if are_four_names(first, second, third, fourth) => {
-            Some(Command::Check(first, second, third, fourth))
-        }
-        "compare" if are_four_names(first, second, third, fourth) => {
-            Some(Command::Compare(first, second, third, fourth))
-        }
-        "zones" if are_four_names(first, second, third, fourth) => {
-            Some(Command::Zones(first, second, third, fourth))
-        }
-        "sheet" if are_four_names(first, second, third, fourth) => {
-            Some(Command::Sheet(first, second, third, fourth))
-        }
-        "draw" if are_four_names(first, second, third, fourth) => {
-            Some(Command::Draw(first, second, third, fourth))
-        }
-        "page" if are_four_names(first, second, third, fourth) => {
-            Some(Command::Page(first, second, third, fourth))
-        }
-        "upgrade" if are_four_names(first, second, third, fourth) => {
-            Some(Command::Upgrade(first, second, third, fourth))
-        }
+        "check" => Some(Command::Check(first, second, third, fourth)),
+        "compare" => Some(Command::Compare(first, second, third, fourth)),
+        "zones" => Some(Command::Zones(first, second, third, fourth)),
+        "sheet" => Some(Command::Sheet(first, second, third, fourth)),
+        "draw" => Some(Command::Draw(first, second, third, fourth)),
+        "page" => Some(Command::Page(first, second, third, fourth)),
+        "upgrade" => Some(Command::Upgrade(first, second, third, fourth)),
         _ => None,
     }
 }
@@ -361,7 +352,30 @@ fn of_six_words<'w>(
     let (fourth, fifth, sixth) = (fourth.as_str(), fifth.as_str(), sixth.as_str());
     match word.as_str() {
         "pinned" => of_pinned_search(first, second, third, fourth, fifth, sixth),
+        "resume" => of_resumption(first, second, third, fourth, fifth, sixth),
         _ => None,
+    }
+}
+
+// The rest of a night that the names of five files and a minute ask for.
+fn of_resumption<'w>(
+    first: &'w str,
+    second: &'w str,
+    third: &'w str,
+    minute: &'w str,
+    fourth: &'w str,
+    fifth: &'w str,
+) -> Option<Command<'w>>
+    ensures some { IfSome result (λ c. Spells (codes "resume" ∷ first.now ∷ second.now ∷ third.now
+        ∷ minute.now ∷ fourth.now ∷ fifth.now ∷ []) (call_of c)) }
+    ensures only { (c : Call) → Spells (codes "resume" ∷ first.now ∷ second.now ∷ third.now
+        ∷ minute.now ∷ fourth.now ∷ fifth.now ∷ []) c → IsSome result }
+{
+    let minute = parse_minute(minute.as_bytes())?;
+    if are_five_names(first, second, third, fourth, fifth) {
+        Some(Command::Resume(first, second, third, minute.number(), fourth, fifth))
+    } else {
+        None
     }
 }
 

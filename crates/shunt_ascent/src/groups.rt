@@ -6,7 +6,7 @@ use crate::numbers::{NOTHING, Number, in_thousandths};
 use crate::slots::{Slot, room_of};
 use indexmap::IndexSet;
 use shunt_base::DepId;
-use shunt_blocks::{Block, Park, Shape, block_cost, block_length, in_range, unit_from};
+use shunt_blocks::{Block, Park, Shape, block_cost, block_length, has_placed, in_range, unit_from};
 use shunt_choices::options;
 use shunt_instance::{Instance, Origin};
 use std::alloc::{AllocError, Global};
@@ -15,14 +15,15 @@ use std::num::Wrapping;
 /// Stands for a way that isn't there.
 pub(crate) const NO_WAY: Number = Wrapping(1 << 56);
 
-/// What shapes of one kind have in common: where they come from and go to, their length, and the types of their units, a bit for each, where
-/// any track asks for them.
+/// What shapes of one kind have in common: where they come from and go to, their length, the types of their units, a bit for each, where
+/// any track asks for them, and, where one of their units has come already, which units they are.
 #[derive(Clone, Copy, PartialEq, Eq, Hash, Drop)]
 struct Likeness {
     from: u16,
     to: u16,
     long: u32,
     types: u64,
+    come: usize,
 }
 
 /// Shapes of a length in dm that have the same ways for each track: the first one, and the least ways.
@@ -142,6 +143,16 @@ fn number_of(origin: Origin) -> u16 {
     }
 }
 
+// A number for the units of a shape where one of them has come already, and 0 for all others.
+fn come_of(instance: &Instance, shape: Shape) -> usize
+    requires { AreRunsWithin instance.now shape }
+{
+    if !has_placed(instance, &block_with(shape, None)) {
+        return 0;
+    }
+    16 * unit_from(instance, shape) + usize::from(shape.n)
+}
+
 fn likeness_of(instance: &Instance, shape: Shape) -> Likeness
     requires { AreRunsWithin instance.now shape }
 {
@@ -150,6 +161,7 @@ fn likeness_of(instance: &Instance, shape: Shape) -> Likeness
         to: number_of(instance.depart(shape.dep).origin),
         long: length_of(instance, shape),
         types: types_of(instance, shape),
+        come: come_of(instance, shape),
     }
 }
 

@@ -4,7 +4,6 @@ use Rattle.std.specs.Prelude.{All, IsSome, IfSome, Option, Some, None, slice_ind
 use Rattle.std.proofs.lemmas.Bool.{cases_lt, false_from_ne_true, false≢true}
 use Rattle.shunt_lists.proofs.Members.{in_place, place_of}
 use Rattle.shunt_lists.specs.defs.Members.{In}
-use Rattle.shunt_base.specs.declared.ids.ArrId.{ArrId}
 use Rattle.shunt_base.specs.declared.ids.DepId.{DepId}
 use Rattle.shunt_base.specs.declared.keys.Stay.{Stay}
 use Rattle.shunt_stays.specs.defs.Crossings.{load_after}
@@ -12,6 +11,7 @@ use Rattle.shunt_stays.proofs.Crossings.{through_clear, clear_through}
 use Rattle.shunt_instance.specs.defs.Instance.{Night, IsInstance}
 use Rattle.shunt_blocks.specs.declared.records.Block.{Block}
 use Rattle.shunt_blocks.specs.declared.records.Park.{Park}
+use Rattle.shunt_blocks.specs.declared.records.Shape.{Shape}
 use Rattle.shunt_blocks.specs.defs.Shapes.{shape_of, IsInRange}
 use Rattle.shunt_blocks.specs.defs.Ways.{park_way_in, park_way_out, option_way_in, option_way_out}
 use Rattle.shunt_blocks.specs.defs.Blocks.{IsBlock, type_fault}
@@ -30,17 +30,17 @@ once zero bare twice = absurd (bare refl)
 once (suc zero) bare twice = refl
 once (suc (suc n)) bare twice = absurd (twice (omega arith))
 
-ways_in : (night : Night) (a : ArrId) (o : Option Park) → (IsSome o × (option_way_in night a o ≡ None) → ⊥) → IfSome o (λ k. IsSome (park_way_in night a k))
-ways_in night a None h = tt
-ways_in night a (Some k) h = some_way (park_way_in night a k) (λ e. h (refl, e))
+ways_in : (night : Night) (s : Shape) (o : Option Park) → (IsSome o × (option_way_in night s o ≡ None) → ⊥) → IfSome o (λ k. IsSome (park_way_in night s k))
+ways_in night s None h = tt
+ways_in night s (Some k) h = some_way (park_way_in night s k) (λ e. h (refl, e))
 
 ways_out : (night : Night) (d : DepId) (o : Option Park) → (IsSome o × (option_way_out night d o ≡ None) → ⊥) → IfSome o (λ k. IsSome (park_way_out night d k))
 ways_out night d None h = tt
 ways_out night d (Some k) h = some_way (park_way_out night d k) (λ e. h (refl, e))
 
-in_there : (night : Night) (a : ArrId) (o : Option Park) → IfSome o (λ k. IsSome (park_way_in night a k)) → IsSome o × (option_way_in night a o ≡ None) → ⊥
-in_there night a None h lacks = false≢true lacks.0
-in_there night a (Some k) h lacks = no_none (park_way_in night a k) h lacks.1
+in_there : (night : Night) (s : Shape) (o : Option Park) → IfSome o (λ k. IsSome (park_way_in night s k)) → IsSome o × (option_way_in night s o ≡ None) → ⊥
+in_there night s None h lacks = false≢true lacks.0
+in_there night s (Some k) h lacks = no_none (park_way_in night s k) h lacks.1
 
 out_there : (night : Night) (d : DepId) (o : Option Park) → IfSome o (λ k. IsSome (park_way_out night d k)) → IsSome o × (option_way_out night d o ≡ None) → ⊥
 out_there night d None h lacks = false≢true lacks.0
@@ -62,7 +62,7 @@ module _ (laws : BlockLaws) (night : Night) (blocks : List Block) (n : IsInstanc
     in_range = within;
     types = false_from_ne_true (type_fault night b) (λ t. none (WrongType b.id) (omega arith) (record { item = b; there = i; named = refl; holds = t }));
     in_time = false_from_ne_true (is_too_soon night (shape_of b)) (λ t. none (TooSoon b.id) (omega arith) (record { item = b; there = i; named = refl; holds = t }));
-    way_in = ways_in night b.arr b.park (λ l. none (NoRouteIn b.id) (omega arith) (record { item = b; there = i; named = refl; holds = l }));
+    way_in = ways_in night (shape_of b) b.park (λ l. none (NoRouteIn b.id) (omega arith) (record { item = b; there = i; named = refl; holds = l }));
     way_out = ways_out night b.dep b.park (λ l. none (NoRouteOut b.id) (omega arith) (record { item = b; there = i; named = refl; holds = l }));
   })
 
@@ -82,7 +82,7 @@ module _ (laws : BlockLaws) (night : Night) (blocks : List Block) (n : IsInstanc
   sound_later each through (PlaceTwice v) le x = absurd (omega arith)
   sound_later each through (WrongType id) le x = false≢true (sym (sound_at each x.item x.there).types ∙ x.holds)
   sound_later each through (TooSoon id) le x = false≢true (sym (sound_at each x.item x.there).in_time ∙ x.holds)
-  sound_later each through (NoRouteIn id) le x = in_there night x.item.arr x.item.park (sound_at each x.item x.there).way_in x.holds
+  sound_later each through (NoRouteIn id) le x = in_there night (shape_of x.item) x.item.park (sound_at each x.item x.there).way_in x.holds
   sound_later each through (NoRouteOut id) le x = out_there night x.item.dep x.item.park (sound_at each x.item x.there).way_out x.holds
   sound_later each through (Crossing i j) le x = (through_clear lengths standing (laws.stays night blocks n h) (laws.tracks night blocks h) through).0 x.item x.holds.item x.there
       x.holds.there x.holds.holds

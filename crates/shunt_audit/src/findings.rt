@@ -14,8 +14,8 @@ use shunt_blocks::{Block, laws, stays_of};
 use shunt_instance::Instance;
 use std::alloc::{AllocError, Global};
 
-/// These blocks by ascending id.
-fn by_id(alloc: Global, blocks: &[Block]) -> Result<Vec<Block>, AllocError>
+/// These blocks, of which no two have one id, by ascending id. The error is want of memory.
+pub fn by_id(alloc: Global, blocks: &[Block]) -> Result<Vec<Block>, AllocError>
     requires { AreDistinct (map (λ b. b.id) blocks.now) }
     ensures { IfOk result (λ v. v.items ≡ by_id blocks.now) }
 {

@@ -11,4 +11,4 @@ mod notes;
 pub mod types;
 
 pub use auditor::audit;
-pub use findings::findings_of;
+pub use findings::{by_id, findings_of};

@@ -24,7 +24,7 @@ pub option_test : (night : Night) (s : Shape) (o : Option Park) → IsOnTrack ni
 unfolding is_option
 option_test night s None low = (λ e. tt, λ h. refl)
 option_test night s (Some k) low = (
-  λ e. let three = all_three (is_some (park_way_in night s.arr k)) (is_some (park_way_out night s.dep k)) (permits_units night s k.track) e in
+  λ e. let three = all_three (is_some (park_way_in night s k)) (is_some (park_way_out night s.dep k)) (permits_units night s k.track) e in
       record { track = low; permitted = three.2; way_in = three.0; way_out = three.1 },
-  λ h. from_three (is_some (park_way_in night s.arr k)) (is_some (park_way_out night s.dep k)) (permits_units night s k.track) h.way_in h.way_out h.permitted,
+  λ h. from_three (is_some (park_way_in night s k)) (is_some (park_way_out night s.dep k)) (permits_units night s k.track) h.way_in h.way_out h.permitted,
 )

@@ -10,7 +10,7 @@ use Rattle.shunt_instance.specs.defs.Words.{train_at}
 use Rattle.shunt_instance.specs.defs.Instance.{Night}
 use Rattle.shunt_blocks.specs.declared.records.Shape.{Shape}
 use Rattle.shunt_blocks.specs.declared.records.Park.{Park}
-use Rattle.shunt_blocks.specs.defs.Ways.{way_from, way_to, park_way_in, park_way_out, permits_units}
+use Rattle.shunt_blocks.specs.defs.Ways.{shape_way_in, way_to, park_way_in, park_way_out, permits_units}
 use Rattle.shunt_blocks.specs.defs.Blocks.{IsParkable, IsOption}
 use Rattle.shunt_blocks.specs.defs.Costs.{shape_cost, option_cost, IsCheapest}
 use Rattle.shunt_blocks.specs.defs.Least.{lesser, least_side, least_way_in, least_way_out, both, least_on, improved, least_below}
@@ -96,7 +96,7 @@ unwrapped : (o : Option ℕ) (x : ℕ) → o ≡ Some x → unwrap_or o 0 ≡ x
 unwrapped o x e = ap (λ (p : Option ℕ). unwrap_or p 0) e
 
 abbrev from_side : Night → Shape → TrackId → Side → Option ℕ
-from_side night s track side = way_from night.station (train_at night.arrive s.arr.0).origin track side
+from_side night s track side = shape_way_in night s track side
 
 abbrev to_side : Night → Shape → TrackId → Side → Option ℕ
 to_side night s track side = way_to night.station (train_at night.depart s.dep.0).origin track side
@@ -120,7 +120,7 @@ if_there false o P h = tt
 
 on_there : (night : Night) (s : Shape) (track : TrackId) → track.0 < length night.station.tracks → IfSome (least_on night s track) (OfOption night s)
 on_there night s track lt = if_there (permits_units night s track) _ (OfOption night s) (λ passes.
-    weaker _ _ (OfOption night s) (both_there (least_way_in night s.arr track) (least_way_out night s.dep track) (AtSide (from_side night s track)) (AtSide (to_side night s track))
+    weaker _ _ (OfOption night s) (both_there (least_way_in night s track) (least_way_out night s.dep track) (AtSide (from_side night s track)) (AtSide (to_side night s track))
     (side_there (from_side night s track)) (side_there (to_side night s track)))
     (λ c sum. of_sides night s track c lt passes sum))
 
@@ -130,8 +130,8 @@ if_least false o x e h = absurd (cc)
 
 on_least : (night : Night) (s : Shape) (k : Park) → IsParkable night s k → IsSomeAnd (least_on night s k.track) (λ c. c ≤ option_cost night s (Some k))
 on_least night s k h = if_least (permits_units night s k.track) _ (option_cost night s (Some k)) h.permitted
-    (both_least _ _ (unwrap_or (park_way_in night s.arr k) 0) (unwrap_or (park_way_out night s.dep k) 0)
-    (side_least (from_side night s k.track) k.side_in _ (is_unwrapped (park_way_in night s.arr k) h.way_in))
+    (both_least _ _ (unwrap_or (park_way_in night s k) 0) (unwrap_or (park_way_out night s.dep k) 0)
+    (side_least (from_side night s k.track) k.side_in _ (is_unwrapped (park_way_in night s k) h.way_in))
     (side_least (to_side night s k.track) k.side_out _ (is_unwrapped (park_way_out night s.dep k) h.way_out)))
 
 -- ---- all tracks

@@ -49,7 +49,7 @@ unforbidden : (night : Night) (s : Shape) (o : Option Park) → IsOption night s
 unforbidden night s None h = refl
 unforbidden night s (Some k) h = not_from_true _ h.permitted
 
-has_way_in : (night : Night) (s : Shape) (o : Option Park) → IsOption night s o → IfSome o (λ k. IsSome (park_way_in night s.arr k))
+has_way_in : (night : Night) (s : Shape) (o : Option Park) → IsOption night s o → IfSome o (λ k. IsSome (park_way_in night s k))
 has_way_in night s None h = tt
 has_way_in night s (Some k) h = h.way_in
 
@@ -57,7 +57,7 @@ has_way_out : (night : Night) (s : Shape) (o : Option Park) → IsOption night s
 has_way_out night s None h = tt
 has_way_out night s (Some k) h = h.way_out
 
-option_made : (night : Night) (s : Shape) (o : Option Park) → IsOnTrack night.station o → is_forbidden night s o ≡ false → IfSome o (λ k. IsSome (park_way_in night s.arr k))
+option_made : (night : Night) (s : Shape) (o : Option Park) → IsOnTrack night.station o → is_forbidden night s o ≡ false → IfSome o (λ k. IsSome (park_way_in night s k))
     → IfSome o (λ k. IsSome (park_way_out night s.dep k)) → IsOption night s o
 option_made night s None t f i u = tt
 option_made night s (Some k) t f i u = record { track = t; permitted = not-false _ f; way_in = i; way_out = u }

@@ -1,5 +1,5 @@
--- Without standing trains and permits, blocks and their costs are those of version 1.
-use Rattle.std.specs.Prelude.{◌↔◌, All, ◌==◌, ◌&&◌, ◌||◌, not, unwrap_or, IsSome, Option, Some, None}
+-- Without standing trains, placed units and permits, blocks and their costs are those of version 1.
+use Rattle.std.specs.Prelude.{◌↔◌, All, ◌==◌, ◌&&◌, ◌||◌, not, unwrap_or, IsSome, Option, Some, None, if◌then◌else◌}
 use Rattle.std.specs.List.{list_any}
 use Rattle.std.proofs.Common.{◌≡◌, ℕ, ◌+◌, ◌<◌, true, false, List, [], ◌∷◌, length, get_or, refl, sym, ap, subst, ◌∙◌, arith, Bool, IsTrue, zero, suc}
 use Rattle.std.proofs.lemmas.Bool.{true≢false}
@@ -15,6 +15,7 @@ use Rattle.shunt_base.specs.declared.ids.Side.{Side}
 use Rattle.shunt_instance.specs.declared.records.Station.{Station}
 use Rattle.shunt_instance.specs.declared.records.Origin.{Origin}
 use Rattle.shunt_instance.specs.declared.records.Origin.TheVariants as origin
+use Rattle.shunt_instance.specs.declared.records.PlacedRun.{PlacedRun}
 use Rattle.shunt_instance.specs.declared.records.Train.{Train}
 use Rattle.shunt_instance.specs.declared.records.Permit.{Permit}
 use Rattle.shunt_instance.specs.declared.records.Unit.{Unit as TrainUnit}
@@ -25,7 +26,7 @@ use Rattle.shunt_blocks.specs.declared.records.Shape.{Shape}
 use Rattle.shunt_blocks.specs.declared.records.Block.{Block}
 use Rattle.shunt_blocks.specs.declared.records.Park.{Park}
 use Rattle.shunt_blocks.specs.defs.Shapes.{shape_of, AreRunsWithin, IsWithinTrains, IsShape, unit_from, position_from}
-use Rattle.shunt_blocks.specs.defs.Ways.{option_way_in, option_way_out, way_in, way_out, way_from, way_to, park_way_in, park_way_out}
+use Rattle.shunt_blocks.specs.defs.Ways.{may_come, train_way_in, option_way_in, option_way_out, way_in, way_out, way_from, way_to, park_way_in, park_way_out}
 use Rattle.shunt_blocks.specs.defs.Blocks.{IsOption, IsBlock, have_one_type, is_forbidden, type_fault}
 use Rattle.shunt_blocks.specs.defs.Costs.{option_cost, block_cost}
 use Rattle.shunt_blocks.specs.defs.Lists.{IsFeasible, total_cost}
@@ -86,8 +87,11 @@ way_out_is : (s : Station) (o : Origin) (track : TrackId) (side : Side) → way_
 way_out_is s (origin.Platform p) track side = refl
 way_out_is s (origin.Track own) track side = refl
 
-ways_in : (night : Night) (b : Block) (k : Park) → IsPlain night → b.arr.0 < length night.arrive → park_way_in night b.arr k ≡ route_in night b k
-ways_in night b k plain lt = way_in_is night.station (train_at night.arrive b.arr.0) k.track k.side_in (plain.arrive b.arr.0 _ lt)
+ways_in : (night : Night) (b : Block) (k : Park) → IsPlain night → b.arr.0 < length night.arrive → park_way_in night (shape_of b) k ≡ route_in night b k
+ways_in night b k plain lt =
+    let s = shape_of b in
+    ap (λ (runs : List PlacedRun). if may_come runs s k.track k.side_in then train_way_in night s.arr k.track k.side_in else None) (plain.to_come b.arr.0 _ lt)
+    ∙ way_in_is night.station (train_at night.arrive b.arr.0) k.track k.side_in (plain.arrive b.arr.0 _ lt)
 
 ways_out : (night : Night) (b : Block) (k : Park) → park_way_out night b.dep k ≡ route_out night b k
 ways_out night b k = way_out_is night.station (train_at night.depart b.dep.0).origin k.track k.side_out
@@ -211,7 +215,7 @@ one_park k l e = cc
 pub lacks_in : (night : Night) (b : Block) → IsPlain night → b.arr.0 < length night.arrive → (IsSome b.park × (way_in night b ≡ None)) ↔ LacksRouteIn night b
 lacks_in night b plain lt = at b.park refl
   where
-    at : (o : Option Park) → b.park ≡ o → (IsSome o × (option_way_in night b.arr o ≡ None)) ↔ LacksRouteIn night b
+    at : (o : Option Park) → b.park ≡ o → (IsSome o × (option_way_in night (shape_of b) o ≡ None)) ↔ LacksRouteIn night b
     at None e = (λ h. absurd (true≢false (sym h.0)), λ h. absurd (none-some h.park (sym e ∙ h.parked)))
     at (Some k) e = (
       λ h. record { park = k; parked = e; absent = sym (ways_in night b k plain lt) ∙ h.1 },

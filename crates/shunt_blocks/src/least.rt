@@ -7,8 +7,8 @@ ghost use Rattle.shunt_blocks.specs.defs.Least.{improved, least_below};
 
 use crate::costs::shape_cost;
 use crate::records::Shape;
-use crate::ways::{permits_units, way_from, way_to};
-use shunt_base::{ArrId, DepId, Side, TrackId};
+use crate::ways::{permits_units, shape_way_in, way_to};
+use shunt_base::{DepId, Side, TrackId};
 use shunt_instance::Instance;
 
 /// The lesser of two costs, where there is one.
@@ -24,16 +24,15 @@ fn lesser(first: Option<u32>, second: Option<u32>) -> Option<u32>
     Some(if b < a { b } else { a })
 }
 
-/// The least cost of a way in to a track.
-fn least_way_in(instance: &Instance, arr: ArrId, track: TrackId) -> Option<u32>
-    requires train { arr.0 < length instance.now.arrive }
+/// The least cost of a shape's way in to a track.
+fn least_way_in(instance: &Instance, shape: Shape, track: TrackId) -> Option<u32>
+    requires train { shape.arr.0 < length instance.now.arrive }
     requires track { track.0 < length instance.now.station.tracks }
-    ensures exact { result ≡ least_way_in instance.now arr track }
+    ensures exact { result ≡ least_way_in instance.now shape track }
     ensures cost { IfSome result (λ c. c ≤ 1000000) }
 {
-    let origin = instance.arrive(arr).origin;
-    let by_a = way_from(instance, origin, track, Side::A);
-    let by_b = way_from(instance, origin, track, Side::B);
+    let by_a = shape_way_in(instance, shape, track, Side::A);
+    let by_b = shape_way_in(instance, shape, track, Side::B);
     lesser(by_a, by_b)
 }
 
@@ -59,7 +58,7 @@ fn least_on(instance: &Instance, shape: Shape, track: TrackId) -> Option<u32>
     if !permits_units(instance, shape, track) {
         return None;
     }
-    let way_in = least_way_in(instance, shape.arr, track)?;
+    let way_in = least_way_in(instance, shape, track)?;
     let way_out = least_way_out(instance, shape.dep, track)?;
     Some(way_in + way_out)
 }

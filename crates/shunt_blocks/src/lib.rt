@@ -18,4 +18,4 @@ pub use lists::{lengths_of, stays_of, track_lengths};
 pub use ranges::{are_runs_within, fits, has_position, has_unit, in_range, is_pair, type_fault};
 pub use records::{Block, Park, Shape, shape_of};
 pub use stays::{block_length, is_too_soon, stay};
-pub use ways::{is_option, way_in, way_out};
+pub use ways::{has_placed, is_option, train_way_in, way_in, way_out};

@@ -63,11 +63,11 @@ parks_follow n =
 
 parkable : (night : Night) (s : Shape) (k : Park) → k.track.0 < length night.station.tracks → can_park night s k ≡ true → IsParkable night s k
 parkable night s k lt t =
-    let three = three_true (is_some (park_way_in night s.arr k)) (is_some (park_way_out night s.dep k)) (permits_units night s k.track) t in
+    let three = three_true (is_some (park_way_in night s k)) (is_some (park_way_out night s.dep k)) (permits_units night s k.track) t in
     record { track = lt; permitted = three.2; way_in = three.0; way_out = three.1 }
 
 can_be : (night : Night) (s : Shape) (k : Park) → IsParkable night s k → can_park night s k ≡ true
-can_be night s k h = from_three (is_some (park_way_in night s.arr k)) (is_some (park_way_out night s.dep k)) (permits_units night s k.track) h.way_in h.way_out h.permitted
+can_be night s k h = from_three (is_some (park_way_in night s k)) (is_some (park_way_out night s.dep k)) (permits_units night s k.track) h.way_in h.way_out h.permitted
 
 low_track : (n : ℕ) (k : Park) → In k (parks_below n) → k.track.0 < n
 low_track n k i =

@@ -8,7 +8,7 @@ use Rattle.shunt_lists.proofs.Members.{filter_yes, filter_no, filter_from, in_ma
 use Rattle.shunt_lists.specs.defs.Members.{In, Ascends}
 use Rattle.shunt_stays.specs.defs.Run.{AreOnTracks, GoesThrough}
 use Rattle.shunt_stays.proofs.Fewer.{part_through}
-use Rattle.shunt_instance.specs.defs.Words.{train_at, is_standing}
+use Rattle.shunt_instance.specs.defs.Words.{train_at, has_come}
 use Rattle.shunt_instance.specs.defs.Instance.{Night, IsInstance}
 use Rattle.shunt_blocks.specs.declared.records.Block.{Block}
 use Rattle.shunt_blocks.specs.defs.Blocks.{IsBlock}
@@ -103,12 +103,12 @@ trains_there night blocks delays a k e lt =
     let listed : In x.train.0 (comers night) = subst (λ (xs : List ℕ). In x.train.0 xs) a.trains (in_map (λ (d : Delay). d.train.0) delays x (in_place delays k e lt)) in
     omega (
       arith,
-      in_numbers 0 (length night.arrive) x.train.0 (filter_from (λ i. not (is_standing (train_at night.arrive i)))
+      in_numbers 0 (length night.arrive) x.train.0 (filter_from (λ i. not (has_come (train_at night.arrive i)))
           (range_with_len 0 (length night.arrive)) x.train.0 listed).0,
     )
 
 abbrev comes : Night → ℕ → Bool
-comes night i = not (is_standing (train_at night.arrive i))
+comes night i = not (has_come (train_at night.arrive i))
 
 abbrev numbers : List Delay → List ℕ
 numbers delays = map (λ d. d.train.0) delays
@@ -119,8 +119,8 @@ next_number night k =
     ap (λ (n : ℕ). filter (comes night) (range_with_len 0 n)) next ∙ ap (filter (comes night)) (range_more 0 k k (omega arith))
     ∙ filter-append (comes night) (range_with_len 0 k) (k ∷ [])
 
--- one more train, which comes to a platform
-pub trains_more : (night : Night) (k : ℕ) (delays after : List Delay) (d : Delay) → d.train.0 ≡ k → is_standing (train_at night.arrive k) ≡ false
+-- one more train, of which nothing has come
+pub trains_more : (night : Night) (k : ℕ) (delays after : List Delay) (d : Delay) → d.train.0 ≡ k → has_come (train_at night.arrive k) ≡ false
     → numbers delays ≡ filter (comes night) (range_with_len 0 k) → after ≡ delays ++ d ∷ [] → numbers after ≡ filter (comes night) (range_with_len 0 (k + 1))
 trains_more night k delays after d train stands before is =
     ap numbers is ∙ map-append (λ (x : Delay). x.train.0) delays (d ∷ []) ∙ ap (λ (xs : List ℕ). xs ++ d.train.0 ∷ []) before
@@ -133,8 +133,8 @@ each_more night blocks delays after d all one is = subst (All (IsDelay night blo
     (to_all (IsDelay night blocks) (delays ++ d ∷ []) (λ x i. ⊎_elim (λ j. of_all (IsDelay night blocks) delays x all j)
     (λ j. subst (IsDelay night blocks) (sym (of_one d x j)) one) (in_cases delays (d ∷ []) x i)))
 
--- one that stands
-pub trains_same : (night : Night) (k : ℕ) (delays : List Delay) → is_standing (train_at night.arrive k) ≡ true
+-- one that has come
+pub trains_same : (night : Night) (k : ℕ) (delays : List Delay) → has_come (train_at night.arrive k) ≡ true
     → numbers delays ≡ filter (comes night) (range_with_len 0 k) → numbers delays ≡ filter (comes night) (range_with_len 0 (k + 1))
 trains_same night k delays stands before =
     before ∙ sym (next_number night k ∙ ap (λ (xs : List ℕ). filter (comes night) (range_with_len 0 k) ++ xs) (filter_no (comes night) k [] (ap (λ (t : Bool). not t) stands))

@@ -1,7 +1,7 @@
 //! The delays that a plan bears.
 ghost use Rattle.std.specs.Prelude.{◌≡◌, ◌<◌, [], All, length, map, IfOk};
 ghost use Rattle.shunt_lists.specs.defs.Members.{AreDistinct};
-ghost use Rattle.shunt_instance.specs.defs.Words.{is_standing};
+ghost use Rattle.shunt_instance.specs.defs.Words.{has_come};
 ghost use Rattle.shunt_blocks.specs.defs.Lists.{IsFeasible, track_lengths, stays_of};
 ghost use Rattle.shunt_plan.specs.defs.Plans.{IsPlanInRange};
 ghost use Rattle.shunt_audit.specs.defs.Listed.{by_id};
@@ -31,12 +31,12 @@ fn by_id(alloc: Global, blocks: &[Block]) -> Result<Vec<Block>, AllocError>
     Ok(blocks)
 }
 
-/// Whether a train stands on a track when the night opens.
-fn stands(train: &Train) -> bool
-    ensures { result ≡ is_standing train.now }
+/// Whether a train stands on a track when the night opens, or some of its units have come already.
+fn has_come(train: &Train) -> bool
+    ensures { result ≡ has_come train.now }
 {
     match train.origin {
-        Origin::Platform(_) => false,
+        Origin::Platform(_) => !train.placed.is_empty(),
         Origin::Track(_) => true,
     }
 }
@@ -81,7 +81,7 @@ fn train_at(index: usize) -> ArrId
     ArrId(index as u8)
 }
 
-/// The delays of all trains that come to a platform, for blocks by ascending id.
+/// The delays of all trains of which nothing has come yet, for blocks by ascending id.
 fn delays_of_blocks(
     alloc: Global,
     instance: &Instance,
@@ -95,7 +95,7 @@ fn delays_of_blocks(
     let mut delays = Vec::new(alloc);
     for index in 0..instance.arrivals() {
         let train = train_at(index);
-        if !stands(instance.arrive(train)) {
+        if !has_come(instance.arrive(train)) {
             let delay = delay_of(alloc, instance, blocks, &stays, train, &mut timelines)?;
             delays.push(delay)?;
         }
@@ -103,10 +103,10 @@ fn delays_of_blocks(
     Ok(delays)
 }
 
-/// How late each arriving train can be that doesn't stand on a track when the night opens, in the order of the trains: the
-/// greatest number of minutes up to 120 such that the plan stays feasible where the train is so late, and for each smaller
-/// number too. Beside it stands what one minute more would bring: the first finding of its blocks that are too soon, of stays
-/// that cross or of loads that are too long.
+/// How late each arriving train can be of which nothing has come yet, in the order of the trains: none that stands on a track
+/// when the night opens, and none with a unit that has come already. It is the greatest number of minutes up to 120 such that
+/// the plan stays feasible where the train is so late, and for each smaller number too. Beside it stands what one minute more
+/// would bring: the first finding of its blocks that are too soon, of stays that cross or of loads that are too long.
 ///
 /// The plan is in range and feasible. A late train's entries are later, and its units are ready later; all else of the night
 /// and of the plan stays. The error is want of memory.

@@ -3,3 +3,4 @@ pub mod Delayed
 pub mod Ordered
 pub mod Followed
 pub mod Compared
+pub mod Resumed

@@ -14,7 +14,7 @@ use Rattle.shunt_blocks.specs.declared.records.Block.{Block}
 use Rattle.shunt_blocks.specs.defs.Lists.{stays_of}
 use Rattle.shunt_tracks.specs.declared.run.Event.{Event}
 use Rattle.shunt_tracks.specs.defs.Answer.{event_of}
-use Rattle.shunt_zones.specs.defs.Moves.{is_of_standing, events_of, moves_of}
+use Rattle.shunt_zones.specs.defs.Moves.{has_been, events_of, moves_of}
 use Rattle.shunt_drivers.specs.defs.RosterFormat.{MoveName, name_of, no_move}
 
 abbrev own : Move → MoveName
@@ -95,6 +95,6 @@ names_differ events all = λ i j d lt small e.
 pub moves_apart : (night : Night) (blocks : List Block) → AreStays (stays_of night blocks) → AreDistinct (map name_of (moves_of night blocks))
 unfolding moves_of events_of
 moves_apart night blocks a =
-    names_differ (filter (λ e. not (is_of_standing night e.key)) (map event_of (in_order (stays_of night blocks))))
-    (AllPairs-filter AreTwo (λ e. not (is_of_standing night e.key)) (map event_of (in_order (stays_of night blocks)))
+    names_differ (filter (λ e. not (has_been night blocks e.key)) (map event_of (in_order (stays_of night blocks))))
+    (AllPairs-filter AreTwo (λ e. not (has_been night blocks e.key)) (map event_of (in_order (stays_of night blocks)))
     (events_differ (in_order (stays_of night blocks)) (order_differs (stays_of night blocks) a)))

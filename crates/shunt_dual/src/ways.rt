@@ -6,7 +6,7 @@ ghost use Rattle.shunt_base.specs.declared.ids.DepId.{DepId as ADeparture};
 ghost use Rattle.shunt_instance.specs.defs.Words.{train_at};
 ghost use Rattle.shunt_blocks.specs.declared.records.Park.{Park as APark};
 ghost use Rattle.shunt_blocks.specs.defs.Shapes.{AreRunsWithin};
-ghost use Rattle.shunt_blocks.specs.defs.Ways.{way_from, way_to};
+ghost use Rattle.shunt_blocks.specs.defs.Ways.{train_way_in, way_to};
 ghost use Rattle.shunt_blocks.specs.defs.Blocks.{IsParkable};
 ghost use Rattle.shunt_blocks.specs.defs.Costs.{shape_cost, cost_with};
 ghost use Rattle.shunt_blocks.specs.defs.Ways.{IsUnderIn, IsUnderOut};
@@ -14,7 +14,7 @@ ghost use Rattle.shunt_dual.specs.defs.Ways.{AreLeastWays};
 
 use crate::shape_costs::{block_with, cost_with};
 use shunt_base::{ArrId, DepId, Side, TrackId};
-use shunt_blocks::{Park, Shape, way_in, way_out};
+use shunt_blocks::{Park, Shape, train_way_in, way_out};
 use shunt_instance::Instance;
 
 /// What no way in of an arriving train costs less than, whatever the track and the side, and no way out to a departing train. They
@@ -37,16 +37,10 @@ fn smaller(one: u32, other: u32) -> u32
 fn cost_in(instance: &Instance, shape: Shape, track: TrackId, side: Side) -> u32
     requires within { AreRunsWithin instance.now shape }
     requires track { track.0 < length instance.now.station.tracks }
-    ensures exact { result ≡ unwrap_or (way_from instance.now.station
-        (train_at instance.now.arrive shape.arr.0).origin track side) 1000000 }
+    ensures exact { result ≡ unwrap_or (train_way_in instance.now shape.arr track side) 1000000 }
     ensures small { result ≤ 1000000 }
 {
-    let park = Park {
-        track,
-        side_in: side,
-        side_out: side,
-    };
-    way_in(instance, &block_with(shape, Some(park))).unwrap_or(1_000_000)
+    train_way_in(instance, shape.arr, track, side).unwrap_or(1_000_000)
 }
 
 /// What the way out of a shape from a track by a side costs: 1,000,000, than which none costs more, where there is no way.

@@ -1,41 +1,22 @@
 // The answer of `upgrade`.
-ghost use Rattle.std.specs.Prelude.{◌≡◌, [], ◌∷◌, map, get_or, IfOk};
+ghost use Rattle.std.specs.Prelude.{[], ◌∷◌, get_or, IfOk};
 ghost use Rattle.shunt_instance.specs.defs.Wellformed.{IsStation, IsTimetable};
 ghost use Rattle.shunt_rows.specs.declared.words.FileWord.TheVariants as words;
 ghost use Rattle.shunt_rows.specs.defs.Formats.{reading};
 ghost use Rattle.shunt_timetable.specs.defs.TimetableFormat.{timetable_format};
 ghost use Rattle.shunt_inputs.specs.defs.Inputs.{stated_by, stated_station};
 ghost use Rattle.shunt_inputs.specs.defs.ReadFiles.{stated_over};
-ghost use Rattle.shunt_inputs.specs.defs.Replies.{pair_of, reply_of};
+ghost use Rattle.shunt_inputs.specs.defs.Replies.{reply_of};
 ghost use Rattle.shunt_exchange.specs.defs.Upgraded.{IsUpgraded};
 
 use shunt_inputs::{
-    Answer, FileText, Halt, Inputs, Outcome, Question, StationFile, Then, TimetableFile,
+    Answer, Halt, Inputs, Outcome, Question, StationFile, Then, TimetableFile, file_text, two_files,
 };
 use shunt_instance::{Station, Timetable};
 use shunt_station::write_station;
 use shunt_store::Store;
 use shunt_timetable::write_timetable;
 use std::alloc::{AllocError, Global};
-
-// A file of this name that is to hold this.
-fn file(alloc: Global, name: &str, bytes: Vec<u8>) -> Result<FileText, AllocError>
-    ensures { IfOk result (λ f. pair_of f ≡ (name.now, bytes.items)) }
-{
-    let name = String::from_str(alloc, name)?;
-    Ok(FileText { name, bytes })
-}
-
-// The writes of two files.
-fn two_files(alloc: Global, first: FileText, second: FileText) -> Result<Vec<FileText>, AllocError>
-    ensures { IfOk result
-        (λ writes. map pair_of writes.items ≡ pair_of first ∷ pair_of second ∷ []) }
-{
-    let mut writes = Vec::new(alloc);
-    writes.push(first)?;
-    writes.push(second)?;
-    Ok(writes)
-}
 
 /// A station file, and a timetable file over it, by their names.
 #[derive(Clone, Copy, Drop)]
@@ -56,7 +37,7 @@ impl Inputs for TrainFiles<'_> {
     }
 }
 
-/// The question of `upgrade`, by the names of the new files: a station and its timetable, written in version 2.
+/// The question of `upgrade`, by the names of the new files: a station and its timetable, written in the newest version that each asks for.
 #[derive(Clone, Copy, Drop)]
 pub struct UpgradeCommand<'n>(pub &'n str, pub &'n str);
 
@@ -71,8 +52,8 @@ impl<'n> Question<TrainFiles<'n>> for UpgradeCommand<'_> {
             (record { station = value.0; timetable = value.1 }) (reply_of a)) }
     {
         let (station, timetable) = value;
-        let first = file(alloc, self.0, write_station(alloc, &station)?)?;
-        let second = file(alloc, self.1, write_timetable(alloc, &station, &timetable)?)?;
+        let first = file_text(alloc, self.0, write_station(alloc, &station)?)?;
+        let second = file_text(alloc, self.1, write_timetable(alloc, &station, &timetable)?)?;
         Ok(Answer {
             outcome: Outcome::Done,
             writes: two_files(alloc, first, second)?,

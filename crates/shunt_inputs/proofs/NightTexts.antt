@@ -3,11 +3,13 @@ use Rattle.std.proofs.Common.{◌≡◌, ◌∙◌, ℕ, List, [], ◌∷◌, ge
 use Rattle.shunt_instance.specs.declared.records.Station.{Station}
 use Rattle.shunt_instance.specs.declared.records.Timetable.{Timetable}
 use Rattle.shunt_instance.specs.defs.Instance.{Night, night_of}
+use Rattle.shunt_instance.specs.defs.Wellformed.{IsStation, IsTimetable}
 use Rattle.shunt_blocks.specs.declared.records.Block.{Block}
 use Rattle.shunt_inputs.specs.declared.file_loader.Halt.{Halt}
+use Rattle.shunt_inputs.specs.declared.nights.WholeNight.{WholeNight}
 use Rattle.shunt_inputs.specs.declared.pins.Pinned.{Pinned}
 use Rattle.shunt_inputs.specs.defs.Halts.{Loads}
-use Rattle.shunt_inputs.specs.defs.Inputs.{then_stated, stated_night, stated_pinned, stated_pins, stated_station, stated_timetable}
+use Rattle.shunt_inputs.specs.defs.Inputs.{then_stated, stated_night, stated_pinned, stated_pins, stated_station, stated_timetable, stated_whole, whole_of}
 use Rattle.shunt_inputs.specs.defs.ReadFiles.{stated_over}
 use Rattle.shunt_inputs.proofs.Held.{regrouped}
 use Rattle.shunt_inputs.proofs.SeenFiles.{FailsWith, first_refused, loads_failed}
@@ -39,6 +41,32 @@ pub night_stated_in : (parts : Station × Timetable) (night : Night) → night �
 night_stated_in parts night is texts a =
     sym (night_parts texts) ∙ ap (λ (s : Result (Station × Timetable) (List ℕ)). then_stated s (λ (v : Station × Timetable). Ok (night_of v.0 v.1))) a
     ∙ ap (λ (n : Night). Ok n) (sym is)
+
+-- ---- the night with its timetable
+
+whole_parts : (texts : List (List ℕ)) → then_stated (parts_in texts) (λ (v : Station × Timetable). Ok (whole_of v.0 v.1)) ≡ stated_whole (get_or texts 0 []) (get_or texts 1 [])
+whole_parts texts =
+    ap (λ (b : List ℕ). then_stated (then_stated (stated_station b) (λ s. then_stated (stated_timetable s (get_or texts 1 [])) (λ t. Ok (s, t))))
+    (λ (v : Station × Timetable). Ok (whole_of v.0 v.1))) (first_text texts)
+    ∙ regrouped (stated_station (get_or texts 0 [])) (λ s. stated_timetable s (get_or texts 1 [])) whole_of
+
+pub whole_refused : (r : Result WholeNight Halt) (e : Halt) → FailsWith r e → (texts : List (List ℕ)) → Loads {X = Station × Timetable} (Err e) (parts_in texts)
+    → Loads r (stated_whole (get_or texts 0 []) (get_or texts 1 []))
+whole_refused r e is texts l = loads_failed r e _ is (subst (λ (s : Result WholeNight (List ℕ)). Loads {X = WholeNight} (Err e) s) (whole_parts texts)
+    (first_refused {X = Station × Timetable} {Y = WholeNight} e (parts_in texts) _ l))
+
+pub whole_stated_in : (parts : Station × Timetable) (night : WholeNight) → night ≡ whole_of parts.0 parts.1 → (texts : List (List ℕ)) → parts_in texts ≡ Ok parts
+    → stated_whole (get_or texts 0 []) (get_or texts 1 []) ≡ Ok night
+whole_stated_in parts night is texts a =
+    sym (whole_parts texts) ∙ ap (λ (s : Result (Station × Timetable) (List ℕ)). then_stated s (λ (v : Station × Timetable). Ok (whole_of v.0 v.1))) a
+    ∙ ap (λ (n : WholeNight). Ok n) (sym is)
+
+-- what is read of it is well formed
+abbrev pub IsWhole : WholeNight → Type 0
+IsWhole x = IsStation x.instance.station × IsTimetable x.instance.station x.timetable × (x.instance ≡ night_of x.instance.station x.timetable)
+
+pub whole_formed : (s : Station) (t : Timetable) (night : WholeNight) → IsStation s → IsTimetable s t → night ≡ whole_of s t → IsWhole night
+whole_formed s t night f g is = subst IsWhole (sym is) (f, g, refl)
 
 -- ---- pins in it
 

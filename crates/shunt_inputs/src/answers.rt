@@ -29,6 +29,29 @@ pub struct Answer {
     pub text: Vec<u8>,
 }
 
+/// A file of this name that is to hold this. The error is want of memory.
+pub fn file_text(alloc: Global, name: &str, bytes: Vec<u8>) -> Result<FileText, AllocError>
+    ensures { IfOk result (λ f. pair_of f ≡ (name.now, bytes.items)) }
+{
+    let name = String::from_str(alloc, name)?;
+    Ok(FileText { name, bytes })
+}
+
+/// The writes of two files, in their order. The error is want of memory.
+pub fn two_files(
+    alloc: Global,
+    first: FileText,
+    second: FileText,
+) -> Result<Vec<FileText>, AllocError>
+    ensures { IfOk result
+        (λ writes. map pair_of writes.items ≡ pair_of first ∷ pair_of second ∷ []) }
+{
+    let mut writes = Vec::new(alloc);
+    writes.push(first)?;
+    writes.push(second)?;
+    Ok(writes)
+}
+
 /// The writes of one file. The error is want of memory.
 pub fn one_file(alloc: Global, name: &str, bytes: Vec<u8>) -> Result<Vec<FileText>, AllocError>
     ensures { IfOk result (λ writes. map pair_of writes.items ≡ (name.now, bytes.items) ∷ []) }

@@ -1,23 +1,26 @@
 // The files of a night, and those that commands read behind them.
-ghost use Rattle.std.specs.Prelude.{◌≡◌, [], ◌∷◌, get_or};
+ghost use Rattle.std.specs.Prelude.{◌≡◌, [], ◌∷◌, get_or, IfOk};
 ghost use Rattle.shunt_drivers.specs.defs.RosterFormat.{roster_format, IsRoster};
+ghost use Rattle.shunt_instance.specs.defs.Instance.{night_of};
+ghost use Rattle.shunt_instance.specs.defs.Wellformed.{IsStation, IsTimetable};
 ghost use Rattle.shunt_rows.specs.declared.words.FileWord.TheVariants as words;
 ghost use Rattle.shunt_rows.specs.defs.Formats.{reading};
 ghost use Rattle.shunt_zones.specs.defs.Moves.{moves_of};
-ghost use Rattle.shunt_inputs.specs.defs.Inputs.{stated_night};
+ghost use Rattle.shunt_inputs.specs.defs.Inputs.{stated_night, stated_whole, whole_of};
 
 use crate::chains::Then;
 use crate::file_loader::Halt;
 use crate::files::{CrewFile, PlanFile};
-use crate::inputs::{InputFile, Inputs};
+use crate::inputs::{HasNight, InputFile, Inputs};
 use crate::stations::{StationFile, TimetableFile};
 use shunt_drivers::{Crew, Duty, read_roster};
-use shunt_instance::Instance;
+use shunt_instance::{Instance, Station, Timetable};
 use shunt_lists::Items;
 use shunt_plan::Plan;
 use shunt_rows::{FileWord, ReadError, Row};
 use shunt_store::Store;
-use std::alloc::Global;
+use shunt_timetable::copy_timetable;
+use std::alloc::{AllocError, Global};
 
 /// The station file and the timetable file of a night.
 #[derive(Clone, Copy, Drop)]
@@ -37,6 +40,59 @@ impl Inputs for NightFiles<'_> {
         let (station, timetable) = files.load(alloc, store)?;
         Ok(Instance::join(alloc, station, timetable)?)
     }
+}
+
+/// A night, and its timetable in the order of its file.
+#[derive(Drop)]
+pub struct WholeNight {
+    pub timetable: Timetable,
+    pub instance: Instance,
+}
+
+impl HasNight for WholeNight {
+    ghost night = { λ x. x.instance };
+
+    fn night(&self) -> &Instance {
+        &self.instance
+    }
+}
+
+/// The station file and the timetable file of a night, of which the timetable is wanted as it is.
+#[derive(Clone, Copy, Drop)]
+pub struct WholeNightFiles<'n>(pub &'n str, pub &'n str);
+
+impl Inputs for WholeNightFiles<'_> {
+    type Value = WholeNight;
+
+    ghost inputs = { λ f. (words.Station, f.0.now) ∷ (words.Timetable, f.1.now) ∷ [] };
+
+    ghost states = { λ _ texts. stated_whole (get_or texts 0 []) (get_or texts 1 []) };
+
+    ghost formed = { λ x. IsStation x.instance.station × IsTimetable x.instance.station x.timetable
+        × (x.instance ≡ night_of x.instance.station x.timetable) };
+
+    fn load<S: Store>(&self, alloc: Global, store: &mut S) -> Result<WholeNight, Halt> {
+        let files = Then(StationFile(self.0), TimetableFile(self.1));
+        let (station, timetable) = files.load(alloc, store)?;
+        Ok(whole_night(alloc, station, timetable)?)
+    }
+}
+
+// The night of a station and a timetable, with the timetable.
+fn whole_night(
+    alloc: Global,
+    station: Station,
+    timetable: Timetable,
+) -> Result<WholeNight, AllocError>
+    requires station { IsStation station }
+    requires timetable { IsTimetable station timetable }
+    ensures { IfOk result (λ x. x ≡ whole_of station timetable) }
+{
+    let copy = copy_timetable(alloc, &timetable)?;
+    Ok(WholeNight {
+        timetable: copy,
+        instance: Instance::join(alloc, station, timetable)?,
+    })
 }
 
 /// The files of a night and of a plan in it.

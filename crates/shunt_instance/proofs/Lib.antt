@@ -1,7 +1,8 @@
-pub mod Numbers
 pub mod Cells
-pub mod Orders
 pub mod Facts
 pub mod Found
 pub mod Looked
 pub mod Named
+pub mod Numbers
+pub mod Orders
+pub mod Placed

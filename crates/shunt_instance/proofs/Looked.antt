@@ -36,7 +36,7 @@ pub positions_few : (night : Night) → IsOrderedNight night → position_total 
 positions_few night h = omega (arith, length_through make_position 0 night.depart, h.timetable.depart.units)
 
 abbrev no_train : Train
-no_train = record { name = []; minute = 0; origin = origin.Platform (record { 0 = 0 }); units = [] }
+no_train = record { name = []; minute = 0; origin = origin.Platform (record { 0 = 0 }); units = []; placed = [] }
 
 -- a train's units are within all
 pub unit_room : (night : Night) (k : ℕ) → k < length night.arrive → first_unit night k + length (train_at night.arrive k).units ≤ unit_total night

@@ -162,7 +162,7 @@ numbers_tie a b = elim (cases_order a b) [
 ]
 
 abbrev mark : ℕ → Train
-mark m = record { name = []; minute = m; origin = origin.Platform (record { 0 = 0 }); units = [] }
+mark m = record { name = []; minute = m; origin = origin.Platform (record { 0 = 0 }); units = []; placed = [] }
 
 -- whatever sorts by minute and keeps the order of those that tie gives this list
 pub stable_sort : (ts us : List Train) → IsNonDecreasingBy (λ t. t.minute) us → IsStableByKey (λ t. t.minute) nat_cmp ts us → us ≡ sort_by_minute ts
@@ -250,6 +250,7 @@ night_is s t p q = record {
     first = standing_stay t.arrive q.first q.at_start;
     at_start = All-permutation (λ r. IsTrue (is_standing r) → r.minute ≡ 0) t.arrive (sort_by_minute t.arrive) (sort_moves t.arrive) q.at_start;
     from_platform = All-permutation (λ r. is_standing r ≡ false) t.depart (sort_by_minute t.depart) (sort_moves t.depart) q.from_platform;
+    to_come = All-permutation (λ r. r.placed ≡ []) t.depart (sort_by_minute t.depart) (sort_moves t.depart) q.to_come;
   };
   arrive_rises = to_non_decreasing (sort_by_minute t.arrive) (sort_rises t.arrive);
   depart_rises = to_non_decreasing (sort_by_minute t.depart) (sort_rises t.depart);

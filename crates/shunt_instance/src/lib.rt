@@ -12,5 +12,6 @@ mod train_numbers;
 pub use joined::Instance;
 pub use namings::{TrackNames, TypeNames};
 pub use records::{
-    Origin, Permit, Position, Route, Station, Timetable, Track, Train, Unit, UnitType,
+    Origin, Permit, PlacedRun, Position, Route, Station, Timetable, Track, TrackEnd, Train, Unit,
+    UnitType,
 };

@@ -70,6 +70,24 @@ pub enum Origin {
     Track(TrackId),
 }
 
+/// An end of a track, by which units came to it.
+#[derive(Clone, Copy, Debug, PartialEq, Eq, Drop)]
+pub struct TrackEnd {
+    pub track: TrackId,
+    pub side: Side,
+}
+
+/// Neighbouring units of an arriving train that have come already, together.
+#[derive(Clone, Copy, Debug, PartialEq, Eq, Drop)]
+pub struct PlacedRun {
+    /// The place of its first unit in the train, from 1.
+    pub first: u8,
+    /// How many units it has, at least 1.
+    pub count: u8,
+    /// The end by which it came to the track where it stands. None where it was cleared away.
+    pub came_by: Option<TrackEnd>,
+}
+
 /// An arriving or a departing train.
 #[derive(Debug, Drop)]
 pub struct Train {
@@ -79,6 +97,8 @@ pub struct Train {
     pub origin: Origin,
     /// The types of its units from its A end to its B end, 1 to 8 of them.
     pub units: Items<TypeId>,
+    /// Those of its units that have come already, in the order of their places. A departing train has none.
+    pub placed: Items<PlacedRun>,
 }
 
 /// The trains of a night in the order of their file. Trains that stand on a track come first in `arrive`.

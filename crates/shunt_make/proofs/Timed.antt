@@ -15,6 +15,7 @@ use Rattle.shunt_base.specs.defs.Spelling.{IsName, is_name_byte}
 use Rattle.shunt_base.specs.declared.ids.TypeId.{TypeId}
 use Rattle.shunt_instance.specs.declared.records.Station.{Station}
 use Rattle.shunt_instance.specs.declared.records.Train.{Train}
+use Rattle.shunt_instance.proofs.Placed.{none_placed}
 use Rattle.shunt_instance.specs.defs.Words.{is_standing, unit_count, names_of, train_at}
 use Rattle.shunt_instance.specs.defs.Wellformed.{IsOrigin, IsTrain, AreTrains, StandingFirst, IsTimetable}
 use Rattle.shunt_make.specs.defs.Draws.{next, after, drawn, drawn_for}
@@ -37,6 +38,7 @@ pub record IsMade (s : Station) (first : ℕ) (t : Train) : Type 0 where
   pub origin : IsOrigin s t.origin
   pub moving : is_standing t ≡ false
   pub kinds : AreKinds t.units
+  pub placed : t.placed ≡ []
 
 made_train : (s : Station) (letter first i platform : ℕ) (kinds : List TypeId) → length s.platforms ≡ 2 → is_name_byte letter ≡ true → i < 80 → platform < 2 → AreKinds kinds
     → IsMade s first (train_of letter first i platform kinds)
@@ -47,6 +49,7 @@ made_train s letter first i platform kinds two is small below are = record {
   origin = omega arith;
   moving = refl;
   kinds = are;
+  placed = refl;
 }
 
 one_of_two : (b : Bool) (m n top : ℕ) → m ≤ top → n ≤ top → cond b m n ≤ top
@@ -163,6 +166,7 @@ a_train s first t three early m = record {
   some = m.kinds.some;
   few = omega (arith, m.kinds.few);
   kinds = All-weaker (λ k. k.0 < 3) (λ k. k.0 < length s.types) (λ k lt. omega (arith, lt, three)) t.units m.kinds.each;
+  placed = none_placed s t m.placed;
 }
 
 are_trains : (s : Station) (first : ℕ) (ts : List Train) → 3 ≤ length s.types → first ≤ 1740 → length ts ≤ 80 → All (IsMade s first) ts → AreDistinct (names_of ts) → AreTrains s ts
@@ -195,6 +199,7 @@ trains_formed s arrive depart three few fewer all others names other_names = rec
   first = moving_first arrive (recursion_from_All (λ t. is_standing t ≡ false) arrive (All-weaker (IsMade s 1200) (λ t. is_standing t ≡ false) (λ t m. m.moving) arrive all));
   at_start = All-weaker (IsMade s 1200) (λ t. IsTrue (is_standing t) → t.minute ≡ 0) (λ t m stands. absurd (true≢false (sym stands ∙ m.moving))) arrive all;
   from_platform = All-weaker (IsMade s 1740) (λ t. is_standing t ≡ false) (λ t m. m.moving) depart others;
+  to_come = All-weaker (IsMade s 1740) (λ t. t.placed ≡ []) (λ t m. m.placed) depart others;
 }
 
 pub timetable_formed : (s : Station) (x units : ℕ) → length s.platforms ≡ 2 → 3 ≤ length s.types → units ≤ 160 → IsTimetable s (timetable_of x units)

@@ -43,6 +43,7 @@ fn made_train(
         minute: minute_of(first + 6 * i as u16),
         origin: Origin::Platform(PlatformId(platform)),
         units: Items::from_vec(kinds),
+        placed: Items::from_vec(Vec::new(alloc)),
     })
 }
 

@@ -14,7 +14,7 @@ use Rattle.shunt_page.specs.declared.records.Parts.{Parts}
 use Rattle.shunt_page.specs.defs.Parts.{unparked_cost, block_parts, added, with_block, nothing, parts_of, parts_sum}
 
 -- those of an option
-option_parts : (night : Night) (b : Block) (o : Option Park) → unwrap_or (option_way_in night b.arr o) 0 + unwrap_or (option_way_out night b.dep o) 0 + unparked_cost night o
+option_parts : (night : Night) (b : Block) (o : Option Park) → unwrap_or (option_way_in night (shape_of b) o) 0 + unwrap_or (option_way_out night b.dep o) 0 + unparked_cost night o
     ≡ option_cost night (shape_of b) o
 option_parts night b None = omega arith
 option_parts night b (Some k) = omega arith

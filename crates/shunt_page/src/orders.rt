@@ -1,9 +1,11 @@
 // The orders of a plan with all that whoever drives wants to know.
 ghost use Rattle.std.specs.Prelude.{◌≡◌, ◌==◌, ◌<◌, ◌≤◌, ◌++◌, [], length, find, map, option_map};
 ghost use Rattle.std.specs.Prelude.{All, IfOk, OnOk};
+ghost use Rattle.shunt_instance.specs.defs.Words.{is_standing};
 ghost use Rattle.shunt_blocks.specs.defs.Shapes.{IsWithinTrains, IsInRange};
 ghost use Rattle.shunt_plan.specs.defs.Plans.{IsPlanInRange};
-ghost use Rattle.shunt_page.specs.defs.Orders.{train_of, row_of, row_at, rows_from, rows_of};
+ghost use Rattle.shunt_page.specs.defs.Orders.{train_of, stands_already, row_of, row_at, rows_from};
+ghost use Rattle.shunt_page.specs.defs.Orders.{rows_of};
 ghost use Rattle.shunt_page.specs.defs.Occupancy.{after};
 ghost use Rattle.shunt_sheet.specs.defs.Orders.{orders_in};
 ghost use Rattle.shunt_sheet.specs.defs.SheetFormat.{AreOrders};
@@ -12,8 +14,8 @@ use crate::occupancy::{Stood, after, beside, load_on};
 use crate::records::{OrderRow, TrainTold};
 use crate::told::{arrive_told, depart_told, units_told};
 use shunt_base::copy_name;
-use shunt_blocks::Block;
-use shunt_instance::Instance;
+use shunt_blocks::{Block, has_placed};
+use shunt_instance::{Instance, Origin, Train};
 use shunt_lists::Items;
 use shunt_plan::Plan;
 use shunt_sheet::{Order, orders_of};
@@ -34,6 +36,24 @@ fn train_of(
     } else {
         depart_told(alloc, instance, block)
     }
+}
+
+// Whether a train stands on a track when the night begins.
+fn stands(train: &Train) -> bool
+    ensures { result ≡ is_standing train.now }
+{
+    match train.origin {
+        Origin::Platform(_) => false,
+        Origin::Track(_) => true,
+    }
+}
+
+// Whether a block stands already: its train does, or one of its units has come.
+fn stands_already(instance: &Instance, block: &Block) -> bool
+    requires { IsWithinTrains instance.now block.now }
+    ensures { result ≡ stands_already instance.now block.now }
+{
+    stands(instance.arrive(block.arr)) || has_placed(instance, block)
 }
 
 // An order of a block, where so much stood before it and stands after it.
@@ -59,6 +79,7 @@ fn row_of(
         order: *order,
         units: Items::from_vec(units),
         train,
+        already: order.enters && stands_already(instance, block),
         track: name,
         beside: beside(stood, order),
         load: load_on(order.track, later),

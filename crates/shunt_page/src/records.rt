@@ -21,8 +21,6 @@ pub struct TrainTold {
     /// Its platform, or the track on which it stands.
     pub place: Name,
     pub minute: Minute,
-    /// Whether it stands there already when the night begins.
-    pub stands: bool,
 }
 
 /// An order for whoever drives.
@@ -33,6 +31,8 @@ pub struct OrderRow {
     pub units: Items<UnitTold>,
     /// The train with which the block comes or goes.
     pub train: TrainTold,
+    /// Whether it only says that its block stands there already: one of a standing train, or one that has come.
+    pub already: bool,
     pub track: Name,
     /// The block in front of which this one stands when it has come, or which stands in its way when it goes.
     pub beside: Option<u32>,

@@ -2,7 +2,7 @@
 ghost use Rattle.std.specs.Prelude.{◌≡◌, ◌++◌, OnOk};
 ghost use Rattle.shunt_page.specs.defs.RowTexts.{fact_row, finding_item, order_class, order_train};
 ghost use Rattle.shunt_page.specs.defs.RowTexts.{order_open, order_word, order_end, order_what};
-ghost use Rattle.shunt_page.specs.defs.RowTexts.{order_where, order_text, already_text, is_already};
+ghost use Rattle.shunt_page.specs.defs.RowTexts.{order_where, order_text, already_text};
 ghost use Rattle.shunt_page.specs.defs.RowTexts.{already_row, order_row, already_rows, order_rows};
 ghost use Rattle.shunt_page.specs.defs.RowTexts.{parked_words, parked_cell, loose_with, loose_open};
 ghost use Rattle.shunt_page.specs.defs.RowTexts.{train_cells, loose_row, loose_rows, from_words};
@@ -135,17 +135,10 @@ fn push_already(text: &mut Text, row: &OrderRow) -> Result<(), AllocError>
     end_order(text, row)
 }
 
-// Whether the block of an order stands already when the night begins.
-fn is_already(row: &OrderRow) -> bool
-    ensures { result ≡ is_already row.now }
-{
-    row.order.enters && row.train.stands
-}
-
 fn push_already_row(text: &mut Text, row: &OrderRow) -> Result<(), AllocError>
     ensures { OnOk result (text.new ≡ text.old ++ already_row row.now) }
 {
-    if is_already(row) {
+    if row.already {
         return push_already(text, row);
     }
     Ok(())
@@ -154,7 +147,7 @@ fn push_already_row(text: &mut Text, row: &OrderRow) -> Result<(), AllocError>
 fn push_order_row(text: &mut Text, row: &OrderRow) -> Result<(), AllocError>
     ensures { OnOk result (text.new ≡ text.old ++ order_row row.now) }
 {
-    if is_already(row) {
+    if row.already {
         return Ok(());
     }
     push_order(text, row)

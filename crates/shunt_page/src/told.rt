@@ -2,7 +2,6 @@
 ghost use Rattle.std.specs.Prelude.{◌≡◌, ◌<◌, ◌++◌, ◌∷◌, [], length, All, IfOk, OnOk};
 ghost use Rattle.shunt_instance.specs.defs.Instance.{unit_total};
 ghost use Rattle.shunt_instance.specs.defs.Wellformed.{IsTrain, IsOrigin};
-ghost use Rattle.shunt_instance.specs.defs.Words.{is_standing};
 ghost use Rattle.shunt_blocks.specs.defs.Shapes.{IsWithinTrains, IsOnTrack, IsInRange};
 ghost use Rattle.shunt_picture.specs.defs.Marks.{origin_name};
 ghost use Rattle.shunt_page.specs.defs.Told.{unit_told, units_told, train_told, arrive_told};
@@ -66,16 +65,6 @@ fn origin_name(instance: &Instance, origin: Origin) -> &Name
     }
 }
 
-// Whether a train stands on a track when the night begins.
-fn stands(train: &Train) -> bool
-    ensures { result ≡ is_standing train.now }
-{
-    match train.origin {
-        Origin::Platform(_) => false,
-        Origin::Track(_) => true,
-    }
-}
-
 pub(crate) fn train_told(
     alloc: Global,
     instance: &Instance,
@@ -90,7 +79,6 @@ pub(crate) fn train_told(
         name,
         place,
         minute: train.minute,
-        stands: stands(train),
     })
 }
 

@@ -37,7 +37,7 @@ use Rattle.shunt_plan.specs.defs.PlanFormat as plan
 -- ---- what is found of names
 
 abbrev no_train : Train
-no_train = record { name = []; minute = 0; origin = origin.Platform (record { 0 = 0 }); units = [] }
+no_train = record { name = []; minute = 0; origin = origin.Platform (record { 0 = 0 }); units = []; placed = [] }
 
 pub arr_within : (night : Night) (name : List ℕ) (a : ArrId) → arr_of_name night name ≡ Some a → a.0 < length night.arrive
 arr_within night name a e = number_found (λ t. bytes_eq t.name name) night.arrive no_train (λ k. record { 0 = k }) (λ j. j.0) (λ k. refl) a e

@@ -64,7 +64,7 @@ option_short s (Some k) f on =
 pub place_short : (p : ℕ) → p ≤ 8 → length (decimal p) ≤ 1
 place_short p le = length-decimal-le 1 p (omega arith) (omega (arith, le)) (omega (arith, le))
 
-block_short : (night : Night) → IsOrderedNight night → (b : Block) → IsInRange night b → length (text_of_row (block_row night b)) ≤ 80
+pub block_short : (night : Night) → IsOrderedNight night → (b : Block) → IsInRange night b → length (text_of_row (block_row night b)) ≤ 80
 block_short night h b is =
     let w = row_width (block_row night b) (plain_block night h b is) in
     let small = small_runs night b h is in

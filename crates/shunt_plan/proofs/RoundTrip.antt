@@ -67,7 +67,7 @@ abbrev track_id : ℕ → TrackId
 track_id k = record { 0 = k }
 
 abbrev no_train : Train
-no_train = record { name = []; minute = 0; origin = origin.Platform (record { 0 = 0 }); units = [] }
+no_train = record { name = []; minute = 0; origin = origin.Platform (record { 0 = 0 }); units = []; placed = [] }
 
 abbrev no_track : Track
 no_track = record { name = []; length = 0; side_a = false; side_b = false }
@@ -203,7 +203,7 @@ block_read k night xs y h room new is =
 
 -- ---- the whole plan
 
-id_new : (xs zs : List Block) (y : Block) → AreDistinct (map (λ (b : Block). b.id) (xs ++ y ∷ zs)) → has_id xs y.id ≡ false
+pub id_new : (xs zs : List Block) (y : Block) → AreDistinct (map (λ (b : Block). b.id) (xs ++ y ∷ zs)) → has_id xs y.id ≡ false
 unfolding has_id
 id_new xs zs y all = not_before (λ (b : Block). b.id) (λ b. b.id == y.id) xs zs y (λ b. eqb-true b.id y.id) all
 

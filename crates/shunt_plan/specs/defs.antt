@@ -4,5 +4,6 @@ pub mod PlanFormat
 pub mod PinsFormat
 pub mod Plans
 pub mod PlanRows
+pub mod PinsRows
 pub mod Edits
 pub mod WrittenEdits

@@ -11,6 +11,7 @@ ghost use Rattle.shunt_plan.specs.defs.PlanFormat.{plan_format};
 ghost use Rattle.shunt_rows.specs.defs.Records.{text_of_rows};
 ghost use Rattle.shunt_plan.specs.defs.PlanRows.{rows_of, ReadsAsPlan};
 ghost use Rattle.shunt_plan.specs.defs.PinsFormat.{pins_format};
+ghost use Rattle.shunt_plan.specs.defs.PinsRows.{rows_of_pins, ReadsAsPins};
 ghost use Rattle.shunt_plan.specs.declared.edits.Turn.{Turn};
 ghost use Rattle.shunt_plan.specs.defs.Edits.{AreTurns, edits_format};
 ghost use Rattle.shunt_plan.specs.defs.WrittenEdits.{rows_of_edits, ReadsAsEdits};
@@ -41,6 +42,17 @@ pub fn texts_of_plans()
         → ReadsAsPlan night p (text_of_rows (rows_of night p)) }
     ensures short { (night : Night) (p : Plan) → IsInstance night → IsPlanInRange night p
         → length (text_of_rows (rows_of night p)) ≤ 32026 }
+{}
+
+/// The records of pins in range state them, and their text reads back as them and has at most 32,007 bytes.
+#[tactic(auto, using(crate::proofs::PinsBack::pins_back, crate::proofs::PinsBack::pins_text_back, crate::proofs::PinsBack::pins_short))]
+pub fn texts_of_pins()
+    ensures rows { (night : Night) (pins : List Block) → IsInstance night → AreInRange night pins
+        → reading (pins_format night) (rows_of_pins night pins) ≡ Ok pins }
+    ensures again { (night : Night) (pins : List Block) → IsInstance night → AreInRange night pins
+        → ReadsAsPins night pins (text_of_rows (rows_of_pins night pins)) }
+    ensures short { (night : Night) (pins : List Block) → IsInstance night → AreInRange night pins
+        → length (text_of_rows (rows_of_pins night pins)) ≤ 32007 }
 {}
 
 /// In each night, records state turns or have a first fault, and never both, and reading them says which.

@@ -1,5 +1,5 @@
-//! The files of a plan, of pins and of edits in a night: what their records state, or their first fault, and how plans and
-//! edits are written.
+//! The files of a plan, of pins and of edits in a night: what their records state, or their first fault, and how they are
+//! written.
 #![tactic(auto)]
 
 mod block_records;
@@ -8,6 +8,7 @@ mod edits_writer;
 mod kept;
 pub mod laws;
 mod pins;
+mod pins_writer;
 mod plan;
 mod ranges;
 mod records;
@@ -18,6 +19,7 @@ pub use edits::{Edit, Turn, read_edits};
 pub use edits_writer::write_edits;
 pub use kept::lost_pin;
 pub use pins::read_pins;
+pub use pins_writer::write_pins;
 pub use plan::read_plan;
 pub use ranges::{blocks_cost, plan_cost, plan_in_range};
 pub use records::Plan;

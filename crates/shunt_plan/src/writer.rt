@@ -15,7 +15,7 @@ use shunt_rows::RowWriter;
 use std::alloc::{AllocError, Global};
 
 // The version of the files that are written.
-const WRITTEN_VERSION: u64 = 1;
+pub(crate) const WRITTEN_VERSION: u64 = 1;
 
 /// The name of the arriving train with a number.
 pub fn arr_name(instance: &Instance, arr: ArrId) -> &[u8]
@@ -94,7 +94,7 @@ fn write_block(writer: &mut RowWriter, instance: &Instance, block: &Block) -> Re
     writer.end_row()
 }
 
-fn write_blocks(
+pub(crate) fn write_blocks(
     writer: &mut RowWriter,
     instance: &Instance,
     blocks: &[Block],

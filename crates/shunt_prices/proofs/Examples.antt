@@ -40,7 +40,7 @@ yard room = record {
 }
 
 abbrev train : ℕ → ℕ → ℕ → Train
-train name minute k = record { name = name ∷ []; minute = minute; origin = origin.Platform (record { 0 = 0 }); units = record { 0 = k } ∷ [] }
+train name minute k = record { name = name ∷ []; minute = minute; origin = origin.Platform (record { 0 = 0 }); units = record { 0 = k } ∷ []; placed = [] }
 
 abbrev night : ℕ → Night
 night room = record { station = yard room; arrive = train 97 1320 1 ∷ train 98 1380 2 ∷ []; depart = train 99 1740 1 ∷ train 100 1800 2 ∷ [] }

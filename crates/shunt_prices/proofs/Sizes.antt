@@ -27,7 +27,7 @@ use Rattle.shunt_blocks.specs.declared.records.Shape.{Shape}
 use Rattle.shunt_blocks.specs.declared.records.Block.{Block}
 use Rattle.shunt_blocks.specs.declared.records.Park.{Park}
 use Rattle.shunt_blocks.specs.defs.Shapes.{shape_of, unit_from, position_from, AreRunsWithin, IsWithinTrains}
-use Rattle.shunt_blocks.specs.defs.Ways.{way_from, way_to}
+use Rattle.shunt_blocks.specs.defs.Ways.{may_come, way_from, way_to, train_way_in}
 use Rattle.shunt_blocks.specs.defs.Costs.{option_cost, cost_with}
 use Rattle.shunt_blocks.specs.defs.Stays.{length_of, shape_length}
 use Rattle.shunt_choices.specs.defs.Paths.{Masks, masks_of}
@@ -171,11 +171,16 @@ module _ (night : Night) (h : IsOrderedNight night) where
   way_out_small (origin.Platform p) track side = or_none _ (cost_bound night p track side _ h refl)
   way_out_small (origin.Track own) track side = omega arith
 
+  may_small : (may : Bool) (way : Option ℕ) → unwrap_or way 0 ≤ 1000000 → unwrap_or (if may then way else None) 0 ≤ 1000000
+  may_small true way le = le
+  may_small false way le = omega arith
+
   option_small : (s : Shape) (park : Option Park) → option_cost night s park ≤ 2000000
   option_small s None = omega (arith, h.station.unparked)
   option_small s (Some k) = omega (
     arith,
-    way_in_small (train_at night.arrive s.arr.0).origin k.track k.side_in,
+    may_small (may_come (train_at night.arrive s.arr.0).placed s k.track k.side_in) (train_way_in night s.arr k.track k.side_in)
+        (way_in_small (train_at night.arrive s.arr.0).origin k.track k.side_in),
     way_out_small (train_at night.depart s.dep.0).origin k.track k.side_out,
   )
 

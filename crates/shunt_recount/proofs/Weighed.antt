@@ -16,7 +16,10 @@ use Rattle.shunt_prices.specs.defs.Cases.{duals_over, surcharge, HasRoom}
 use Rattle.shunt_prices.specs.defs.Sums.{IsWithin}
 use Rattle.shunt_stacks.specs.defs.Stacks.{Stack}
 use Rattle.shunt_stacks.specs.defs.Fillings.{gain}
-use Rattle.shunt_recount.specs.defs.Offers.{block_on, IsOffer}
+use Rattle.shunt_recount.specs.defs.Offers.{block_on, Gains, IsOffer}
+
+no_more : (g : ℤ) → g ≤ℤ pos 0 → pos 0 <ℤ g → ⊥
+no_more g low more = omega (arith, ints, low, more)
 
 nothing : (m : ℤ) (o : Option Park) → IsSome o → surcharge m o ≡ pos 0
 nothing m None h = absurd (false≢true h)
@@ -55,3 +58,6 @@ module _ (night : Night) (c : Case) (stack : Stack) (s : Shape) where
         small = subst (IsWithin 16000000000000) (sym is) (little_gain low lt);
         gains = record { option = option; room = room; gains = lt };
       }
+
+  pub not_offered : (b : Block) (g : ℤ) → b ≡ block_on stack s → g ≡ gain night c b → g ≤ℤ pos 0 → Gains night c stack s → ⊥
+  not_offered b g e own low is = no_more g low (subst (λ (z : ℤ). pos 0 <ℤ z) (sym (own ∙ ap (gain night c) e)) is.gains)

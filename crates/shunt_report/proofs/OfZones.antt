@@ -27,7 +27,7 @@ earlier x y (z ∷ zs) (inr h) = inr (earlier x y zs h)
 module _ (laws : StayLaws) (night : Night) (zones : Zones) (plan : Plan) (is : IsInstance night) (formed : IsZones night.station zones) (range : IsPlanInRange night plan) where
   moves_are : All (IsMoveOf night) (moves_of night plan.blocks)
   moves_are = subst (All (IsMoveOf night)) (moves_from night plan.blocks plan.blocks (events_of night plan.blocks) (events_of night plan.blocks) refl refl refl)
-      (moves_of_night night (events_of night plan.blocks) (events_of_night laws night plan.blocks is range.blocks))
+      (moves_of_night night plan.blocks (events_of night plan.blocks) (events_of_night laws night plan.blocks is range.blocks))
 
   -- a zone that a move passes is one of the names
   zone_is : (e : Event) (zone : ℕ) → In zone (zones_of night zones e) → zone < length zones.names

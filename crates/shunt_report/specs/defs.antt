@@ -9,5 +9,6 @@ pub mod DriversTexts
 pub mod DelaysTexts
 pub mod ComparisonTexts
 pub mod PlanTexts
+pub mod ResumedTexts
 pub mod SheetTexts
 pub mod JsonTexts

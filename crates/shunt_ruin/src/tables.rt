@@ -6,7 +6,8 @@ ghost use Rattle.shunt_blocks.specs.defs.Shapes.{AreRunsWithin};
 use indexmap::IndexSet;
 use shunt_base::{Case, Duals, Price, PriceKind};
 use shunt_blocks::{
-    Block, Park, Shape, are_runs_within, block_cost, block_length, in_range, is_pair, track_lengths,
+    Block, Park, Shape, are_runs_within, block_cost, block_length, has_placed, in_range, is_pair,
+    track_lengths,
 };
 use shunt_choices::options;
 use shunt_instance::{Instance, Origin};
@@ -50,6 +51,8 @@ struct Likeness {
     long: u32,
     /// Which types its units have, where tracks permit some alone.
     kinds: u64,
+    /// Which units it has, where one of them has come already.
+    come: usize,
     /// How many of the prices are of moments before it arrives, and before it departs.
     early: usize,
     late: usize,
@@ -321,6 +324,16 @@ fn number_of(origin: Origin) -> u16 {
     }
 }
 
+/// A number for the units of a shape where one of them has come already, and 0 for all others.
+fn come_of(instance: &Instance, row: &ShapeRow) -> usize
+    requires { AreRunsWithin instance.now row.now.shape }
+{
+    if !has_placed(instance, &block_with(row.shape, None, 1)) {
+        return 0;
+    }
+    16 * usize::from(row.unit) + usize::from(row.shape.n)
+}
+
 /// What a shape has in common with others.
 fn likeness_of(instance: &Instance, prices: &[Price], row: &ShapeRow) -> Likeness
     requires { AreRunsWithin instance.now row.now.shape }
@@ -335,6 +348,7 @@ fn likeness_of(instance: &Instance, prices: &[Price], row: &ShapeRow) -> Likenes
         goes: number_of(instance.depart(row.shape.dep).origin),
         long: row.long,
         kinds,
+        come: come_of(instance, row),
         early: early(prices, row.shape),
         late: late(instance, prices, row.departs),
     }

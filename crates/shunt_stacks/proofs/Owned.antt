@@ -1,6 +1,6 @@
 -- The stack of an option, and the stacks of a station.
-use Rattle.std.specs.Prelude.{◌↔◌, ◌&&◌, ◌==◌, IsTrue, IfSome, IsSome, is_some, cond, Option, Some, None}
-use Rattle.std.proofs.Common.{◌≡◌, ⊎_elim, inl, inr, ℕ, zero, suc, ◌*◌, ◌<◌, ◌≤◌, Bool, true, length, refl, sym, subst, ap, ◌∙◌, arith, length-append}
+use Rattle.std.specs.Prelude.{◌↔◌, ◌&&◌, ◌==◌, IsTrue, IfSome, IsSome, is_some, cond, Option, Some, None, if◌then◌else◌}
+use Rattle.std.proofs.Common.{◌≡◌, ⊎_elim, inl, inr, ℕ, zero, suc, ◌*◌, ◌<◌, ◌≤◌, Bool, true, false, length, refl, sym, subst, ap, ◌∙◌, arith, length-append}
 use Rattle.std.proofs.lemmas.Bool.{cases_Bool, cases_lt, eqb-true, eq-eqb, and_parts, and_from, false≢true}
 use Rattle.std.proofs.lemmas.List.Sums.{length-filter, count_by-le-length}
 use Rattle.shunt_lists.specs.defs.Members.{In}
@@ -19,7 +19,7 @@ use Rattle.shunt_instance.specs.defs.Instance.{Night}
 use Rattle.shunt_instance.proofs.Found.{side_open}
 use Rattle.shunt_blocks.specs.declared.records.Shape.{Shape}
 use Rattle.shunt_blocks.specs.declared.records.Park.{Park}
-use Rattle.shunt_blocks.specs.defs.Ways.{way_from, way_to}
+use Rattle.shunt_blocks.specs.defs.Ways.{may_come, way_from, way_to, train_way_in}
 use Rattle.shunt_blocks.specs.defs.Blocks.{IsOption, IsParkable}
 use Rattle.shunt_stacks.specs.defs.Stacks.{Stack, both_sides, sides_below, stacks, is_of, stack_of}
 
@@ -137,12 +137,18 @@ stack_there night h s (Some k) stack is of =
 opens_in : (s : Station) (h : IsStation s) (p : PlatformId) (k : Park) → IsSome (route_cost s p k.track k.side_in) → IsTrue (is_open_at s k.track k.side_in)
 opens_in s h p k way = opens_out s h (origin.Platform p) (record k { side_out = k.side_in }) way
 
+-- where a shape has a way in, its train has one
+train_comes : (may : Bool) (way : Option ℕ) → IsSome (if may then way else None) → IsSome way
+train_comes true way h = h
+train_comes false way h = absurd (false≢true h)
+
 -- what comes from a platform to a track that is open at one side alone is of the stack there
 pub one_side : (night : Night) (h : IsStation night.station) (s : Shape) (k : Park) (p : PlatformId) (side : Side) → IsParkable night s k
     → (train_at night.arrive s.arr.0).origin ≡ origin.Platform p
     → ((other : Side) → IsTrue (is_open_at night.station k.track other) → other ≡ side) → is_of (record { track = k.track; side = side }) (Some k) ≡ true
 one_side night h s k p side is from only =
-    let way : IsSome (way_from night.station (origin.Platform p) k.track k.side_in) = subst (λ (o : Origin). IsSome (way_from night.station o k.track k.side_in)) from is.way_in in
+    let way : IsSome (way_from night.station (origin.Platform p) k.track k.side_in) = subst (λ (o : Origin). IsSome (way_from night.station o k.track k.side_in)) from
+    (train_comes (may_come (train_at night.arrive s.arr.0).placed s k.track k.side_in) (train_way_in night s.arr k.track k.side_in) is.way_in) in
     let comes = only k.side_in (opens_in night.station h p k way) in
     let goes = only k.side_out (opens_out night.station h (train_at night.depart s.dep.0).origin k is.way_out) in
     and_from (k.track.0 == k.track.0) (same_side k.side_in side && same_side k.side_out side) (eq-eqb k.track.0 k.track.0 refl)

@@ -1,8 +1,9 @@
 -- The rows of a timetable are plain, and their text.
-use Rattle.std.proofs.Common.{◌≡◌, ℕ, ◌<◌, not, List, [], ◌∷◌, ◌++◌, length, map, filter, refl, sym, ap, ◌∙◌, arith}
-use Rattle.std.specs.Prelude.{All, slice_index_or, codes, Ok}
+use Rattle.std.proofs.Common.{◌≡◌, ℕ, ◌<◌, Bool, true, false, not, List, [], ◌∷◌, ◌++◌, length, map, filter, refl, sym, ap, subst, ◌∙◌, arith}
+use Rattle.std.specs.Prelude.{All, IfSome, Option, Some, None, slice_index_or, flat_map, if◌then◌else◌, codes, Ok}
 use Rattle.std.specs.List.{AllByRecursion}
 use Rattle.std.proofs.lemmas.List.{append-nil, append_assoc}
+use Rattle.std.proofs.lemmas.List.Concat.{flat_map-cons}
 use Rattle.std.proofs.lemmas.List.Elements.{All-tail, All-filter}
 use Rattle.shunt_base.proofs.Names.{name_from}
 use Rattle.shunt_base.specs.declared.ids.TypeId.{TypeId}
@@ -11,18 +12,20 @@ use Rattle.shunt_rows.specs.defs.Records.{IsPlainField, IsPlainRow, ArePlain, te
 use Rattle.shunt_rows.specs.defs.Formats.{reading}
 use Rattle.shunt_rows.specs.defs.Written.{Written}
 use Rattle.shunt_rows.proofs.Named.{name_at}
-use Rattle.shunt_rows.proofs.Plain.{plain_name, plain_minute, plain_map, plain_more}
+use Rattle.shunt_rows.proofs.Plain.{plain_name, plain_number, plain_side, plain_minute, plain_map, plain_more}
 use Rattle.shunt_rows.proofs.Texts.{row_written, rows_written}
 use Rattle.shunt_instance.specs.declared.records.Station.{Station}
+use Rattle.shunt_instance.specs.declared.records.PlacedRun.{PlacedRun}
+use Rattle.shunt_instance.specs.declared.records.TrackEnd.{TrackEnd}
 use Rattle.shunt_instance.specs.declared.records.Train.{Train}
 use Rattle.shunt_instance.specs.declared.records.Timetable.{Timetable}
 use Rattle.shunt_instance.specs.declared.records.Origin.{Origin}
 use Rattle.shunt_instance.specs.declared.records.Origin.TheVariants as origin
 use Rattle.shunt_instance.specs.defs.Words.{is_standing}
-use Rattle.shunt_instance.specs.defs.Wellformed.{IsOrigin, IsStation, IsTrain, IsTimetable}
+use Rattle.shunt_instance.specs.defs.Wellformed.{IsOrigin, IsPlacedRun, IsStation, IsTrain, IsTimetable}
 use Rattle.shunt_timetable.specs.defs.TimetableFormat.{timetable_format}
-use Rattle.shunt_timetable.specs.defs.WrittenRows.{type_names, place_name, standing_row, moving_row, first_row, rows_of}
-use Rattle.shunt_timetable.proofs.Formed.{filter_whole}
+use Rattle.shunt_timetable.specs.defs.WrittenRows.{type_names, place_name, standing_row, moving_row, end_fields, placed_row, placed_rows, all_to_come, first_row, rows_of}
+use Rattle.shunt_timetable.proofs.PlacedRuns.{filter_whole}
 use Rattle.shunt_timetable.proofs.RoundTrip.{timetable_again}
 
 pub place_is_name : (station : Station) (o : Origin) → IsStation station → IsOrigin station o → IsName (place_name station o)
@@ -65,44 +68,80 @@ standing_plain station s t h = (
   ),
 )
 
+end_plain : (station : Station) (end : Option TrackEnd) → IsStation station → IfSome end (λ e. e.track.0 < length station.tracks)
+    → AllByRecursion IsPlainField (end_fields station end)
+end_plain station None s lt = (plain_name (codes "unparked") (name_from (codes "unparked") refl), tt)
+end_plain station (Some e) s lt = (
+  plain_name (codes "park") (name_from (codes "park") refl),
+  (plain_name _ (name_at (λ t. t.name) station.tracks e.track.0 (λ i d l. (s.tracks i d l).name) lt), (plain_side e.side, tt)),
+)
+
+pub placed_plain : (station : Station) (t : Train) → IsStation station → IsTrain station t → (r : PlacedRun) → IsPlacedRun station t r → IsPlainRow (placed_row station t r)
+placed_plain station t s h r p =
+    let some = p.some in
+    let fits = p.within in
+    let few = h.few in (
+      omega arith,
+      (
+        plain_name (codes "placed") (name_from (codes "placed") refl),
+        (plain_name t.name h.name, (plain_number r.first (omega (arith, fits, few)), (plain_number r.count (omega (arith, fits, few)), end_plain station r.came_by s p.track))),
+      ),
+    )
+
+runs_plain : (station : Station) (ts : List Train) → IsStation station → All (IsTrain station) ts → ArePlain (flat_map (placed_rows station) ts)
+runs_plain station [] s h = tt
+runs_plain station (t ∷ ts) s h =
+    let one = h 0 t (omega arith) in
+    let runs = plain_map (IsPlacedRun station t) (placed_row station t) t.placed (placed_plain station t s one) one.placed.each in
+    subst ArePlain (sym (flat_map-cons (placed_rows station) t ts)) (plain_more (placed_rows station t) (flat_map (placed_rows station) ts) runs
+    (runs_plain station ts s (All-tail (IsTrain station) t ts h)))
+
+pub head_plain : (to_come : Bool) → IsPlainRow (codes "timetable" ∷ (if to_come then codes "2" else codes "3") ∷ [])
+head_plain true = (omega arith, (plain_name (codes "timetable") (name_from (codes "timetable") refl), (plain_name (codes "2") (name_from (codes "2") refl), tt)))
+head_plain false = (omega arith, (plain_name (codes "timetable") (name_from (codes "timetable") refl), (plain_name (codes "3") (name_from (codes "3") refl), tt)))
+
 timetable_plain : (station : Station) (t : Timetable) → IsStation station → IsTimetable station t → ArePlain (rows_of station t)
 timetable_plain station t s h =
     let a = plain_map (IsTrain station) (standing_row station) (filter is_standing t.arrive) (standing_plain station s)
     (All-filter is_standing (IsTrain station) t.arrive h.arrive.each) in
     let b = plain_map (IsTrain station) (moving_row station (codes "arrive")) (filter (λ r. not (is_standing r)) t.arrive)
     (moving_plain station (codes "arrive") s (name_from (codes "arrive") refl)) (All-filter (λ r. not (is_standing r)) (IsTrain station) t.arrive h.arrive.each) in
-    let c = plain_map (IsTrain station) (moving_row station (codes "depart")) t.depart
-    (moving_plain station (codes "depart") s (name_from (codes "depart") refl)) h.depart.each in (
-      (omega arith, (plain_name (codes "timetable") (name_from (codes "timetable") refl), (plain_name (codes "2") (name_from (codes "2") refl), tt))),
-      plain_more _ _ (plain_more _ _ a b) c,
-    )
+    let c = plain_map (IsTrain station) (moving_row station (codes "depart")) t.depart (moving_plain station (codes "depart") s (name_from (codes "depart") refl)) h.depart.each in
+    let d = runs_plain station t.arrive s h.arrive.each in
+    (head_plain (all_to_come t.arrive), plain_more _ _ (plain_more _ _ (plain_more _ _ a b) c) d)
 
 abbrev wrote : List ℕ → Written
 wrote text = record { text = text; row = [] }
 
 -- all records of a timetable, one section after the other
-pub timetable_written : (station : Station) (t : Timetable) (x y z : List Train) (w a b c d : Written) → IsTimetable station t → x ≡ t.arrive → y ≡ t.arrive → z ≡ t.depart
+pub timetable_written : (station : Station) (t : Timetable) (x y z v : List Train) (w a b c d e : Written) → IsTimetable station t → x ≡ t.arrive → y ≡ t.arrive → z ≡ t.depart
+    → v ≡ t.arrive
     → w ≡ record { text = []; row = [] }
-    → a ≡ record { text = w.text ++ text_of_row first_row; row = [] }
+    → a ≡ record { text = w.text ++ text_of_row (first_row t); row = [] }
     → b ≡ record { text = a.text ++ text_of_rows (map (standing_row station) (filter is_standing x)); row = [] }
     → c ≡ record { text = b.text ++ text_of_rows (map (moving_row station (codes "arrive")) (filter (λ r. not (is_standing r)) y)); row = [] }
     → d ≡ record { text = c.text ++ text_of_rows (map (moving_row station (codes "depart")) (filter (λ r. not (is_standing r)) z)); row = [] }
-    → d.text ≡ text_of_rows (rows_of station t)
-timetable_written station t x y z w a b c d h hx hy hz h0 h1 h2 h3 h4 =
+    → e ≡ record { text = d.text ++ text_of_rows (flat_map (placed_rows station) v); row = [] }
+    → e.text ≡ text_of_rows (rows_of station t)
+timetable_written station t x y z v w a b c d e h hx hy hz hv h0 h1 h2 h3 h4 h5 =
     let moves = λ (r : Train). not (is_standing r) in
+    let head = first_row t in
     let stand = map (standing_row station) (filter is_standing t.arrive) in
     let come = map (moving_row station (codes "arrive")) (filter moves t.arrive) in
     let go = map (moving_row station (codes "depart")) t.depart in
-    let all = text_of_rows (first_row ∷ (stand ++ (come ++ (go ++ [])))) in
+    let runs = flat_map (placed_rows station) t.arrive in
+    let all = text_of_rows (head ∷ (stand ++ (come ++ (go ++ (runs ++ []))))) in
     let i2 = h2 ∙ ap (λ l. wrote (a.text ++ text_of_rows (map (standing_row station) (filter is_standing l)))) hx in
     let i3 = h3 ∙ ap (λ l. wrote (b.text ++ text_of_rows (map (moving_row station (codes "arrive")) (filter moves l)))) hy in
     let i4 = h4 ∙ ap (λ l. wrote (c.text ++ text_of_rows (map (moving_row station (codes "depart")) l)))
     (ap (filter moves) hz ∙ filter_whole moves t.depart (λ k e lt. ap not (h.from_platform k e lt))) in
-    sym (append-nil d.text)
-    ∙ rows_written c d go [] all i4 (rows_written b c come (go ++ []) all i3 (rows_written a b stand (come ++ (go ++ [])) all i2
-    (row_written w a first_row (stand ++ (come ++ (go ++ []))) all h1 (ap (λ (v : Written). v.text ++ all) h0))))
-    ∙ ap (λ l. text_of_rows (first_row ∷ (stand ++ (come ++ l)))) (append-nil go)
-    ∙ ap (λ l. text_of_rows (first_row ∷ l)) (sym (append_assoc stand come go))
+    let i5 = h5 ∙ ap (λ l. wrote (d.text ++ text_of_rows (flat_map (placed_rows station) l))) hv in
+    sym (append-nil e.text)
+    ∙ rows_written d e runs [] all i5 (rows_written c d go (runs ++ []) all i4 (rows_written b c come (go ++ (runs ++ [])) all i3
+    (rows_written a b stand (come ++ (go ++ (runs ++ []))) all i2 (row_written w a head (stand ++ (come ++ (go ++ (runs ++ [])))) all h1
+    (ap (λ (v : Written). v.text ++ all) h0)))))
+    ∙ ap (λ l. text_of_rows (head ∷ (stand ++ (come ++ (go ++ l))))) (append-nil runs)
+    ∙ ap (λ l. text_of_rows (head ∷ l)) (sym (append_assoc (stand ++ come) go runs ∙ append_assoc stand come (go ++ runs)))
 
 pub rows_read : (station : Station) (t : Timetable) (text bytes : List ℕ) → IsStation station → IsTimetable station t → text ≡ text_of_rows (rows_of station t)
     → ReadsBack text bytes → records_of bytes ≡ rows_of station t

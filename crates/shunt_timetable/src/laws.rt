@@ -28,9 +28,9 @@ pub fn rows_of_a_timetable_state_it()
         → reading (timetable_format station) (rows_of station timetable) ≡ Ok timetable }
 {}
 
-/// The text of a timetable's rows has at most 14,852 bytes.
+/// The text of a timetable's rows has at most 23,172 bytes.
 pub fn text_of_a_timetable_is_short()
     ensures { (station : Station) (timetable : Timetable) → IsStation station
         → IsTimetable station timetable
-        → length (text_of_rows (rows_of station timetable)) ≤ 14852 }
+        → length (text_of_rows (rows_of station timetable)) ≤ 23172 }
 {}

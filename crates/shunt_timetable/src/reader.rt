@@ -1,25 +1,34 @@
 // Reading a timetable.
-ghost use Rattle.std.specs.Prelude.{◌≡◌, ◌+◌, ◌-◌, ◌≤◌, ◌<◌, ◌++◌, ◌∷◌, [], false, length, IfOk};
-ghost use Rattle.std.specs.Prelude.{OnOk, OnErr};
+ghost use Rattle.std.specs.Prelude.{◌≡◌, ◌+◌, ◌-◌, ◌==◌, ◌||◌, ◌≤◌, ◌<◌, ◌++◌, ◌∷◌, [], false};
+ghost use Rattle.std.specs.Prelude.{length, IsTrue, IfOk, IfSome, OnOk, OnErr};
 ghost use Rattle.shunt_rows.specs.defs.Records.{at};
-ghost use Rattle.shunt_rows.specs.defs.Checks.{answer};
+ghost use Rattle.shunt_rows.specs.declared.fault.RowKind.TheVariants as kinds;
+ghost use Rattle.shunt_rows.specs.defs.Checks.{answer, found, must as holding};
+ghost use Rattle.shunt_rows.specs.defs.Fields.{named_in};
 ghost use Rattle.shunt_rows.specs.defs.Formats.{reading};
 ghost use Rattle.shunt_rows.specs.defs.Given.{Gives};
-ghost use Rattle.shunt_instance.specs.defs.Words.{unit_count};
+ghost use Rattle.shunt_instance.specs.defs.Words.{unit_count, is_open_at, train_at};
 ghost use Rattle.shunt_instance.specs.defs.Wellformed.{IsStation, IsTimetable};
 ghost use Rattle.shunt_timetable.specs.defs.TimetableFormat.{Listed, first_of, has_train, kind_of};
 ghost use Rattle.shunt_timetable.specs.defs.TimetableFormat.{track_in, platform_in, name_of};
-ghost use Rattle.shunt_timetable.specs.defs.TimetableFormat.{unit_of, units_from, empty_train};
-ghost use Rattle.shunt_timetable.specs.defs.TimetableFormat.{standing_of, moving_of, stand_of};
-ghost use Rattle.shunt_timetable.specs.defs.TimetableFormat.{arrive_of, depart_of, later_of};
+ghost use Rattle.shunt_timetable.specs.defs.TimetableFormat.{units_from, empty_train, standing_of};
+ghost use Rattle.shunt_timetable.specs.defs.TimetableFormat.{moving_of, stand_of, arrive_of};
+ghost use Rattle.shunt_timetable.specs.defs.TimetableFormat.{depart_of, open_side_in, track_number};
+ghost use Rattle.shunt_timetable.specs.defs.TimetableFormat.{parked_end, no_end, end_in};
+ghost use Rattle.shunt_timetable.specs.defs.TimetableFormat.{with_placed, placed_of, later_of};
 ghost use Rattle.shunt_timetable.specs.defs.TimetableFormat.{timetable_of, timetable_format};
 
-use shunt_base::{Minute, Name, Naming, PlainNames, PlatformId, TrackId, TypeId, is_name};
-use shunt_instance::{Origin, Station, Timetable, TrackNames, Train, TypeNames};
+use crate::placed::read_placed_units;
+use crate::runs::with_run;
+use crate::writer::stands;
+use shunt_base::{Minute, Name, PlainNames, PlatformId, Side, TrackId, TypeId, is_name};
+use shunt_instance::{
+    Origin, PlacedRun, Station, Timetable, TrackEnd, TrackNames, Train, TypeNames,
+};
 use shunt_lists::Items;
 use shunt_rows::{
-    FormatReader, Known, Numbered, ReadError, Row, RowFault, RowKind, fields_in, minute_in, must,
-    number_in, read,
+    FormatReader, Known, Names, ReadError, Row, RowFault, RowKind, fields_in, minute_in, must,
+    number_in, read, side_in,
 };
 use std::alloc::{AllocError, Global};
 use std::marker::{Model, PhantomData};
@@ -62,36 +71,26 @@ impl<'r> KnownStation<'r> {
     }
 }
 
-// Trains are known by their names.
-struct TrainNames;
-
-impl Naming for TrainNames {
-    type Thing = Train;
-
-    ghost name = { λ t. t.name };
-
-    fn name_of(train: &Train) -> &[u8] {
-        train.name.bytes()
-    }
-}
-
-// The trains of one word, and how many units they have.
+// The trains of one word, which are known by their names, and how many units they have.
 #[derive(Drop)]
 struct Trains<'r> {
-    trains: Numbered<'r, TrainNames>,
+    names: Names<'r>,
+    trains: Vec<Train>,
     units: usize,
 }
 
 impl<'r> Model for Trains<'r> {
-    ghost use Rattle.std.specs.Prelude.{◌≡◌, ◌≤◌, List};
+    ghost use Rattle.std.specs.Prelude.{◌≡◌, ◌≤◌, List, All, length};
     ghost use Rattle.shunt_instance.specs.declared.records.Train.{Train};
-    ghost use Rattle.shunt_instance.specs.defs.Words.{unit_count};
+    ghost use Rattle.shunt_instance.specs.defs.Words.{names_of, unit_count};
 
     ghost Value = { List Train };
 
-    ghost view = { λ t. t.trains };
+    ghost view = { λ t. t.trains.items };
 
-    ghost invariant = { λ t. (t.units ≡ unit_count t.trains) × (t.units ≤ 160) };
+    ghost invariant = { λ t. (t.names ≡ names_of t.trains.items)
+        × (t.units ≡ unit_count t.trains.items) × (t.units ≤ 160)
+        × All (λ u. length u.units ≤ 8) t.trains.items };
 }
 
 impl<'r> Trains<'r> {
@@ -99,7 +98,8 @@ impl<'r> Trains<'r> {
         ensures { result ≡ [] }
     {
         Trains {
-            trains: Numbered::new(alloc),
+            names: Names::new(alloc),
+            trains: Vec::new(alloc),
             units: 0,
         }
     }
@@ -112,16 +112,57 @@ impl<'r> Trains<'r> {
         self.units
     }
 
+    // Whether a train has this name.
+    fn has(&self, name: &[u8]) -> bool
+        ensures { result ≡ has_train self.now name.now }
+    {
+        self.names.has(name)
+    }
+
+    // The number of the train with the name at field 2, else Unknown.
+    fn read_number(&self, row: &Row, n: u32) -> Result<usize, RowFault>
+        requires { 2 ≤ length row.now }
+        ensures answer { result ≡ answer n (named_in (λ t. t.name) self.now row.now 2) }
+        ensures within { IfOk result (λ k. k < length self.now) }
+    {
+        self.names.known_in(row, n, 2)
+    }
+
+    // The train with a number.
+    fn train(&self, k: usize) -> &Train
+        requires { k < length self.now }
+        ensures exact { result.now ≡ train_at self.now k }
+        ensures few { length result.now.units ≤ 8 }
+    {
+        &self.trains[k]
+    }
+
+    // Adds a run to those of the train with a number that have come.
+    fn place(&mut self, alloc: Global, k: usize, run: PlacedRun) -> Result<(), AllocError>
+        requires { k < length self.old }
+        ensures added { OnOk result (self.new ≡ with_placed k run self.old) }
+        ensures same { OnErr result (self.new ≡ self.old) }
+    {
+        let placed = with_run(alloc, self.trains[k].placed.as_slice(), run)?;
+        self.trains[k].placed = Items::from_vec(placed);
+        Ok(())
+    }
+
     // Adds a train with a new name.
     fn push(&mut self, name: &'r [u8], train: Train) -> Result<(), AllocError>
         requires own { train.name ≡ name.now }
         requires fresh { has_train self.old name.now ≡ false }
+        requires few { length train.units ≤ 8 }
         requires room { unit_count self.old + length train.units ≤ 160 }
         ensures added { OnOk result (self.new ≡ self.old ++ train ∷ []) }
         ensures same { OnErr result (self.new ≡ self.old) }
     {
         let units = train.units.len();
-        self.trains.push(name, train)?;
+        self.trains.push(train)?;
+        if self.names.add(name).is_err() {
+            self.trains.pop();
+            return Err(AllocError);
+        }
         self.units += units;
         Ok(())
     }
@@ -215,6 +256,7 @@ fn read_units(
     requires few { length row.now ≤ 12 }
     ensures own { IfOk result (λ t. t.name ≡ name) }
     ensures room { IfOk result (λ t. before + length t.units ≤ 160) }
+    ensures few { IfOk result (λ t. length t.units + first ≤ length row.now + 1) }
     ensures stated { Gives (λ t. t) result (answer n (units_from station.now before
         (empty_train name minute origin) row.now first (length row.now - (first - 1)))) }
 {
@@ -229,6 +271,7 @@ fn read_units(
         minute,
         origin,
         units: Items::from_vec(units),
+        placed: Items::from_vec(Vec::new(alloc)),
     })
 }
 
@@ -242,7 +285,7 @@ fn read_name(alloc: Global, trains: &Trains, row: &Row, n: u32) -> Result<Name, 
     must(trains.trains.len() < 100, n, 1, RowKind::Limit)?;
     let name = row.field(2);
     must(is_name(name), n, 2, RowKind::Name)?;
-    let repeats = trains.trains.has(name);
+    let repeats = trains.has(name);
     must(!repeats, n, 2, RowKind::Repeat)?;
     Ok(Name::new(alloc, name)?)
 }
@@ -260,6 +303,7 @@ fn read_standing(
     ensures own { IfOk result (λ t. t.name ≡ at row.now 2) }
     ensures fresh { OnOk result (has_train trains.now (at row.now 2) ≡ false) }
     ensures room { IfOk result (λ t. unit_count trains.now + length t.units ≤ 160) }
+    ensures few { IfOk result (λ t. length t.units ≤ 8) }
 {
     fields_in(row, n, 4, 11)?;
     let name = read_name(alloc, trains, row, n)?;
@@ -281,6 +325,7 @@ fn read_moving(
     ensures own { IfOk result (λ t. t.name ≡ at row.now 2) }
     ensures fresh { OnOk result (has_train trains.now (at row.now 2) ≡ false) }
     ensures room { IfOk result (λ t. unit_count trains.now + length t.units ≤ 160) }
+    ensures few { IfOk result (λ t. length t.units ≤ 8) }
 {
     fields_in(row, n, 5, 12)?;
     let name = read_name(alloc, trains, row, n)?;
@@ -290,7 +335,121 @@ fn read_moving(
     read_units(alloc, station, before, name, minute, platform, row, n, 5)
 }
 
+// The track at field 6.
+#[tactic(auto, unfolding(crate::specs::defs::TimetableFormat::track_number), using(crate::proofs::Parts::track_found, crate::proofs::Parts::track_unknown))]
+fn read_end_track(station: &KnownStation, row: &Row, n: u32) -> Result<TrackId, RowFault>
+    requires station { IsStation station.now }
+    requires fields { 6 ≤ length row.now }
+    ensures answer { result ≡ answer n
+        (found (record { 0 = 0 }) (track_number station.now (at row.now 6)) 6 kinds.Unknown) }
+    ensures within { IfOk result (λ t. t.0 < length station.now.tracks) }
+{
+    let track = station.tracks.known_in(row, n, 6)?;
+    Ok(TrackId(track as u8))
+}
+
+// Whether a track of the station is open at a side.
+fn is_open_at(station: &Station, track: TrackId, side: Side) -> bool
+    requires { track.0 < length station.now.tracks }
+    ensures { result ≡ is_open_at station.now track side }
+{
+    let track = &station.tracks.as_slice()[track.0 as usize];
+    match side {
+        Side::A => track.side_a,
+        Side::B => track.side_b,
+    }
+}
+
+// The open side of a track at field 7.
+fn read_open_side(station: &Station, track: TrackId, row: &Row, n: u32) -> Result<Side, RowFault>
+    requires track { track.0 < length station.now.tracks }
+    requires fields { 7 ≤ length row.now }
+    ensures { result ≡ answer n (open_side_in station.now track row.now 7) }
+{
+    let side = side_in(row, n, 7)?;
+    must(is_open_at(station, track, side), n, 7, RowKind::ClosedSide)?;
+    Ok(side)
+}
+
+// `park,TRACK,SIDE` from field 5 on.
+#[tactic(auto, unfolding(crate::specs::defs::TimetableFormat::parked_end))]
+fn read_parked_end(
+    station: &KnownStation,
+    train: &Train,
+    row: &Row,
+    n: u32,
+) -> Result<Option<TrackEnd>, RowFault>
+    requires station { IsStation station.now }
+    requires fields { 7 ≤ length row.now }
+    ensures { result ≡ answer n (parked_end station.now train.now row.now) }
+{
+    let parked = row.field(5) == b"park".as_slice() && !stands(train);
+    must(parked, n, 5, RowKind::Kind)?;
+    let track = read_end_track(station, row, n)?;
+    let side = read_open_side(station.station, track, row, n)?;
+    Ok(Some(TrackEnd { track, side }))
+}
+
+// `unparked` at field 5.
+#[tactic(auto, unfolding(crate::specs::defs::TimetableFormat::no_end))]
+fn read_no_end(row: &Row, n: u32) -> Result<Option<TrackEnd>, RowFault>
+    requires { 5 ≤ length row.now }
+    ensures { result ≡ answer n (no_end row.now) }
+{
+    let cleared = row.field(5) == b"unparked".as_slice();
+    must(cleared, n, 5, RowKind::Kind)?;
+    Ok(None)
+}
+
+// The end by which a run came.
+#[tactic(auto, unfolding(crate::specs::defs::TimetableFormat::end_in))]
+fn read_end(
+    station: &KnownStation,
+    train: &Train,
+    row: &Row,
+    n: u32,
+) -> Result<Option<TrackEnd>, RowFault>
+    requires station { IsStation station.now }
+    requires fields { IsTrue (length row.now == 5 || length row.now == 7) }
+    ensures { result ≡ answer n (end_in station.now train.now row.now) }
+{
+    if row.len() == 5 {
+        return read_no_end(row, n);
+    }
+    read_parked_end(station, train, row, n)
+}
+
+// Whether a record has five or seven fields.
+fn five_or_seven(row: &Row, n: u32) -> Result<(), RowFault>
+    ensures answer { result
+        ≡ answer n (holding (length row.now == 5 || length row.now == 7) 1 kinds.Fields) }
+    ensures held { OnOk result (IsTrue (length row.now == 5 || length row.now == 7)) }
+{
+    let len = row.len();
+    must(len == 5 || len == 7, n, 1, RowKind::Fields)
+}
+
 impl<'r, 's> Listed<'r, 's> {
+    #[tactic(auto, unfolding(crate::specs::defs::TimetableFormat::placed_of))]
+    fn read_placed(
+        &mut self,
+        alloc: Global,
+        station: &KnownStation,
+        n: u32,
+        row: &Row,
+    ) -> Result<(), ReadError>
+        requires { IsStation station.now }
+        ensures { Gives (λ _. self.new) result (answer n (placed_of station.now self.old row.now)) }
+    {
+        five_or_seven(row, n)?;
+        let k = self.arrive.read_number(row, n)?;
+        let train = self.arrive.train(k);
+        let units = read_placed_units(train, row, n)?;
+        let came_by = read_end(station, train, row, n)?;
+        self.arrive.place(alloc, k, PlacedRun { came_by, ..units })?;
+        Ok(())
+    }
+
     #[tactic(auto, unfolding(crate::specs::defs::TimetableFormat::stand_of))]
     fn read_stand(
         &mut self,
@@ -359,7 +518,7 @@ impl<'r, 's> FormatReader<'r> for Listed<'r, 's> {
     ) -> Result<Listed<'r, 's>, ReadError> {
         must(row.word() == b"timetable".as_slice(), 1, 1, RowKind::Kind)?;
         fields_in(row, 1, 2, 2)?;
-        let version = number_in(row, 1, 2, 1, 2)?;
+        let version = number_in(row, 1, 2, 1, 3)?;
         Ok(Listed {
             version,
             arrive: Trains::new(alloc),
@@ -384,9 +543,12 @@ impl<'r, 's> FormatReader<'r> for Listed<'r, 's> {
         if word == b"depart".as_slice() {
             return self.read_depart(alloc, station, n, row);
         }
-        let may_stand = self.version == 2 && !self.moving;
+        let may_stand = self.version >= 2 && !self.moving;
         if may_stand && word == b"stand".as_slice() {
             return self.read_stand(alloc, station, n, row);
+        }
+        if self.version == 3 && word == b"placed".as_slice() {
+            return self.read_placed(alloc, station, n, row);
         }
         must(false, n, 1, RowKind::Kind)?;
         Ok(())
@@ -397,16 +559,17 @@ impl<'r, 's> FormatReader<'r> for Listed<'r, 's> {
     }
 
     fn into_output(self, _: &'r KnownStation<'s>) -> Timetable {
+        let (arrive, depart) = (self.arrive, self.depart);
         Timetable {
-            arrive: self.arrive.trains.into_items(),
-            depart: self.depart.trains.into_items(),
+            arrive: Items::from_vec(arrive.trains),
+            depart: Items::from_vec(depart.trains),
         }
     }
 }
 
 /// The timetable that the records state over this station, which is well formed, or exactly their first fault.
 ///
-/// The station needs to be well formed. Both versions of the file are read. `Fault` is the least fault by record, then
+/// The station needs to be well formed. All three versions of the file are read. `Fault` is the least fault by record, then
 /// field, then kind; `Memory` is want of memory.
 pub fn read_timetable(
     alloc: Global,

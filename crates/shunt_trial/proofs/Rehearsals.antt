@@ -34,7 +34,7 @@ use Rattle.shunt_trial.proofs.Left.{TextLaws, checkable, check_left, names_apart
 pub record NightLaws : Type 0 where
   pub station_again : (s : Station) → IsStation s → ReadsAsStation s (station_file s)
   pub station_short : (s : Station) → IsStation s → length (station_file s) ≤ 282436
-  pub timetable_short : (s : Station) (t : Timetable) → IsStation s → IsTimetable s t → length (timetable_file s t) ≤ 14852
+  pub timetable_short : (s : Station) (t : Timetable) → IsStation s → IsTimetable s t → length (timetable_file s t) ≤ 23172
   pub rows_again : (rows : List (List (List ℕ))) → ArePlain rows → records_of (text_of_rows rows) ≡ rows
 
 module _ (laws : NightLaws) (station : Station) (timetable : Timetable) (of_station : IsStation station) (of_timetable : IsTimetable station timetable) where

@@ -25,7 +25,7 @@ use Rattle.shunt_tracks.specs.declared.dues.Due.{Due}
 use Rattle.shunt_tracks.specs.defs.Dues.{move_of}
 use Rattle.shunt_zones.specs.declared.records.Zones.{Zones}
 use Rattle.shunt_zones.specs.declared.passages.Passing.{Passing}
-use Rattle.shunt_zones.specs.defs.Moves.{events_of, is_of_standing, IsMoveOf, moves_of as moves_in}
+use Rattle.shunt_zones.specs.defs.Moves.{events_of, has_been, IsMoveOf, moves_of as moves_in}
 use Rattle.shunt_zones.specs.defs.Passed.{passing_of, passings_of}
 use Rattle.shunt_lists.proofs.Options.{few_some}
 use Rattle.shunt_blocks.proofs.StaysOf.{stay_is}
@@ -33,7 +33,7 @@ use Rattle.shunt_blocks.proofs.StaysOf.{stay_is}
 -- ---- its entry and leave are moves of the night
 
 abbrev no_train : Train
-no_train = record { name = []; minute = 0; origin = origin.Platform (record { 0 = 0 }); units = [] }
+no_train = record { name = []; minute = 0; origin = origin.Platform (record { 0 = 0 }); units = []; placed = [] }
 
 entry_is : (night : Night) (b : Block) (k : Park) → IsOrderedNight night → IsWithinTrains night b → k.track.0 < length night.station.tracks
     → IsMoveOf night (event_of (entry_of (parked_stay night b k)))
@@ -84,16 +84,17 @@ pub events_are : (night : Night) (blocks : List Block) (dues seen : List Due) �
 unfolding events_of
 events_are night blocks dues seen same sorted = ap (λ l. map event_of (map move_of l)) same ∙ ap (map event_of) sorted
 
-abbrev moves : Night → Event → Bool
-moves night e = not (is_of_standing night e.key)
+abbrev moves : Night → List Block → Event → Bool
+moves night blocks e = not (has_been night blocks e.key)
 
 pub moves_from : (night : Night) (blocks others : List Block) (events seen : List Event) → seen ≡ events → events ≡ events_of night others → others ≡ blocks
-    → filter (moves night) seen ≡ moves_in night blocks
+    → filter (moves night others) seen ≡ moves_in night blocks
 unfolding moves_in
-moves_from night blocks others events seen same are of = ap (filter (moves night)) (same ∙ are ∙ ap (events_of night) of)
+moves_from night blocks others events seen same are of =
+    ap (λ (l : List Block). filter (moves night l) seen) of ∙ ap (filter (moves night blocks)) (same ∙ are ∙ ap (events_of night) of)
 
-pub moves_of_night : (night : Night) (events : List Event) → All (IsMoveOf night) events → All (IsMoveOf night) (filter (moves night) events)
-moves_of_night night events all = All-filter (moves night) (IsMoveOf night) events all
+pub moves_of_night : (night : Night) (blocks : List Block) (events : List Event) → All (IsMoveOf night) events → All (IsMoveOf night) (filter (moves night blocks) events)
+moves_of_night night blocks events all = All-filter (moves night blocks) (IsMoveOf night) events all
 
 either_few : {X : Type 0} (b : Bool) (xs ys : List X) (n : ℕ) → length xs ≤ n → length ys ≤ n → length (cond b xs ys) ≤ n
 either_few true xs ys n le more = le

@@ -18,7 +18,7 @@ use Rattle.shunt_blocks.specs.declared.records.Block.{Block}
 use Rattle.shunt_blocks.specs.defs.Lists.{stays_of}
 use Rattle.shunt_tracks.specs.declared.run.Event.{Event}
 use Rattle.shunt_tracks.specs.defs.Answer.{event_of}
-use Rattle.shunt_zones.specs.defs.Moves.{is_of_standing, events_of, moves_of}
+use Rattle.shunt_zones.specs.defs.Moves.{has_been, events_of, moves_of}
 use Rattle.shunt_lists.proofs.Tests.{never_both}
 use Rattle.shunt_lists.proofs.Orders.{first_less}
 
@@ -91,5 +91,5 @@ events_rise (m ∷ all) r = AllPairs-cons NotLater (event_of m) (map event_of al
 
 pub moves_rise : (night : Night) (blocks : List Block) → AllPairs NotLater (moves_of night blocks)
 unfolding moves_of events_of
-moves_rise night blocks = AllPairs-filter NotLater (λ e. not (is_of_standing night e.key)) (map event_of (in_order (stays_of night blocks)))
+moves_rise night blocks = AllPairs-filter NotLater (λ e. not (has_been night blocks e.key)) (map event_of (in_order (stays_of night blocks)))
     (events_rise (in_order (stays_of night blocks)) (order_rises (stays_of night blocks)))

@@ -1,18 +1,20 @@
 // The moves of a plan.
-ghost use Rattle.std.specs.Prelude.{◌≡◌, ◌≤◌, ◌<◌, ◌*◌, All, map, filter, not, length, IfOk};
+ghost use Rattle.std.specs.Prelude.{◌≡◌, ◌≤◌, ◌<◌, ◌*◌, ◌==◌, ◌&&◌, All, map, filter, not, length};
+ghost use Rattle.std.specs.Prelude.{IfOk};
 ghost use Rattle.shunt_base.specs.defs.Keys.{AreStays};
 ghost use Rattle.shunt_stays.specs.defs.Events.{in_order};
 ghost use Rattle.shunt_instance.specs.defs.Words.{is_standing};
-ghost use Rattle.shunt_blocks.specs.defs.Shapes.{IsInRange};
+ghost use Rattle.shunt_blocks.specs.defs.Shapes.{IsInRange, shape_of};
+ghost use Rattle.shunt_blocks.specs.defs.Ways.{has_placed};
 ghost use Rattle.shunt_blocks.specs.defs.Lists.{AreInRange, stays_of};
 ghost use Rattle.shunt_plan.specs.defs.Plans.{IsPlanInRange};
 ghost use Rattle.shunt_tracks.specs.defs.Answer.{event_of as told};
 ghost use Rattle.shunt_tracks.specs.defs.Dues.{move_of};
 ghost use Rattle.shunt_zones.specs.defs.Moves.{events_of, moves_of, trains_of, train_of};
-ghost use Rattle.shunt_zones.specs.defs.Moves.{is_of_standing, IsMoveOf};
+ghost use Rattle.shunt_zones.specs.defs.Moves.{names_placed, has_been, IsMoveOf};
 
 use shunt_base::{ArrId, DepId, EventKey};
-use shunt_blocks::{Block, laws, stays_of};
+use shunt_blocks::{Block, has_placed, laws, stays_of};
 use shunt_instance::{Instance, Origin, Train};
 use shunt_plan::Plan;
 use shunt_tracks::{Due, Event, sorted_dues};
@@ -84,35 +86,59 @@ fn stands(train: &Train) -> bool
     }
 }
 
-// Whether it is the entry of a standing train.
-fn is_of_standing(instance: &Instance, key: EventKey) -> bool
-    requires { key.train < length (trains_of instance.now key) }
-    ensures { result ≡ is_of_standing instance.now key }
+// Whether a block has an id, and a unit that has come already.
+fn is_placed_as(instance: &Instance, block: &Block, id: u32) -> bool
+    requires { IsInRange instance.now block.now }
+    ensures { result ≡ (block.now.id == id && has_placed instance.now (shape_of block.now)) }
 {
-    key.enters && stands(train_of(instance, key))
+    block.id == id && has_placed(instance, block)
 }
 
-// The events but the entries of standing trains.
-fn but_standing(
+// Whether one of the blocks with an id has a unit that has come already.
+fn names_placed(instance: &Instance, blocks: &[Block], id: u32) -> bool
+    requires { All (IsInRange instance.now) blocks.now }
+    ensures { result ≡ names_placed instance.now blocks.now id }
+{
+    for block in blocks {
+        if is_placed_as(instance, block, id) {
+            return true;
+        }
+    }
+    false
+}
+
+// Whether it is an entry that has been: of a standing train, or of a block with a unit that has come already.
+fn has_been(instance: &Instance, blocks: &[Block], key: EventKey) -> bool
+    requires key { key.train < length (trains_of instance.now key) }
+    requires blocks { All (IsInRange instance.now) blocks.now }
+    ensures { result ≡ has_been instance.now blocks.now key }
+{
+    key.enters && (stands(train_of(instance, key)) || names_placed(instance, blocks, key.id))
+}
+
+// The events but the entries that have been.
+fn but_past(
     alloc: Global,
     instance: &Instance,
+    blocks: &[Block],
     events: &[Event],
 ) -> Result<Vec<Event>, AllocError>
-    requires { All (IsMoveOf instance.now) events.now }
+    requires events { All (IsMoveOf instance.now) events.now }
+    requires blocks { All (IsInRange instance.now) blocks.now }
     ensures { IfOk result
-        (λ v. v.items ≡ filter (λ e. not (is_of_standing instance.now e.key)) events.now) }
+        (λ v. v.items ≡ filter (λ e. not (has_been instance.now blocks.now e.key)) events.now) }
 {
     let mut moves = Vec::new(alloc);
     for event in events {
-        if !is_of_standing(instance, event.key) {
+        if !has_been(instance, blocks, event.key) {
             moves.push(*event)?;
         }
     }
     Ok(moves)
 }
 
-/// The moves of a plan in range, in key order: its events but the entries of standing trains, 800 at most. The error is want
-/// of memory.
+/// The moves of a plan in range, in key order: its events but the entries of standing trains and of blocks with units that have come
+/// already, 800 at most. The error is want of memory.
 #[tactic(auto, unfolding(crate::specs::defs::Moves::moves_of))]
 pub fn moves_of(alloc: Global, instance: &Instance, plan: &Plan) -> Result<Vec<Event>, AllocError>
     requires { IsPlanInRange instance.now plan.now }
@@ -120,6 +146,7 @@ pub fn moves_of(alloc: Global, instance: &Instance, plan: &Plan) -> Result<Vec<E
     ensures of_night { IfOk result (λ v. All (IsMoveOf instance.now) v.items) }
     ensures few { IfOk result (λ v. length v.items ≤ 800) }
 {
-    let events = events_of(alloc, instance, plan.blocks.as_slice())?;
-    but_standing(alloc, instance, &events)
+    let blocks = plan.blocks.as_slice();
+    let events = events_of(alloc, instance, blocks)?;
+    but_past(alloc, instance, blocks, &events)
 }

@@ -7,7 +7,8 @@ use Rattle.shunt.specs.declared.words.Command.TheVariants as command
 abbrev pub texts : {A : Type 0} → List (String A) → List (List ℕ)
 texts = map string_bytes
 
--- a command, by the names of its files, and by how many nodes of a search it allows; a trial by the number and the units of its night
+-- a command, by the names of its files, and by how many nodes of a search it allows; a trial by the number and the units of its night,
+-- and the rest of a night by the minute from which on it is resumed
 pub data Call : Type 0 where
   Match : List ℕ → List ℕ → Call
   Follow : List ℕ → List ℕ → Call
@@ -26,6 +27,7 @@ pub data Call : Type 0 where
   Roster : List ℕ → List ℕ → List ℕ → List ℕ → List ℕ → Call
   CheckPinned : List ℕ → List ℕ → List ℕ → List ℕ → List ℕ → Call
   Replay : List ℕ → List ℕ → List ℕ → List ℕ → List ℕ → Call
+  Resume : List ℕ → List ℕ → List ℕ → ℕ → List ℕ → List ℕ → Call
   MakePlan : List ℕ → List ℕ → ℕ → List ℕ → List ℕ → Call
   MakePinned : List ℕ → List ℕ → List ℕ → ℕ → List ℕ → List ℕ → Call
   Improve : List ℕ → List ℕ → List ℕ → List ℕ → ℕ → List ℕ → List ℕ → Call
@@ -48,6 +50,7 @@ call_of (command.Drivers s t p c d) = Drivers s.now t.now p.now c.now d.now
 call_of (command.Roster s t p c d) = Roster s.now t.now p.now c.now d.now
 call_of (command.CheckPinned s t i p k) = CheckPinned s.now t.now i.now p.now k.now
 call_of (command.Replay s t p e n) = Replay s.now t.now p.now e.now n.now
+call_of (command.Resume s t p m n i) = Resume s.now t.now p.now m n.now i.now
 call_of (command.MakePlan s t m p k) = MakePlan s.now t.now m p.now k.now
 call_of (command.MakePinned s t i m p k) = MakePinned s.now t.now i.now m p.now k.now
 call_of (command.Improve s t i h m p k) = Improve s.now t.now i.now h.now m p.now k.now

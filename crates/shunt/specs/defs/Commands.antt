@@ -4,6 +4,7 @@ use Rattle.shunt_dispatch.specs.defs.Compared.{Comparable, comparison_in, IsComp
 use Rattle.shunt_dispatch.specs.defs.Delayed.{IsDelayed}
 use Rattle.shunt_dispatch.specs.defs.Followed.{Followable, following_in, IsFollowed}
 use Rattle.shunt_dispatch.specs.defs.Ordered.{IsOrdered}
+use Rattle.shunt_dispatch.specs.defs.Resumed.{resumption_in, IsResumed}
 use Rattle.shunt_drawing.specs.defs.Drawn.{IsDrawn}
 use Rattle.shunt_drawing.specs.defs.Paged.{IsPaged}
 use Rattle.shunt_exchange.specs.defs.Reported.{IsReported}
@@ -25,16 +26,17 @@ use Rattle.shunt_throat.specs.defs.Passed.{IsPassed, Passable, passing_in}
 use Rattle.shunt_throat.specs.defs.Rostered.{IsRostered, Rosterable, rostering_in}
 use Rattle.shunt_throat.specs.defs.Shared.{IsShared, Sharable, sharing_in}
 use Rattle.shunt_trial.specs.defs.Tried.{IsTried}
-use Rattle.shunt.specs.defs.Calls.{Call, Match, Follow, Audit, Delay, Report, Check, Compare, Zones, Sheet, Draw, Page, Upgrade, Trial, Drivers, Roster, CheckPinned, Replay, MakePlan, MakePinned, Improve}
+use Rattle.shunt.specs.defs.Calls.{Call, Match, Follow, Audit, Delay, Report, Check, Compare, Zones, Sheet, Draw, Page, Upgrade, Trial, Drivers, Roster, CheckPinned, Replay, Resume, MakePlan, MakePinned, Improve}
 
--- What stands in a place behind the word of a command: the name of a file that is read or written, how many nodes a search may note, or the number
--- or the units of a night that is made.
+-- What stands in a place behind the word of a command: the name of a file that is read or written, how many nodes a search may note, the number
+-- or the units of a night that is made, or a minute.
 pub data Slot : Type 0 where
   Reads : List ℕ → Slot
   Writes : List ℕ → Slot
   Nodes : ℕ → Slot
   Number : ℕ → Slot
   Units : ℕ → Slot
+  Minute : ℕ → Slot
 
 -- what a command is: its word and what stands behind it in order; what its input files state together, judged in the order of the words, or the line
 -- for the first of them that isn't accepted; and which replies answer it
@@ -92,6 +94,9 @@ row_of (CheckPinned s t i p k) =
 row_of (Replay s t p e n) =
     row (codes "replay") (Reads s ∷ Reads t ∷ Reads p ∷ Reads e ∷ Writes n ∷ [])
     (turns_in s t p e) (IsReplayed n)
+row_of (Resume s t p m n i) =
+    row (codes "resume") (Reads s ∷ Reads t ∷ Reads p ∷ Minute m ∷ Writes n ∷ Writes i ∷ [])
+    (resumption_in s t p) (IsResumed m n i)
 row_of (MakePlan s t m p k) =
     row (codes "plan") (Reads s ∷ Reads t ∷ Nodes m ∷ Writes p ∷ Writes k ∷ [])
     (λ files. stated_night (content files s) (content files t)) (IsSought m p k)

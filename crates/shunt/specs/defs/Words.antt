@@ -1,9 +1,10 @@
 -- The words of the command line.
-use Rattle.std.specs.Prelude.{◌≡◌, ℕ, ◌≤◌, List, [], ◌∷◌, ◌++◌, map}
+use Rattle.std.specs.Prelude.{◌≡◌, ℕ, ◌<◌, ◌≤◌, List, [], ◌∷◌, ◌++◌, map}
 use Rattle.std.specs.Fmt.{decimal}
+use Rattle.shunt_base.specs.defs.Spelling.{minute_text}
 use Rattle.shunt_inputs.specs.defs.Names.{AreNames}
 use Rattle.shunt.specs.defs.Calls.{Call}
-use Rattle.shunt.specs.defs.Commands.{Slot, Reads, Writes, Nodes, Number, Units, row_of}
+use Rattle.shunt.specs.defs.Commands.{Slot, Reads, Writes, Nodes, Number, Units, Minute, row_of}
 
 -- the word for a place
 abbrev pub word_for : Slot → List ℕ
@@ -12,6 +13,7 @@ word_for (Writes name) = name
 word_for (Nodes m) = decimal m
 word_for (Number n) = decimal n
 word_for (Units u) = decimal u
+word_for (Minute m) = minute_text m
 
 -- the words that ask for it
 abbrev pub words_of : Call → List (List ℕ)
@@ -35,12 +37,14 @@ writes_in (other ∷ slots) = writes_in slots
 abbrev pub outputs_of : Call → List (List ℕ)
 outputs_of c = writes_in (row_of c).slots
 
--- a search is allowed from 1 to 5,000 nodes, and a night is made of a number up to 2,147,483,647 with at most 160 units
+-- a search is allowed from 1 to 5,000 nodes, a night is made of a number up to 2,147,483,647 with at most 160 units,
+-- and a minute is one of two days
 abbrev pub AreInRange : List Slot → Type 0
 AreInRange [] = Unit {0}
 AreInRange (Nodes m ∷ slots) = (1 ≤ m) × (m ≤ 5000) × AreInRange slots
 AreInRange (Number n ∷ slots) = (n ≤ 2147483647) × AreInRange slots
 AreInRange (Units u ∷ slots) = (u ≤ 160) × AreInRange slots
+AreInRange (Minute m ∷ slots) = (m < 2880) × AreInRange slots
 AreInRange (file ∷ slots) = AreInRange slots
 
 -- its files have names that can be used, and its numbers are in their ranges

@@ -12,7 +12,7 @@ use Rattle.shunt_blocks.specs.defs.Ways.{park_way_in, park_way_out, permits_unit
 pub record IsParkable (night : Night) (s : Shape) (k : Park) : Type 0 where
   pub track : k.track.0 < length night.station.tracks
   pub permitted : IsTrue (permits_units night s k.track)
-  pub way_in : IsSome (park_way_in night s.arr k)
+  pub way_in : IsSome (park_way_in night s k)
   pub way_out : IsSome (park_way_out night s.dep k)
 
 -- an option of a shape: unparked, or a track with two sides where it can be parked
@@ -22,7 +22,7 @@ IsOption night s (Some k) = IsParkable night s k
 
 -- whether a shape can be parked on a track of the station: both ways exist, and the track permits the types of its units
 abbrev pub can_park : Night → Shape → Park → Bool
-can_park night s k = is_some (park_way_in night s.arr k) && is_some (park_way_out night s.dep k) && permits_units night s k.track
+can_park night s k = is_some (park_way_in night s k) && is_some (park_way_out night s.dep k) && permits_units night s k.track
 
 -- whether this is an option of a shape, where its track is the station's
 unfoldable pub is_option : Night → Shape → Option Park → Bool

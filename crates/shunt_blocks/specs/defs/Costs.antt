@@ -15,7 +15,7 @@ shape_cost night s = cond (s.p == 1) 0 night.station.split + cond (s.q == 1) 0 n
 -- what an option costs: `unparked`, or the ways in and out, of which an absent one counts 0
 abbrev pub option_cost : Night → Shape → Option Park → ℕ
 option_cost night s None = night.station.unparked
-option_cost night s (Some k) = unwrap_or (park_way_in night s.arr k) 0 + unwrap_or (park_way_out night s.dep k) 0
+option_cost night s (Some k) = unwrap_or (park_way_in night s k) 0 + unwrap_or (park_way_out night s.dep k) 0
 
 -- what a shape costs with an option
 abbrev pub cost_with : Night → Shape → Option Park → ℕ

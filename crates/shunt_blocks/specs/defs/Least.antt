@@ -1,6 +1,5 @@
 -- The least cost of parking a shape, side by side and track by track.
 use Rattle.std.specs.Prelude.{ℕ, zero, suc, ◌+◌, min, if◌then◌else◌, Option, Some, None}
-use Rattle.shunt_base.specs.declared.ids.ArrId.{ArrId}
 use Rattle.shunt_base.specs.declared.ids.DepId.{DepId}
 use Rattle.shunt_base.specs.declared.ids.TrackId.{TrackId}
 use Rattle.shunt_base.specs.declared.ids.Side.{Side}
@@ -8,7 +7,7 @@ use Rattle.shunt_base.specs.declared.ids.Side.TheVariants.{A, B}
 use Rattle.shunt_instance.specs.defs.Words.{train_at}
 use Rattle.shunt_instance.specs.defs.Instance.{Night}
 use Rattle.shunt_blocks.specs.declared.records.Shape.{Shape}
-use Rattle.shunt_blocks.specs.defs.Ways.{way_from, way_to, permits_units}
+use Rattle.shunt_blocks.specs.defs.Ways.{shape_way_in, way_to, permits_units}
 
 -- the lesser of two costs, where there is one
 abbrev pub lesser : Option ℕ → Option ℕ → Option ℕ
@@ -21,8 +20,8 @@ abbrev pub least_side : (Side → Option ℕ) → Option ℕ
 least_side cost = lesser (cost A) (cost B)
 
 -- the least cost of a way in to a track, and of a way out from it
-abbrev pub least_way_in : Night → ArrId → TrackId → Option ℕ
-least_way_in night arr track = least_side (way_from night.station (train_at night.arrive arr.0).origin track)
+abbrev pub least_way_in : Night → Shape → TrackId → Option ℕ
+least_way_in night s track = least_side (shape_way_in night s track)
 
 abbrev pub least_way_out : Night → DepId → TrackId → Option ℕ
 least_way_out night dep track = least_side (way_to night.station (train_at night.depart dep.0).origin track)
@@ -35,7 +34,7 @@ both (Some x) (Some y) = Some (x + y)
 
 -- the least cost of parking a shape on a track
 abbrev pub least_on : Night → Shape → TrackId → Option ℕ
-least_on night s track = if permits_units night s track then both (least_way_in night s.arr track) (least_way_out night s.dep track) else None
+least_on night s track = if permits_units night s track then both (least_way_in night s track) (least_way_out night s.dep track) else None
 
 -- the lesser of a cost and of one that may be absent
 abbrev pub improved : ℕ → Option ℕ → ℕ

@@ -68,5 +68,5 @@ pub record IsSoundBlock (night : Night) (b : Block) : Type 0 where
   pub in_range : IsInRange night b
   pub types : type_fault night b ≡ false
   pub in_time : is_too_soon night (shape_of b) ≡ false
-  pub way_in : IfSome b.park (λ k. IsSome (park_way_in night b.arr k))
+  pub way_in : IfSome b.park (λ k. IsSome (park_way_in night (shape_of b) k))
   pub way_out : IfSome b.park (λ k. IsSome (park_way_out night b.dep k))

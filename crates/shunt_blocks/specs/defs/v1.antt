@@ -1,4 +1,4 @@
--- Blocks, their costs and feasible lists by version 1 of the files, over instances without standing trains and permits.
+-- Blocks, their costs and feasible lists by version 1 of the files, over instances without standing trains, placed units and permits.
 use Rattle.std.specs.Prelude.{◌≡◌, ◌≢◌, ℕ, ◌+◌, ◌<◌, ◌≤◌, ◌==◌, false, cond, unwrap_or, All, List, [], map, sum_by, length, IsSome, Option, Some, None}
 use Rattle.shunt_lists.specs.defs.Members.{AreDistinct}
 use Rattle.shunt_base.specs.declared.ids.TypeId.{TypeId}
@@ -14,9 +14,10 @@ use Rattle.shunt_blocks.specs.declared.records.Block.{Block}
 use Rattle.shunt_blocks.specs.declared.records.Park.{Park}
 use Rattle.shunt_blocks.specs.defs.Lists.{Covers, RunsThrough}
 
--- no arriving train stands there when the night opens, and no track permits some types alone
+-- no arriving train stands there when the night opens, none has units that have come already, and no track permits some types alone
 pub record IsPlain (night : Night) : Type 0 where
   pub arrive : All (λ t. is_standing t ≡ false) night.arrive
+  pub to_come : All (λ t. t.placed ≡ []) night.arrive
   pub permits : night.station.permits ≡ []
 
 -- the block's trains

@@ -2,7 +2,7 @@
 use Rattle.std.specs.Prelude.{◌≡◌, ℕ, ◌+◌, ◌≤◌, ◌==◌, Bool, false, not, ◌||◌, List, [], ◌∷◌, map, filter, length, All, Option, Some, None, if◌then◌else◌}
 use Rattle.std.specs.List.{range_with_len}
 use Rattle.shunt_lists.specs.defs.Members.{In}
-use Rattle.shunt_instance.specs.defs.Words.{train_at, is_standing}
+use Rattle.shunt_instance.specs.defs.Words.{train_at, has_come}
 use Rattle.shunt_instance.specs.defs.Instance.{Night}
 use Rattle.shunt_blocks.specs.declared.records.Block.{Block}
 use Rattle.shunt_blocks.specs.defs.Shapes.{shape_of}
@@ -53,9 +53,9 @@ pub record IsDelay (night : Night) (blocks : List Block) (delay : Delay) : Type 
   pub greatest : (d : ℕ) → Bears night blocks delay.train.0 d → d ≤ delay.minutes
   pub stop : told delay.stop ≡ (if delay.minutes == 120 then None else first (delay_findings (late delay.train.0 (delay.minutes + 1) night) blocks))
 
--- the numbers of the arriving trains that don't stand on a track when the night opens
+-- the numbers of the arriving trains of which nothing has come yet
 abbrev pub comers : Night → List ℕ
-comers night = filter (λ i. not (is_standing (train_at night.arrive i))) (range_with_len 0 (length night.arrive))
+comers night = filter (λ i. not (has_come (train_at night.arrive i))) (range_with_len 0 (length night.arrive))
 
 -- in order, one delay for each of these trains
 pub record AreDelays (night : Night) (blocks : List Block) (delays : List Delay) : Type 0 where

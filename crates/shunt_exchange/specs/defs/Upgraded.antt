@@ -23,7 +23,8 @@ stated_upgrade s t = then_stated (stated_station s) (λ station. then_stated (st
 abbrev pub upgrade_in : List ℕ → List ℕ → Files → Result Upgradable (List ℕ)
 upgrade_in s t files = stated_upgrade (content files s) (content files t)
 
--- the answer of `upgrade`: both are written in version 2, under these names, and nothing is printed
+-- the answer of `upgrade`: both are written under these names, in version 2, or the timetable in version 3 where units of it have come already,
+-- and nothing is printed
 abbrev pub IsUpgraded : List ℕ → List ℕ → Upgradable → Reply → Type 0
 IsUpgraded n m x r = r ≡ record {
   outcome = outcome.Done;

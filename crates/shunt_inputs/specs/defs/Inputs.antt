@@ -27,6 +27,7 @@ use Rattle.shunt_zones.specs.defs.ZonesFormat.{zones_format}
 use Rattle.shunt_drivers.specs.declared.records.Crew.{Crew}
 use Rattle.shunt_drivers.specs.defs.CrewFormat.{crew_format}
 use Rattle.shunt_drivers.specs.defs.RosterFormat.{roster_format}
+use Rattle.shunt_inputs.specs.declared.nights.WholeNight.{WholeNight}
 use Rattle.shunt_inputs.specs.declared.pins.Pinned.{Pinned}
 use Rattle.shunt_sheet.specs.declared.records.Order.{Order}
 use Rattle.shunt_sheet.specs.defs.SheetFormat.{sheet_format}
@@ -63,6 +64,15 @@ then_stated (Err text) rest = Err text
 -- the night that a station file and a timetable file state, or the line for the first of them that isn't accepted
 abbrev pub stated_night : List ℕ → List ℕ → Result Night (List ℕ)
 stated_night s t = then_stated (stated_station s) (λ station. then_stated (stated_timetable station t) (λ timetable. Ok (night_of station timetable)))
+
+-- the night of a station and a timetable, with the timetable
+abbrev pub whole_of : Station → Timetable → WholeNight
+whole_of station timetable = record { timetable = timetable; instance = night_of station timetable }
+
+-- the same with its timetable, in the order of its file
+abbrev pub stated_whole : List ℕ → List ℕ → Result WholeNight (List ℕ)
+stated_whole s t = then_stated (stated_station s) (λ station. then_stated (stated_timetable station t) (λ timetable.
+    Ok (whole_of station timetable)))
 
 -- a plan file over a night
 abbrev pub stated_plan : Night → List ℕ → Result Plan (List ℕ)

@@ -1,5 +1,5 @@
 -- When a station is well formed, and a timetable over it.
-use Rattle.std.specs.Prelude.{◌≡◌, ◌<◌, ◌≤◌, false, ◌||◌, not, IsTrue, List, ◌++◌, map, filter, length, All}
+use Rattle.std.specs.Prelude.{◌≡◌, ◌+◌, ◌<◌, ◌≤◌, false, ◌||◌, not, IsTrue, List, [], ◌++◌, map, filter, length, All, AllPairs, IfSome}
 use Rattle.shunt_lists.specs.defs.Members.{AreDistinct}
 use Rattle.shunt_base.specs.defs.Spelling.{IsName}
 use Rattle.shunt_instance.specs.declared.records.UnitType.{UnitType}
@@ -9,6 +9,7 @@ use Rattle.shunt_instance.specs.declared.records.Permit.{Permit}
 use Rattle.shunt_instance.specs.declared.records.Station.{Station}
 use Rattle.shunt_instance.specs.declared.records.Origin.{Origin}
 use Rattle.shunt_instance.specs.declared.records.Origin.TheVariants as origin
+use Rattle.shunt_instance.specs.declared.records.PlacedRun.{PlacedRun}
 use Rattle.shunt_instance.specs.declared.records.Train.{Train}
 use Rattle.shunt_instance.specs.declared.records.Timetable.{Timetable}
 use Rattle.shunt_instance.specs.defs.Words.{is_open_at, way_of, is_standing, unit_count, names_of}
@@ -65,7 +66,21 @@ abbrev pub IsOrigin : Station → Origin → Type 0
 IsOrigin s (origin.Platform p) = p.0 < length s.platforms
 IsOrigin s (origin.Track t) = t.0 < length s.tracks
 
--- a name, a minute of two days, an origin of the station, and 1 to 8 units of its types
+-- units of a train that has that many; on a track only where the train doesn't stand there itself, by an end that is open
+pub record IsPlacedRun (s : Station) (t : Train) (r : PlacedRun) : Type 0 where
+  pub first : 1 ≤ r.first
+  pub some : 1 ≤ r.count
+  pub within : r.first + r.count ≤ length t.units + 1
+  pub moved : IfSome r.came_by (λ e. is_standing t ≡ false)
+  pub track : IfSome r.came_by (λ e. e.track.0 < length s.tracks)
+  pub open_at : IfSome r.came_by (λ e. IsTrue (is_open_at s e.track e.side))
+
+-- runs of a train in the order of their places, of which no two share a unit
+pub record ArePlaced (s : Station) (t : Train) : Type 0 where
+  pub each : All (IsPlacedRun s t) t.placed
+  pub apart : AllPairs (λ r later. r.first + r.count ≤ later.first) t.placed
+
+-- a name, a minute of two days, an origin of the station, 1 to 8 units of its types, and those of them that have come already
 pub record IsTrain (s : Station) (t : Train) : Type 0 where
   pub name : IsName t.name
   pub minute : t.minute < 2880
@@ -73,6 +88,7 @@ pub record IsTrain (s : Station) (t : Train) : Type 0 where
   pub some : 1 ≤ length t.units
   pub few : length t.units ≤ 8
   pub kinds : All (λ k. k.0 < length s.types) t.units
+  pub placed : ArePlaced s t
 
 -- a list of trains within the limits, with distinct names
 pub record AreTrains (s : Station) (trains : List Train) : Type 0 where
@@ -85,10 +101,12 @@ pub record AreTrains (s : Station) (trains : List Train) : Type 0 where
 abbrev pub StandingFirst : List Train → Type 0
 StandingFirst trains = trains ≡ filter is_standing trains ++ filter (λ t. not (is_standing t)) trains
 
--- both lists are trains of the station; standing trains come first in `arrive`, each at minute 0, and none departs
+-- both lists are trains of the station; standing trains come first in `arrive`, each at minute 0, and none departs; nor has a departing
+-- train placed units
 pub record IsTimetable (s : Station) (t : Timetable) : Type 0 where
   pub arrive : AreTrains s t.arrive
   pub depart : AreTrains s t.depart
   pub first : StandingFirst t.arrive
   pub at_start : All (λ r. IsTrue (is_standing r) → r.minute ≡ 0) t.arrive
   pub from_platform : All (λ r. is_standing r ≡ false) t.depart
+  pub to_come : All (λ r. r.placed ≡ []) t.depart

@@ -59,6 +59,10 @@ is_standing t = is_track t.origin
     is_track (origin.Platform p) = false
     is_track (origin.Track k) = true
 
+-- whether a train has come already: it stands on a track, or some of its units have been placed
+abbrev pub has_come : Train → Bool
+has_come t = is_standing t || not (length t.placed == 0)
+
 -- how many units these trains have
 abbrev pub unit_count : List Train → ℕ
 unit_count trains = sum_by (λ t. length t.units) trains
@@ -81,7 +85,7 @@ track_of_name s name = option_map (λ k. record { 0 = k }) (position (λ t. byte
 
 -- the train with a number, or one without units past the last
 abbrev pub train_at : List Train → ℕ → Train
-train_at trains k = slice_index_or trains k (record { name = []; minute = 0; origin = origin.Platform (record { 0 = 0 }); units = [] })
+train_at trains k = slice_index_or trains k (record { name = []; minute = 0; origin = origin.Platform (record { 0 = 0 }); units = []; placed = [] })
 
 -- the minute of the train with a number
 abbrev pub minute_at : List Train → ℕ → ℕ

@@ -92,10 +92,11 @@ after_station x units = after (after x (track_count units)) (length (ways_of (tr
 abbrev pub train_count : ℕ → ℕ
 train_count units = (units + 1) / 2
 
--- train i, from 0, named by the letter and i + 1: the first has this minute, and each other comes 6 minutes after the one before it
+-- train i, from 0, named by the letter and i + 1: the first has this minute, and each other comes 6 minutes after the one before it; none of its
+-- units has come already
 abbrev pub train_of : ℕ → ℕ → ℕ → ℕ → List TypeId → Train
 train_of letter first i platform kinds =
-    record { name = numbered letter (i + 1); minute = first + 6 * i; origin = origin.Platform (record { 0 = platform }); units = kinds }
+    record { name = numbered letter (i + 1); minute = first + 6 * i; origin = origin.Platform (record { 0 = platform }); units = kinds; placed = [] }
 
 -- an arriving train has 2 units, but the last one has 1 where the number of units is odd
 abbrev pub size_of : ℕ → ℕ → ℕ

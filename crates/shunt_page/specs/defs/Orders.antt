@@ -1,8 +1,10 @@
 -- The orders of a plan with all that whoever drives wants to know.
-use Rattle.std.specs.Prelude.{◌==◌, List, [], ◌∷◌, ◌++◌, find, slice_index, slice_index_or, Option, Some, None, if◌then◌else◌}
-use Rattle.shunt_instance.specs.defs.Words.{track_names}
+use Rattle.std.specs.Prelude.{◌==◌, ◌&&◌, ◌||◌, Bool, List, [], ◌∷◌, ◌++◌, find, slice_index, slice_index_or, Option, Some, None, if◌then◌else◌}
+use Rattle.shunt_instance.specs.defs.Words.{train_at, track_names, is_standing}
 use Rattle.shunt_instance.specs.defs.Instance.{Night}
 use Rattle.shunt_blocks.specs.declared.records.Block.{Block}
+use Rattle.shunt_blocks.specs.defs.Shapes.{shape_of}
+use Rattle.shunt_blocks.specs.defs.Ways.{has_placed}
 use Rattle.shunt_blocks.specs.defs.Lists.{track_lengths}
 use Rattle.shunt_sheet.specs.declared.records.Order.{Order}
 use Rattle.shunt_sheet.specs.defs.Orders.{orders_in}
@@ -16,12 +18,17 @@ use Rattle.shunt_page.specs.defs.Occupancy.{after, load_on, beside}
 abbrev pub train_of : Night → Order → Block → TrainTold
 train_of night o b = if o.enters then arrive_told night b else depart_told night b
 
+-- whether a block stands already: its train does, or one of its units has come
+abbrev pub stands_already : Night → Block → Bool
+stands_already night b = is_standing (train_at night.arrive b.arr.0) || has_placed night (shape_of b)
+
 -- an order of a block, where so much stood before it
 abbrev pub row_of : Night → List Stood → Order → Block → OrderRow
 row_of night stood o b = record {
   order = o;
   units = units_told night b;
   train = train_of night o b;
+  already = o.enters && stands_already night b;
   track = slice_index_or
       (track_names night.station) o.track.0 [];
   beside = beside stood o;

@@ -1,5 +1,5 @@
 -- Rows of tables.
-use Rattle.std.specs.Prelude.{ℕ, ◌==◌, ◌&&◌, Bool, List, [], ◌++◌, length, codes, decimal, Option, Some, None, if◌then◌else◌}
+use Rattle.std.specs.Prelude.{ℕ, ◌==◌, Bool, List, [], ◌++◌, length, codes, decimal, Option, Some, None, if◌then◌else◌}
 use Rattle.std.specs.List.{flat_map}
 use Rattle.shunt_picture.specs.defs.Words.{each_from}
 use Rattle.shunt_page.specs.declared.records.OrderRow.{OrderRow}
@@ -51,15 +51,11 @@ order_text r = order_open r ++ order_what r ++ order_where r ++ order_end r
 unfoldable pub already_text : OrderRow → List ℕ
 already_text r = order_open r ++ link_cell r.order.id ++ units_cell r.units ++ cell r.train.name ++ cell r.track ++ order_end r
 
--- whether the block of an order stands already when the night begins
-abbrev pub is_already : OrderRow → Bool
-is_already r = r.order.enters && r.train.stands
-
 abbrev pub already_row : OrderRow → List ℕ
-already_row r = if is_already r then already_text r else []
+already_row r = if r.already then already_text r else []
 
 abbrev pub order_row : OrderRow → List ℕ
-order_row r = if is_already r then [] else order_text r
+order_row r = if r.already then [] else order_text r
 
 abbrev pub already_rows : List OrderRow → List ℕ
 already_rows rows = flat_map already_row rows

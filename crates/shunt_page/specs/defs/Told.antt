@@ -3,7 +3,7 @@ use Rattle.std.specs.Prelude.{ℕ, ◌+◌, List, [], ◌∷◌, map, is_some, s
 use Rattle.std.specs.List.{range_with_len, flat_map}
 use Rattle.shunt_instance.specs.declared.records.Station.{Station}
 use Rattle.shunt_instance.specs.declared.records.Train.{Train}
-use Rattle.shunt_instance.specs.defs.Words.{train_at, is_standing}
+use Rattle.shunt_instance.specs.defs.Words.{train_at}
 use Rattle.shunt_instance.specs.defs.Instance.{Night, unit_at}
 use Rattle.shunt_blocks.specs.declared.records.Block.{Block}
 use Rattle.shunt_blocks.specs.defs.Shapes.{shape_of, unit_from}
@@ -32,7 +32,7 @@ abbrev pub units_told : Night → Block → List UnitTold
 units_told night b = map (λ k. unit_told night (unit_from night (shape_of b) + k)) (range_with_len 0 b.n)
 
 abbrev pub train_told : Station → Train → TrainTold
-train_told s t = record { name = t.name; place = origin_name s t.origin; minute = t.minute; stands = is_standing t }
+train_told s t = record { name = t.name; place = origin_name s t.origin; minute = t.minute }
 
 abbrev pub arrive_told : Night → Block → TrainTold
 arrive_told night b = train_told night.station (train_at night.arrive b.arr.0)

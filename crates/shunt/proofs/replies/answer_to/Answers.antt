@@ -1,7 +1,7 @@
 use Rattle.std.proofs.Common.{ap, refl, Ok}
 use Rattle.shunt_inputs.specs.defs.Writes.{known}
 use Rattle.shunt.specs.defs.Calls.{call_of}
-use Rattle.shunt.proofs.Asked.{asked, checked_over, compared_over, followed_over, inputs_named, passed_over, pin_checked_over, replayed_over, rostered_over, shared_over, upgraded_over}
+use Rattle.shunt.proofs.Asked.{asked, checked_over, compared_over, followed_over, inputs_named, passed_over, pin_checked_over, replayed_over, resumed_minute, resumed_over, rostered_over, shared_over, upgraded_over}
 use Rattle.shunt.proofs.Firsts.{first_of, none_heard, improved_leads, pinned_leads, plain, planned_leads}
 use Rattle.shunt.proofs.Commands.{trial_answered}
 use Rattle.shunt.proofs.replies.answer_to.Goals as goal
@@ -158,6 +158,19 @@ returns-in-Replay-clause-leads g c = λ view seen. asked _ _ _ view _ _ _ (ap ca
 
 pub returns-in-Replay-clause-first : goal.returns-in-Replay-clause-first
 returns-in-Replay-clause-first g c = first_of _ _ _ _ (ap call_of c.in-Replay.is) c.reply-in-Replay.ensures.first
+
+pub reply-requires-in-Resume-clause-names : goal.reply-requires-in-Resume-clause-names
+reply-requires-in-Resume-clause-names g c = inputs_named _ _ (ap call_of c.in-Resume.is) c.requires.names
+
+pub returns-in-Resume-clause-leads : goal.returns-in-Resume-clause-leads
+returns-in-Resume-clause-leads g c = λ view seen. asked _ _ _ view _ _ _ (ap call_of c.in-Resume.is) (c.reply-in-Resume.ensures.leads view seen)
+    (λ reply a. (a.0, a.1, resumed_over a.0 _ _ _ _ _ _ _ c.minute_of.ensures reply a.2))
+
+pub minute_of-requires : goal.minute_of-requires
+minute_of-requires g c = resumed_minute _ _ _ _ _ _ _ (ap call_of c.in-Resume.is) c.requires.names
+
+pub returns-in-Resume-clause-first : goal.returns-in-Resume-clause-first
+returns-in-Resume-clause-first g c = first_of _ _ _ _ (ap call_of c.in-Resume.is) c.reply-in-Resume.ensures.first
 
 pub returns-in-MakePlan-clause-leads : goal.returns-in-MakePlan-clause-leads
 returns-in-MakePlan-clause-leads g c = λ view seen.

@@ -8,7 +8,7 @@ use Rattle.shunt_blocks.specs.defs.Shapes.{shape_of}
 use Rattle.shunt_blocks.specs.defs.Blocks.{IsOption}
 use Rattle.shunt_prices.specs.defs.Cases.{duals_over}
 use Rattle.shunt_recount.specs.defs.Offers.{stack_at}
-use Rattle.shunt_recount.proofs.Weighed.{offered}
+use Rattle.shunt_recount.proofs.Weighed.{offered, not_offered}
 use Rattle.shunt_recount.proofs.offers.offer_for.Goals as goal
 
 pub gain-gain-requires-clause-worth : goal.gain-gain-requires-clause-worth
@@ -31,3 +31,10 @@ returns c =
     (subst (λ (z : ℤ). z ≤ℤ pos 15999999999984) k.worth k.little.high)
     (subst (λ (b : Block). IsOption c.args.instance.now c.args.candidate.shape b.park) c.block_on-block.ensures (c.is_option.ensures.fact.0 c.if-not-is_option.false))
     (omega (arith, k.long, fits, room))
+
+pub returns-then-gain-le0 : goal.returns-then-gain-le0
+returns-then-gain-le0 c =
+    let gain = c.gain-gain.ensures in
+    let less = c.if-gain-le0.true in
+    let low : c.gain-gain.result ≤ℤ pos 0 = omega (arith, ints, less, gain.small.low, gain.small.high) in
+    not_offered c.args.instance.now c.args.case.now (stack_at c.args.end) c.args.candidate.shape c.block_on-block.result c.gain-gain.result c.block_on-block.ensures gain.exact low

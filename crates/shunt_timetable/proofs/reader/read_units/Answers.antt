@@ -10,7 +10,7 @@ pub returns-in_err-kind-clause-stated : goal.returns-in_err-kind-clause-stated
 returns-in_err-kind-clause-stated c =
     let more = length c.args.row.now + 1 - (c.loop-k.k + 1) in
     let left : length c.args.row.now + 1 - c.loop-k.k ≡ suc more = omega (arith, c.loop-k-test.true, c.len-last.ensures.value) in
-    let bare : Train = record { name = c.name.inside.bytes.items; minute = c.args.minute; origin = c.args.origin; units = c.loop-k.units.items } in
+    let bare : Train = record { name = c.name.inside.bytes.items; minute = c.args.minute; origin = c.args.origin; units = c.loop-k.units.items; placed = [] } in
     let e = c.in_err-kind.field-0.0 in
     let here = unit_fails c.args.n c.args.station.now c.args.before bare c.args.row.now c.loop-k.k _ more e _ _ left refl
     (ap (λ x. c.args.before + x) (c.len.ensures ∙ c.loop-k.units.ok.0)) c.in_err-kind.ensures.answer in
@@ -22,7 +22,7 @@ pub loop-k-preserved : goal.loop-k-preserved
 loop-k-preserved c =
     let more = length c.args.row.now + 1 - (c.loop-k.k + 1) in
     let left : length c.args.row.now + 1 - c.loop-k.k ≡ suc more = omega (arith, c.loop-k-test.true, c.len-last.ensures.value) in
-    let bare : Train = record { name = c.name.inside.bytes.items; minute = c.args.minute; origin = c.args.origin; units = c.loop-k.units.items } in
+    let bare : Train = record { name = c.name.inside.bytes.items; minute = c.args.minute; origin = c.args.origin; units = c.loop-k.units.items; placed = [] } in
     let few = c.loop-k.invariant.few in
     record {
       stated = sym (one_more c.args.n c.args.station.now c.args.before bare c.args.row.now c.loop-k.k _ more c.in_ok-kind.kind _ _ _ left c.in_ok-push.ensures.items refl

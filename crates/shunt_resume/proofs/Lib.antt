@@ -1,0 +1,9 @@
+pub mod Adding
+pub mod Alike
+pub mod AsItCame
+pub mod Comers
+pub mod Goings
+pub mod Nights
+pub mod Placing
+pub mod Timetables
+pub mod Ways

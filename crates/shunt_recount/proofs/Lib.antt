@@ -1,5 +1,7 @@
 mod Ordered
-mod Remembered
+mod Listed
+mod Ranked
+mod Rowed
 mod Small
 mod Stepped
 mod Offered

@@ -2,14 +2,13 @@
 use mir.Syntax.{w64}
 use mir.Val.{to_z, of_z}
 use Rattle.std.specs.Prelude.{◌==◌, nat_le, ◌&&◌, IfSome, Option, Some}
-use Rattle.std.proofs.Common.{◌≡◌, ◌⊎◌, inl, inr, ℕ, zero, suc, ◌+◌, ◌-◌, ◌*◌, ◌<◌, ◌≤◌, List, [], ℤ, sym, ap, subst, arith}
+use Rattle.std.proofs.Common.{◌≡◌, ◌⊎◌, inl, inr, ℕ, zero, suc, ◌+◌, ◌-◌, ◌*◌, ◌<◌, ◌≤◌, List, ℤ, sym, ap, subst, arith}
 use Rattle.std.proofs.lemmas.Int.{ints}
 use Rattle.std.proofs.lemmas.Bool.{and_parts}
 use Rattle.shunt_lists.specs.defs.Members.{In}
 use Rattle.shunt_lists.proofs.Members.{filter_from}
 use Rattle.shunt_prices.specs.defs.Sums.{IsWithin}
 use Rattle.shunt_stacks.specs.defs.Spans.{Span, AreOwn, plus, coming_at, best_with, best_step, best}
-use Rattle.shunt_recount.specs.declared.known.Part.{Part}
 use Rattle.shunt_recount.specs.defs.Visits.{AreSmall, IsBest}
 use Rattle.shunt_lists.proofs.Tests.{equal_of as same_from, le_from}
 use Rattle.shunt_stacks.proofs.Small.{wider, cond_small, either_small, plus_small, at_small}
@@ -48,10 +47,9 @@ module _ (fixed free : List Span) (own : AreOwn fixed free) (small : AreSmall fi
   best_small zero x y room = record { low = omega (arith, ints); high = omega (arith, ints) }
   best_small (suc n) x y room = step_small (best n fixed free) (λ a b r. best_small n a b r) x y room
 
-  pub gain_small : (part : Part) (g : Option ℤ) → IsBest fixed free part g → IfSome g (IsWithin 2560000000000000)
-  gain_small part g is = subst (λ (o : Option ℤ). IfSome o (IsWithin 2560000000000000)) (sym (is part.end (omega arith)))
-      (wider (most part.start part.end) 2560000000000000 (best part.end fixed free part.start part.end part.room) (let f = small.few part.end in omega (arith, f))
-      (best_small part.end part.start part.end part.room))
+  pub gain_small : (x y room : ℕ) (g : Option ℤ) → IsBest fixed free x y room g → IfSome g (IsWithin 2560000000000000)
+  gain_small x y room g is = subst (λ (o : Option ℤ). IfSome o (IsWithin 2560000000000000)) (sym (is y (omega arith)))
+      (wider (most x y) 2560000000000000 (best y fixed free x y room) (let f = small.few y in omega (arith, f)) (best_small y x y room))
 
 pub seen : (z : ℤ) → IsWithin 16000000000000 z → to_z w64 (of_z w64 z) ≡ z
 seen z h = omega (arith, ints, h.low, h.high)

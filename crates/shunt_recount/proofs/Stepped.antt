@@ -1,27 +1,25 @@
 -- The greatest gain over a part, by the visits that come first there.
 use Rattle.std.specs.Prelude.{nat_le, ◌↔◌, ◌&&◌, ◌-◌, cond, map, Option, Some, None}
-use Rattle.std.proofs.Common.{◌≡◌, ◌⊎◌, inl, inr, ⊎_elim, ℕ, zero, suc, ◌+◌, ◌<◌, ◌≤◌, Bool, false, List, [], ◌∷◌, length, drop, get_or, ℤ, pos, refl, sym, subst, ap, ◌∙◌, arith}
+use Rattle.std.proofs.Common.{◌≡◌, ◌⊎◌, inl, inr, ⊎_elim, ℕ, zero, suc, ◌+◌, ◌<◌, ◌≤◌, Bool, false, List, [], ◌∷◌, length, drop, get_or, ℤ, pos, refl, sym, ap, ◌∙◌, arith}
 use Rattle.std.proofs.lemmas.Bool.Decides.{nat_tests}
 use Rattle.std.proofs.lemmas.List.{drop_more}
 use Rattle.shunt_lists.specs.defs.Members.{In}
-use Rattle.shunt_lists.proofs.Members.{in_map, in_place}
 use Rattle.shunt_stacks.specs.defs.Spans.{Span, AgreeWithin, greater, plus, greatest_of, coming_at, best_with, best_at, best_step, best}
-use Rattle.shunt_recount.specs.declared.visits.Visit.{Visit}
-use Rattle.shunt_recount.specs.declared.known.Part.{Part}
-use Rattle.shunt_recount.specs.defs.Visits.{span_of, spans_of, IsBest}
+use Rattle.shunt_recount.specs.declared.moments.Stop.{Stop}
+use Rattle.shunt_recount.specs.defs.Visits.{span_of, IsBest}
+use Rattle.shunt_recount.specs.defs.Moments.{stop_spans}
 use Rattle.shunt_stacks.proofs.Steps.{not_yet, greater_apart, nothing}
-use Rattle.shunt_stacks.proofs.Best.{of_coming as comes_there}
 
--- the greatest of a gain and those of the visits that are left
-abbrev pub left_with : (Span → Option ℤ) → List Visit → ℕ → Option ℤ → Option ℤ
-left_with value vs i gain = greater gain (greatest_of (map value (spans_of (drop i vs))))
+-- the greatest of a gain and those of the stops that are left
+abbrev pub left_with : (Span → Option ℤ) → List Stop → ℕ → Option ℤ → Option ℤ
+left_with value vs i gain = greater gain (greatest_of (map value (stop_spans (drop i vs))))
 
-pub turned : (value : Span → Option ℤ) (vs : List Visit) (i : ℕ) (d : Visit) (gain w all : Option ℤ) → i < length vs → w ≡ value (span_of (get_or vs i d))
+pub turned : (value : Span → Option ℤ) (vs : List Stop) (i : ℕ) (d : Stop) (gain w all : Option ℤ) → i < length vs → w ≡ value (span_of (get_or vs i d).visit)
     → left_with value vs i gain ≡ all →
     left_with value vs (i + 1) (greater gain w) ≡ all
-turned value vs i d gain w all lt e h = greater_apart gain w (greatest_of (map value (spans_of (drop (i + 1) vs))))
-    ∙ (ap (λ (o : Option ℤ). greater gain (greater o (greatest_of (map value (spans_of (drop (i + 1) vs)))))) e
-    ∙ (ap (λ (l : List Visit). greater gain (greatest_of (map value (spans_of l)))) (sym (drop_more vs i d lt)) ∙ h))
+turned value vs i d gain w all lt e h = greater_apart gain w (greatest_of (map value (stop_spans (drop (i + 1) vs))))
+    ∙ (ap (λ (o : Option ℤ). greater gain (greater o (greatest_of (map value (stop_spans (drop (i + 1) vs)))))) e
+    ∙ (ap (λ (l : List Stop). greater gain (greatest_of (map value (stop_spans l)))) (sym (drop_more vs i d lt)) ∙ h))
 
 -- what the laws say of own spans, where none comes at an event, and where a fixed one does
 abbrev pub NoneLaw : List Span → List Span → Type 0
@@ -46,13 +44,13 @@ module _ (fixed free : List Span) (law : NoneLaw fixed free) (n y room : ℕ) wh
 
 -- the same of a part
 pub part_passed : (fixed free : List Span) → NoneLaw fixed free → (start end room first : ℕ) (g : Option ℤ) → start ≤ first → first ≤ end →
-    ((s : Span) → In s fixed ⊎ In s free → start ≤ s.from → first ≤ s.from) → IsBest fixed free (record { start = first; end = end; room = room }) g →
-    IsBest fixed free (record { start = start; end = end; room = room }) g
+    ((s : Span) → In s fixed ⊎ In s free → start ≤ s.from → first ≤ s.from) → IsBest fixed free first end room g →
+    IsBest fixed free start end room g
 part_passed fixed free law start end room first g le to none is n enough = is n (omega (arith, enough, le))
     ∙ sym (passed_to fixed free law n end room start first le to enough none)
 
 pub part_empty : (fixed free : List Span) → NoneLaw fixed free → (start end room first : ℕ) → start ≤ end → end ≤ first →
-    ((s : Span) → In s fixed ⊎ In s free → start ≤ s.from → first ≤ s.from) → IsBest fixed free (record { start = start; end = end; room = room }) (Some (pos 0))
+    ((s : Span) → In s fixed ⊎ In s free → start ≤ s.from → first ≤ s.from) → IsBest fixed free start end room (Some (pos 0))
 part_empty fixed free law start end room first le to none n enough =
     none_comes fixed free law n end room start le enough (λ s i from. let h = none s i from in omega (arith, h, to))
 
@@ -60,14 +58,23 @@ module _ (rest : ℕ → ℕ → ℕ → Option ℤ) (fixed free : List Span) (x
   stepped : best_at (coming_at x fixed) (coming_at x free) (rest (x + 1) y room) (best_with rest y room) ≡ best_step rest fixed free x y room
   stepped = sym (ap (λ (t : Bool). cond t (Some (pos 0)) (best_at (coming_at x fixed) (coming_at x free) (rest (x + 1) y room) (best_with rest y room))) (not_yet x y lt))
 
+  some_fixed : (l : List Span) → 0 < length l → greater None (greatest_of (map (best_with rest y room) l))
+      ≡ best_at l (coming_at x free) (rest (x + 1) y room) (best_with rest y room)
+  some_fixed [] few = absurd (omega (arith, few))
+  some_fixed (f ∷ fs) few = refl
+
+  pub by_fixed : (l : List Span) (g : Option ℤ) → l ≡ coming_at x fixed → 0 < length (coming_at x fixed) → g ≡ greater None (greatest_of (map (best_with rest y room) l)) →
+      g ≡ best_step rest fixed free x y room
+  by_fixed l g e few h = h ∙ (ap (λ (k : List Span). greater None (greatest_of (map (best_with rest y room) k))) e ∙ (some_fixed (coming_at x fixed) few ∙ stepped))
+
   no_fixed : (l : List Span) (o : Option ℤ) → length l ≡ 0 → o ≡ rest (x + 1) y room →
       greater o (greatest_of (map (best_with rest y room) (coming_at x free))) ≡ best_at l (coming_at x free) (rest (x + 1) y room) (best_with rest y room)
   no_fixed [] o e h = ap (λ (p : Option ℤ). greater p (greatest_of (map (best_with rest y room) (coming_at x free)))) h
   no_fixed (f ∷ fs) o e h = absurd (omega (arith, e))
 
-  pub by_free : (o g : Option ℤ) → length (coming_at x fixed) ≡ 0 → o ≡ rest (x + 1) y room → g ≡ greater o (greatest_of (map (best_with rest y room) (coming_at x free))) →
-      g ≡ best_step rest fixed free x y room
-  by_free o g none is h = h ∙ (no_fixed (coming_at x fixed) o none is ∙ stepped)
+  pub by_free : (m : List Span) (o g : Option ℤ) → m ≡ coming_at x free → length (coming_at x fixed) ≡ 0 → o ≡ rest (x + 1) y room →
+      g ≡ greater o (greatest_of (map (best_with rest y room) m)) → g ≡ best_step rest fixed free x y room
+  by_free m o g f none is h = h ∙ (ap (λ (k : List Span). greater o (greatest_of (map (best_with rest y room) k))) f ∙ (no_fixed (coming_at x fixed) o none is ∙ stepped))
 
 neither : (s : Span) (y room : ℕ) → (y < s.past) ⊎ (room < s.length) → nat_le s.past y && nat_le s.length room ≡ false
 neither s y room (inl more) = grind (arith, nat_tests)
@@ -76,29 +83,11 @@ neither s y room (inr long) = grind (arith, nat_tests)
 pub no_room : (rest : ℕ → ℕ → ℕ → Option ℤ) (y room : ℕ) (s : Span) → (y < s.past) ⊎ (room < s.length) → None ≡ best_with rest y room s
 no_room rest y room s h = sym (ap (λ (t : Bool). cond t (plus (Some s.gain) (plus (rest s.inside s.until (room - s.length)) (rest s.past y room))) None) (neither s y room h))
 
--- one of the visits that come at an event, of those that are listed
-pub listed : (vs all items : List Visit) (i x : ℕ) (d : Visit) → i < length vs → spans_of vs ≡ coming_at x (spans_of all) → all ≡ items
-    → In (span_of (get_or vs i d)) (spans_of items) × ((get_or vs i d).comes ≡ x)
-listed vs all items i x d lt e f =
-    let there = subst (λ (l : List Span). In (span_of (get_or vs i d)) l) e (in_map span_of vs (get_or vs i d) (in_place vs i d lt)) in
-    let h = comes_there x (spans_of all) (span_of (get_or vs i d)) there in (
-      subst (λ (l : List Visit). In (span_of (get_or vs i d)) (spans_of l)) f h.0,
-      h.1,
-    )
-
-same_length : (vs : List Visit) → length (spans_of vs) ≡ length vs
-same_length [] = refl
-same_length (v ∷ vs) = ap suc (same_length vs)
-
-pub none_listed : (vs all items : List Visit) (x : ℕ) → length vs ≡ 0 → spans_of vs ≡ coming_at x (spans_of all) → all ≡ items → length (coming_at x (spans_of items)) ≡ 0
-none_listed vs all items x none e f =
-    subst (λ (l : List Visit). length (coming_at x (spans_of l)) ≡ 0) f (subst (λ (l : List Span). length l ≡ 0) e (same_length vs ∙ none))
-
 -- the same value over other lists with the same members
-pub moved_best : (fixed free others more : List Span) (part : Part) (g : Option ℤ)
-    → ((n : ℕ) → part.end ≤ part.start + n → best n others more part.start part.end part.room ≡ best n fixed free part.start part.end part.room) →
-    IsBest others more part g → IsBest fixed free part g
-moved_best fixed free others more part g same is n enough = is n enough ∙ same n enough
+pub moved_best : (fixed free others more : List Span) (x y room : ℕ) (g : Option ℤ)
+    → ((n : ℕ) → y ≤ x + n → best n others more x y room ≡ best n fixed free x y room) →
+    IsBest others more x y room g → IsBest fixed free x y room g
+moved_best fixed free others more x y room g same is n enough = is n enough ∙ same n enough
 
 pub agree_all : (fixed free others more : List Span) (x y : ℕ) → ((s : Span) → In s fixed ↔ In s others) → ((s : Span) → In s free ↔ In s more)
     → AgreeWithin fixed free others more x y

@@ -1,4 +1,5 @@
 -- The definitions of this crate.
 pub mod Visits
+pub mod Moments
 pub mod Offers
 pub mod Recounts

@@ -8,6 +8,7 @@ mod events;
 mod falls;
 mod gains;
 mod known;
+mod moments;
 mod offers;
 mod prices;
 mod recounts;

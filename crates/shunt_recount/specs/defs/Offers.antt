@@ -1,5 +1,5 @@
 -- Free shapes, what they are worth, and what they offer to a stack.
-use Rattle.std.specs.Prelude.{◌≡◌, ◌⊎◌, ℕ, ◌≤◌, pos, ◌<ℤ◌, true, false, filter, map, List, Option, Some, None}
+use Rattle.std.specs.Prelude.{◌≡◌, ◌⊎◌, ℕ, ◌≤◌, pos, ◌<ℤ◌, filter, map, List, Option, Some, None}
 use Rattle.shunt_lists.specs.defs.Members.{In}
 use Rattle.shunt_base.specs.declared.duals.Case.{Case}
 use Rattle.shunt_instance.specs.declared.records.Station.{Station}

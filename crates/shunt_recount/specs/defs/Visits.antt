@@ -1,15 +1,11 @@
--- Visits as spans, and what is known of their greatest gains.
-use Rattle.std.specs.Prelude.{◌≡◌, ◌⊎◌, ℕ, ◌+◌, ◌<◌, ◌≤◌, ℤ, map, List, Option, IfSome}
+-- Visits as spans, and their greatest gains.
+use Rattle.std.specs.Prelude.{◌≡◌, ◌⊎◌, ℕ, ◌+◌, ◌<◌, ◌≤◌, ℤ, map, List, Option}
 use Rattle.std.specs.List.Sorted.{IsNonDecreasingBy}
-use Rattle.std.specs.declared.cmp.Ordering.{Ordering}
-use Rattle.std.specs.Ordering.{ordering_then, nat_cmp}
-use Rattle.std.specs.BTreeMap.{BTreeMap, get}
 use Rattle.shunt_lists.specs.defs.Members.{In}
 use Rattle.shunt_prices.specs.defs.Sums.{IsWithin}
 use Rattle.shunt_stacks.specs.defs.Spans.{Span, AreOwn, best}
 use Rattle.shunt_recount.specs.declared.visits.Visit.{Visit}
 use Rattle.shunt_recount.specs.declared.visits.Visits.{Visits}
-use Rattle.shunt_recount.specs.declared.known.Part.{Part}
 
 -- the event at which a visit comes
 abbrev pub comes_at : Visit → ℕ
@@ -43,14 +39,6 @@ pub record AreVisits (v : Visits) : Type 0 where
   pub fixed_rise : IsNonDecreasingBy comes_at v.fixed.items
   pub free_rise : IsNonDecreasingBy comes_at v.free.items
 
--- the greatest gain over a part of the events, by any number of events that is enough
-abbrev pub IsBest : List Span → List Span → Part → Option ℤ → Type 0
-IsBest fixed free part g = (n : ℕ) → part.end ≤ part.start + n → g ≡ best n fixed free part.start part.end part.room
-
--- the order of parts: by start, then by end, then by room
-abbrev pub part_cmp : Part → Part → Ordering
-part_cmp k l = ordering_then (nat_cmp k.start l.start) (ordering_then (nat_cmp k.end l.end) (nat_cmp k.room l.room))
-
--- each gain that is known is the greatest over its part
-abbrev pub AreKnown : List Span → List Span → BTreeMap Part (Option ℤ) → Type 0
-AreKnown fixed free known = (k : Part) → IfSome (get part_cmp known k) (IsBest fixed free k)
+-- the greatest gain over the events from x on and before y with this room, by any number of events that is enough
+abbrev pub IsBest : List Span → List Span → ℕ → ℕ → ℕ → Option ℤ → Type 0
+IsBest fixed free x y room g = (n : ℕ) → y ≤ x + n → g ≡ best n fixed free x y room

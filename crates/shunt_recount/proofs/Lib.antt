@@ -1,6 +1,8 @@
 mod Ordered
 mod Listed
 mod Ranked
+mod Beside
+mod Read
 mod Rowed
 mod Small
 mod Stepped

@@ -76,6 +76,17 @@ module _ (fixed free : List Span) (end : ℕ) (events : List ℕ) (are : AreEven
         a.2,
       )
 
+  -- of the same rank are events between which nothing comes, and so are an event and the next listed one
+  pub none_between : (x y j : ℕ) → IsRank events x j → IsRank events y j → y ≤ end → (s : Span) → In s fixed ⊎ In s free → x ≤ s.from → y ≤ s.from
+  none_between x y j a b to s i le = ⊎_elim
+      (λ (less : s.from < end).
+      let h = from_rank x j a s i le less in
+      let q = b.behind h.0 h.1 h.2 in
+      let e = h.3 in
+      omega (arith, q, e))
+      (λ (more : end ≤ s.from). omega (arith, more, to))
+      (cases_lt s.from end)
+
   module _ (law : NoneLaw fixed free) (y room : ℕ) (to : y ≤ end) where
     -- where nothing is listed before an end there is nothing to gain
     pub none_value : (x j : ℕ) → IsRank events y j → IsRank events x j → x ≤ y → IsBest fixed free x y room (Some (pos 0))
@@ -168,6 +179,13 @@ module _ (m : Moments) (are : AreMoments m) (k : ℕ) (lt : k < length (events_o
       let e = at.comes in
       rank_more (events_of m) k s.visit.gone s.gone lt (omega (arith, a, b, d, e)) at.ranks.gone
 
+  pub inside_later : k < s.inside
+  inside_later =
+      let is = span_is in
+      let a : s.visit.comes < s.visit.inside = is.enters in
+      let e = at.comes in
+      rank_more (events_of m) k s.visit.inside s.inside lt (omega (arith, a, e)) at.ranks.inside
+
   pub gone_within : (end top : ℕ) → IsRank (events_of m) end top → s.visit.gone ≤ end → s.gone ≤ top
   gone_within end top rank le = rank_le (events_of m) s.visit.gone end s.gone top at.ranks.gone rank le
 
@@ -188,6 +206,12 @@ module _ (m : Moments) (k : ℕ) (mo : Moment) (is : IsMoment (fixed_of m) (free
 
   pub stop_there : IsStopAt m k s
   stop_there = stop_by mo.is_fixed refl
+
+-- a visit of a moment at which a fixed one comes is fixed
+pub fixed_stop : (m : Moments) (k : ℕ) (mo : Moment) → IsMoment (fixed_of m) (free_of m) (events_of m) (event_at (events_of m) k) mo → mo.is_fixed ≡ true → (s : Stop)
+    → In s mo.stops.items → In (span_of s.visit) (fixed_of m)
+fixed_stop m k mo is e s i = (comes_there (event_at (events_of m) k) (fixed_of m) (span_of s.visit)
+    (subst (λ (l : List Span). In (span_of s.visit) l) (is.fixed_come e).1 (in_map (λ (t : Stop). span_of t.visit) mo.stops.items s i))).0
 
 -- the next gain of a row
 pub next_is : (laws : StepLaws) (m : Moments) (are : AreMoments m) (end top room j : ℕ) (to : end ≤ m.end) (last : IsRank (events_of m) end top) (lt : j < top)

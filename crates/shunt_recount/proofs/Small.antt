@@ -53,3 +53,6 @@ module _ (fixed free : List Span) (own : AreOwn fixed free) (small : AreSmall fi
 
 pub seen : (z : ℤ) → IsWithin 16000000000000 z → to_z w64 (of_z w64 z) ≡ z
 seen z h = omega (arith, ints, h.low, h.high)
+
+pub seen_more : (z : ℤ) → IsWithin 2560000000000000 z → to_z w64 (of_z w64 z) ≡ z
+seen_more z h = omega (arith, ints, h.low, h.high)

@@ -1,5 +1,6 @@
 -- The definitions of this crate.
 pub mod Visits
 pub mod Moments
+pub mod Places
 pub mod Offers
 pub mod Recounts

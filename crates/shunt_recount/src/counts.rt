@@ -13,17 +13,19 @@ use crate::candidates::Candidate;
 use crate::ends::TrackEnd;
 use crate::gains::stack_gain;
 use crate::offers::{Offer, offers_for};
+use crate::tables::Table;
 use shunt_base::Case;
 use shunt_choices::Path;
 use shunt_instance::Instance;
 use std::alloc::{AllocError, Global};
 
-/// A stack with its offers at a path in a case, and what it gains there.
+/// A stack with its offers at a path in a case, and what it gains there, with the table of its visits.
 #[derive(Drop)]
 pub(crate) struct StackCount {
     pub end: TrackEnd,
     pub offers: Vec<Offer>,
     pub gain: i64,
+    pub table: Table,
 }
 
 /// What the stacks of a night's station gain at a path in a case, with the free blocks there that gain something.
@@ -53,6 +55,11 @@ pub(crate) fn count_of(
     ensures end { IfOk result (λ k. k.end ≡ end) }
 {
     let offers = offers_for(alloc, instance, case, end, candidates)?;
-    let gain = stack_gain(alloc, instance, end, path.blocks(), &offers)?;
-    Ok(StackCount { end, offers, gain })
+    let gained = stack_gain(alloc, instance, end, path.blocks(), &offers)?;
+    Ok(StackCount {
+        end,
+        offers,
+        gain: gained.gain,
+        table: gained.table,
+    })
 }

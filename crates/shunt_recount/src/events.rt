@@ -43,7 +43,7 @@ fn leave_number(instance: &Instance, v: usize) -> u32
 }
 
 /// What a block takes of the events, with a gain.
-fn visit_of(instance: &Instance, block: &Block, gain: i64) -> Visit
+pub(crate) fn visit_of(instance: &Instance, block: &Block, gain: i64) -> Visit
     requires { IsWithinTrains instance.now block.now }
     ensures { visit_span result ≡ span_of instance.now (entry_number instance.now)
         (leave_number instance.now) (λ b. gain) block.now }

@@ -18,14 +18,17 @@ ghost use Rattle.shunt_recount.specs.defs.Recounts.{IsRecountOf, IsCountOf};
 
 use crate::counts::{Recount, StackCount};
 use crate::ends::stands_by;
+use crate::events::visit_of;
 use crate::gains::stack_gain;
 use crate::offers::apart_from;
+use crate::places::gain_beside;
+use crate::prices::room_on;
 use shunt_base::Case;
 use shunt_blocks::laws::places;
 use shunt_blocks::{Block, Park};
 use shunt_choices::Path;
 use shunt_instance::Instance;
-use shunt_stacks::laws::{choices_by_events, stacks_of_stations};
+use shunt_stacks::laws::{choices_by_events, gains_by_events, stacks_of_stations, sums_fit};
 use std::alloc::{AllocError, Global};
 
 /// The stack of an option, where it is of one.
@@ -43,7 +46,8 @@ fn count_for(counts: &[StackCount], option: Option<Park>) -> Option<&StackCount>
     None
 }
 
-/// What a stack gains at a path with one block of it more, whose run goes through.
+/// What a stack gains at a path with one block of it more, whose run goes through: by the table of the path, and anew where that doesn't tell
+/// it.
 fn gain_with(
     alloc: Global,
     instance: &Instance,
@@ -57,6 +61,7 @@ fn gain_with(
     requires case { IsCase instance.now case.now }
     requires count { IsCountOf instance.now path.now.blocks case.now count.now }
     requires track { count.now.end.track.0 < length instance.now.station.tracks }
+    requires own { is_of (stack_at count.now.end) block.now.park ≡ true }
     requires free { IsFreeBlock instance.now path.now.covered (shape_of block.now) block.now.park }
     requires longer { RunsThrough instance.now (placed (path.now.blocks ++ block.now ∷ [])) }
     ensures exact { IfOk result (IsStackGain instance.now
@@ -66,11 +71,19 @@ fn gain_with(
     // The first call tells that the night is well formed.
     instance.units();
     places();
+    gains_by_events();
     choices_by_events();
+    sums_fit();
+    let own = visit_of(instance, block, 0);
+    let room = room_on(instance, count.end.track);
+    if let Some(gain) = gain_beside(&count.table, own, room, count.gain) {
+        return Ok(gain);
+    }
     let mut longer = Vec::from_slice(alloc, path.blocks())?;
     longer.push(*block)?;
     let apart = apart_from(alloc, instance, block, &count.offers)?;
-    stack_gain(alloc, instance, count.end, &longer, &apart)
+    let gained = stack_gain(alloc, instance, count.end, &longer, &apart)?;
+    Ok(gained.gain)
 }
 
 /// How far a gain falls.

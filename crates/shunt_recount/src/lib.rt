@@ -10,9 +10,11 @@ mod gains;
 mod known;
 mod moments;
 mod offers;
+mod places;
 mod prices;
 mod recounts;
 mod shapes;
+mod tables;
 mod values;
 mod visits;
 

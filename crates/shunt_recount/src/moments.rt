@@ -65,7 +65,7 @@ fn events_before(alloc: Global, visits: &Visits, end: u32) -> Result<Vec<u32>, A
 }
 
 /// How many of these events are before one.
-fn rank(events: &[u32], x: u32) -> usize
+pub(crate) fn rank(events: &[u32], x: u32) -> usize
     requires { (j k : ℕ) → j < k → k < length events.now
         → event_at events.now j < event_at events.now k }
     ensures { IsRank events.now x result }
@@ -74,7 +74,7 @@ fn rank(events: &[u32], x: u32) -> usize
 }
 
 /// A visit with how many of these events are before its own ones.
-fn stop_of(events: &[u32], visit: Visit) -> Stop
+pub(crate) fn stop_of(events: &[u32], visit: Visit) -> Stop
     requires { (j k : ℕ) → j < k → k < length events.now
         → event_at events.now j < event_at events.now k }
     ensures same { result.visit ≡ visit }

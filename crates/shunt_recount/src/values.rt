@@ -3,19 +3,17 @@ ghost use Rattle.std.specs.Prelude.{◌≡◌, ℕ, ◌+◌, ◌-◌, ◌<◌, �
 ghost use Rattle.std.specs.Prelude.{None, true, false, slice_index_or};
 ghost use Rattle.shunt_lists.specs.defs.Members.{In};
 ghost use Rattle.shunt_prices.specs.defs.Sums.{IsWithin};
-ghost use Rattle.shunt_stacks.specs.defs.Spans.{AreOwn, greater, plus, greatest_of};
-ghost use Rattle.shunt_stacks.specs.defs.Spans.{best, best_with};
+ghost use Rattle.shunt_stacks.specs.defs.Spans.{greater, plus, greatest_of, best, best_with};
 ghost use Rattle.shunt_recount.specs.declared.moments.Stop.{Stop as AStop};
-ghost use Rattle.shunt_recount.specs.defs.Visits.{span_of, spans_of, AreSmall, IsBest};
+ghost use Rattle.shunt_recount.specs.defs.Visits.{span_of};
 ghost use Rattle.shunt_recount.specs.defs.Moments.{event_at, IsRank, stop_spans, AreMoments};
 ghost use Rattle.shunt_recount.specs.defs.Moments.{fixed_of, free_of, events_of, IsStopAt};
 ghost use Rattle.shunt_recount.specs.defs.Moments.{IsValue, AreGains, AreKnown};
 
 use crate::known::{Known, PartEnd, found, remember, taken};
 use crate::moments::{Moment, Moments, Stop};
-use crate::visits::{Visit, Visits};
 use shunt_stacks::laws::nests;
-use std::alloc::{AllocError, Global};
+use std::alloc::AllocError;
 
 /// The greater of two gains, where there are such.
 fn greater(one: Option<i64>, other: Option<i64>) -> Option<i64>
@@ -209,29 +207,4 @@ pub(crate) fn value(
     let gain = gains[back];
     remember(known, key, gains)?;
     Ok(gain)
-}
-
-/// The greatest gain of fixed and free visits before an end, with this room in dm. None where the fixed visits don't go.
-pub(crate) fn greatest_gain(
-    alloc: Global,
-    fixed: Vec<Visit>,
-    free: Vec<Visit>,
-    end: u32,
-    room: u32,
-) -> Result<Option<i64>, AllocError>
-    requires own { AreOwn (spans_of fixed.items) (spans_of free.items) }
-    requires small { AreSmall (spans_of fixed.items) (spans_of free.items) }
-    requires end { end < 4000000000 }
-    ensures { IfOk result (IsBest (spans_of fixed.items) (spans_of free.items) 0 end room) }
-{
-    nests();
-    let visits = Visits::new(fixed, free);
-    let moments = Moments::new(alloc, visits, end)?;
-    let mut known = Known::new(alloc)?;
-    let whole = PartEnd {
-        end,
-        top: moments.events.len(),
-        room,
-    };
-    value(&moments, &mut known, 0, whole)
 }

@@ -6,7 +6,9 @@ use Rattle.shunt_blocks.specs.declared.records.Block.{Block}
 use Rattle.shunt_choices.specs.defs.Paths.{Masks}
 use Rattle.shunt_choices.specs.defs.Choices.{AreFreeShapes}
 use Rattle.shunt_stacks.specs.defs.Fillings.{IsStackGain}
+use Rattle.shunt_recount.specs.declared.offers.Offer.{Offer}
 use Rattle.shunt_recount.specs.defs.Offers.{stack_at, IsCandidate, AreOffersOf}
+use Rattle.shunt_recount.specs.defs.Recounts.{IsStackTable}
 use Rattle.shunt_recount.proofs.TakenOffers.{taken}
 use Rattle.shunt_recount.proofs.counts.count_of.Goals as goal
 use Rattle.shunt_lists.proofs.Members.{to_all as from_members}
@@ -38,11 +40,15 @@ returns-clause-is c =
     c.in_ok-offers.ensures in
     let there = subst (λ (bs : List Block). AreOffersOf night bs case stack c.deref.result.now) (sym c.blocks-2.ensures)
     (subst (AreOffersOf night c.args.path.now.blocks case stack) (sym c.deref.ensures.value) of) in
-    let small = c.in_ok-gain.ensures.small in
-    let seen : to_z w64 (of_z w64 c.in_ok-gain.gain) ≡ c.in_ok-gain.gain = omega (arith, ints, small.low, small.high) in
+    let small = c.in_ok-gained.ensures.small in
+    let seen : to_z w64 (of_z w64 c.in_ok-gained.gained.gain) ≡ c.in_ok-gained.gained.gain = omega (arith, ints, small.low, small.high) in
     record {
       offers = of;
       gain = subst (IsStackGain night c.args.path.now.blocks case stack) (sym seen)
-          (subst (λ (bs : List Block). IsStackGain night bs case stack c.in_ok-gain.gain) c.blocks-2.ensures (c.in_ok-gain.ensures.exact case there));
+          (subst (λ (bs : List Block). IsStackGain night bs case stack c.in_ok-gained.gained.gain) c.blocks-2.ensures (c.in_ok-gained.ensures.exact case there));
       small = record { low = omega (arith, ints, small.low, small.high); high = omega (arith, ints, small.low, small.high) };
+      table = subst (IsStackTable night c.args.path.now.blocks stack c.in_ok-offers.offers.items c.in_ok-gained.gained.table) (sym seen)
+          (subst (λ (bs : List Block). IsStackTable night bs stack c.in_ok-offers.offers.items c.in_ok-gained.gained.table c.in_ok-gained.gained.gain) c.blocks-2.ensures
+          (subst (λ (os : List Offer). IsStackTable night c.blocks-2.result.now stack os c.in_ok-gained.gained.table c.in_ok-gained.gained.gain) c.deref.ensures.value
+          c.in_ok-gained.ensures.table));
     }

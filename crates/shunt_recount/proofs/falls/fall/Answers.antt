@@ -28,6 +28,9 @@ gain_with-requires-clause-count c =
     let some = c.in-Some.ensures.some in
     c.requires.recount.counts.each c.in-Some.count.now (subst (λ (ks : List StackCount). In c.in-Some.count.now ks) c.deref.ensures.value some.0)
 
+pub gain_with-requires-clause-own : goal.gain_with-requires-clause-own
+gain_with-requires-clause-own c = c.in-Some.ensures.some.1
+
 pub lost-requires-clause-before : goal.lost-requires-clause-before
 lost-requires-clause-before c =
     let some = c.in-Some.ensures.some in

@@ -76,7 +76,7 @@ fn gain_with(
     sums_fit();
     let own = visit_of(instance, block, 0);
     let room = room_on(instance, count.end.track);
-    if let Some(gain) = gain_beside(&count.table, own, room, count.gain) {
+    if let Some(gain) = gain_beside(alloc, &count.table, own, room, count.gain)? {
         return Ok(gain);
     }
     let mut longer = Vec::from_slice(alloc, path.blocks())?;

@@ -1,17 +1,19 @@
 // The place at which a visit more would stand among the fixed ones, and what is gained with it.
-ghost use Rattle.std.specs.Prelude.{◌≡◌, ◌<◌, ℕ, pos, IfSome, Some, Option, List};
+ghost use Rattle.std.specs.Prelude.{◌≡◌, ◌<◌, ◌≤◌, ℕ, pos, IfOk, IfSome, Some, Option, List};
 ghost use Rattle.shunt_prices.specs.defs.Sums.{IsWithin};
 ghost use Rattle.shunt_stacks.specs.defs.Spans.{Span, IsSpan, best};
 ghost use Rattle.shunt_recount.specs.defs.Visits.{span_of, IsBest};
-ghost use Rattle.shunt_recount.specs.defs.Moments.{IsRank, IsStop, AreMoments, AreKnown};
+ghost use Rattle.shunt_recount.specs.defs.Moments.{IsRank, IsStop, AreMoments, AreKnown, IsValue};
 ghost use Rattle.shunt_recount.specs.defs.Moments.{fixed_of, free_of, events_of};
 ghost use Rattle.shunt_recount.specs.defs.Places.{IsBeside, IsPlaceAt, Surround, IsPast, IsInPlace};
 
 use crate::known::{Known, PartEnd, found};
 use crate::moments::{Moments, Stop, rank, stop_of};
 use crate::tables::Table;
+use crate::values::value;
 use crate::visits::Visit;
 use shunt_stacks::laws::nests;
+use std::alloc::{AllocError, Global};
 
 /// The events from x on, where so many of the listed ones have passed, and before an end, with the room that is left there.
 #[derive(Clone, Copy, Drop)]
@@ -118,8 +120,37 @@ fn in_place(
     Some(whole - without + (inside + behind))
 }
 
-/// What is gained with a stop more at its place, by what is known. None where that doesn't tell it.
-fn gain_there(moments: &Moments, known: &Known, place: Place, own: Stop, whole: i64) -> Option<i64>
+/// The greatest gain from where so many listed events have passed on and before an end: where it isn't known, it is found by itself.
+fn gain_from(
+    alloc: Global,
+    moments: &Moments,
+    known: &Known,
+    passed: usize,
+    key: PartEnd,
+) -> Result<Option<i64>, AllocError>
+    requires moments { AreMoments moments.now }
+    requires known { AreKnown moments.now known.now }
+    requires end { key.end ≤ moments.now.end }
+    requires top { IsRank (events_of moments.now) key.end key.top }
+    requires passed { passed ≤ key.top }
+    ensures { IfOk result (IsValue moments.now passed key.end key.room) }
+{
+    if let Some(gain) = found(known, key.top - passed, key) {
+        return Ok(gain);
+    }
+    let mut fresh = Known::new(alloc)?;
+    value(moments, &mut fresh, passed, key)
+}
+
+/// What is gained with a stop more at its place. None where it doesn't go there.
+fn gain_there(
+    alloc: Global,
+    moments: &Moments,
+    known: &Known,
+    place: Place,
+    own: Stop,
+    whole: i64,
+) -> Result<Option<i64>, AllocError>
     requires moments { AreMoments moments.now }
     requires known { AreKnown moments.now known.now }
     requires place { IsPlaceAt moments.now own.visit.comes place }
@@ -131,28 +162,34 @@ fn gain_there(moments: &Moments, known: &Known, place: Place, own: Stop, whole: 
         moments.now.end room (Some whole) → IsRank (events_of moments.now) own.visit.comes
         place.passed → Surround moments.now room own.visit.comes place → (others more : List Span)
         → IsBeside (fixed_of moments.now) (free_of moments.now) others more (span_of own.visit)
-        → IfSome result
-        (λ z. best moments.now.end others more 0 moments.now.end room ≡ Some z) }
-    ensures small { IfSome result (IsWithin 10240000000000000) }
+        → IfOk result (λ g. IfSome g
+        (λ z. best moments.now.end others more 0 moments.now.end room ≡ Some z)) }
+    ensures small { IfOk result (λ g. IfSome g (IsWithin 10240000000000000)) }
 {
     nests();
     if own.visit.gone > place.key.end || own.visit.length > place.key.room {
-        return None;
+        return Ok(None);
     }
     let within = PartEnd {
         end: own.visit.until,
         top: own.until,
         room: place.key.room - own.visit.length,
     };
-    let without = found(known, place.key.top - place.passed, place.key)?;
-    let inside = found(known, own.until - own.inside, within)?;
-    let behind = found(known, place.key.top - own.gone, place.key)?;
-    in_place(whole, without, inside, behind)
+    let without = gain_from(alloc, moments, known, place.passed, place.key)?;
+    let inside = gain_from(alloc, moments, known, own.inside, within)?;
+    let behind = gain_from(alloc, moments, known, own.gone, place.key)?;
+    Ok(in_place(whole, without, inside, behind))
 }
 
 /// The greatest gain over all events with a visit more that gains nothing, by the table of the gains without it, of which the greatest is
-/// given. None where they don't tell it.
-pub(crate) fn gain_beside(table: &Table, own: Visit, room: u32, whole: i64) -> Option<i64>
+/// given. None where the visit doesn't go, or a free one comes before it. Err is want of memory.
+pub(crate) fn gain_beside(
+    alloc: Global,
+    table: &Table,
+    own: Visit,
+    room: u32,
+    whole: i64,
+) -> Result<Option<i64>, AllocError>
     requires moments { AreMoments table.now.moments }
     requires known { AreKnown table.now.moments table.now.known }
     requires span { IsSpan (span_of own) }
@@ -162,14 +199,16 @@ pub(crate) fn gain_beside(table: &Table, own: Visit, room: u32, whole: i64) -> O
         table.now.moments.end room (Some whole) }
     requires small { IsWithin 2560000000000000 whole }
     ensures exact { (others more : List Span) → IsBeside (fixed_of table.now.moments)
-        (free_of table.now.moments) others more (span_of own) → IfSome result
-        (λ z. best table.now.moments.end others more 0 table.now.moments.end room ≡ Some z) }
-    ensures small { IfSome result (IsWithin 10240000000000000) }
+        (free_of table.now.moments) others more (span_of own) → IfOk result (λ g. IfSome g
+        (λ z. best table.now.moments.end others more 0 table.now.moments.end room ≡ Some z)) }
+    ensures small { IfOk result (λ g. IfSome g (IsWithin 10240000000000000)) }
 {
     let moments = &table.moments;
     let stop = stop_of(&moments.events, own);
     let at = stop.visit.comes;
     let last = rank(&moments.events, at);
-    let place = place_at(moments, at, last, room)?;
-    gain_there(moments, &table.known, place, stop, whole)
+    let Some(place) = place_at(moments, at, last, room) else {
+        return Ok(None);
+    };
+    gain_there(alloc, moments, &table.known, place, stop, whole)
 }

@@ -1,6 +1,6 @@
 use mir.Syntax.{w64}
 use mir.Val.{to_z, of_z}
-use Rattle.std.specs.Prelude.{All, Some, filter, not}
+use Rattle.std.specs.Prelude.{All, IfSome, Option, Some, filter, not}
 use Rattle.std.proofs.Common.{◌≡◌, ◌<◌, ◌∙◌, inl, ℕ, ℤ, List, [], ◌∷◌, ◌++◌, ap, sym, subst, arith}
 use Rattle.std.proofs.lemmas.Int.{ints}
 use Rattle.shunt_blocks.specs.declared.records.Block.{Block}
@@ -166,7 +166,8 @@ returns-in-Some-clause-exact c =
     c.requires.own out) in
     let z = c.in-Some.gain in
     let first : best m.end others more 0 m.end c.room_on-room.result ≡ Some z =
-    c.in-Some.ensures.exact others more (subst (IsBeside (fixed_of m) (free_of m) others more) (sym c.visit_of-own.ensures) beside) in
+    subst (λ (o : Option ℤ). IfSome o (λ (y : ℤ). best m.end others more 0 m.end c.room_on-room.result ≡ Some y)) c.in-Some.is
+    (c.in_ok-gain.ensures.exact others more (subst (IsBeside (fixed_of m) (free_of m) others more) (sym c.visit_of-own.ensures) beside)) in
     let most : best 5760000 others more 0 5760000 (track_length night stack.track.0) ≡ Some z =
     subst (λ (r : ℕ). best 5760000 others more 0 5760000 r ≡ Some z) c.room_on-room.ensures.exact
     (subst (λ (y : ℕ). best y others more 0 y c.room_on-room.result ≡ Some z) t.table.end_same first) in
@@ -204,7 +205,8 @@ returns-in-Some-clause-small c =
     c.requires.own out) in
     let z = c.in-Some.gain in
     let first : best m.end others more 0 m.end c.room_on-room.result ≡ Some z =
-    c.in-Some.ensures.exact others more (subst (IsBeside (fixed_of m) (free_of m) others more) (sym c.visit_of-own.ensures) beside) in
+    subst (λ (o : Option ℤ). IfSome o (λ (y : ℤ). best m.end others more 0 m.end c.room_on-room.result ≡ Some y)) c.in-Some.is
+    (c.in_ok-gain.ensures.exact others more (subst (IsBeside (fixed_of m) (free_of m) others more) (sym c.visit_of-own.ensures) beside)) in
     let most : best 5760000 others more 0 5760000 (track_length night stack.track.0) ≡ Some z =
     subst (λ (r : ℕ). best 5760000 others more 0 5760000 r ≡ Some z) c.room_on-room.ensures.exact
     (subst (λ (y : ℕ). best y others more 0 y c.room_on-room.result ≡ Some z) t.table.end_same first) in

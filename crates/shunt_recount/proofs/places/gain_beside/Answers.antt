@@ -25,7 +25,7 @@ gain_there-requires c =
     record {
       moments = c.requires.moments;
       known = c.requires.known;
-      place = c.in_ok-place.ensures.there;
+      place = c.in-Some.ensures.there;
       ranks = subst (λ (es : List ℕ). IsStop es c.stop_of-stop.result) c.deref.ensures.value c.stop_of-stop.ensures.is;
       span = subst (λ (v : Visit). IsSpan (span_of v)) (sym same) c.requires.span;
       bare = ap (λ (v : Visit). v.gain) same ∙ c.requires.bare;
@@ -38,5 +38,5 @@ returns-clause-exact c = λ others more beside.
     let last = subst (λ (es : List ℕ). IsRank es c.stop_of-stop.result.visit.comes c.rank-last.result) c.deref-2.ensures.value c.rank-last.ensures in
     c.gain_there.ensures.exact c.args.room
     (subst (λ (w : ℤ). IsBest (fixed_of m) (free_of m) 0 m.end c.args.room (Some w)) (sym (seen_more c.args.whole c.requires.small)) c.requires.whole)
-    (subst (IsRank (events_of m) c.stop_of-stop.result.visit.comes) (sym c.in_ok-place.ensures.begins) last) c.in_ok-place.ensures.surround others more
+    (subst (IsRank (events_of m) c.stop_of-stop.result.visit.comes) (sym c.in-Some.ensures.begins) last) c.in-Some.ensures.surround others more
     (subst (λ (v : Visit). IsBeside (fixed_of m) (free_of m) others more (span_of v)) (sym c.stop_of-stop.ensures.same) beside)

@@ -9,16 +9,45 @@ use Rattle.shunt_recount.proofs.Ranked.{rank_le, none_between}
 use Rattle.shunt_recount.proofs.Small.{gain_small, seen_more}
 use Rattle.shunt_recount.proofs.places.gain_there.Goals as goal
 
-pub overflow_sub-place : goal.overflow_sub-place
-overflow_sub-place c =
+pub gain_from-requires : goal.gain_from-requires
+gain_from-requires c =
     let p = c.requires.place in
     let starts = p.starts in
     let ends = p.ends in
-    rank_le (events_of c.args.moments.now) c.args.place.x c.args.place.key.end c.args.place.passed c.args.place.key.top p.passed p.top (omega (arith, starts, ends))
+    record {
+      moments = c.requires.moments;
+      known = c.requires.known;
+      end = p.within;
+      top = p.top;
+      passed = rank_le (events_of c.args.moments.now) c.args.place.x c.args.place.key.end c.args.place.passed c.args.place.key.top p.passed p.top (omega (arith, starts, ends));
+    }
 
-pub overflow_sub-own : goal.overflow_sub-own
-overflow_sub-own c = rank_le (events_of c.args.moments.now) c.args.own.visit.inside c.args.own.visit.until c.args.own.inside c.args.own.until c.requires.ranks.inside
-    c.requires.ranks.until c.requires.span.stays
+pub gain_from-requires-2 : goal.gain_from-requires-2
+gain_from-requires-2 c =
+    let leaves = c.requires.span.leaves in
+    let gone = c.if-own-place.false in
+    let within = c.requires.place.within in
+    record {
+      moments = c.requires.moments;
+      known = c.requires.known;
+      end = omega (arith, leaves, gone, within);
+      top = c.requires.ranks.until;
+      passed = rank_le (events_of c.args.moments.now) c.args.own.visit.inside c.args.own.visit.until c.args.own.inside c.args.own.until c.requires.ranks.inside
+          c.requires.ranks.until c.requires.span.stays;
+    }
+
+pub gain_from-requires-3 : goal.gain_from-requires-3
+gain_from-requires-3 c =
+    let p = c.requires.place in
+    let gone = c.if-own-place.false in
+    record {
+      moments = c.requires.moments;
+      known = c.requires.known;
+      end = p.within;
+      top = p.top;
+      passed = rank_le (events_of c.args.moments.now) c.args.own.visit.gone c.args.place.key.end c.args.own.gone c.args.place.key.top c.requires.ranks.gone p.top
+          (omega (arith, gone));
+    }
 
 pub in_place-requires-clause-without : goal.in_place-requires-clause-without
 in_place-requires-clause-without c =
@@ -27,9 +56,8 @@ in_place-requires-clause-without c =
     let p = c.requires.place in
     let starts = p.starts in
     let ends = p.ends in
-    let le = rank_le (events_of m) c.args.place.x c.args.place.key.end c.args.place.passed c.args.place.key.top p.passed p.top (omega (arith, starts, ends)) in
     gain_small (fixed_of m) (free_of m) v.own v.small c.args.place.x c.args.place.key.end c.args.place.key.room c.in_ok-without.without
-    (c.in_ok-without.ensures m c.args.place.passed c.requires.known p.top (omega (arith, le)) c.args.place.x p.passed (omega (arith, starts, ends)))
+    (c.in_ok-without.ensures c.args.place.x p.passed (omega (arith, starts, ends)))
 
 pub in_place-requires-clause-inside : goal.in_place-requires-clause-inside
 in_place-requires-clause-inside c =
@@ -37,9 +65,8 @@ in_place-requires-clause-inside c =
     let v = c.requires.moments.visits in
     let o = c.args.own in
     let stays = c.requires.span.stays in
-    let le = rank_le (events_of m) o.visit.inside o.visit.until o.inside o.until c.requires.ranks.inside c.requires.ranks.until stays in
     gain_small (fixed_of m) (free_of m) v.own v.small o.visit.inside o.visit.until _ c.in_ok-inside.inside
-    (c.in_ok-inside.ensures m o.inside c.requires.known c.requires.ranks.until (omega (arith, le)) o.visit.inside c.requires.ranks.inside stays)
+    (c.in_ok-inside.ensures o.visit.inside c.requires.ranks.inside stays)
 
 pub in_place-requires-clause-behind : goal.in_place-requires-clause-behind
 in_place-requires-clause-behind c =
@@ -48,9 +75,8 @@ in_place-requires-clause-behind c =
     let o = c.args.own in
     let p = c.requires.place in
     let gone = c.if-own-place.false in
-    let le = rank_le (events_of m) o.visit.gone c.args.place.key.end o.gone c.args.place.key.top c.requires.ranks.gone p.top (omega (arith, gone)) in
     gain_small (fixed_of m) (free_of m) v.own v.small o.visit.gone c.args.place.key.end c.args.place.key.room c.in_ok-behind.behind
-    (c.in_ok-behind.ensures m o.gone c.requires.known p.top (omega (arith, le)) o.visit.gone c.requires.ranks.gone (omega (arith, gone)))
+    (c.in_ok-behind.ensures o.visit.gone c.requires.ranks.gone (omega (arith, gone)))
 
 pub returns-clause-exact : goal.returns-clause-exact
 returns-clause-exact c = λ room whole rank surround others more beside.
@@ -66,15 +92,12 @@ returns-clause-exact c = λ room whole rank surround others more beside.
     let long = c.if-own-place-2.false in
     let stays = c.requires.span.stays in
     let laws : NestLaws = record { at_fixed = c.nests.ensures.at_fixed; at_none = c.nests.ensures.at_none; agree = c.nests.ensures.agree } in
-    let first = rank_le (events_of m) place.x place.key.end place.passed place.key.top p.passed p.top (omega (arith, starts, ends)) in
-    let second = rank_le (events_of m) o.visit.inside o.visit.until o.inside o.until c.requires.ranks.inside c.requires.ranks.until stays in
-    let third = rank_le (events_of m) o.visit.gone place.key.end o.gone place.key.top c.requires.ranks.gone p.top (omega (arith, gone)) in
     let there = skipped laws (fixed_of m) (free_of m) v.own others more (span_of o.visit) beside m.end room place.x place.key.end place.key.room ends within
     (surround others more (span_of o.visit) beside refl) o.visit.comes starts (omega arith)
     (none_between (fixed_of m) (free_of m) m.end (events_of m) c.requires.moments.events place.x o.visit.comes place.passed p.passed rank (omega (arith, ends, within))) in
-    let without = c.in_ok-without.ensures m place.passed c.requires.known p.top (omega (arith, first)) o.visit.comes rank (omega (arith, ends)) in
-    let inside = c.in_ok-inside.ensures m o.inside c.requires.known c.requires.ranks.until (omega (arith, second)) o.visit.inside c.requires.ranks.inside stays in
-    let behind = c.in_ok-behind.ensures m o.gone c.requires.known p.top (omega (arith, third)) o.visit.gone c.requires.ranks.gone (omega (arith, gone)) in
+    let without = c.in_ok-without.ensures o.visit.comes rank (omega (arith, ends)) in
+    let inside = c.in_ok-inside.ensures o.visit.inside c.requires.ranks.inside stays in
+    let behind = c.in_ok-behind.ensures o.visit.gone c.requires.ranks.gone (omega (arith, gone)) in
     let leaves = c.requires.span.leaves in
     each_some (IsInPlace (Some c.args.whole) c.in_ok-without.without c.in_ok-inside.inside c.in_ok-behind.behind)
     (λ (z : ℤ). best m.end others more 0 m.end room ≡ Some z) c.in_place.result

@@ -46,7 +46,7 @@ use Rattle.shunt_inputs.specs.defs.Inputs.{pinned_in, plans_in, stated_night, st
 use Rattle.shunt_inputs.specs.defs.Names.{AreNames}
 use Rattle.shunt_inputs.specs.defs.Replies.{Reply, Decided, refusal}
 use Rattle.shunt_inputs.specs.defs.Writes.{written}
-use Rattle.shunt_inputs.proofs.Stated.{stated_again, stated_value}
+use Rattle.shunt_inputs.proofs.Stated.{stated_again, stated_value, pinned_of}
 use Rattle.shunt_judging.specs.defs.Audited.{IsClean, IsFaulty}
 use Rattle.shunt_dispatch.specs.defs.Resumed.{Resumable, stated_resumption, resumption_in, HasRest, IsResumed, GoesOn}
 use Rattle.shunt_trial.proofs.Left.{names_apart}
@@ -147,9 +147,6 @@ module _ (n i one two : List ℕ) (files : Files) where
 
   other_there : (s : List ℕ) → s ≢ n → s ≢ i → content both s ≡ content files s
   other_there s a b = ap (λ o. unwrap_or o []) (same_elsewhere (finmap.insert files n one) i two s b) ∙ ap (λ o. unwrap_or o []) (same_elsewhere files n one s a)
-
-abbrev pinned_of : Night → List Block → Pinned
-pinned_of night pins = record { instance = night; pins = pins }
 
 -- pins are written with the names of trains, which are the same from the minute on
 names_on : (s : Station) (t : Timetable) (m : ℕ) (blocks : List Block) → names_of (next_night s t m blocks).arrive ≡ names_of (night_of s t).arrive

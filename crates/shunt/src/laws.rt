@@ -22,14 +22,12 @@ ghost use Rattle.shunt_proof.specs.declared.records.Certificate.{Certificate};
 ghost use Rattle.shunt_exchange.specs.defs.Upgraded.{Upgradable, upgrade_in};
 ghost use Rattle.shunt_trial.specs.defs.Tried.{made_night, tried};
 ghost use Rattle.shunt_dispatch.specs.defs.Compared.{Comparable, comparison_in, AreAlike};
-ghost use Rattle.shunt_dispatch.specs.defs.Resumed.{GoesOn};
 ghost use Rattle.shunt_dispatch.specs.defs.Followed.{Followable, following_in, GoesThrough};
 ghost use Rattle.shunt.specs.defs.Calls.{Call, Match, Follow, Audit, Delay, Report, Check, Compare};
 ghost use Rattle.shunt.specs.defs.Calls.{Zones, Sheet, Draw, Page, Upgrade, Trial, Drivers, Roster};
-ghost use Rattle.shunt.specs.defs.Calls.{CheckPinned, Replay, Resume};
+ghost use Rattle.shunt.specs.defs.Calls.{CheckPinned, Replay};
 ghost use Rattle.shunt.specs.defs.Words.{IsUsable, outputs_of};
-ghost use Rattle.shunt_inputs.specs.declared.pins.Pinned.{Pinned};
-ghost use Rattle.shunt_inputs.specs.defs.Inputs.{Agrees, stated_night, pinned_in, plans_in};
+ghost use Rattle.shunt_inputs.specs.defs.Inputs.{Agrees, stated_night, plans_in};
 ghost use Rattle.shunt_judging.specs.defs.Checked.{Checkable, check_in, IsProved, BoundsAll};
 ghost use Rattle.shunt_judging.specs.defs.Pinned.{PinChecked, pin_check_in, IsPinProved};
 ghost use Rattle.shunt_judging.specs.defs.Pinned.{BoundsKept};
@@ -53,14 +51,8 @@ use shunt_checker::laws::reasons;
 use shunt_compare::laws::same_plans;
 use shunt_drivers::laws::{roster_fault_in_words, stated_values_are_formed, texts_of_rosters};
 use shunt_make::laws::made_nights;
-use shunt_plan::laws::texts_of_pins;
 use shunt_proof::laws::proved_bounds;
-use shunt_resume::laws::{
-    gone_blocks, next_plans_are_plans, next_plans_leave_what_has_come, plans_go_on,
-    resumed_timetables, what_has_come_stays,
-};
 use shunt_sheet::laws::{sheets_of_plans, texts_of_sheets};
-use shunt_timetable::laws::{rows_of_a_timetable_state_it, text_of_a_timetable_is_short};
 
 /// `Store` comes only if the store failed in the call, and `Sink` only if the sink did, so neither over a store or a
 /// sink whose count of faults is 0. `Words` never comes of words that spell a command.
@@ -516,63 +508,6 @@ pub fn sheet_completes()
         → Ends (Sheet s t p n) old new status
         → (status ≡ Status.Done) ⊎ ((status ≡ Status.Findings) ⊎ (status ≡ Status.Memory)) }
 {}
-
-/// `resume` ends with `Done` exactly when the files are accepted and the plan is feasible and states its cost, and with
-/// `Findings` exactly when they are accepted and it isn't so, unless the store, memory or the sink came first. It never ends
-/// with `NoMatching` or `Unfinished`.
-pub fn resume_done_exactly()
-    ensures done { (s t p : List ℕ) (m : ℕ) (n i : List ℕ) (old new : Seen) (status : Status)
-        (files : Files) (x : Night × Plan) → old.files ≡ Some files → plans_in s t p files ≡ Ok x
-        → IsClean x → Ends (Resume s t p m n i) old new status
-        → (status ≡ Status.Done) ⊎ Yields status }
-    ensures done_only { (s t p : List ℕ) (m : ℕ) (n i : List ℕ) (old new : Seen)
-        → Ends (Resume s t p m n i) old new Status.Done → (files : Files) × Agrees old.files files
-        × ((x : Night × Plan) × (plans_in s t p files ≡ Ok x) × IsClean x) }
-    ensures findings { (s t p : List ℕ) (m : ℕ) (n i : List ℕ) (old new : Seen) (status : Status)
-        (files : Files) (x : Night × Plan) → old.files ≡ Some files → plans_in s t p files ≡ Ok x
-        → (IsClean x → ⊥) → Ends (Resume s t p m n i) old new status
-        → (status ≡ Status.Findings) ⊎ Yields status }
-    ensures findings_only { (s t p : List ℕ) (m : ℕ) (n i : List ℕ) (old new : Seen) → Ends
-        (Resume s t p m n i) old new Status.Findings → (files : Files) × Agrees old.files files
-        × ((x : Night × Plan) × (plans_in s t p files ≡ Ok x) × (IsClean x → ⊥)) }
-    ensures no_matching { (s t p : List ℕ) (m : ℕ) (n i : List ℕ) (old new : Seen)
-        → Ends (Resume s t p m n i) old new Status.NoMatching → ⊥ }
-    ensures no_unfinished { (s t p : List ℕ) (m : ℕ) (n i : List ℕ) (old new : Seen)
-        → Ends (Resume s t p m n i) old new Status.Unfinished → ⊥ }
-{
-    laws::plan_findings();
-}
-
-/// If the files are accepted and neither the store nor the sink fails, `resume` ends with `Done`, `Findings` or `Memory`.
-pub fn resume_completes()
-    ensures { (s t p : List ℕ) (m : ℕ) (n i : List ℕ) (old new : Seen) (status : Status)
-        (files : Files) (x : Night × Plan) → old.files ≡ Some files → plans_in s t p files ≡ Ok x
-        → (Rose old.store_faults new.store_faults → ⊥) → (Rose old.sink_faults new.sink_faults → ⊥)
-        → Ends (Resume s t p m n i) old new status
-        → (status ≡ Status.Done) ⊎ ((status ≡ Status.Findings) ⊎ (status ≡ Status.Memory)) }
-{}
-
-/// Where `resume` ends with `Done`, the station file with the new timetable and the new pins states the rest of the night: the plan is feasible
-/// in it, costs the same and keeps the pins, which are exactly its blocks that have gone; the feasible plans of the rest are exactly those of the
-/// whole night that leave what has come as the plan has it, at the same cost; and what has come stays on its track.
-pub fn resumed_nights_go_on()
-    ensures { (s t p : List ℕ) (m : ℕ) (n i : List ℕ) (old new : Seen) (files after : Files)
-        → IsUsable (Resume s t p m n i) → old.files ≡ Some files → new.files ≡ Some after
-        → Ends (Resume s t p m n i) old new Status.Done
-        → (x : Night × Plan) × (plans_in s t p files ≡ Ok x)
-        × ((y : Pinned) × (pinned_in s n i after ≡ Ok y) × GoesOn m x y) }
-{
-    laws::plan_findings();
-    resumed_timetables();
-    plans_go_on();
-    next_plans_are_plans();
-    next_plans_leave_what_has_come();
-    gone_blocks();
-    what_has_come_stays();
-    texts_of_pins();
-    rows_of_a_timetable_state_it();
-    text_of_a_timetable_is_short();
-}
 
 /// `draw` ends with `Done` exactly when the files are accepted and the plan is feasible and states its cost, and with
 /// `Findings` exactly when they are accepted and it isn't so, unless the store, memory or the sink came first. It never ends

@@ -5,6 +5,7 @@ mod delivery;
 mod execution;
 pub mod laws;
 mod replies;
+pub mod resume_laws;
 pub mod search_laws;
 mod status;
 mod words;

@@ -33,7 +33,7 @@ fn smaller(one: u32, other: u32) -> u32
     if one < other { one } else { other }
 }
 
-/// What the way in of a shape to a track by a side costs: 1,000,000, than which none costs more, where there is no way.
+/// What the way in of the train of a shape to a track by a side costs: 1,000,000, than which none costs more, where there is no way.
 fn cost_in(instance: &Instance, shape: Shape, track: TrackId, side: Side) -> u32
     requires within { AreRunsWithin instance.now shape }
     requires track { track.0 < length instance.now.station.tracks }

@@ -1,5 +1,5 @@
 use Rattle.shunt.proofs.Resumed.{RestLaws, nights_go_on}
-use Rattle.shunt.proofs.laws.resumed_nights_go_on.Goals as goal
+use Rattle.shunt.proofs.resume_laws.resumed_nights_go_on.Goals as goal
 
 pub returns : goal.returns
 returns c =

@@ -1,6 +1,6 @@
 use Rattle.shunt.proofs.Sound.{done_there, done_only, findings_there, findings_only, no_matching, no_unfinished}
 use Rattle.shunt.proofs.Resumed.{resume_answers}
-use Rattle.shunt.proofs.laws.resume_done_exactly.Goals as goal
+use Rattle.shunt.proofs.resume_laws.resume_done_exactly.Goals as goal
 
 pub returns-clause-done : goal.returns-clause-done
 returns-clause-done c = λ s t p m n i. done_there _ s t p _ (resume_answers s t p m n i) c.plan_findings.ensures.none

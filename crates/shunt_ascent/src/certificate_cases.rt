@@ -1,11 +1,7 @@
 // Cases as a certificate states them.
-ghost use Rattle.std.specs.Prelude.{◌≡◌, ◌≢◌, ◌≤◌, ◌<◌, All, IfOk, IfSome, OnOk, length, map};
-ghost use Rattle.std.specs.Prelude.{false, true, [], ◌∷◌};
-ghost use Rattle.shunt_base.specs.declared.duals.Case.{Case as OneCase};
+ghost use Rattle.std.specs.Prelude.{◌≡◌, ◌≤◌, ◌<◌, [], ◌∷◌, All, IfOk, OnOk, length};
 ghost use Rattle.shunt_instance.specs.defs.Instance.{unit_total, position_total};
-ghost use Rattle.shunt_lists.specs.defs.Members.{In};
-ghost use Rattle.shunt_prices.specs.defs.Limits.{IsKind, IsPrice, ArePrices, AreApart};
-ghost use Rattle.shunt_prices.specs.defs.Limits.{place_of_price, IsValue, IsCase, AreCases};
+ghost use Rattle.shunt_prices.specs.defs.Limits.{ArePrices, AreApart, IsValue, IsCase, AreCases};
 
 use crate::case_pairs::Parted;
 use crate::numbers::{Number, at, whole};
@@ -14,99 +10,46 @@ use crate::scenes::Scene;
 use crate::slots::Slot;
 use crate::valuation::Work;
 use crate::whole_numbers::{Found, round};
-use shunt_base::{Case, Cases, Duals, Price, PriceKind};
+use shunt_base::{Case, Cases, Duals, Price};
 use shunt_instance::Instance;
+use shunt_limits::{add_price, value_within};
 use shunt_lists::Items;
 use std::alloc::{AllocError, Global};
-
-/// The greatest value, and the greatest value of a price.
-const GREATEST: i64 = 999_999_999_999;
-
-const DEAREST: u64 = 1_000_000_000;
 
 // A number as a whole one within the limits of values.
 fn value_of(number: Number) -> i64
     ensures { IsValue result }
 {
-    let value = whole(number).0;
-    if value > GREATEST {
-        return GREATEST;
-    }
-    if value < -GREATEST { -GREATEST } else { value }
+    value_within(whole(number).0)
 }
 
-// Whether a kind has from 1 to 8 parts.
-fn is_kind(kind: PriceKind) -> bool
-    ensures { result ≡ true → IsKind kind }
-{
-    match kind {
-        PriceKind::Length => true,
-        PriceKind::Parts(parts) => parts >= 1 && parts <= 8,
-    }
-}
-
-// The price of a slot. None where it costs nothing, or is beyond the limits.
-fn price_of(instance: &Instance, slot: &Slot, number: Number) -> Option<Price>
-    ensures { IfSome result (IsPrice instance.now) }
-{
-    let value = u64::try_from(whole(number).0).unwrap_or(0);
-    if value < 1 || value > DEAREST {
-        return None;
-    }
-    if !is_kind(slot.kind) {
-        return None;
-    }
-    if slot.track.0 as usize >= instance.station().tracks.len() {
-        return None;
-    }
-    if slot.train.0 as usize >= instance.arrivals() {
-        return None;
-    }
-    Some(Price {
+// The price of a slot, which may be beyond the limits.
+fn price_of(slot: &Slot, number: Number) -> Price {
+    Price {
         kind: slot.kind,
         track: slot.track,
         train: slot.train,
-        value,
-    })
-}
-
-// Whether two prices are for the same kind, track and train.
-fn are_alike(one: &Price, other: &Price) -> bool
-    ensures { result ≡ false → place_of_price one.now ≢ place_of_price other.now }
-{
-    one.kind == other.kind && one.track == other.track && one.train == other.train
-}
-
-// Whether a price for the same kind, track and train is among these.
-fn is_among(prices: &[Price], price: &Price) -> bool
-    ensures { result ≡ false
-        → All (λ other. place_of_price other ≢ place_of_price price.now) prices.now }
-{
-    for other in prices {
-        if are_alike(other, price) {
-            return true;
-        }
+        value: u64::try_from(whole(number).0).unwrap_or(0),
     }
-    false
 }
 
-// Adds a price that no other is like, while there is room.
-#[tactic(auto, using(crate::proofs::Apart::apart_more))]
-fn add_price(instance: &Instance, price: Price, prices: &mut Vec<Price>) -> Result<(), AllocError>
-    requires price { IsPrice instance.now price }
+// Adds the price of a slot where it costs anything.
+fn add_slot(
+    instance: &Instance,
+    slot: &Slot,
+    number: Number,
+    prices: &mut Vec<Price>,
+) -> Result<(), AllocError>
     requires prices { ArePrices instance.now prices.old.items }
     requires apart { AreApart prices.old.items }
     ensures prices { OnOk result (ArePrices instance.now prices.new.items) }
     ensures apart { OnOk result (AreApart prices.new.items) }
 {
-    if prices.len() >= 64 {
+    let price = price_of(slot, number);
+    if price.value < 1 {
         return Ok(());
     }
-    if is_among(prices, &price) {
-        return Ok(());
-    }
-    prices.push(price)?;
-    Ok(())
+    add_price(instance, price, prices)
 }
 
 // The prices that cost anything.
@@ -121,9 +64,7 @@ fn prices_of(
 {
     let mut prices = Vec::new(alloc);
     for (place, slot) in slots.iter().enumerate() {
-        if let Some(price) = price_of(instance, slot, at(values, place)) {
-            add_price(instance, price, &mut prices)?;
-        }
+        add_slot(instance, slot, at(values, place), &mut prices)?;
     }
     Ok(prices)
 }

@@ -18,7 +18,8 @@ use Rattle.shunt_blocks.specs.defs.Shapes.{AreRunsWithin, IsPair, unit_from, pos
 use Rattle.shunt_choices.specs.defs.Free.{is_bare, is_free_pair, is_free_run, has_units, has_positions}
 use Rattle.shunt_choices.specs.defs.Choices.{IsFreeShape, ShapeBefore, shape_at, shapes_of_length, shapes_of, IsFreePair}
 use Rattle.shunt_choices.proofs.Given.{PlaceLaws}
-use Rattle.shunt_choices.proofs.Ordered.{Follows, follows_map, follows_filter, follows_flat, follows_range, range_in, in_range}
+use Rattle.shunt_lists.proofs.Ranges.{range_in, in_range}
+use Rattle.shunt_choices.proofs.Ordered.{Follows, follows_map, follows_filter, follows_flat, follows_range}
 use Rattle.shunt_lists.proofs.Tests.{all_three as three_true, from_three}
 use Rattle.shunt_blocks.proofs.Times.{arrival}
 

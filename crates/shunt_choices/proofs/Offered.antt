@@ -17,7 +17,8 @@ use Rattle.shunt_blocks.specs.defs.Blocks.{IsOption, IsParkable, can_park, is_op
 use Rattle.shunt_blocks.proofs.Made.{parked}
 use Rattle.shunt_choices.specs.defs.Choices.{ShapeBefore, ParkBefore, OptionBefore, Choice, ChoiceBefore, IsChoice, parks_on, parks_below, candidates, options_of, shapes_of, choices_with, choices_of}
 use Rattle.shunt_choices.proofs.Given.{PlaceLaws}
-use Rattle.shunt_choices.proofs.Ordered.{Follows, all_pairs, follows_map, follows_filter, follows_flat, follows_range, range_in, in_range}
+use Rattle.shunt_lists.proofs.Ranges.{range_in, in_range}
+use Rattle.shunt_choices.proofs.Ordered.{Follows, all_pairs, follows_map, follows_filter, follows_flat, follows_range}
 use Rattle.shunt_choices.proofs.Chosen.{shapes_are, shapes_follow}
 use Rattle.shunt_lists.proofs.Tests.{all_three as three_true, from_three}
 

@@ -1,10 +1,11 @@
 -- Lists whose elements come in an order: mapped, filtered, and one list for each element.
 use Rattle.std.specs.Prelude.{AllPairs, filter}
 use Rattle.std.specs.List.{flat_map, range_with_len}
-use Rattle.std.proofs.Common.{◌≡◌, ◌⊎◌, ⊎_elim, inl, inr, ℕ, zero, suc, ◌+◌, ◌<◌, ◌≤◌, Bool, List, [], ◌∷◌, ◌++◌, map, refl, sym, subst, arith}
+use Rattle.std.proofs.Common.{◌⊎◌, ⊎_elim, inl, inr, ℕ, zero, suc, ◌+◌, ◌<◌, Bool, List, [], ◌∷◌, ◌++◌, map, refl, sym, subst, arith}
 use Rattle.std.proofs.lemmas.Bool.{cases_Bool}
 use Rattle.std.proofs.lemmas.List.Kept.{AllPairs-cons}
 use Rattle.shunt_lists.proofs.Members.{in_cases, in_place, of_map, filter_yes, filter_no, filter_from, of_flat}
+use Rattle.shunt_lists.proofs.Ranges.{range_in}
 use Rattle.shunt_lists.specs.defs.Members.{In}
 
 -- each element comes before all after it
@@ -46,18 +47,6 @@ follows_flat S R f (x ∷ xs) s each between =
     (λ a b i j. let m = of_flat f xs b j in between x m.0 (inl refl) (inr m.1) (s.0 m.0 m.1) a b i m.2)
 
 -- ---- numbers in a row
-
-pub range_in : (a n k : ℕ) → In k (range_with_len a n) → (a ≤ k) × (k < a + n)
-range_in a zero k h = absurd h
-range_in a (suc n) k (inl e) = (omega (arith, e), omega (arith, e))
-range_in a (suc n) k (inr h) = let r = range_in (a + 1) n k h in (omega (arith, r.0), omega (arith, r.1))
-
-pub in_range : (a n k : ℕ) → a ≤ k → k < a + n → In k (range_with_len a n)
-in_range a zero k from to = absurd (omega arith)
-in_range a (suc n) k from to = ⊎_elim (λ e. inl e) (λ more. inr (in_range (a + 1) n k more (omega arith))) (first a k from)
-  where
-    first : (a k : ℕ) → a ≤ k → (k ≡ a) ⊎ (a + 1 ≤ k)
-    first a k from = grind arith
 
 pub follows_range : (a n : ℕ) → Follows (λ k l. k < l) (range_with_len a n)
 follows_range a zero = tt

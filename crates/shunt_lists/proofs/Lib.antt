@@ -8,3 +8,4 @@ pub mod Lists
 pub mod Tests
 pub mod Options
 pub mod Orders
+pub mod Ranges

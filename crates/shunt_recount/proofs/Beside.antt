@@ -1,10 +1,10 @@
 -- What is gained with one fixed span more, by the gains without it: around its place, inside it and behind it.
-use Rattle.std.specs.Prelude.{cond, IfSome, Option, Some, None}
-use Rattle.std.proofs.Common.{◌≡◌, ◌⊎◌, ⊎_elim, inl, inr, ℕ, ◌+◌, ◌-◌, ◌<◌, ◌≤◌, Bool, List, ℤ, pos, ◌+ℤ◌, ◌-ℤ◌, refl, sym, subst, ap, ◌∙◌, arith}
+use Rattle.std.specs.Prelude.{Option, Some, None}
+use Rattle.std.proofs.Common.{◌≡◌, ◌⊎◌, ⊎_elim, inl, inr, ℕ, ◌+◌, ◌-◌, ◌<◌, ◌≤◌, List, ℤ, pos, ◌+ℤ◌, ◌-ℤ◌, refl, sym, subst, ap, ◌∙◌, arith}
 use Rattle.std.proofs.lemmas.Int.{ints}
 use Rattle.shunt_lists.specs.defs.Members.{In}
 use Rattle.shunt_stacks.specs.defs.Spans.{Span, IsSpan, IsOutside, AreOwn, AgreeWithin, plus, best, best_with, sum_with}
-use Rattle.shunt_stacks.proofs.Steps.{both}
+use Rattle.shunt_stacks.proofs.MaybeGains.{plus_zero, behind_out, inside_out, with_yes}
 use Rattle.shunt_recount.specs.declared.moments.Stop.{Stop}
 use Rattle.shunt_recount.specs.declared.moments.Moments.{Moments}
 use Rattle.shunt_recount.specs.declared.places.Place.{Place}
@@ -23,32 +23,6 @@ pub record NestLaws : Type 0 where
       → best n fixed free x y room ≡ best n others more x y room
 
 -- ---- gains that there may be
-
-with_nothing : (o : Option ℤ) → o ≡ plus (Some (pos 0)) o
-with_nothing None = refl
-with_nothing (Some x) = ap Some (same x)
-  where
-    same : (z : ℤ) → z ≡ pos 0 +ℤ z
-    same z = omega (arith, ints)
-
-behind_out : (o : Option ℤ) (g : ℤ) (a v : Option ℤ) → plus o (plus (Some g) (plus a v)) ≡ plus (plus o (plus (Some g) a)) v
-behind_out None g a v = refl
-behind_out (Some w) g None v = refl
-behind_out (Some w) g (Some x) None = refl
-behind_out (Some w) g (Some x) (Some y) = ap Some (same w g x y)
-  where
-    same : (w g x y : ℤ) → w +ℤ (g +ℤ (x +ℤ y)) ≡ (w +ℤ (g +ℤ x)) +ℤ y
-    same w g x y = omega (arith, ints)
-
-inside_out : (o : Option ℤ) (g : ℤ) (v b : Option ℤ) → plus o (plus (Some g) (plus v b)) ≡ plus (plus o (plus (Some g) b)) v
-inside_out None g v b = refl
-inside_out (Some w) g None None = refl
-inside_out (Some w) g None (Some y) = refl
-inside_out (Some w) g (Some x) None = refl
-inside_out (Some w) g (Some x) (Some y) = ap Some (same w g x y)
-  where
-    same : (w g x y : ℤ) → w +ℤ (g +ℤ (x +ℤ y)) ≡ (w +ℤ (g +ℤ y)) +ℤ x
-    same w g x y = omega (arith, ints)
 
 abbrev IsThere : Option ℤ → Type 0
 IsThere None = ⊥
@@ -70,14 +44,7 @@ told whole without inside behind w o i b a c d e r is around h =
     each None f = absurd (subst IsThere f tt)
     each (Some x) f = let same : w ≡ x +ℤ o = ap value f in ap Some (omega (arith, ints, same, is))
 
-pub each_some : {A : Type 0} (P Q : A → Type 0) (o : Option A) → IfSome o P → ((x : A) → P x → Q x) → IfSome o Q
-each_some P Q None h to = tt
-each_some P Q (Some x) h to = to x h
-
 -- ---- one span
-
-with_yes : (rest : ℕ → ℕ → ℕ → Option ℤ) (y room : ℕ) (s : Span) → s.past ≤ y → s.length ≤ room → best_with rest y room s ≡ sum_with rest y room s
-with_yes rest y room s past long = ap (λ (t : Bool). cond t (sum_with rest y room s) None) (both s y room past long)
 
 module _ (laws : NestLaws) (fixed free : List Span) (own_now : AreOwn fixed free) (others more : List Span) (own : Span) (beside : IsBeside fixed free others more own)
     (events room : ℕ) where
@@ -183,8 +150,8 @@ module _ (laws : NestLaws) (fixed free : List Span) (own_now : AreOwn fixed free
 pub starts : (fixed free others more : List Span) (own : Span) (events room : ℕ) → Surrounds fixed free others more own events room 0 events room
 starts fixed free others more own events room = record {
   around = Some (pos 0);
-  without = with_nothing (best events fixed free 0 events room);
-  with_it = λ le. with_nothing (best events others more 0 events room);
+  without = plus_zero (best events fixed free 0 events room);
+  with_it = λ le. plus_zero (best events others more 0 events room);
 }
 
 -- ---- from one place to the next

@@ -1,10 +1,11 @@
 -- The feasible plans from a minute on are those of the night that leave what has come as it is, and the blocks that have gone are all of them.
-use Rattle.std.proofs.Common.{◌≡◌, ℕ, zero, suc, ◌+◌, ◌<◌, ◌≤◌, ⊎_elim, inl, inr, true, false, not, List, [], ◌∷◌, length, filter, map, refl, sym, ap, subst, ◌∙◌, arith}
+use Rattle.std.proofs.Common.{◌≡◌, ℕ, suc, ◌+◌, ◌<◌, ◌≤◌, ⊎_elim, inl, inr, true, false, not, List, [], ◌∷◌, length, filter, map, refl, sym, ap, subst, ◌∙◌, arith}
 use Rattle.std.specs.Prelude.{AllPairs, IsTrue, Option, Some, None, unwrap_or}
 use Rattle.std.specs.List.{range_with_len, list_any}
-use Rattle.std.proofs.lemmas.Bool.{cases_Bool, cases_lt, true≢false, cond-true}
+use Rattle.std.proofs.lemmas.Bool.{cases_Bool, true≢false, cond-true}
 use Rattle.shunt_lists.specs.defs.Members.{In}
 use Rattle.shunt_lists.proofs.Members.{each_one, in_map, filter_from, filter_to}
+use Rattle.shunt_lists.proofs.Ranges.{in_range}
 use Rattle.shunt_base.specs.declared.ids.TrackId.{TrackId}
 use Rattle.shunt_base.specs.declared.ids.Side.{Side}
 use Rattle.shunt_instance.specs.declared.records.Station.{Station}
@@ -47,10 +48,6 @@ same_run (x ∷ runs) r q apart (inr i) (inl d) a b =
     let le : Before q r = subst (λ (z : PlacedRun). Before z r) (sym d) (each_one (Before x) runs r (λ k e lt. apart 0 (suc k) e (omega arith) (omega arith)) i) in
     absurd (omega (arith, le, a))
 same_run (x ∷ runs) r q apart (inr i) (inr j) a b = same_run runs r q (λ k l d lt within. apart (suc k) (suc l) d (omega arith) (omega arith)) i j a b
-
-in_range : (a n k : ℕ) → a ≤ k → k < a + n → In k (range_with_len a n)
-in_range a zero k le lt = absurd (omega (arith, le, lt))
-in_range a (suc n) k le lt = ⊎_elim (λ more. inr (in_range (a + 1) n k (omega (arith, more)) (omega (arith, lt)))) (λ less. inl (omega (arith, le, less))) (cases_lt a k)
 
 -- a unit that was cleared away is new
 cleared_new : (night : Night) (m : ℕ) (b : Block) (place : ℕ) → has_come_by night m b ≡ true → b.park ≡ None → b.p ≤ place → place < b.p + b.n

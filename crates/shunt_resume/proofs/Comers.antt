@@ -10,6 +10,7 @@ use Rattle.std.proofs.lemmas.List.Concat.{flat_map-cons}
 use Rattle.std.proofs.lemmas.List.{get_or-map, length-map}
 use Rattle.shunt_lists.proofs.Lists.{no_pairs}
 use Rattle.shunt_lists.proofs.Members.{each_one, in_place, in_map, of_map, in_flat, of_flat, filter_from, filter_yes, filter_no}
+use Rattle.shunt_lists.proofs.Ranges.{range_in}
 use Rattle.shunt_lists.specs.defs.Members.{In, AreDistinct}
 use Rattle.shunt_instance.specs.declared.records.PlacedRun.{PlacedRun}
 use Rattle.shunt_instance.specs.declared.records.Train.{Train}
@@ -66,16 +67,11 @@ pub record ComesCleared (night : Night) (b : Block) (r : PlacedRun) : Type 0 whe
 abbrev pub Comes : Night → Block → PlacedRun → Type 0
 Comes night b r = ComesParked night b r ⊎ ComesCleared night b r
 
-in_range : (a n k : ℕ) → In k (range_with_len a n) → (a ≤ k) × (k < a + n)
-in_range a zero k i = absurd i
-in_range a (suc n) k (inl e) = (omega (arith, e), omega (arith, e))
-in_range a (suc n) k (inr i) = let h = in_range (a + 1) n k i in let p = h.0 in let q = h.1 in (omega (arith, p), omega (arith, q))
-
 comes_cleared : (night : Night) (b : Block) (r : PlacedRun) → b.park ≡ None → In r (cleared_runs night b) → Comes night b r
 comes_cleared night b r none i =
     let at = of_map cleared (filter (λ place. not (has_placed night (unit_at_place b place))) (range_with_len b.p b.n)) r i in
     let f = filter_from (λ place. not (has_placed night (unit_at_place b place))) (range_with_len b.p b.n) at.0 at.1 in
-    let h = in_range b.p b.n at.0 f.0 in
+    let h = range_in b.p b.n at.0 f.0 in
     inr (record { place = at.0; park = none; same = at.2; from = h.0; to = h.1; none = not-true _ f.1 })
 
 comes_parked : (night : Night) (b : Block) (k : Park) (r : PlacedRun) → b.park ≡ Some k → In r (parked_runs night b k) → Comes night b r
@@ -138,7 +134,7 @@ comes_clear night b r s (inr c) i =
 rising_range : (a n : ℕ) → AllPairs (λ x y. x < y) (range_with_len a n)
 rising_range a zero = no_pairs (λ x y. x < y)
 rising_range a (suc n) = AllPairs-cons (λ x y. x < y) a (range_with_len (a + 1) n)
-    (λ k d lt. let h = in_range (a + 1) n (get_or (range_with_len (a + 1) n) k d) (in_place (range_with_len (a + 1) n) k d lt) in let le = h.0 in omega (arith, le))
+    (λ k d lt. let h = range_in (a + 1) n (get_or (range_with_len (a + 1) n) k d) (in_place (range_with_len (a + 1) n) k d lt) in let le = h.0 in omega (arith, le))
     (rising_range (a + 1) n)
 
 pairs_filter : {X : Type 0} (R : X → X → Type 0) (p : X → Bool) (xs : List X) → AllPairs R xs → AllPairs R (filter p xs)

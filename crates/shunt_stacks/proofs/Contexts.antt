@@ -2,7 +2,7 @@
 use Rattle.std.specs.Prelude.{not, ◌&&◌, nat_le, cond, All, Option, Some, None}
 use Rattle.std.proofs.Common.{◌≡◌, ◌⊎◌, ⊎_elim, inl, inr, ℕ, zero, suc, ◌+◌, ◌-◌, ◌<◌, ◌≤◌, Bool, true, List, [], ◌∷◌, ◌++◌, ℤ, pos, ◌+ℤ◌, refl, sym, subst, ap, ◌∙◌, arith}
 use Rattle.std.proofs.lemmas.Int.{ints}
-use Rattle.std.proofs.lemmas.Bool.{cases_lt, and_from}
+use Rattle.std.proofs.lemmas.Bool.{cases_lt}
 use Rattle.shunt_lists.specs.defs.Members.{In}
 use Rattle.shunt_lists.proofs.Members.{in_map, of_map, of_one, filter_from, filter_to, in_left, in_right, in_cases, each_one}
 use Rattle.shunt_base.specs.declared.duals.Case.{Case}
@@ -23,22 +23,12 @@ use Rattle.shunt_stacks.specs.defs.Numbers.{IsNumbering, span_of, fixed_spans, f
 use Rattle.shunt_stacks.proofs.Parts.{IsFreeAt, unit_bare}
 use Rattle.shunt_stacks.proofs.Best.{find_start}
 use Rattle.shunt_stacks.proofs.Around.{at_fixed, at_none}
+use Rattle.shunt_stacks.proofs.MaybeGains.{plus_none, plus_zero, with_yes}
 use Rattle.shunt_stacks.proofs.Tied.{TieLaws, own_events}
 use Rattle.shunt_stacks.proofs.Beside.{own_after, same_among, value_at, span_there}
-use Rattle.shunt_lists.proofs.Tests.{no_le, yes_le, off_right}
+use Rattle.shunt_lists.proofs.Tests.{no_le, off_right}
 
 -- ---- gains that there may be
-
-plus_none : (o : Option ℤ) → plus o None ≡ None
-plus_none None = refl
-plus_none (Some x) = refl
-
-plus_zero : (o : Option ℤ) → o ≡ plus (Some (pos 0)) o
-plus_zero None = refl
-plus_zero (Some x) = ap Some (same x)
-  where
-    same : (z : ℤ) → z ≡ pos 0 +ℤ z
-    same z = omega (arith, ints)
 
 behind_first : (g : ℤ) (a add v : Option ℤ) → plus (Some g) (plus a (plus add v)) ≡ plus (plus (Some g) (plus a add)) v
 behind_first g None add v = refl
@@ -60,10 +50,6 @@ inside_first g (Some x) (Some y) (Some z) = ap Some (same g x y z)
     same g x y z = omega (arith, ints)
 
 -- ---- one span
-
-with_yes : (rest : ℕ → ℕ → ℕ → Option ℤ) (y room : ℕ) (s : Span) → s.past ≤ y → s.length ≤ room → best_with rest y room s ≡ sum_with rest y room s
-with_yes rest y room s past long = ap (λ (t : Bool). cond t (sum_with rest y room s) None)
-    (and_from (nat_le s.past y) (nat_le s.length room) (yes_le s.past y past) (yes_le s.length room long))
 
 with_past : (rest : ℕ → ℕ → ℕ → Option ℤ) (y room : ℕ) (s : Span) → y < s.past → best_with rest y room s ≡ None
 with_past rest y room s past = ap (λ (t : Bool). cond (t && nat_le s.length room) (sum_with rest y room s) None) (no_le s.past y past)

@@ -23,5 +23,6 @@ mod Numbered
 mod Around
 mod Beside
 mod Contexts
+pub mod MaybeGains
 pub mod Steps
 pub mod Small

@@ -4,7 +4,8 @@ use Rattle.shunt_stacks.specs.defs.Spans.{best}
 use Rattle.shunt_gains.specs.defs.Tables.{span_of, fixed_in, free_in, events_in}
 use Rattle.shunt_gains.specs.defs.Places.{IsInPlace}
 use Rattle.shunt_gains.proofs.Small.{gain_little}
-use Rattle.shunt_gains.proofs.Beside.{NestLaws, each_some, whole_with}
+use Rattle.shunt_stacks.proofs.MaybeGains.{each_some}
+use Rattle.shunt_gains.proofs.Beside.{NestLaws, whole_with}
 use Rattle.shunt_gains.proofs.places.gain_beside.Goals as goal
 
 pub in_place-requires-clause-whole : goal.in_place-requires-clause-whole

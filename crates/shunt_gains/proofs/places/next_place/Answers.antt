@@ -3,7 +3,8 @@ use Rattle.shunt_gains.specs.declared.places.Place.{Place}
 use Rattle.shunt_gains.specs.defs.Tables.{span_of, fixed_in, free_in, events_in}
 use Rattle.shunt_gains.specs.defs.Places.{IsPlaceAt, IsPast, Surround}
 use Rattle.shunt_gains.proofs.Listed.{first_there, bare_there, none_long}
-use Rattle.shunt_gains.proofs.Beside.{each_some, past_later, past_there, past_leads, skip_leads, NestLaws}
+use Rattle.shunt_stacks.proofs.MaybeGains.{each_some}
+use Rattle.shunt_gains.proofs.Beside.{past_later, past_there, past_leads, skip_leads, NestLaws}
 use Rattle.shunt_gains.proofs.places.next_place.Goals as goal
 
 pub returns-in-Some-clause-later : goal.returns-in-Some-clause-later

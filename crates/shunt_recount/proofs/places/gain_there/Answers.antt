@@ -4,7 +4,8 @@ use Rattle.shunt_stacks.specs.defs.Spans.{best}
 use Rattle.shunt_recount.specs.defs.Visits.{span_of}
 use Rattle.shunt_recount.specs.defs.Moments.{fixed_of, free_of, events_of}
 use Rattle.shunt_recount.specs.defs.Places.{IsInPlace}
-use Rattle.shunt_recount.proofs.Beside.{NestLaws, each_some, skipped, whole_with}
+use Rattle.shunt_stacks.proofs.MaybeGains.{each_some}
+use Rattle.shunt_recount.proofs.Beside.{NestLaws, skipped, whole_with}
 use Rattle.shunt_recount.proofs.Ranked.{rank_le, none_between}
 use Rattle.shunt_recount.proofs.Small.{gain_small, seen_more}
 use Rattle.shunt_recount.proofs.places.gain_there.Goals as goal

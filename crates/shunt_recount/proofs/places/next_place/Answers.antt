@@ -5,7 +5,8 @@ use Rattle.shunt_recount.specs.declared.moments.Stop.{Stop}
 use Rattle.shunt_recount.specs.declared.places.Place.{Place}
 use Rattle.shunt_recount.specs.defs.Moments.{event_at, IsMoment, fixed_of, free_of, events_of}
 use Rattle.shunt_recount.specs.defs.Places.{IsPast, IsPlaceAt, Surround}
-use Rattle.shunt_recount.proofs.Beside.{NestLaws, each_some, past_there, past_later, past_leads}
+use Rattle.shunt_stacks.proofs.MaybeGains.{each_some}
+use Rattle.shunt_recount.proofs.Beside.{NestLaws, past_there, past_later, past_leads}
 use Rattle.shunt_recount.proofs.Ranked.{own_rank, none_between, stop_there, fixed_stop, span_is, gone_later, inside_later}
 use Rattle.shunt_recount.proofs.places.next_place.Goals as goal
 

@@ -1,5 +1,5 @@
 // Better numbers of a case by an ascent.
-use crate::changes::{Changes, farthest, free_positions, longest, step_of};
+use crate::changes::{Changes, farthest, free_positions, longest, slots_of, step_of};
 use crate::climbs::{Pace, Valued, highest};
 use crate::numbers::{NOTHING, Number};
 use crate::points::{Point, Span};
@@ -40,24 +40,14 @@ impl<'s> Valued for Priced<'s> {
     }
 }
 
-// The prices that an ascent changes.
-fn slots_of(alloc: Global, scene: &Scene, ascent: &Ascent) -> Result<Vec<usize>, AllocError> {
-    let mut slots = Vec::new(alloc);
-    for (place, slot) in scene.slots.iter().enumerate() {
-        if ascent.lengths || !slot.is_by_length() {
-            slots.push(place)?;
-        }
-    }
-    Ok(slots)
-}
-
-fn pace_of(scene: &Scene, ascent: &Ascent) -> Pace {
+fn pace_of(scene: &Scene, ascent: &Ascent, size: usize) -> Pace {
     Pace {
         step: step_of(scene, ascent.step),
         longest: longest(scene),
         farthest: farthest(scene),
         most: ascent.most,
         goal: ascent.goal,
+        patience: size.saturating_add(60),
         little: NOTHING,
     }
 }
@@ -74,10 +64,11 @@ pub(crate) fn ascend(
     let changes = Changes {
         units: Vec::new(alloc),
         positions: free_positions(alloc, scene)?,
-        slots: slots_of(alloc, scene, &ascent)?,
+        slots: slots_of(alloc, scene, ascent.lengths)?,
         multiplier: ascent.multiplier,
     };
     let numbers = changes.numbers(alloc, scene, &[], start)?;
+    let pace = pace_of(scene, &ascent, numbers.len());
     let mut priced = Priced {
         scene,
         span,
@@ -85,7 +76,7 @@ pub(crate) fn ascend(
         point: start.copied(alloc)?,
         work,
     };
-    let peak = highest(alloc, &mut priced, numbers, pace_of(scene, &ascent))?;
+    let peak = highest(alloc, &mut priced, numbers, pace)?;
     let Priced { changes, point, .. } = priced;
     let mut best = point;
     changes.write(scene, &peak.numbers, &mut [], &mut best);

@@ -45,6 +45,21 @@ pub(crate) fn free_units(alloc: Global, scene: &Scene) -> Result<Vec<usize>, All
     Ok(units)
 }
 
+/// The prices of a scene that an ascent changes, with or without those of length. Err is want of memory.
+pub(crate) fn slots_of(
+    alloc: Global,
+    scene: &Scene,
+    lengths: bool,
+) -> Result<Vec<usize>, AllocError> {
+    let mut slots = Vec::new(alloc);
+    for (place, slot) in scene.slots.iter().enumerate() {
+        if lengths || !slot.is_by_length() {
+            slots.push(place)?;
+        }
+    }
+    Ok(slots)
+}
+
 /// How far the numbers of an ascent go from 0 at most.
 pub(crate) fn farthest(scene: &Scene) -> Number {
     (DEAREST * Wrapping(scene.grain)).min(LIMIT)

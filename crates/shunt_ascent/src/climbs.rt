@@ -19,7 +19,8 @@ pub(crate) struct Pace {
     /// How many evaluations it takes at most.
     pub most: usize,
     pub goal: Number,
-    /// By how much more than that a value has to exceed the best one so that it goes on as at first.
+    /// How many walks may follow one another after which no value exceeds by more than that the last one that did.
+    pub patience: usize,
     pub little: Number,
 }
 
@@ -47,9 +48,11 @@ struct Climb {
     // How far a step goes.
     step: i64,
     best: Peak,
-    // How many evaluations there were, and how many dilations since one was the best.
-    spent: usize,
+    // The last value that exceeded the one before it by more than a little, and how many walks there were since.
+    mark: Number,
     idle: usize,
+    // How many evaluations there were.
+    spent: usize,
 }
 
 impl Climb {
@@ -62,7 +65,8 @@ impl Climb {
         if value <= self.best.value {
             return;
         }
-        if value > self.best.value + self.pace.little {
+        if value > self.mark + self.pace.little {
+            self.mark = value;
             self.idle = 0;
         }
         self.best.value = value;
@@ -106,7 +110,7 @@ impl Climb {
         let size = self.numbers.len();
         let mut dilations = 0usize;
         'dilations: for _ in 0..self.pace.most {
-            if self.is_over() || self.idle >= size.saturating_add(60) {
+            if self.is_over() || self.idle >= self.pace.patience {
                 return Ok(());
             }
             self.walk(valued)?;
@@ -143,8 +147,9 @@ pub(crate) fn highest<V: Valued>(
         numbers: start,
         slope,
         step: pace.step,
-        spent: 1,
+        mark: value,
         idle: 0,
+        spent: 1,
     };
     if !climb.is_over() && climb.metric.begin(&climb.slope) {
         climb.climb(valued)?;

@@ -1,14 +1,17 @@
 // Better numbers of a case with stacks by an ascent, in which the values of units change too.
-use crate::changes::{Changes, farthest, free_positions, free_units, longest, step_of};
+use crate::changes::{Changes, farthest, free_positions, free_units, longest, slots_of, step_of};
 use crate::climbs::{Pace, Valued, highest};
 use crate::fillings::Next;
 use crate::gains::Gains;
-use crate::numbers::{Number, ONE};
+use crate::numbers::Number;
 use crate::places::Place;
 use crate::points::{Fixed, Span, Values};
-use crate::whole_numbers::{round, rounded};
+use crate::whole_numbers::{are_lengths_whole, round, round_lengths, rounded};
 use std::alloc::{AllocError, Global};
 use std::num::Wrapping;
+
+// By how many thousandths of a grain a value has to rise for its ascent to go on as at first. The end of one is long and brings next to nothing.
+const LITTLE: i64 = 100;
 
 /// A case with stacks at a place, whose numbers let it hold, and its sum.
 #[derive(Drop)]
@@ -17,11 +20,13 @@ pub(crate) struct Held {
     pub sum: Number,
 }
 
-/// Where an ascent goes: what it raises, whether the multiplier changes too, how far it goes at first, which counts in grains, and when it ends.
+/// Where an ascent goes: what it raises, which numbers change, how far it goes at first, which counts in grains, and when it ends.
 #[derive(Clone, Copy)]
 pub(crate) struct Lift<'n> {
     /// The blocks that may come next, of whose sums the least is raised; the sum at the place is where there are none.
     pub nexts: &'n [Next],
+    /// Whether the prices of length change too, which are coarse once they are whole.
+    pub lengths: bool,
     pub multiplier: bool,
     pub step: i64,
     /// How many evaluations it takes at most.
@@ -60,28 +65,33 @@ fn write(place: &Place, changes: &Changes, numbers: &[Number], values: &mut Valu
 }
 
 // The numbers that an ascent changes.
-fn changes_of(alloc: Global, place: &Place, multiplier: bool) -> Result<Changes, AllocError> {
+fn changes_of(alloc: Global, place: &Place, lift: &Lift<'_>) -> Result<Changes, AllocError> {
     let scene = &place.scene;
-    let mut slots = Vec::with_capacity(alloc, scene.slots.len())?;
-    for slot in 0..scene.slots.len() {
-        slots.push(slot)?;
-    }
     Ok(Changes {
         units: free_units(alloc, scene)?,
         positions: free_positions(alloc, scene)?,
-        slots,
-        multiplier,
+        slots: slots_of(alloc, scene, lift.lengths)?,
+        multiplier: lift.multiplier,
     })
 }
 
-fn pace_of(place: &Place, lift: &Lift<'_>) -> Pace {
+// How many evaluations an ascent takes at most: with prices of length that are whole it only has to make up for that.
+fn most_of(lift: &Lift<'_>, size: usize) -> usize {
+    if lift.lengths {
+        return lift.most;
+    }
+    size.saturating_mul(2).saturating_add(100).min(lift.most)
+}
+
+fn pace_of(place: &Place, lift: &Lift<'_>, size: usize) -> Pace {
     Pace {
         step: step_of(&place.scene, lift.step),
         longest: longest(&place.scene),
         farthest: farthest(&place.scene),
-        most: lift.most,
+        most: most_of(lift, size),
         goal: lift.goal,
-        little: Wrapping(ONE),
+        patience: (size / 2).saturating_add(60),
+        little: Wrapping(step_of(&place.scene, LITTLE)),
     }
 }
 
@@ -119,6 +129,60 @@ fn value_of(
     gains.evaluate(place, held.case.span, &held.case.values, nexts)
 }
 
+// The best numbers that an ascent from some finds.
+fn raised(
+    alloc: Global,
+    place: &Place,
+    span: Span,
+    lift: Lift<'_>,
+    start: Values,
+    gains: &mut Gains,
+) -> Result<Values, AllocError> {
+    let changes = changes_of(alloc, place, &lift)?;
+    let numbers = changes.numbers(alloc, &place.scene, &start.alpha, &start.point)?;
+    let pace = pace_of(place, &lift, numbers.len());
+    let mut stacked = Stacked {
+        place,
+        span,
+        nexts: lift.nexts,
+        changes,
+        values: start,
+        gains,
+    };
+    let peak = highest(alloc, &mut stacked, numbers, pace)?;
+    let Stacked {
+        changes,
+        values,
+        ..
+    } = stacked;
+    let mut best = values;
+    write(place, &changes, &peak.numbers, &mut best);
+    Ok(best)
+}
+
+// Numbers near some whose prices of length are whole, and whose other numbers have ascended since to make up for that.
+fn settled(
+    alloc: Global,
+    place: &Place,
+    span: Span,
+    lift: Lift<'_>,
+    values: Values,
+    gains: &mut Gains,
+) -> Result<Values, AllocError> {
+    if are_lengths_whole(&place.scene, &values.point) {
+        return Ok(values);
+    }
+    let mut near = values;
+    round_lengths(&place.scene, &mut near.point);
+    let rest = Lift {
+        lengths: false,
+        step: lift.step / 4,
+        most: lift.most / 2,
+        ..lift
+    };
+    raised(alloc, place, span, rest, near, gains)
+}
+
 /// The best case that an ascent from one finds, which is that one where none is better. Err is want of memory.
 pub(crate) fn lifted(
     alloc: Global,
@@ -131,36 +195,13 @@ pub(crate) fn lifted(
     if before >= lift.goal {
         return Ok(start);
     }
-    let changes = changes_of(alloc, place, lift.multiplier)?;
+    let span = start.case.span;
     let values = start.case.values.copied(alloc)?;
-    let numbers = changes.numbers(alloc, &place.scene, &values.alpha, &values.point)?;
-    let mut stacked = Stacked {
-        place,
-        span: start.case.span,
-        nexts: lift.nexts,
-        changes,
-        values,
-        gains: &mut *gains,
-    };
-    let peak = highest(alloc, &mut stacked, numbers, pace_of(place, &lift))?;
-    let found = best_of(stacked, &peak.numbers)?;
+    let high = raised(alloc, place, span, lift, values, gains)?;
+    let best = settled(alloc, place, span, lift, high, gains)?;
+    let found = hold(place, span, best, gains)?;
     if value_of(place, lift.nexts, &found, gains)? > before {
         return Ok(found);
     }
     Ok(start)
-}
-
-// The case with the best numbers of an ascent.
-fn best_of(stacked: Stacked<'_>, numbers: &[Number]) -> Result<Held, AllocError> {
-    let Stacked {
-        place,
-        span,
-        changes,
-        values,
-        gains,
-        ..
-    } = stacked;
-    let mut best = values;
-    write(place, &changes, numbers, &mut best);
-    hold(place, span, best, gains)
 }

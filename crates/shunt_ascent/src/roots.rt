@@ -21,7 +21,7 @@ use std::num::Wrapping;
 /// How often a case is evaluated in one ascent at a root.
 const LONG: usize = 3_000;
 
-/// How far the first ascent of a case goes at first, and how far the others, in grains.
+/// How far the first ascent of a case goes at first, and how far the others, in which prices of length stay whole, in grains.
 const STEPS: [i64; 3] = [4_000, 1_000, 1_000];
 
 /// How much more an ascent has to bring so that another one follows, and two cases than one, in thousandths of a grain.
@@ -72,10 +72,12 @@ fn raised(
     gains: &mut Gains,
 ) -> Result<Held, AllocError> {
     let mut best = start;
+    let mut lengths = true;
     'ascents: for step in STEPS {
         let least = best.sum + grains(place, LITTLE);
         let lift = Lift {
             nexts: &[],
+            lengths,
             multiplier,
             step,
             most: LONG,
@@ -85,6 +87,7 @@ fn raised(
         if best.sum >= goal || best.sum < least {
             return Ok(best);
         }
+        lengths = false;
     }
     Ok(best)
 }

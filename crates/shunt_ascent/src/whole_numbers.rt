@@ -31,8 +31,18 @@ pub(crate) fn rounded(number: Number) -> Number {
     whole(number) * Wrapping(ONE)
 }
 
-// Makes the prices of length whole, which are coarse.
-fn round_lengths(scene: &Scene, point: &mut Point) {
+/// Whether the prices of length are whole.
+pub(crate) fn are_lengths_whole(scene: &Scene, point: &Point) -> bool {
+    for (price, slot) in point.prices.iter().zip(&scene.slots) {
+        if slot.is_by_length() && rounded(*price) != *price {
+            return false;
+        }
+    }
+    true
+}
+
+/// Makes the prices of length whole, which are coarse.
+pub(crate) fn round_lengths(scene: &Scene, point: &mut Point) {
     for (price, slot) in point.prices.iter_mut().zip(&scene.slots) {
         if slot.is_by_length() {
             *price = rounded(*price);

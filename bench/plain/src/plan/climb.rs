@@ -5,11 +5,15 @@ use super::evaluate::Span;
 use super::gains::{Asked, FAR, Gains, Numbers, Place};
 use super::model::ONE;
 
-/// Where a climb goes: what it is asked to raise, whether prices and the multiplier change too, how far it goes at first, and when it ends.
+// By how many thousandths of a grain a value has to rise for its climb to go on as at first. The end of one is long and brings next to nothing.
+const LITTLE: i64 = 100;
+
+/// Where a climb goes: what it is asked to raise, whether prices of length, which are coarse once they are whole, and the multiplier change too, how far it goes
+/// at first, and when it ends.
 #[derive(Clone, Copy)]
 pub(crate) struct Way {
     pub(crate) asked: Asked,
-    pub(crate) prices: bool,
+    pub(crate) lengths: bool,
     pub(crate) multiplier: bool,
     pub(crate) step: i64,
     pub(crate) most: usize,
@@ -24,14 +28,19 @@ struct Changed {
     slope: Vec<i64>,
 }
 
+fn is_by_length(place: &Place, slot: usize) -> bool {
+    place.stacks.model.slots[slot].parts.is_none()
+}
+
 fn scale(place: &Place, slot: usize) -> i64 {
-    if place.stacks.model.slots[slot].parts.is_none() { 512 } else { 1 }
+    if is_by_length(place, slot) { 512 } else { 1 }
 }
 
 impl Changed {
     fn new(place: &Place, way: Way, numbers: &Numbers) -> Changed {
         let units: Vec<usize> = (0..place.scene.covered.len()).filter(|u| !place.scene.covered[*u]).collect();
-        let slots: Vec<usize> = (0..place.stacks.model.slots.len()).filter(|slot| way.prices && numbers.point.prices[*slot] >= 0).collect();
+        let changes = |slot: &usize| (way.lengths || !is_by_length(place, *slot)) && numbers.point.prices[*slot] >= 0;
+        let slots: Vec<usize> = (0..place.stacks.model.slots.len()).filter(changes).collect();
         let mut at: Vec<i64> = units.iter().map(|u| numbers.alpha[*u]).collect();
         at.extend(place.scene.free.iter().map(|v| numbers.point.beta[*v]));
         at.extend(slots.iter().map(|slot| numbers.point.prices[*slot] * scale(place, *slot)));
@@ -82,8 +91,10 @@ struct Climb<'p, 's, 'm> {
     step: i64,
     best: i64,
     best_at: Vec<i64>,
-    spent: usize,
+    // The last value that rose by more than a little, and how many walks there were since.
+    mark: i64,
     idle: usize,
+    spent: usize,
 }
 
 impl Climb<'_, '_, '_> {
@@ -101,8 +112,8 @@ impl Climb<'_, '_, '_> {
         self.changed.slopes(self.place, self.way, gains);
         self.spent += 1;
         if value > self.best {
-            if value > self.best + ONE {
-                self.idle = 0;
+            if value > self.mark + LITTLE * self.place.stacks.model.grain * ONE {
+                (self.mark, self.idle) = (value, 0);
             }
             self.best = value;
             self.best_at.copy_from_slice(&self.changed.at);
@@ -130,7 +141,7 @@ impl Climb<'_, '_, '_> {
     fn climb(&mut self, gains: &mut Gains) {
         let size = self.changed.at.len();
         let (mut before, mut dilations) = (self.metric.gathered.clone(), 0);
-        while !self.is_over() && self.idle < 60 + size {
+        while !self.is_over() && self.idle < 60 + size / 2 {
             self.walk(gains);
             if self.best >= self.way.goal || !self.metric.dilate(&self.changed.slope, &mut before) {
                 break;
@@ -161,6 +172,35 @@ pub(crate) fn holding(place: &Place, span: Span, numbers: &Numbers, gains: &mut 
     (numbers, sum)
 }
 
+// The best numbers that a climb from some finds, which is short where the prices of length are whole and the others have to make up for that.
+fn ascended(place: &Place, span: Span, way: Way, start: &Numbers, gains: &mut Gains) -> Numbers {
+    let best = gains.evaluate(place, span, start, way.asked);
+    let mut changed = Changed::new(place, way, start);
+    changed.slopes(place, way, gains);
+    let way = if way.lengths { way } else { Way { most: way.most.min(2 * changed.at.len() + 100), ..way } };
+    let (best_at, metric) = (changed.at.clone(), Metric::new(changed.at.len()));
+    let step = way.step * ONE;
+    let mut climb = Climb { place, span, way, numbers: start.clone(), changed, metric, step, best, best_at, mark: best, idle: 0, spent: 1 };
+    if !climb.best_at.is_empty() && climb.metric.begin(&climb.changed.slope) {
+        climb.climb(gains);
+    }
+    let at = std::mem::take(&mut climb.best_at);
+    climb.changed.put(place, way, &at, &mut climb.numbers);
+    climb.numbers
+}
+
+// Numbers near some whose prices of length are whole, and whose other numbers have climbed since.
+fn settled(place: &Place, span: Span, way: Way, numbers: Numbers, gains: &mut Gains) -> Numbers {
+    let coarse: Vec<usize> = (0..numbers.point.prices.len()).filter(|slot| is_by_length(place, *slot)).collect();
+    if coarse.iter().all(|slot| numbers.point.prices[*slot] == whole(numbers.point.prices[*slot])) {
+        return numbers;
+    }
+    let mut near = numbers;
+    coarse.into_iter().for_each(|slot| near.point.prices[slot] = whole(near.point.prices[slot]));
+    let way = Way { lengths: false, step: way.step / 4, most: way.most / 2, ..way };
+    ascended(place, span, way, &near, gains)
+}
+
 /// The best whole numbers that a climb finds, with the sum; those that it began with where none are better at what is asked.
 pub(crate) fn climb(place: &Place, span: Span, way: Way, start: &Numbers, gains: &mut Gains) -> (Numbers, i64) {
     let asked = |numbers: &Numbers, sum: i64, gains: &mut Gains| match way.asked {
@@ -172,16 +212,8 @@ pub(crate) fn climb(place: &Place, span: Span, way: Way, start: &Numbers, gains:
     if before >= way.goal {
         return (start, sum);
     }
-    let best = gains.evaluate(place, span, &start, way.asked);
-    let mut changed = Changed::new(place, way, &start);
-    changed.slopes(place, way, gains);
-    let (best_at, metric) = (changed.at.clone(), Metric::new(changed.at.len()));
-    let mut climb = Climb { place, span, way, numbers: start.clone(), changed, metric, step: way.step * ONE, best, best_at, spent: 1, idle: 0 };
-    if !climb.best_at.is_empty() && climb.metric.begin(&climb.changed.slope) {
-        climb.climb(gains);
-    }
-    let at = std::mem::take(&mut climb.best_at);
-    climb.changed.put(place, way, &at, &mut climb.numbers);
-    let (found, found_sum) = holding(place, span, &climb.numbers, gains);
+    let high = ascended(place, span, way, &start, gains);
+    let best = settled(place, span, way, high, gains);
+    let (found, found_sum) = holding(place, span, &best, gains);
     if asked(&found, found_sum, gains) > before { (found, found_sum) } else { (start, sum) }
 }

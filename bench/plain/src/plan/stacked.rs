@@ -69,7 +69,7 @@ impl<'s, 'm> Rating for ByStacks<'s, 'm> {
         let grain = self.stacks.model.grain;
         let goal = 1000 * (aim.level + 4 * grain).min(aim.cost - 1) + 1 + 3000 * grain;
         let most = if aim.depth < 2 { 240 } else { 60 };
-        let way = Way { asked: Asked::Least, prices: true, multiplier: aim.many, step: 2_000 * grain, most, goal: goal * ONE };
+        let way = Way { asked: Asked::Least, lengths: false, multiplier: aim.many, step: 2_000 * grain, most, goal: goal * ONE };
         let (numbers, sum) = climb(place, case.span, way, &numbers_of(case), &mut self.gains);
         (fixed(case.span, numbers), sum / ONE)
     }
@@ -125,7 +125,7 @@ fn raised(place: &Place, span: Span, start: &Numbers, goal: i64, multiplier: boo
     let (mut numbers, mut sum) = holding(place, span, start, gains);
     for number in 0..CLIMBS {
         let step = if number == 0 { 4_000 } else { 1_000 } * grain;
-        let way = Way { asked: Asked::Sum, prices: true, multiplier, step, most: LONG, goal };
+        let way = Way { asked: Asked::Sum, lengths: number == 0, multiplier, step, most: LONG, goal };
         let before = sum;
         (numbers, sum) = climb(place, span, way, &numbers, gains);
         if sum >= goal || sum < before + 100 * grain * ONE {

@@ -2,7 +2,6 @@ pub mod Cells
 pub mod Facts
 pub mod Found
 pub mod Looked
-pub mod Named
 pub mod Numbers
 pub mod Orders
 pub mod Placed

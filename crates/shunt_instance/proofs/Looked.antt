@@ -24,7 +24,6 @@ use Rattle.shunt_instance.specs.defs.Instance.{Night, IsOrderedNight, sort_by_mi
 use Rattle.shunt_instance.specs.defs.Tables.{AreEntries, AreFirsts, AreCosts, route_cell}
 use Rattle.shunt_instance.proofs.Numbers.{length_through}
 use Rattle.shunt_instance.proofs.Orders.{trains_stay, sort_moves, night_is}
-use Rattle.shunt_instance.proofs.Named.{at_one_place}
 use Rattle.shunt_instance.proofs.Facts.{unit_at_is, position_at_is}
 use Rattle.shunt_instance.proofs.Found.{found_has, found_there, cost_small, side_open}
 
@@ -191,22 +190,6 @@ entries_of s ar dp a b e f units us positions ps ready leaves ae be ue pe ee uu 
 }
 
 -- the place of a name is that of the train, or the track, that has it
-pub named_train : (names : List (List ℕ)) (ts us : List Train) (name : List ℕ) (o : Option ℕ) → names ≡ names_of ts → ts ≡ us → o ≡ position (λ n. bytes_eq n name) names
-    → o ≡ train_of_name us name
-named_train names ts us name o is same e =
-    e
-    ∙ ap (position (λ n. bytes_eq n name)) is
-    ∙ sym (at_one_place (λ (t : Train). t.name) (λ t. bytes_eq t.name name) (λ n. bytes_eq n name) (λ t. refl) ts)
-    ∙ ap (λ (xs : List Train). train_of_name xs name) same
-
-pub named_track : (names : List (List ℕ)) (ts us : List Track) (name : List ℕ) (o : Option ℕ) → names ≡ map (λ (t : Track). t.name) ts → ts ≡ us
-    → o ≡ position (λ n. bytes_eq n name) names → o ≡ position (name_test name) us
-named_track names ts us name o is same e =
-    e
-    ∙ ap (position (λ n. bytes_eq n name)) is
-    ∙ sym (at_one_place (λ (t : Track). t.name) (name_test name) (λ n. bytes_eq n name) (λ t. refl) ts)
-    ∙ ap (position (name_test name)) same
-
 pub few_places : (o : Option ℕ) (n : ℕ) → IfSome o (λ k. k < n) → n ≤ 100 → IfSome o (λ k. k < 256)
 few_places None n h le = tt
 few_places (Some k) n h le = omega arith

@@ -13,7 +13,6 @@ ghost use Rattle.shunt_instance.specs.defs.Instance.{arr_of_name, dep_of_name, I
 ghost use Rattle.shunt_instance.specs.defs.Instance.{IsPositionAt};
 
 use crate::lookups::{cost_table, named_table, pair_table, permit_cell, route_cell};
-use crate::names::{NameIndex, names_of};
 use crate::records::{Position, Station, Timetable, Train, Unit};
 use crate::train_numbers::{
     first_numbers, leave_minutes, number_positions, number_units, ready_minutes, sorted,
@@ -41,9 +40,6 @@ pub struct Instance {
     costs: Vec<Option<u32>>,
     named: Vec<bool>,
     pairs: Vec<bool>,
-    arr_names: NameIndex,
-    dep_names: NameIndex,
-    track_names: NameIndex,
 }
 
 impl Model for Instance {
@@ -59,8 +55,7 @@ impl Model for Instance {
     ghost invariant = { λ a. AreTables
         (record { station = a.station; arrive = a.arrive.items; depart = a.depart.items })
         a.units.items a.positions.items a.ready.items a.leaves.items a.first_units.items
-        a.first_positions.items a.costs.items a.named.items a.pairs.items a.arr_names a.dep_names
-        a.track_names };
+        a.first_positions.items a.costs.items a.named.items a.pairs.items };
 }
 
 impl Instance {
@@ -86,9 +81,6 @@ impl Instance {
         let costs = cost_table(alloc, station.routes.as_slice())?;
         let named = named_table(alloc, station.permits.as_slice())?;
         let pairs = pair_table(alloc, station.permits.as_slice())?;
-        let arr_names = names_of(alloc, &arrive)?;
-        let dep_names = names_of(alloc, &depart)?;
-        let track_names = names_of(alloc, station.tracks.as_slice())?;
         Ok(Instance {
             station,
             arrive,
@@ -102,9 +94,6 @@ impl Instance {
             costs,
             named,
             pairs,
-            arr_names,
-            dep_names,
-            track_names,
         })
     }
 
@@ -303,7 +292,9 @@ impl Instance {
         ensures few { IfSome result (λ k. k < 256) }
         ensures distinct { AreDistinct (names_of self.now.arrive) }
     {
-        self.arr_names.place_of(name)
+        self.arrive
+            .iter()
+            .position(|train| train.name.bytes() == name)
     }
 
     // The number of the departing train with a name.
@@ -312,7 +303,9 @@ impl Instance {
         ensures few { IfSome result (λ k. k < 256) }
         ensures distinct { AreDistinct (names_of self.now.depart) }
     {
-        self.dep_names.place_of(name)
+        self.depart
+            .iter()
+            .position(|train| train.name.bytes() == name)
     }
 
     // The number of the track with a name.
@@ -321,6 +314,7 @@ impl Instance {
         ensures few { IfSome result (λ k. k < 256) }
         ensures distinct { AreDistinct (track_names self.now.station) }
     {
-        self.track_names.place_of(name)
+        let tracks = self.station.tracks.as_slice();
+        tracks.iter().position(|track| track.name.bytes() == name)
     }
 }

@@ -4,7 +4,6 @@
 mod joined;
 pub mod laws;
 mod lookups;
-mod names;
 mod namings;
 mod records;
 mod train_numbers;

@@ -11,7 +11,7 @@ use Rattle.shunt_instance.specs.declared.records.Permit.{Permit}
 use Rattle.shunt_instance.specs.declared.records.Train.{Train}
 use Rattle.shunt_instance.specs.declared.records.Unit.{Unit as TrainUnit}
 use Rattle.shunt_instance.specs.declared.records.Position.{Position}
-use Rattle.shunt_instance.specs.defs.Words.{joins, unit_count, names_of, track_names}
+use Rattle.shunt_instance.specs.defs.Words.{joins, unit_count}
 use Rattle.shunt_instance.specs.defs.Instance.{Night, IsOrderedNight, units_of, positions_of, ready_of, leaves_of}
 
 -- where the table of costs holds a route: there are at most 30 platforms and 60 tracks
@@ -55,7 +55,7 @@ pub record AreEntries (night : Night) (units : List TrainUnit) (positions : List
 
 -- all tables of a night, whose trains are well formed and in their order
 pub record AreTables (night : Night) (units : List TrainUnit) (positions : List Position) (ready leaves first_units first_positions : List ℕ) (costs : List (Option ℕ))
-    (named pairs : List Bool) (arr_names dep_names tracks : List (List ℕ)) : Type 0 where
+    (named pairs : List Bool) : Type 0 where
   pub formed : IsOrderedNight night
   pub entries : AreEntries night units positions ready leaves
   pub units_before : AreFirsts night.arrive first_units
@@ -63,6 +63,3 @@ pub record AreTables (night : Night) (units : List TrainUnit) (positions : List 
   pub route_costs : AreCosts night.station.routes costs
   pub named_tracks : AreNamed night.station.permits named
   pub named_pairs : ArePairs night.station.permits pairs
-  pub arrivals : arr_names ≡ names_of night.arrive
-  pub departures : dep_names ≡ names_of night.depart
-  pub track_list : tracks ≡ track_names night.station

@@ -1,9 +1,7 @@
-use Rattle.std.proofs.Common.{List, subst, ap, ◌∙◌, map}
+use Rattle.std.proofs.Common.{List, subst}
 use Rattle.shunt_instance.specs.declared.records.Permit.{Permit}
 use Rattle.shunt_instance.specs.declared.records.Route.{Route}
 use Rattle.shunt_instance.specs.declared.records.Train.{Train}
-use Rattle.shunt_instance.specs.declared.records.Track.{Track}
-use Rattle.shunt_instance.specs.defs.Words.{names_of}
 use Rattle.shunt_instance.specs.defs.Tables.{AreFirsts, AreCosts, AreNamed, ArePairs}
 use Rattle.shunt_instance.proofs.Looked.{sorted_trains, formed_of, entries_of}
 use Rattle.shunt_instance.proofs.joined.Instance.join.Goals as goal
@@ -38,12 +36,6 @@ first_numbers-requires-2-clause-few c = (sorted_trains _ _ _ _ c.requires.timeta
 pub first_numbers-requires-2-clause-short : goal.first_numbers-requires-2-clause-short
 first_numbers-requires-2-clause-short c = λ k d lt. ((sorted_trains _ _ _ _ c.requires.timetable.depart c.deref-8.ensures.value c.in_ok-depart.ensures).each k d lt).few
 
-pub names_of-requires : goal.names_of-requires
-names_of-requires c = (sorted_trains _ _ _ _ c.requires.timetable.arrive c.deref-9.ensures.value c.in_ok-arrive.ensures).names
-
-pub names_of-requires-2 : goal.names_of-requires-2
-names_of-requires-2 c = (sorted_trains _ _ _ _ c.requires.timetable.depart c.deref-10.ensures.value c.in_ok-depart.ensures).names
-
 pub invariant_of-result : goal.invariant_of-result
 invariant_of-result c = record {
   formed = formed_of c.args.station c.args.timetable.arrive c.args.timetable.depart c.in_ok-arrive.arrive.items c.in_ok-depart.depart.items c.requires.station c.requires.timetable
@@ -55,7 +47,4 @@ invariant_of-result c = record {
   route_costs = subst (λ (rs : List Route). AreCosts rs c.in_ok-costs.costs.items) c.as_slice.ensures c.in_ok-costs.ensures;
   named_tracks = subst (λ (ps : List Permit). AreNamed ps c.in_ok-named.named.items) c.as_slice-2.ensures c.in_ok-named.ensures;
   named_pairs = subst (λ (ps : List Permit). ArePairs ps c.in_ok-pairs.pairs.items) c.as_slice-3.ensures c.in_ok-pairs.ensures;
-  arrivals = c.in_ok-arr_names.ensures ∙ ap names_of c.deref-9.ensures.value;
-  departures = c.in_ok-dep_names.ensures ∙ ap names_of c.deref-10.ensures.value;
-  track_list = c.in_ok-track_names.ensures ∙ ap (map (λ (t : Track). t.name)) c.as_slice-4.ensures;
 }

@@ -162,7 +162,7 @@ impl StackSite {
         let start = hold(&self.place, case.span, values, &mut self.gains)?;
         let lift = Lift {
             nexts: &nexts,
-            lengths: false,
+            lengths: true,
             multiplier: raise.multiplier,
             step: STEP,
             most: raise.most,

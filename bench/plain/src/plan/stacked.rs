@@ -69,7 +69,7 @@ impl<'s, 'm> Rating for ByStacks<'s, 'm> {
         let grain = self.stacks.model.grain;
         let goal = 1000 * (aim.level + 4 * grain).min(aim.cost - 1) + 1 + 3000 * grain;
         let most = if aim.depth < 2 { 240 } else { 60 };
-        let way = Way { asked: Asked::Least, lengths: false, multiplier: aim.many, step: 2_000 * grain, most, goal: goal * ONE };
+        let way = Way { asked: Asked::Least, lengths: true, multiplier: aim.many, step: 2_000 * grain, most, goal: goal * ONE };
         let (numbers, sum) = climb(place, case.span, way, &numbers_of(case), &mut self.gains);
         (fixed(case.span, numbers), sum / ONE)
     }

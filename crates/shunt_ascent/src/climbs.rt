@@ -19,8 +19,9 @@ pub(crate) struct Pace {
     /// How many evaluations it takes at most.
     pub most: usize,
     pub goal: Number,
-    /// How many walks may follow one another after which no value exceeds by more than that the last one that did.
+    /// How many walks may follow one another without a value that counts, at which it ends.
     pub patience: usize,
+    /// By how much more than that a value has to exceed the last one that counted, to count.
     pub little: Number,
 }
 
@@ -48,7 +49,7 @@ struct Climb {
     // How far a step goes.
     step: i64,
     best: Peak,
-    // The last value that exceeded the one before it by more than a little, and how many walks there were since.
+    // The last value that counted, and how many walks there were since.
     mark: Number,
     idle: usize,
     // How many evaluations there were.

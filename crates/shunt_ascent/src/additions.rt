@@ -13,6 +13,9 @@ use shunt_base::{ArrId, TrackId};
 use shunt_instance::Instance;
 use std::alloc::{AllocError, Global};
 
+/// How many prices there are beside stacks at most, since a matrix of an ascent has as many rows and columns.
+const WIDE: usize = 600;
+
 // Whether a shape goes by a stack of a track.
 fn is_by_stack(place: &Place, row: &Row, track: usize) -> bool {
     let Some(ways) = place.stacks.ways_of(&place.scene, row.group) else {
@@ -87,16 +90,6 @@ fn add_with_parts(
     Ok(())
 }
 
-// Adds those prices of a list that are for a track.
-fn add_known(known: &[Slot], track: TrackId, slots: &mut Vec<Slot>) -> Result<(), AllocError> {
-    for slot in known {
-        if slot.track == track {
-            add_slot(slots, *slot)?;
-        }
-    }
-    Ok(())
-}
-
 // Adds the prices of a track at all moments that no later one takes the place of.
 fn add_all(
     alloc: Global,
@@ -114,7 +107,8 @@ fn add_all(
     Ok(())
 }
 
-/// The prices beside stacks at a place: on tracks that need some those that are known, and all others there. Err is want of memory.
+/// The prices beside stacks at a place: those that are known, with which no stack brings anything yet, and all others on tracks that need some, unless
+/// these are too many. Err is want of memory.
 pub(crate) fn slots_beside(
     alloc: Global,
     instance: &Instance,
@@ -122,12 +116,15 @@ pub(crate) fn slots_beside(
     known: &[Slot],
 ) -> Result<Vec<Slot>, AllocError> {
     let lengths = place.scene.lengths(alloc)?;
-    let mut slots = Vec::new(alloc);
+    let mut slots = Vec::from_slice(alloc, known)?;
     for track in 0..place.scene.tracks {
         let track = TrackId(u8::try_from(track).unwrap_or(u8::MAX));
         if !needs_no_price(instance, place, track) {
-            add_known(known, track, &mut slots)?;
             add_all(alloc, instance, &lengths, track, &mut slots)?;
+        }
+        if slots.len() > WIDE {
+            slots.truncate(known.len());
+            return Ok(slots);
         }
     }
     Ok(slots)

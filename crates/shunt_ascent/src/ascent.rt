@@ -38,6 +38,11 @@ impl<'s> Valued for Priced<'s> {
             .read_slopes(scene, &self.work.slopes, numbers, slope);
         Ok(sum)
     }
+
+    // Without stacks the number of evaluations alone is limited.
+    fn spend(&mut self, more: u64) -> u64 {
+        0
+    }
 }
 
 fn pace_of(scene: &Scene, ascent: &Ascent, size: usize) -> Pace {
@@ -46,6 +51,7 @@ fn pace_of(scene: &Scene, ascent: &Ascent, size: usize) -> Pace {
         longest: longest(scene),
         farthest: farthest(scene),
         most: ascent.most,
+        work: u64::MAX,
         goal: ascent.goal,
         patience: size.saturating_add(60),
         little: NOTHING,

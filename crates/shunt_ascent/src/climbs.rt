@@ -8,6 +8,9 @@ use std::num::Wrapping;
 pub(crate) trait Valued {
     /// The value at some numbers, with its slopes, 512 to one, written over others. Err is want of memory.
     fn value(&mut self, numbers: &[Number], slope: &mut [Number]) -> Result<Number, AllocError>;
+
+    /// How much work there was so far, with some more beside that of the values: about as many steps of tables as it takes as long as.
+    fn spend(&mut self, more: u64) -> u64;
 }
 
 /// How an ascent goes: how far its first step goes, and how far any; how far from 0 its numbers go; and when it ends.
@@ -16,8 +19,9 @@ pub(crate) struct Pace {
     pub step: i64,
     pub longest: i64,
     pub farthest: Number,
-    /// How many evaluations it takes at most.
+    /// How many evaluations it takes at most, and about how much work.
     pub most: usize,
+    pub work: u64,
     pub goal: Number,
     /// How many walks may follow one another without a value that counts, at which it ends.
     pub patience: usize,
@@ -52,13 +56,15 @@ struct Climb {
     // The last value that counted, and how many walks there were since.
     mark: Number,
     idle: usize,
-    // How many evaluations there were.
+    // How many evaluations there were, how much work there is when it ends, and whether it came to that.
     spent: usize,
+    last: u64,
+    is_out: bool,
 }
 
 impl Climb {
     fn is_over(&self) -> bool {
-        self.best.value >= self.pace.goal || self.spent >= self.pace.most
+        self.best.value >= self.pace.goal || self.spent >= self.pace.most || self.is_out
     }
 
     // Keeps the numbers where their value is the best.
@@ -81,6 +87,7 @@ impl Climb {
         }
         let value = valued.value(&self.numbers, &mut self.slope)?;
         self.spent = self.spent.saturating_add(1);
+        self.is_out = valued.spend(0) >= self.last;
         self.keep(value);
         Ok(())
     }
@@ -118,6 +125,8 @@ impl Climb {
             if self.is_over() || !self.metric.dilate(&self.slope) {
                 return Ok(());
             }
+            let dilated = size.saturating_mul(size) as u64;
+            valued.spend(dilated);
             dilations = dilations.saturating_add(100);
             if dilations >= size.saturating_mul(63) {
                 dilations = 0;
@@ -138,6 +147,7 @@ pub(crate) fn highest<V: Valued>(
 ) -> Result<Peak, AllocError> {
     let mut slope = vec![in alloc; NOTHING; start.len()]?;
     let value = valued.value(&start, &mut slope)?;
+    let last = valued.spend(0).saturating_add(pace.work);
     let mut climb = Climb {
         pace,
         best: Peak {
@@ -151,6 +161,8 @@ pub(crate) fn highest<V: Valued>(
         mark: value,
         idle: 0,
         spent: 1,
+        last,
+        is_out: false,
     };
     if !climb.is_over() && climb.metric.begin(&climb.slope) {
         climb.climb(valued)?;

@@ -193,6 +193,11 @@ impl Fillings {
         })
     }
 
+    /// How many steps the tables of stacks took so far.
+    pub(crate) fn steps(&self) -> u64 {
+        self.table.steps
+    }
+
     /// Forgets all blocks.
     pub(crate) fn clear(&mut self) {
         for filling in &mut self.all {

@@ -34,6 +34,8 @@ pub(crate) struct Gains {
     /// What the sum grows by with each of the blocks that may come next.
     pub steps: Vec<Number>,
     pub slopes: Slopes,
+    // How many shapes and ways were looked at, and what else took as long.
+    spent: u64,
 }
 
 /// The block that may come next with which the sum grows least, and by how much.
@@ -141,6 +143,7 @@ impl Gains {
             fillings: Fillings::new(alloc, &place.stacks)?,
             steps: Vec::new(alloc),
             slopes: Slopes::new(alloc, scene)?,
+            spent: 0,
         })
     }
 
@@ -205,6 +208,7 @@ impl Gains {
         row: &Row,
     ) -> Result<(), AllocError> {
         let worth = self.worth(u, row);
+        self.spent = self.spent.saturating_add(1);
         let (Some(weights), Some(ways)) = (
             self.weights.get(row.group),
             place.stacks.ways_of(&place.scene, row.group),
@@ -223,6 +227,7 @@ impl Gains {
             u,
             place: number,
         };
+        self.spent = self.spent.saturating_add(ways.same.len() as u64);
         add_piece(place, weights, ways, worth, piece, &mut self.fillings)
     }
 
@@ -340,6 +345,12 @@ impl Gains {
             Some(nearest) => sum + nearest.step,
             None => sum,
         })
+    }
+
+    /// How much work there was so far, with some more: as many steps of tables as it takes as long as.
+    pub(crate) fn spend(&mut self, more: u64) -> u64 {
+        self.spent = self.spent.saturating_add(more);
+        self.spent.saturating_add(self.fillings.steps())
     }
 
     /// Lowers values of units so that all that has to hold does, by what the last evaluation found.

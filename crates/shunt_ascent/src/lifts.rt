@@ -29,8 +29,9 @@ pub(crate) struct Lift<'n> {
     pub lengths: bool,
     pub multiplier: bool,
     pub step: i64,
-    /// How many evaluations it takes at most.
+    /// How many evaluations it takes at most, and about how much work.
     pub most: usize,
+    pub work: u64,
     pub goal: Number,
 }
 
@@ -55,6 +56,10 @@ impl<'s> Valued for Stacked<'s> {
         self.changes
             .read_slopes(&place.scene, &self.gains.slopes, numbers, slope);
         Ok(value)
+    }
+
+    fn spend(&mut self, more: u64) -> u64 {
+        self.gains.spend(more)
     }
 }
 
@@ -89,6 +94,7 @@ fn pace_of(place: &Place, lift: &Lift<'_>, size: usize) -> Pace {
         longest: longest(&place.scene),
         farthest: farthest(&place.scene),
         most: most_of(lift, size),
+        work: lift.work,
         goal: lift.goal,
         patience: (size / 2).saturating_add(60),
         little: Wrapping(step_of(&place.scene, LITTLE)),
@@ -178,6 +184,7 @@ fn settled(
         lengths: false,
         step: lift.step / 4,
         most: lift.most / 2,
+        work: lift.work / 2,
         ..lift
     };
     raised(alloc, place, span, rest, near, gains)

@@ -21,6 +21,11 @@ use std::num::Wrapping;
 /// How often a case is evaluated in one ascent at a root.
 const LONG: usize = 3_000;
 
+/// About how much work one ascent at a root takes at most, in steps of tables, and all those with the same prices.
+const WORK: u64 = 2_000_000_000;
+
+const WORK_IN_ALL: u64 = 3_000_000_000;
+
 /// How far the first ascent of a case goes at first, and how far the others, in which prices of length stay whole, in grains.
 const STEPS: [i64; 3] = [4_000, 1_000, 1_000];
 
@@ -81,6 +86,7 @@ fn raised(
             multiplier,
             step,
             most: LONG,
+            work: WORK_IN_ALL.saturating_sub(gains.spend(0)).min(WORK),
             goal,
         };
         best = lifted(alloc, place, lift, best, gains)?;

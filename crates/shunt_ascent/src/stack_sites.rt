@@ -25,6 +25,9 @@ use std::alloc::{AllocError, Global};
 /// How far the first step of an ascent goes, in grains.
 const STEP: i64 = 2_000;
 
+/// About how much work all ascents at the paths of a site take at most, in steps of tables.
+const WORK: u64 = 4_000_000_000;
+
 /// What a case comes to at a path, and at the paths with a block more, in thousandths of a cost unit.
 #[derive(Drop)]
 pub struct Reached {
@@ -166,6 +169,7 @@ impl StackSite {
             multiplier: raise.multiplier,
             step: STEP,
             most: raise.most,
+            work: WORK.saturating_sub(self.gains.spend(0)),
             goal: raise.height(self.place.scene.grain),
         };
         let held = lifted(alloc, &self.place, lift, start, &mut self.gains)?;

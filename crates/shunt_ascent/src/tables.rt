@@ -75,6 +75,8 @@ pub(crate) struct Table {
     // For each piece and room what it brings with all that is inside it.
     wholes: Vec<Number>,
     left: Vec<Stretch>,
+    /// How many pieces were looked at so far, each at an entry of a row.
+    pub steps: u64,
 }
 
 // How many of these are before a number.
@@ -95,6 +97,7 @@ impl Table {
             sums: Vec::new(alloc),
             wholes: Vec::new(alloc),
             left: Vec::new(alloc),
+            steps: 0,
         }
     }
 
@@ -231,6 +234,7 @@ impl Table {
             if spot.leaves >= stretch.to {
                 return best;
             }
+            self.steps = self.steps.saturating_add(1);
             let with = self.whole(offer, stretch, k, spot) + self.sum_at(row, spot.behind);
             best = best.max(with);
         }

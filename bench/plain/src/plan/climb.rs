@@ -17,6 +17,7 @@ pub(crate) struct Way {
     pub(crate) multiplier: bool,
     pub(crate) step: i64,
     pub(crate) most: usize,
+    pub(crate) work: u64,
     pub(crate) goal: i64,
 }
 
@@ -95,11 +96,14 @@ struct Climb<'p, 's, 'm> {
     mark: i64,
     idle: usize,
     spent: usize,
+    // How much work there is when it ends, and whether it came to that.
+    last: u64,
+    is_out: bool,
 }
 
 impl Climb<'_, '_, '_> {
     fn is_over(&self) -> bool {
-        self.best >= self.way.goal || self.spent >= self.way.most
+        self.best >= self.way.goal || self.spent >= self.way.most || self.is_out
     }
 
     fn step_on(&mut self, gains: &mut Gains) {
@@ -111,6 +115,7 @@ impl Climb<'_, '_, '_> {
         let value = gains.evaluate(self.place, self.span, &self.numbers, self.way.asked);
         self.changed.slopes(self.place, self.way, gains);
         self.spent += 1;
+        self.is_out = gains.work() >= self.last;
         if value > self.best {
             if value > self.mark + LITTLE * self.place.stacks.model.grain * ONE {
                 (self.mark, self.idle) = (value, 0);
@@ -126,7 +131,7 @@ impl Climb<'_, '_, '_> {
         while self.spent < self.way.most {
             self.step_on(gains);
             steps += 1;
-            if self.best >= self.way.goal || !moves_on(&self.changed.slope, &self.metric.direction) {
+            if self.is_over() || !moves_on(&self.changed.slope, &self.metric.direction) {
                 break;
             }
             if steps >= 3 {
@@ -143,9 +148,10 @@ impl Climb<'_, '_, '_> {
         let (mut before, mut dilations) = (self.metric.gathered.clone(), 0);
         while !self.is_over() && self.idle < 60 + size / 2 {
             self.walk(gains);
-            if self.best >= self.way.goal || !self.metric.dilate(&self.changed.slope, &mut before) {
+            if self.is_over() || !self.metric.dilate(&self.changed.slope, &mut before) {
                 break;
             }
+            gains.spent += (size * size) as u64;
             dilations += 1;
             if dilations * 100 >= 63 * size {
                 (dilations, self.step) = (0, self.step / 2 + 1);
@@ -179,8 +185,9 @@ fn ascended(place: &Place, span: Span, way: Way, start: &Numbers, gains: &mut Ga
     changed.slopes(place, way, gains);
     let way = if way.lengths { way } else { Way { most: way.most.min(2 * changed.at.len() + 100), ..way } };
     let (best_at, metric) = (changed.at.clone(), Metric::new(changed.at.len()));
-    let step = way.step * ONE;
-    let mut climb = Climb { place, span, way, numbers: start.clone(), changed, metric, step, best, best_at, mark: best, idle: 0, spent: 1 };
+    let (step, last) = (way.step * ONE, gains.work().saturating_add(way.work));
+    let numbers = start.clone();
+    let mut climb = Climb { place, span, way, numbers, changed, metric, step, best, best_at, mark: best, idle: 0, spent: 1, last, is_out: false };
     if !climb.best_at.is_empty() && climb.metric.begin(&climb.changed.slope) {
         climb.climb(gains);
     }
@@ -197,7 +204,7 @@ fn settled(place: &Place, span: Span, way: Way, numbers: Numbers, gains: &mut Ga
     }
     let mut near = numbers;
     coarse.into_iter().for_each(|slot| near.point.prices[slot] = whole(near.point.prices[slot]));
-    let way = Way { lengths: false, step: way.step / 4, most: way.most / 2, ..way };
+    let way = Way { lengths: false, step: way.step / 4, most: way.most / 2, work: way.work / 2, ..way };
     ascended(place, span, way, &near, gains)
 }
 

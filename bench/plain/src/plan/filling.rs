@@ -42,6 +42,8 @@ pub(crate) struct Table {
     sums: Vec<i64>,
     // For each piece and room what it brings with all that is inside it.
     whole: Vec<i64>,
+    // How many pieces were looked at so far, each at an entry of a row.
+    pub(crate) steps: u64,
 }
 
 impl Table {
@@ -96,6 +98,7 @@ impl Table {
                 if self.places[k].leaves >= to {
                     break;
                 }
+                self.steps += 1;
                 best = best.max(self.whole(stack, k, room) + self.sums[start + self.places[k].behind]);
             }
             self.sums[start + at] = best;

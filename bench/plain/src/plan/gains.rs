@@ -59,6 +59,8 @@ pub(crate) struct Gains {
     pub(crate) slope_beta: Vec<i64>,
     pub(crate) slope_price: Vec<i64>,
     pub(crate) slope_multiplier: i64,
+    /// How many shapes and ways were looked at, and what else took as long.
+    pub(crate) spent: u64,
 }
 
 impl Gains {
@@ -78,7 +80,13 @@ impl Gains {
             slope_beta: vec![0; model.tables.positions.len()],
             slope_price: vec![0; model.slots.len()],
             slope_multiplier: 0,
+            spent: 0,
         }
+    }
+
+    /// How much work there was so far: about as many steps of tables as it takes as long as.
+    pub(crate) fn work(&self) -> u64 {
+        self.spent + self.tables.iter().map(|table| table.steps).sum::<u64>()
     }
 
     fn weigh(&mut self, stacks: &Stacks, point: &Point) {
@@ -138,11 +146,13 @@ impl Gains {
         let (stacks, scene) = (place.stacks, &place.scene);
         let tracks = stacks.model.tables.night.tracks;
         self.tables.iter_mut().for_each(|table| table.pieces.clear());
+        self.spent += scene.rows.len() as u64;
         for (at, row) in scene.rows.iter().enumerate() {
             if self.worth[at] <= self.stacked[row.group] {
                 continue;
             }
             let (enters, leaves, long) = (stacks.enters[row.shape.u], stacks.leaves[row.shape.v], stacks.long[row.group]);
+            self.spent += stacks.same[row.group].len() as u64;
             for (stack, way) in &stacks.same[row.group] {
                 let gain = self.worth[at] - way - self.prices[row.group * tracks + stack / 2];
                 let Some(part) = Self::part_at(&place.parts[*stack], enters) else { continue };

@@ -16,6 +16,14 @@ use std::rc::Rc;
 const LONG: usize = 3_000;
 const CLIMBS: usize = 3;
 
+// About how much work one climb at the path without blocks takes at most, in steps of tables, all those there with the same prices, and all those at nodes.
+const WORK: u64 = 2_000_000_000;
+const WORK_IN_ALL: u64 = 3_000_000_000;
+const WORK_AT_NODES: u64 = 4_000_000_000;
+
+// How many prices there are beside stacks at most, since a matrix of a climb has as many rows and columns.
+const WIDE: usize = 600;
+
 fn place<'s, 'm>(stacks: &'s Stacks<'m>, path: &Path, next: usize) -> Place<'s, 'm> {
     let scene = Scene::new(stacks.model, path);
     let parts = stacks.parts(&scene, &path.blocks);
@@ -69,7 +77,8 @@ impl<'s, 'm> Rating for ByStacks<'s, 'm> {
         let grain = self.stacks.model.grain;
         let goal = 1000 * (aim.level + 4 * grain).min(aim.cost - 1) + 1 + 3000 * grain;
         let most = if aim.depth < 2 { 240 } else { 60 };
-        let way = Way { asked: Asked::Least, lengths: true, multiplier: aim.many, step: 2_000 * grain, most, goal: goal * ONE };
+        let work = WORK_AT_NODES.saturating_sub(self.gains.work());
+        let way = Way { asked: Asked::Least, lengths: true, multiplier: aim.many, step: 2_000 * grain, most, work, goal: goal * ONE };
         let (numbers, sum) = climb(place, case.span, way, &numbers_of(case), &mut self.gains);
         (fixed(case.span, numbers), sum / ONE)
     }
@@ -88,15 +97,14 @@ fn needs_no_price(model: &Model, stacks: &Stacks, track: usize) -> bool {
     moments(model.tables).into_iter().any(|train| rows.iter().all(|row| Slot { parts: None, track, train }.stands(model.tables, row.shape)))
 }
 
-// The prices beside stacks: those of a model on tracks that need some, and all others there.
+// The prices beside stacks: those of a model, with which no stack brings anything yet, and all others on tracks that need some, unless these are too many.
 fn slots_beside(model: &Model, stacks: &Stacks) -> Vec<Slot> {
     let tables = model.tables;
     let mut lengths: Vec<u64> = model.rows.iter().map(|row| tables.length(row.shape)).collect();
     lengths.sort_unstable();
     lengths.dedup();
-    let mut slots: Vec<Slot> = vec![];
+    let mut slots: Vec<Slot> = model.slots.clone();
     for track in (0..tables.night.tracks).filter(|track| !needs_no_price(model, stacks, *track)) {
-        slots.extend(model.slots.iter().filter(|slot| slot.track == track));
         for train in moments(tables) {
             let kinds = std::iter::once(None).chain(useful_parts(tables, track, &lengths).into_iter().map(Some));
             slots.extend(kinds.map(|parts| Slot { parts, track, train }));
@@ -104,7 +112,7 @@ fn slots_beside(model: &Model, stacks: &Stacks) -> Vec<Slot> {
     }
     let mut all: Vec<Slot> = vec![];
     slots.into_iter().for_each(|slot| if !all.contains(&slot) { all.push(slot) });
-    all
+    if all.len() > WIDE { model.slots.clone() } else { all }
 }
 
 /// A case with stacks at the path without blocks, with its sum 1024 to one.
@@ -125,7 +133,8 @@ fn raised(place: &Place, span: Span, start: &Numbers, goal: i64, multiplier: boo
     let (mut numbers, mut sum) = holding(place, span, start, gains);
     for number in 0..CLIMBS {
         let step = if number == 0 { 4_000 } else { 1_000 } * grain;
-        let way = Way { asked: Asked::Sum, lengths: number == 0, multiplier, step, most: LONG, goal };
+        let work = WORK_IN_ALL.saturating_sub(gains.work()).min(WORK);
+        let way = Way { asked: Asked::Sum, lengths: number == 0, multiplier, step, most: LONG, work, goal };
         let before = sum;
         (numbers, sum) = climb(place, span, way, &numbers, gains);
         if sum >= goal || sum < before + 100 * grain * ONE {

@@ -1,7 +1,5 @@
 // Cheaper plans than the one that parks nothing but pins.
-ghost use Rattle.std.specs.Prelude.{◌≤◌, IfOk};
-ghost use Rattle.shunt_choices.specs.defs.Paths.{IsTrailOf};
-ghost use Rattle.shunt_prices.specs.defs.Limits.{AreCases};
+ghost use Rattle.std.specs.Prelude.{◌≤◌, length, IfOk};
 ghost use Rattle.shunt_search.specs.defs.WalkStates.{IsBest};
 
 use crate::known::KnownPlan;
@@ -10,8 +8,6 @@ use crate::wholes::path_cost;
 use shunt_base::{Case, Cases};
 use shunt_blocks::Block;
 use shunt_blocks::laws::feasible_lists;
-use shunt_choices::Path;
-use shunt_dual::path_sums;
 use shunt_instance::Instance;
 use shunt_ruin::{COOL, Course, Fall, HOT, MILD, WARM, ruin_and_recreate};
 use std::alloc::{AllocError, Global};
@@ -31,13 +27,25 @@ fn first_falls(units: u32) -> [Fall; 1] {
 
 /// How often they are ruined in each fall of the temperature once those are known: seldom where there are many, since a round then takes
 /// longer.
-fn last_rounds(units: u32) -> u32 {
+fn last_rounds(units: u32) -> u32
+    ensures { result ≤ 150000 }
+{
     if units > MANY {
         75_000
     } else if units > 30 {
         150_000
     } else {
         5_000 * units
+    }
+}
+
+/// How often in each fall once cases with stacks are known: twice as often where there aren't as many, since these cases say who stands in
+/// whose way.
+fn rounds_with_stacks(units: u32) -> u32 {
+    if units > MANY {
+        last_rounds(units)
+    } else {
+        2 * last_rounds(units)
     }
 }
 
@@ -73,19 +81,12 @@ fn place_of_least(numbers: &[i64]) -> usize {
     found
 }
 
-/// The case of a root that bounds it least. Err is want of memory.
-fn lowest<'a>(
-    alloc: Global,
-    instance: &Instance,
-    path: &Path,
-    cases: &'a Cases,
-) -> Result<&'a Case, AllocError>
-    requires path { IsTrailOf instance.now path.now }
-    requires cases { AreCases instance.now cases.now }
+/// The case of the least of these sums.
+fn lowest<'a>(cases: &'a Cases, sums: &[i64]) -> &'a Case
+    requires { 1 ≤ length cases.now }
 {
-    let sums = path_sums(alloc, instance, path, cases)?;
-    let place = place_of_least(&sums.sums);
-    Ok(cases.get(place.min(cases.len() - 1)))
+    let place = place_of_least(sums);
+    cases.get(place.min(cases.len() - 1))
 }
 
 /// A plan that costs no more than one that is known, by rounds of ruin and recreation that a case guides. Err is want of memory.
@@ -130,25 +131,61 @@ pub(crate) fn first_plan(
     cheapened(alloc, instance, pins, case, known, &course)
 }
 
-/// The same, guided by the one of the root's cases that bounds it least.
-pub(crate) fn last_plan(
+/// The same in that many rounds of each of the last falls, guided by the case of the least of these sums.
+fn guided_plan(
     alloc: Global,
     instance: &Instance,
     pins: &[Block],
-    path: &Path,
     cases: &Cases,
+    sums: &[i64],
+    rounds: u32,
     grain: u32,
     known: &KnownPlan,
 ) -> Result<KnownPlan, AllocError>
-    requires path { IsTrailOf instance.now path.now }
-    requires cases { AreCases instance.now cases.now }
+    requires cases { 1 ≤ length cases.now }
     requires best { IsBest instance.now pins.now known.now.blocks.items known.now.cost }
     ensures best { IfOk result (λ k. IsBest instance.now pins.now k.blocks.items k.cost) }
     ensures cheaper { IfOk result (λ k. k.cost ≤ known.now.cost) }
 {
-    let case = lowest(alloc, instance, path, cases)?;
-    let units = instance.units() as u32;
-    let falls = last_falls(units);
-    let course = course(instance, &falls, last_rounds(units), grain);
-    cheapened(alloc, instance, pins, case, known, &course)
+    let falls = last_falls(instance.units() as u32);
+    let course = course(instance, &falls, rounds, grain);
+    cheapened(alloc, instance, pins, lowest(cases, sums), known, &course)
+}
+
+/// The same, guided by the one of the root's cases whose sum by prices is the least.
+pub(crate) fn last_plan(
+    alloc: Global,
+    instance: &Instance,
+    pins: &[Block],
+    cases: &Cases,
+    sums: &[i64],
+    grain: u32,
+    known: &KnownPlan,
+) -> Result<KnownPlan, AllocError>
+    requires cases { 1 ≤ length cases.now }
+    requires best { IsBest instance.now pins.now known.now.blocks.items known.now.cost }
+    ensures best { IfOk result (λ k. IsBest instance.now pins.now k.blocks.items k.cost) }
+    ensures cheaper { IfOk result (λ k. k.cost ≤ known.now.cost) }
+{
+    let rounds = last_rounds(instance.units() as u32);
+    guided_plan(alloc, instance, pins, cases, sums, rounds, grain, known)
+}
+
+/// The same, guided by the one of the root's cases whose sum with stacks is the least.
+pub(crate) fn plan_with_stacks(
+    alloc: Global,
+    instance: &Instance,
+    pins: &[Block],
+    cases: &Cases,
+    sums: &[i64],
+    grain: u32,
+    known: &KnownPlan,
+) -> Result<KnownPlan, AllocError>
+    requires cases { 1 ≤ length cases.now }
+    requires best { IsBest instance.now pins.now known.now.blocks.items known.now.cost }
+    ensures best { IfOk result (λ k. IsBest instance.now pins.now k.blocks.items k.cost) }
+    ensures cheaper { IfOk result (λ k. k.cost ≤ known.now.cost) }
+{
+    let rounds = rounds_with_stacks(instance.units() as u32);
+    guided_plan(alloc, instance, pins, cases, sums, rounds, grain, known)
 }

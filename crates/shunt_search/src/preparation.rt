@@ -30,6 +30,7 @@ use crate::yard::{Yard, start};
 use shunt_blocks::Block;
 use shunt_blocks::laws::matchings;
 use shunt_choices::Path;
+use shunt_dual::path_sums;
 use shunt_instance::Instance;
 use shunt_matching::{MatchError, Matching, first_fit_rest};
 use shunt_proposals::Proposer;
@@ -182,12 +183,13 @@ fn prepared<P: Proposer>(
     let case = proposal.case(alloc, instance)?;
     let first = first_plan(alloc, instance, pins, &case, grain, known)?;
     let root = root_cases(alloc, instance, &yard.path, &proposal, &first)?;
+    let sums = path_sums(alloc, instance, &yard.path, &root.cases)?;
     let best = last_plan(
         alloc,
         instance,
         pins,
-        &yard.path,
         &root.cases,
+        &sums.sums,
         grain,
         &first,
     )?;

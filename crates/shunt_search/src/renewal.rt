@@ -14,16 +14,17 @@ ghost use Rattle.shunt_search.specs.declared.search_state.Search.{Search as OneS
 ghost use Rattle.shunt_search.specs.defs.Judges.{version_of, AreEnds, IsJudge};
 ghost use Rattle.shunt_search.specs.defs.Yards.{IsYard};
 ghost use Rattle.shunt_search.specs.defs.Roots.{IsRoot};
-ghost use Rattle.shunt_search.specs.defs.WalkStates.{cases_in};
+ghost use Rattle.shunt_search.specs.defs.WalkStates.{cases_in, IsBest};
 ghost use Rattle.shunt_search.specs.defs.SearchStates.{IsSearch, IsFresh, IsGround};
 
+use crate::cheaper_plans::plan_with_stacks;
 use crate::judge::{Ends, Guide, Judge};
 use crate::known::KnownPlan;
 use crate::notes::cases_in;
 use crate::preparation::ready;
 use crate::root_bounds::{Root, unparked_in};
 use crate::search_state::Search;
-use crate::sights::bound_at;
+use crate::sights::{bound_at, sums_at};
 use crate::yard::{Yard, start};
 use shunt_base::{Cases, copy_cases};
 use shunt_blocks::Block;
@@ -118,7 +119,34 @@ fn better_root(
     Ok(higher_root(known, proposed, more))
 }
 
-/// A search with stacks that is to begin with this root and this plan, or with better cases for its root, and the tree of at most that many
+/// A plan that costs no more than the known one, guided by the root's cases with stacks, unless these bound all plans by what that one
+/// costs. Err is want of memory.
+fn cheaper_plan<P: Proposer>(
+    alloc: Global,
+    instance: &Instance,
+    pins: &[Block],
+    ends: &Ends,
+    yard: &Yard,
+    root: &Root,
+    known: KnownPlan,
+) -> Result<KnownPlan, AllocError>
+    requires ends { AreEnds instance.now ends.now }
+    requires yard { IsYard instance.now yard.now }
+    requires cases { AreCases instance.now root.now.cases }
+    requires best { IsBest instance.now pins.now known.blocks.items known.cost }
+    requires small { known.cost ≤ 1000000000000 }
+    ensures best { IfOk result (λ k. IsBest instance.now pins.now k.blocks.items k.cost) }
+    ensures cheaper { IfOk result (λ k. k.cost ≤ known.cost) }
+{
+    if root.floor >= known.cost as i64 {
+        return Ok(known);
+    }
+    let grain = P::grain(alloc, instance)?;
+    let sums = sums_at(alloc, instance, ends, yard, &root.cases)?;
+    plan_with_stacks(alloc, instance, pins, &root.cases, &sums, grain, &known)
+}
+
+/// A search with stacks that is to begin with this root and this plan, or with better ones, and the tree of at most that many
 /// nodes that it is to follow. Err is want of memory.
 pub(crate) fn prepare_with_stacks<P: Proposer>(
     alloc: Global,
@@ -143,9 +171,10 @@ pub(crate) fn prepare_with_stacks<P: Proposer>(
     let path = &yard.path;
     let proposed = proposal.with_stacks(alloc, instance, path, &root.cases, unparked, known.cost)?;
     let better = better_root(alloc, instance, &ends, &yard, root, proposed)?;
+    let best = cheaper_plan::<P>(alloc, instance, pins, &ends, &yard, &better, known)?;
     let judge = Judge::Stacks(ends);
     let found = ready(
-        alloc, instance, pins, nodes, yard, proposal, judge, better, known,
+        alloc, instance, pins, nodes, yard, proposal, judge, better, best,
     )?;
     Ok(found)
 }

@@ -52,6 +52,26 @@ fn sight_at(
     Ok(Sight { shapes, outlooks })
 }
 
+/// The sums with stacks of all cases at the yard's path, in thousandths of a cost unit. Err is want of memory.
+pub(crate) fn sums_at(
+    alloc: Global,
+    instance: &Instance,
+    ends: &Ends,
+    yard: &Yard,
+    cases: &Cases,
+) -> Result<Vec<i64>, AllocError>
+    requires yard { IsYard instance.now yard.now }
+    requires ends { AreEnds instance.now ends.now }
+    requires cases { AreCases instance.now cases.now }
+{
+    let sight = sight_at(alloc, instance, ends, yard, cases)?;
+    let mut sums = Vec::with_capacity(alloc, sight.outlooks.len())?;
+    for outlook in &sight.outlooks {
+        sums.push(outlook.sum)?;
+    }
+    Ok(sums)
+}
+
 /// The bound of the yard's path by cases with stacks. Err is want of memory.
 pub(crate) fn bound_at(
     alloc: Global,

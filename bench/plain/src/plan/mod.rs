@@ -67,6 +67,11 @@ fn last_rounds(units: usize) -> i64 {
     }
 }
 
+// How often they are ruined once cases with stacks are known, which say who stands in whose way.
+fn rounds_with_stacks(units: usize) -> i64 {
+    if units > MANY { last_rounds(units) } else { 2 * last_rounds(units) }
+}
+
 fn last_falls(units: usize) -> &'static [Fall] {
     if units > MANY { &[COOL, COOL] } else { &[WARM, MILD] }
 }
@@ -113,8 +118,16 @@ pub fn plan(version: Version, files: [&str; 2], nodes: &str, plan_file: &str, ce
     }
     let (slots, more, more_sums) = cases_with_stacks(&model, &cases, unparked_in(&tree.plan), tree.cost);
     let wide = Model::new(&tables, slots);
+    let lowest = (0..more.len()).min_by_key(|k| more_sums[*k]).unwrap_or(0);
+    let is_open = more_sums[lowest] <= 1_000 * (tree.cost - 1);
+    let plan = if is_open {
+        better(&wide, &more[lowest], tree.plan, rounds_with_stacks(units), last_falls(units))
+    } else {
+        tree.plan
+    };
+    let cost = cost_of(&tables, &plan);
     let stacks = Stacks::new(&wide);
-    let mut other = Tree::new(&wide, ByStacks::new(&stacks), more, more_sums, tree.plan, tree.cost);
+    let mut other = Tree::new(&wide, ByStacks::new(&stacks), more, more_sums, plan, cost);
     let reached = other.grow(most);
     if reached >= bound {
         let (text, count) = writing::certificate_text(&wide, &other, reached, 2);

@@ -1,7 +1,7 @@
 // What a case with stacks comes to at a path, with the slopes of its numbers, the values of units among them.
 use crate::fillings::{Fillings, Next};
 use crate::groups::{Group, NO_WAY};
-use crate::numbers::{NOTHING, Number, add_at, at, fill};
+use crate::numbers::{NOTHING, Number, add_at, at};
 use crate::places::Place;
 use crate::points::{Point, Span, Values};
 use crate::rests::{Pick, Rests};
@@ -10,7 +10,7 @@ use crate::slopes::Slopes;
 use crate::stacks::{Space, Ways};
 use crate::tables::Piece;
 use crate::totals::Totals;
-use crate::valuation::{Lightest, UNKNOWN};
+use crate::ways::{Lightest, UNKNOWN, Way, lightest_by_stack, lightest_option, take};
 use std::alloc::{AllocError, Global};
 
 /// What the shapes of a group weigh but for their ends: what prices take of them on each track, the lightest option that goes by no stack, and
@@ -34,7 +34,7 @@ pub(crate) struct Gains {
     /// What the sum grows by with each of the blocks that may come next.
     pub steps: Vec<Number>,
     pub slopes: Slopes,
-    // How many shapes and ways were looked at, and what else took as long.
+    // How many shapes, prices and ways were looked at, and what else took as long.
     spent: u64,
 }
 
@@ -47,40 +47,9 @@ struct Nearest {
 
 // Finds what the shapes of a group weigh.
 fn weigh_group(group: &Group, ways: &Ways, point: &Point, unparked: Number, weights: &mut Weights) {
-    fill(&mut weights.taken, NOTHING);
-    for count in &group.counts {
-        let more = at(&point.prices, count.slot) * count.count;
-        add_at(&mut weights.taken, count.track, more);
-    }
-    weights.held = lightest_across(ways, &weights.taken, unparked);
-    weights.stacked = lightest_by_stack(ways, &weights.taken);
-}
-
-// The lightest option that goes by no stack.
-fn lightest_across(ways: &Ways, taken: &[Number], unparked: Number) -> Lightest {
-    let mut least = Lightest {
-        weight: unparked,
-        track: None,
-    };
-    for way in &ways.across {
-        let weight = way.weight + at(taken, way.place);
-        if weight < least.weight {
-            least = Lightest {
-                weight,
-                track: Some(way.place),
-            };
-        }
-    }
-    least
-}
-
-// The lightest way by a stack.
-fn lightest_by_stack(ways: &Ways, taken: &[Number]) -> Number {
-    let mut least = NO_WAY;
-    for way in &ways.same {
-        least = least.min(way.weight + at(taken, way.place / 2));
-    }
-    least
+    take(&group.counts, &point.prices, &mut weights.taken);
+    weights.held = lightest_option(&ways.across, &weights.taken, unparked);
+    weights.stacked = lightest_by_stack(&ways.same, &weights.taken);
 }
 
 fn weights_of(alloc: Global, scene: &Scene) -> Result<Vec<Weights>, AllocError> {
@@ -109,16 +78,16 @@ fn fits(place: &Place, stack: usize, space: &Space, piece: &Piece) -> bool {
     piece.leaves < part.to && !space.is_crossed(piece.enters, piece.leaves)
 }
 
-// Adds a shape that is worth so much to the pieces of the stacks where it brings something.
+// Adds a shape that is worth so much to the pieces of the stacks of some ways, where it brings something.
 fn add_piece(
     place: &Place,
     weights: &Weights,
-    ways: &Ways,
+    ways: &[Way],
     worth: Number,
     piece: Piece,
     fillings: &mut Fillings,
 ) -> Result<(), AllocError> {
-    for way in &ways.same {
+    for way in ways {
         let gain = worth - way.weight - at(&weights.taken, way.place / 2);
         let Some(space) = place.spaces.get(way.place) else {
             return Ok(());
@@ -149,14 +118,17 @@ impl Gains {
 
     fn weigh(&mut self, place: &Place, point: &Point) {
         let unparked = place.scene.unparked + point.multiplier;
+        let mut work = 0u64;
         for (number, weights) in self.weights.iter_mut().enumerate() {
             if let (Some(group), Some(ways)) = (
                 place.scene.groups.get(number),
                 place.stacks.ways_of(&place.scene, number),
             ) {
                 weigh_group(group, ways, point, unparked, weights);
+                work = work.saturating_add(group.counts.len() as u64);
             }
         }
+        self.spent = self.spent.saturating_add(work);
     }
 
     // What the values of a shape's units and positions are beyond its ends.
@@ -227,8 +199,9 @@ impl Gains {
             u,
             place: number,
         };
-        self.spent = self.spent.saturating_add(ways.same.len() as u64);
-        add_piece(place, weights, ways, worth, piece, &mut self.fillings)
+        let lighter = ways.lighter_than(worth);
+        self.spent = self.spent.saturating_add(lighter.len() as u64);
+        add_piece(place, weights, lighter, worth, piece, &mut self.fillings)
     }
 
     // Offers the shapes that begin at a unit.

@@ -4,6 +4,7 @@ ghost use Rattle.shunt_blocks.specs.defs.Shapes.{AreRunsWithin};
 
 use crate::numbers::{NOTHING, Number, in_thousandths};
 use crate::slots::{Slot, room_of};
+use crate::ways::{Way, ways_there};
 use indexmap::IndexSet;
 use shunt_base::DepId;
 use shunt_blocks::{Block, Park, Shape, block_cost, block_length, has_placed, in_range, unit_from};
@@ -26,12 +27,14 @@ struct Likeness {
     come: usize,
 }
 
-/// Shapes of a length in dm that have the same ways for each track: the first one, and the least ways.
+/// Shapes of a length in dm that have the same ways for each track: the first one, the least ways by track, and those that are there, from the
+/// lightest on.
 #[derive(Drop)]
 pub(crate) struct Kind {
     pub first: Shape,
     pub long: u32,
     pub ways: Vec<Number>,
+    pub by_weight: Vec<Way>,
 }
 
 /// The kinds that are known, and what the shapes of each have in common, at the same places.
@@ -216,10 +219,12 @@ impl Kinds {
         let likeness = likeness_of(instance, shape);
         let (number, is_new) = self.known.insert_full(likeness)?;
         if is_new {
+            let ways = ways_of(alloc, instance, shape, likeness.long)?;
             self.all.push(Kind {
                 first: shape,
                 long: likeness.long,
-                ways: ways_of(alloc, instance, shape, likeness.long)?,
+                by_weight: ways_there(alloc, &ways)?,
+                ways,
             })?;
         }
         Ok(number)

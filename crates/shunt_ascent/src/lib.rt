@@ -35,6 +35,7 @@ mod stated;
 mod tables;
 mod totals;
 mod valuation;
+mod ways;
 mod whole_numbers;
 
 pub use entries::Choice;

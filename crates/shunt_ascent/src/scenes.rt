@@ -9,6 +9,7 @@ use crate::numbers::{NOTHING, Number, add_at, in_thousandths};
 use crate::points::{Point, Span};
 use crate::scales::grain;
 use crate::slots::Slot;
+use crate::ways::Way;
 use shunt_blocks::{Block, Shape, are_runs_within, block_length, in_range, position_from};
 use shunt_choices::{Covered, Path, shapes_from};
 use shunt_instance::Instance;
@@ -258,6 +259,14 @@ impl Scene {
     pub(crate) fn ways(&self, group: &Group) -> &[Number] {
         match self.kinds.get(group.kind) {
             Some(kind) => &kind.ways,
+            None => &[],
+        }
+    }
+
+    /// The least ways to tracks of the shapes of a group, from the lightest on.
+    pub(crate) fn ways_by_weight(&self, group: &Group) -> &[Way] {
+        match self.kinds.get(group.kind) {
+            Some(kind) => &kind.by_weight,
             None => &[],
         }
     }

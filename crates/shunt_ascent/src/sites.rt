@@ -112,7 +112,7 @@ impl Site {
 
     // What a case comes to with the next block, from what it comes to at the path, in thousandths.
     fn sum_with(&self, case: &Fixed, sum: i64, entry: &Entry) -> i64 {
-        let weight = self.work.reduced(&self.scene, &case.values.point, entry);
+        let weight = self.work.reduced(&case.values.point, entry);
         let alphas = run_sum(&case.values.alpha, entry.u, entry.row.n);
         (Wrapping(sum) + whole(weight - alphas)).0
     }

@@ -6,6 +6,7 @@ use crate::rooms::Rooms;
 use crate::scenes::Scene;
 use crate::slots::room_of;
 use crate::tables::{Part, first_leave};
+use crate::ways::{Way, sort, ways_there};
 use shunt_base::{Side, TrackId};
 use shunt_blocks::{
     Block, Park, Shape, are_runs_within, block_length, in_range, position_from, shape_of, unit_from,
@@ -14,19 +15,20 @@ use shunt_choices::options;
 use shunt_instance::Instance;
 use std::alloc::{AllocError, Global};
 
-/// What blocks weigh but for their ends, by a stack or across a track with some number.
-#[derive(Clone, Copy)]
-pub(crate) struct Way {
-    pub place: usize,
-    pub weight: Number,
-}
-
-/// The ways of shapes of a kind: the least across each track, and those by stacks; and the place of their length.
+/// The ways of shapes of a kind, each from the lightest on: the least across each track, and those by stacks; and the place of their length.
 #[derive(Drop)]
 pub(crate) struct Ways {
     pub across: Vec<Way>,
     pub same: Vec<Way>,
     pub long: usize,
+}
+
+impl Ways {
+    /// The ways by stacks that weigh less than this.
+    pub(crate) fn lighter_than(&self, worth: Number) -> &[Way] {
+        let count = self.same.partition_point(|way| way.weight < worth);
+        self.same.get(..count).unwrap_or(&[])
+    }
 }
 
 /// The stacks of a night, two for each track: side A of track 0, side B of track 0, and so on.
@@ -91,20 +93,6 @@ fn take_way(
     Ok(())
 }
 
-// Those ways of a list by track that are there.
-fn ways_there(alloc: Global, weights: &[Number]) -> Result<Vec<Way>, AllocError> {
-    let mut ways = Vec::new(alloc);
-    for (place, weight) in weights.iter().enumerate() {
-        if *weight < NO_WAY {
-            ways.push(Way {
-                place,
-                weight: *weight,
-            })?;
-        }
-    }
-    Ok(ways)
-}
-
 // Takes the options of a shape of a length in dm into its ways.
 fn take_ways(
     instance: &Instance,
@@ -136,6 +124,7 @@ fn ways_of(
     let mut across = vec![in alloc; NO_WAY; instance.station().tracks.len()]?;
     let mut same = Vec::new(alloc);
     take_ways(instance, kind.first, kind.long, &mut across, &mut same)?;
+    sort(&mut same);
     Ok(Ways {
         across: ways_there(alloc, &across)?,
         same,

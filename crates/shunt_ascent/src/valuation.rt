@@ -1,34 +1,21 @@
 // What a case comes to at a path, with the slopes of its numbers.
-use crate::groups::Group;
-use crate::numbers::{NOTHING, Number, ONE, add_at, at, put};
+use crate::numbers::{NOTHING, Number, ONE, at};
 use crate::points::{Point, Span};
 use crate::rests::{Pick, Rests};
 use crate::scenes::{Entry, Row, Scene, Stand};
 use crate::slopes::Slopes;
 use crate::totals::Totals;
+use crate::ways::{Lightest, UNKNOWN, lightest_option, take};
 use std::alloc::{AllocError, Global};
 use std::num::Wrapping;
 
 /// What covering a unit weighs where no shape begins at it.
 const NO_SHAPE: Number = Wrapping(2_000_000_000 * ONE);
 
-/// The least that a shape of a group weighs but for its ends, and on which track, if on one.
-#[derive(Clone, Copy, Drop)]
-pub(crate) struct Lightest {
-    pub weight: Number,
-    pub track: Option<usize>,
-}
-
-/// What isn't known weighs nothing.
-pub(crate) const UNKNOWN: Lightest = Lightest {
-    weight: NOTHING,
-    track: None,
-};
-
-/// What the shapes of a group weigh but for their ends: for each track, and by the lightest option.
+/// What the shapes of a group weigh but for their ends: what prices take of them on each track, and the lightest option.
 #[derive(Drop)]
 struct Weights {
-    parked: Vec<Number>,
+    taken: Vec<Number>,
     lightest: Lightest,
 }
 
@@ -49,39 +36,12 @@ pub(crate) struct Work {
     pub slopes: Slopes,
 }
 
-// The least that a shape of a group weighs but for its ends.
-fn lightest_of(
-    ways: &[Number],
-    group: &Group,
-    prices: &[Number],
-    unparked: Number,
-    parked: &mut [Number],
-) -> Lightest {
-    put(parked, ways);
-    for count in &group.counts {
-        add_at(parked, count.track, at(prices, count.slot) * count.count);
-    }
-    let mut least = Lightest {
-        weight: unparked,
-        track: None,
-    };
-    for (track, weight) in parked.iter().enumerate() {
-        if *weight < least.weight {
-            least = Lightest {
-                weight: *weight,
-                track: Some(track),
-            };
-        }
-    }
-    least
-}
-
 // Room for the weights of a scene's groups.
 fn weights_of(alloc: Global, scene: &Scene) -> Result<Vec<Weights>, AllocError> {
     let mut weights = Vec::with_capacity(alloc, scene.groups.len())?;
     for _group in &scene.groups {
         weights.push(Weights {
-            parked: vec![in alloc; NOTHING; scene.tracks]?,
+            taken: vec![in alloc; NOTHING; scene.tracks]?,
             lightest: UNKNOWN,
         })?;
     }
@@ -102,12 +62,11 @@ impl Work {
     fn weigh(&mut self, scene: &Scene, point: &Point) {
         let unparked = scene.unparked + point.multiplier;
         for (weights, group) in self.weights.iter_mut().zip(&scene.groups) {
-            weights.lightest = lightest_of(
-                scene.ways(group),
-                group,
-                &point.prices,
+            take(&group.counts, &point.prices, &mut weights.taken);
+            weights.lightest = lightest_option(
+                scene.ways_by_weight(group),
+                &weights.taken,
                 unparked,
-                &mut weights.parked,
             );
         }
     }
@@ -120,11 +79,10 @@ impl Work {
     }
 
     // What the prices take of a shape of a group on a track.
-    fn part(&self, scene: &Scene, group: usize, track: usize) -> Number {
-        match (self.weights.get(group), scene.groups.get(group)) {
-            (Some(weights), Some(group)) => at(&weights.parked, track)
-                - at(scene.ways(group), track),
-            _ => NOTHING,
+    fn part(&self, group: usize, track: usize) -> Number {
+        match self.weights.get(group) {
+            Some(weights) => at(&weights.taken, track),
+            None => NOTHING,
         }
     }
 
@@ -133,9 +91,9 @@ impl Work {
     }
 
     /// What a block that may come next weighs, less the values of its positions.
-    pub(crate) fn reduced(&self, scene: &Scene, point: &Point, entry: &Entry) -> Number {
+    pub(crate) fn reduced(&self, point: &Point, entry: &Entry) -> Number {
         let option = match entry.track {
-            Some(track) => self.part(scene, entry.row.group, track),
+            Some(track) => self.part(entry.row.group, track),
             None => point.multiplier,
         };
         entry.cost + option - self.betas(&entry.row)
@@ -174,7 +132,7 @@ impl Work {
         let mut found: Option<Nearest> = None;
         for entry in &scene.entries {
             let behind = self.rests.behind(entry.u.saturating_add(entry.row.n));
-            let weight = self.reduced(scene, point, entry) + behind;
+            let weight = self.reduced(point, entry) + behind;
             if found.is_none_or(|least| weight < least.weight) {
                 found = Some(Nearest {
                     entry: *entry,

@@ -83,14 +83,16 @@ fn add_candidate(
     ensures { OnOk result ((added : List OneCandidate) × AreTaken instance.now (seen stack)
         (offer.now ∷ []) added × (candidates.new.items ≡ candidates.old.items ++ added)) }
 {
+    // Most shapes gain nothing on a stack, which is found out soonest.
+    let gain = offer.gain(instance, park_on(stack));
+    if gain <= 0 {
+        return Ok(());
+    }
     if !can_stand(instance, stack, offer) {
         return Ok(());
     }
-    let gain = offer.gain(instance, park_on(stack));
-    if gain > 0 {
-        let block = block_on(stack, offer.shape());
-        candidates.push(Candidate { block, gain })?;
-    }
+    let block = block_on(stack, offer.shape());
+    candidates.push(Candidate { block, gain })?;
     Ok(())
 }
 

@@ -25,12 +25,12 @@ nothing : (m : ℤ) (o : Option Park) → IsSome o → surcharge m o ≡ pos 0
 nothing m None h = absurd (false≢true h)
 nothing m (Some k) h = omega (arith, ints)
 
-pub gain_is : (night : Night) (c : Case) (b : Block) (worth : ℤ) (cost part : ℕ) → IsSome b.park → worth ≡ duals_over night c.duals (shape_of b) → cost ≡ block_cost night b →
-    part ≡ price_part night c.duals.prices b → worth -ℤ pos (1000 * cost + part) ≡ gain night c b
-gain_is night c b worth cost part parked e f g =
+pub gain_is : (night : Night) (c : Case) (b : Block) (left : ℤ) (part : ℕ) → IsSome b.park → left ≡ duals_over night c.duals (shape_of b) -ℤ pos (1000 * block_cost night b) →
+    part ≡ price_part night c.duals.prices b → left -ℤ pos part ≡ gain night c b
+gain_is night c b left part parked e f =
     let none = nothing c.multiplier b.park parked in
-    let w : pos (1000 * cost + part) ≡ pos (1000 * block_cost night b + price_part night c.duals.prices b) = ap (λ (n : ℕ). pos n) (omega (arith, f, g)) in
-    omega (arith, ints, e, w, none)
+    let p : pos part ≡ pos (price_part night c.duals.prices b) = ap (λ (n : ℕ). pos n) f in
+    omega (arith, ints, e, p, none)
 
 -- ---- blocks of a stack
 
@@ -39,6 +39,9 @@ little d w le lt = record { low = omega (arith, ints, le, lt); high = omega (ari
 
 worthy : (d : ℤ) (w : ℕ) → pos 0 <ℤ (d -ℤ (pos w +ℤ pos 0)) → pos 0 <ℤ d
 worthy d w lt = omega (arith, ints, lt)
+
+costly : (d : ℤ) (cost part : ℕ) → (d -ℤ pos (1000 * cost)) ≤ℤ pos 0 → pos 0 <ℤ (d -ℤ (pos (1000 * cost + part) +ℤ pos 0)) → ⊥
+costly d cost part le lt = omega (arith, ints, le, lt)
 
 module _ (night : Night) (c : Case) (stack : Stack) (s : Shape) where
   pub little_gain : duals_over night c.duals s ≤ℤ pos 15999999999984 → pos 0 <ℤ gain night c (block_on stack s) → IsWithin 16000000000000 (gain night c (block_on stack s))
@@ -61,3 +64,9 @@ module _ (night : Night) (c : Case) (stack : Stack) (s : Shape) where
 
   pub not_offered : (b : Block) (g : ℤ) → b ≡ block_on stack s → g ≡ gain night c b → g ≤ℤ pos 0 → Gains night c stack s → ⊥
   not_offered b g e own low is = no_more g low (subst (λ (z : ℤ). pos 0 <ℤ z) (sym (own ∙ ap (gain night c) e)) is.gains)
+
+  pub nothing_left : (b : Block) (left : ℤ) → b ≡ block_on stack s → left ≡ duals_over night c.duals s -ℤ pos (1000 * block_cost night b) → left ≤ℤ pos 0 → Gains night c stack s → ⊥
+  nothing_left b left e own low is =
+      let paid = own ∙ ap (λ (x : Block). duals_over night c.duals s -ℤ pos (1000 * block_cost night x)) e in
+      costly (duals_over night c.duals s) (cost_with night s (block_on stack s).park) (price_part_with night c.duals.prices s (block_on stack s).park)
+      (subst (λ (z : ℤ). z ≤ℤ pos 0) paid low) is.gains

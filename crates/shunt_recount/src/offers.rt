@@ -9,7 +9,7 @@ ghost use Rattle.shunt_recount.specs.defs.Offers.{stack_at, IsCandidate, IsOffer
 
 use crate::candidates::Candidate;
 use crate::ends::{TrackEnd, block_on};
-use crate::prices::{gain, room_on};
+use crate::prices::{gain, left_of, room_on};
 use shunt_base::Case;
 use shunt_blocks::{Block, is_option, position_from, shape_of, unit_from};
 use shunt_instance::Instance;
@@ -33,10 +33,15 @@ fn offer_for(instance: &Instance, case: &Case, end: TrackEnd, candidate: Candida
         return None;
     }
     let block = block_on(end, candidate.shape);
+    // Most blocks cost more than they are worth, which is found out soonest.
+    let left = left_of(instance, &block, candidate.worth);
+    if left <= 0 {
+        return None;
+    }
     if !is_option(instance, candidate.shape, block.park) {
         return None;
     }
-    let gain = gain(instance, case, &block, candidate.length, candidate.worth);
+    let gain = gain(instance, case, &block, candidate.length, left);
     if gain <= 0 {
         return None;
     }

@@ -1,7 +1,8 @@
 // What shapes are worth in a case, and what blocks weigh there that are parked.
-ghost use Rattle.std.specs.Prelude.{◌≡◌, ◌<◌, ◌≤◌, ◌*◌, ◌+◌, All, IsSome, pos, length};
+ghost use Rattle.std.specs.Prelude.{◌≡◌, ◌<◌, ◌≤◌, ◌*◌, ◌+◌, ◌-ℤ◌, All, IsSome, pos, length};
 ghost use Rattle.std.specs.Prelude.{slice_index_or};
 ghost use Rattle.shunt_blocks.specs.defs.Shapes.{AreRunsWithin, IsWithinTrains, shape_of};
+ghost use Rattle.shunt_blocks.specs.defs.Costs.{block_cost};
 ghost use Rattle.shunt_blocks.specs.defs.Stays.{block_length};
 ghost use Rattle.shunt_prices.specs.defs.Sums.{sum_z_below, IsWithin};
 ghost use Rattle.shunt_prices.specs.defs.Prices.{track_length, count_of, counted, stands_at};
@@ -114,19 +115,31 @@ fn price_part(instance: &Instance, prices: &[Price], block: &Block, length: u32)
     total
 }
 
-/// What a parked block of this length and worth gains in a case: its worth less its weight, in thousandths of a cost unit.
-pub(crate) fn gain(instance: &Instance, case: &Case, block: &Block, length: u32, worth: i64) -> i64
+/// What a block of this worth has left when it has paid what it costs, in thousandths of a cost unit: what it gains at most, since prices take
+/// nothing less than nothing.
+pub(crate) fn left_of(instance: &Instance, block: &Block, worth: i64) -> i64
+    requires within { IsWithinTrains instance.now block.now }
+    requires little { IsWithin 15999999999984 worth }
+    ensures exact { result ≡ worth -ℤ pos (1000 * block_cost instance.now block.now) }
+    ensures small { IsWithin 16003999999984 result }
+{
+    worth - 1000 * block_cost(instance, block) as i64
+}
+
+/// What a parked block of this length gains in a case, which has so much left when it has paid what it costs: what prices leave of that, in
+/// thousandths of a cost unit.
+pub(crate) fn gain(instance: &Instance, case: &Case, block: &Block, length: u32, left: i64) -> i64
     requires case { IsCase instance.now case.now }
     requires within { IsWithinTrains instance.now block.now }
     requires parked { IsSome block.now.park }
     requires long { length ≡ block_length instance.now block.now }
     requires short { length ≤ 40000 }
-    requires worth { worth ≡ duals_over instance.now case.now.duals (shape_of block.now) }
-    requires little { IsWithin 15999999999984 worth }
+    requires left { left ≡ duals_over instance.now case.now.duals (shape_of block.now)
+        -ℤ pos (1000 * block_cost instance.now block.now) }
+    requires little { IsWithin 16003999999984 left }
     ensures exact { result ≡ gain instance.now case.now block.now }
     ensures small { IsWithin 23056939999999983 result }
 {
     let part = price_part(instance, case.duals.prices.as_slice(), block, length);
-    let weight = 1000 * block_cost(instance, block) + part;
-    worth - weight as i64
+    left - part as i64
 }

@@ -25,9 +25,9 @@ fn first_falls(units: u32) -> [Fall; 1] {
     if units > MANY { [COOL] } else { [HOT] }
 }
 
-/// How often they are ruined in each fall of the temperature once those are known: seldom where there are many, since a round then takes
-/// longer.
-fn last_rounds(units: u32) -> u32
+/// How often they are ruined in each fall of the temperature once those are known: seldom where there are many units, since a round then
+/// takes longer.
+pub(crate) fn last_rounds(units: u32) -> u32
     ensures { result ≤ 150000 }
 {
     if units > MANY {
@@ -39,9 +39,9 @@ fn last_rounds(units: u32) -> u32
     }
 }
 
-/// How often in each fall once cases with stacks are known: twice as often where there aren't as many, since these cases say who stands in
-/// whose way.
-fn rounds_with_stacks(units: u32) -> u32 {
+/// How often in each fall once cases with stacks are known: up to that many units twice as often, since these cases say who stands in whose
+/// way.
+pub(crate) fn rounds_with_stacks(units: u32) -> u32 {
     if units > MANY {
         last_rounds(units)
     } else {
@@ -131,8 +131,8 @@ pub(crate) fn first_plan(
     cheapened(alloc, instance, pins, case, known, &course)
 }
 
-/// The same in that many rounds of each of the last falls, guided by the case of the least of these sums.
-fn guided_plan(
+/// The same in that many rounds of each of the last falls, guided by the one of the root's cases of which the sum is the least.
+pub(crate) fn guided_plan(
     alloc: Global,
     instance: &Instance,
     pins: &[Block],
@@ -150,42 +150,4 @@ fn guided_plan(
     let falls = last_falls(instance.units() as u32);
     let course = course(instance, &falls, rounds, grain);
     cheapened(alloc, instance, pins, lowest(cases, sums), known, &course)
-}
-
-/// The same, guided by the one of the root's cases whose sum by prices is the least.
-pub(crate) fn last_plan(
-    alloc: Global,
-    instance: &Instance,
-    pins: &[Block],
-    cases: &Cases,
-    sums: &[i64],
-    grain: u32,
-    known: &KnownPlan,
-) -> Result<KnownPlan, AllocError>
-    requires cases { 1 ≤ length cases.now }
-    requires best { IsBest instance.now pins.now known.now.blocks.items known.now.cost }
-    ensures best { IfOk result (λ k. IsBest instance.now pins.now k.blocks.items k.cost) }
-    ensures cheaper { IfOk result (λ k. k.cost ≤ known.now.cost) }
-{
-    let rounds = last_rounds(instance.units() as u32);
-    guided_plan(alloc, instance, pins, cases, sums, rounds, grain, known)
-}
-
-/// The same, guided by the one of the root's cases whose sum with stacks is the least.
-pub(crate) fn plan_with_stacks(
-    alloc: Global,
-    instance: &Instance,
-    pins: &[Block],
-    cases: &Cases,
-    sums: &[i64],
-    grain: u32,
-    known: &KnownPlan,
-) -> Result<KnownPlan, AllocError>
-    requires cases { 1 ≤ length cases.now }
-    requires best { IsBest instance.now pins.now known.now.blocks.items known.now.cost }
-    ensures best { IfOk result (λ k. IsBest instance.now pins.now k.blocks.items k.cost) }
-    ensures cheaper { IfOk result (λ k. k.cost ≤ known.now.cost) }
-{
-    let rounds = rounds_with_stacks(instance.units() as u32);
-    guided_plan(alloc, instance, pins, cases, sums, rounds, grain, known)
 }

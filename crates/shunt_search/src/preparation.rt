@@ -16,7 +16,7 @@ ghost use Rattle.shunt_search.specs.defs.Yards.{IsYard};
 ghost use Rattle.shunt_search.specs.defs.WalkStates.{IsBest};
 ghost use Rattle.shunt_search.specs.defs.SearchStates.{IsFresh};
 
-use crate::cheaper_plans::{first_plan, last_plan};
+use crate::cheaper_plans::{first_plan, guided_plan, last_rounds};
 use crate::guide_tree::proposed_tree;
 use crate::judge::{Guide, Judge};
 use crate::known::KnownPlan;
@@ -184,12 +184,14 @@ fn prepared<P: Proposer>(
     let first = first_plan(alloc, instance, pins, &case, grain, known)?;
     let root = root_cases(alloc, instance, &yard.path, &proposal, &first)?;
     let sums = path_sums(alloc, instance, &yard.path, &root.cases)?;
-    let best = last_plan(
+    let rounds = last_rounds(instance.units() as u32);
+    let best = guided_plan(
         alloc,
         instance,
         pins,
         &root.cases,
         &sums.sums,
+        rounds,
         grain,
         &first,
     )?;

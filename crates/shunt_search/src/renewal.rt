@@ -17,7 +17,7 @@ ghost use Rattle.shunt_search.specs.defs.Roots.{IsRoot};
 ghost use Rattle.shunt_search.specs.defs.WalkStates.{cases_in, IsBest};
 ghost use Rattle.shunt_search.specs.defs.SearchStates.{IsSearch, IsFresh, IsGround};
 
-use crate::cheaper_plans::plan_with_stacks;
+use crate::cheaper_plans::{guided_plan, rounds_with_stacks};
 use crate::judge::{Ends, Guide, Judge};
 use crate::known::KnownPlan;
 use crate::notes::cases_in;
@@ -142,8 +142,18 @@ fn cheaper_plan<P: Proposer>(
         return Ok(known);
     }
     let grain = P::grain(alloc, instance)?;
+    let rounds = rounds_with_stacks(instance.units() as u32);
     let sums = sums_at(alloc, instance, ends, yard, &root.cases)?;
-    plan_with_stacks(alloc, instance, pins, &root.cases, &sums, grain, &known)
+    guided_plan(
+        alloc,
+        instance,
+        pins,
+        &root.cases,
+        &sums,
+        rounds,
+        grain,
+        &known,
+    )
 }
 
 /// A search with stacks that is to begin with this root and this plan, or with better ones, and the tree of at most that many

@@ -103,11 +103,23 @@ pub(crate) struct Work {
     pub(crate) slope_multiplier: i64,
 }
 
+// The lightest option: a way to a track, which come from the lightest on, or being unparked. Prices take nothing less than nothing.
+fn lightest(ways: &[(i64, usize)], parked: &[i64], unparked: i64) -> (i64, Option<usize>) {
+    let mut least = (unparked, None);
+    for (way, track) in ways {
+        if *way > least.0 {
+            break;
+        }
+        least = least.min((parked[*track], Some(*track)));
+    }
+    least
+}
+
 impl Work {
     pub(crate) fn new(model: &Model) -> Work {
         let (units, positions) = (model.tables.units.len(), model.tables.positions.len());
         Work {
-            parked: vec![0; model.groups.len() * model.tables.night.tracks],
+            parked: model.groups.iter().flat_map(|group| group.ways.iter().copied()).collect(),
             least: vec![(0, None); model.groups.len()],
             before: vec![0; positions + 1],
             rest: vec![0; units + 1],
@@ -123,17 +135,11 @@ impl Work {
         let tracks = model.tables.night.tracks;
         for (place, group) in model.groups.iter().enumerate() {
             let parked = &mut self.parked[place * tracks..(place + 1) * tracks];
-            parked.copy_from_slice(&group.ways);
+            group.counts.iter().for_each(|(_, track, _)| parked[*track] = group.ways[*track]);
             for (slot, track, count) in &group.counts {
                 parked[*track] += point.prices[*slot] * count;
             }
-            let mut least = (model.unparked + point.multiplier, None);
-            for (track, weight) in parked.iter().enumerate() {
-                if *weight < least.0 {
-                    least = (*weight, Some(track));
-                }
-            }
-            self.least[place] = least;
+            self.least[place] = lightest(&group.by_weight, parked, model.unparked + point.multiplier);
         }
         for (v, beta) in point.beta.iter().enumerate() {
             self.before[v + 1] = self.before[v] + beta;

@@ -59,8 +59,32 @@ pub(crate) struct Gains {
     pub(crate) slope_beta: Vec<i64>,
     pub(crate) slope_price: Vec<i64>,
     pub(crate) slope_multiplier: i64,
-    /// How many shapes and ways were looked at, and what else took as long.
+    /// How many shapes, prices and ways were looked at, and what else took as long.
     pub(crate) spent: u64,
+}
+
+// The lightest option: a way through a track, which come from the lightest on, or being unparked. Prices take nothing less than nothing.
+fn lightest(ways: &[(usize, i64)], prices: &[i64], unparked: i64) -> (i64, Option<usize>) {
+    let mut least = (unparked, None);
+    for (track, way) in ways {
+        if *way > least.0 {
+            break;
+        }
+        least = least.min((way + prices[*track], Some(*track)));
+    }
+    least
+}
+
+// The lightest way by a stack.
+fn lightest_by_stack(ways: &[(usize, i64)], prices: &[i64]) -> i64 {
+    let mut least = FAR;
+    for (stack, way) in ways {
+        if *way >= least {
+            break;
+        }
+        least = least.min(way + prices[stack / 2]);
+    }
+    least
 }
 
 impl Gains {
@@ -93,14 +117,13 @@ impl Gains {
         let (model, tracks) = (stacks.model, stacks.model.tables.night.tracks);
         for (place, group) in model.groups.iter().enumerate() {
             let prices = &mut self.prices[place * tracks..(place + 1) * tracks];
-            prices.fill(0);
+            self.spent += group.counts.len() as u64;
+            group.counts.iter().for_each(|(_, track, _)| prices[*track] = 0);
             for (slot, track, count) in &group.counts {
                 prices[*track] += point.prices[*slot] * count;
             }
-            let unparked = (model.unparked + point.multiplier, None);
-            let through = stacks.through[place].iter().map(|(track, way)| (way + prices[*track], Some(*track)));
-            self.held[place] = through.chain([unparked]).min().unwrap_or(unparked);
-            self.stacked[place] = stacks.same[place].iter().map(|(stack, way)| way + prices[stack / 2]).min().unwrap_or(FAR);
+            self.held[place] = lightest(&stacks.through[place], prices, model.unparked + point.multiplier);
+            self.stacked[place] = lightest_by_stack(&stacks.same[place], prices);
         }
     }
 
@@ -152,8 +175,9 @@ impl Gains {
                 continue;
             }
             let (enters, leaves, long) = (stacks.enters[row.shape.u], stacks.leaves[row.shape.v], stacks.long[row.group]);
-            self.spent += stacks.same[row.group].len() as u64;
-            for (stack, way) in &stacks.same[row.group] {
+            let lighter = stacks.same[row.group].partition_point(|(_, way)| *way < self.worth[at]);
+            self.spent += lighter as u64;
+            for (stack, way) in &stacks.same[row.group][..lighter] {
                 let gain = self.worth[at] - way - self.prices[row.group * tracks + stack / 2];
                 let Some(part) = Self::part_at(&place.parts[*stack], enters) else { continue };
                 if gain > 0 && leaves < part.to && stacks.all[*stack].less(part.room, long, stacks.lengths) != NO_ROOM {

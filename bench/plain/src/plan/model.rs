@@ -48,6 +48,8 @@ pub(crate) struct Row {
 /// What the shapes of a group have in common: their least ways for each track, and what they count for each price.
 pub(crate) struct Group {
     pub(crate) ways: Vec<i64>,
+    /// Those that are there, each with its track, from the lightest on.
+    pub(crate) by_weight: Vec<(i64, usize)>,
     pub(crate) counts: Vec<(usize, usize, i64)>,
 }
 
@@ -94,7 +96,9 @@ fn group(tables: &Tables, slots: &[Slot], shape: Shape) -> Group {
     let ways: Vec<i64> = (0..tables.night.tracks).map(way).collect();
     let counts = slots.iter().enumerate().filter(|(_, slot)| ways[slot.track] < NO_WAY && slot.stands(tables, shape));
     let counts = counts.map(|(place, slot)| (place, slot.track, slot.count(tables, long))).filter(|count| count.2 > 0).collect();
-    Group { ways, counts }
+    let mut by_weight: Vec<_> = ways.iter().copied().zip(0..).filter(|(way, _)| *way < NO_WAY).collect();
+    by_weight.sort_unstable();
+    Group { ways, by_weight, counts }
 }
 
 // The shapes that begin at a unit and a position.

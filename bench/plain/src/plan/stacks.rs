@@ -30,7 +30,7 @@ pub(crate) struct Stacks<'m> {
     pub(crate) events: u32,
     pub(crate) lengths: usize,
     pub(crate) all: Vec<Stack>,
-    /// For each group its class of length, its ways through each track, and its ways by each stack.
+    /// For each group its class of length, its ways through each track, and its ways by each stack, from the lightest on.
     pub(crate) long: Vec<u16>,
     pub(crate) through: Vec<Vec<(usize, i64)>>,
     pub(crate) same: Vec<Vec<(usize, i64)>>,
@@ -108,6 +108,9 @@ fn ways_of(tables: &Tables, shape: Shape) -> (Vec<(usize, i64)>, Vec<(usize, i64
         through.extend(across.map(|cost| (track, cost)));
         same.extend((0..2).filter_map(|side| Some((2 * track + side, way(Park { track, sides: [side, side] })?))));
     }
+    // From the lightest on.
+    through.sort_unstable_by_key(|(track, way)| (*way, *track));
+    same.sort_unstable_by_key(|(stack, way)| (*way, *stack));
     (through, same)
 }
 

@@ -16,10 +16,10 @@ returns-then-not-can_stand c = (
   none_more c.args.candidates.now.items,
 )
 
-pub returns-else-gain-gt0 : goal.returns-else-gain-gt0
-returns-else-gain-gt0 c =
+pub returns-then-gain-le0 : goal.returns-then-gain-le0
+returns-then-gain-le0 c =
     let small = c.gain-gain.ensures.small in
-    let less = c.if-gain-gt0.false in
+    let less = c.if-gain-le0.true in
     let le : c.gain-gain.result ≤ℤ pos 0 = omega (arith, ints, less, small.low, small.high) in (
       [],
       not_taken c.args.instance.now (seen c.args.stack) c.args.offer.now (λ brings. poor _ c.gain-gain.result brings.gains

@@ -1,21 +1,35 @@
 use mir.Syntax.{w64}
 use mir.Val.{to_z, of_z}
-use Rattle.std.specs.Prelude.{pos, ◌<ℤ◌, ◌≤ℤ◌}
-use Rattle.std.proofs.Common.{◌≡◌, ◌∙◌, ℤ, ap, sym, subst, arith}
+use Rattle.std.specs.Prelude.{pos, ◌<ℤ◌, ◌≤ℤ◌, ◌-ℤ◌}
+use Rattle.std.proofs.Common.{◌≡◌, ◌∙◌, ◌*◌, ℤ, ap, sym, subst, arith}
 use Rattle.std.proofs.lemmas.Int.{ints}
 use Rattle.shunt_blocks.specs.declared.records.Block.{Block}
 use Rattle.shunt_blocks.specs.defs.Shapes.{shape_of}
 use Rattle.shunt_blocks.specs.defs.Blocks.{IsOption}
+use Rattle.shunt_blocks.specs.defs.Costs.{block_cost}
 use Rattle.shunt_prices.specs.defs.Cases.{duals_over}
 use Rattle.shunt_recount.specs.defs.Offers.{stack_at}
-use Rattle.shunt_recount.proofs.Weighed.{offered, not_offered}
+use Rattle.shunt_recount.proofs.Weighed.{offered, not_offered, nothing_left}
 use Rattle.shunt_recount.proofs.offers.offer_for.Goals as goal
 
-pub gain-gain-requires-clause-worth : goal.gain-gain-requires-clause-worth
-gain-gain-requires-clause-worth c =
+pub gain-gain-requires-clause-left : goal.gain-gain-requires-clause-left
+gain-gain-requires-clause-left c =
+    let left = c.left_of-left.ensures in
+    let seen : to_z w64 (of_z w64 c.left_of-left.result) ≡ c.left_of-left.result = omega (arith, ints, left.small.low, left.small.high) in
     let little = c.requires.candidate.little in
-    let seen : to_z w64 (of_z w64 c.args.candidate.worth) ≡ c.args.candidate.worth = omega (arith, ints, little.low, little.high) in
-    seen ∙ (c.requires.candidate.worth ∙ sym (ap (λ (b : Block). duals_over c.args.instance.now c.args.case.now.duals (shape_of b)) c.block_on-block.ensures))
+    let read : to_z w64 (of_z w64 c.args.candidate.worth) ≡ c.args.candidate.worth = omega (arith, ints, little.low, little.high) in
+    let worth = read ∙ (c.requires.candidate.worth ∙ sym (ap (λ (b : Block). duals_over c.args.instance.now c.args.case.now.duals (shape_of b)) c.block_on-block.ensures)) in
+    seen ∙ (left.exact ∙ ap (λ (z : ℤ). z -ℤ pos (1000 * block_cost c.args.instance.now c.block_on-block.result)) worth)
+
+pub returns-then-left-le0 : goal.returns-then-left-le0
+returns-then-left-le0 c =
+    let left = c.left_of-left.ensures in
+    let less = c.if-left-le0.true in
+    let low : c.left_of-left.result ≤ℤ pos 0 = omega (arith, ints, less, left.small.low, left.small.high) in
+    let little = c.requires.candidate.little in
+    let read : to_z w64 (of_z w64 c.args.candidate.worth) ≡ c.args.candidate.worth = omega (arith, ints, little.low, little.high) in
+    nothing_left c.args.instance.now c.args.case.now (stack_at c.args.end) c.args.candidate.shape c.block_on-block.result c.left_of-left.result c.block_on-block.ensures
+    (left.exact ∙ ap (λ (z : ℤ). z -ℤ pos (1000 * block_cost c.args.instance.now c.block_on-block.result)) (read ∙ c.requires.candidate.worth)) low
 
 pub returns : goal.returns
 returns c =

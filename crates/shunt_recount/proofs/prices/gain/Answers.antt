@@ -7,7 +7,6 @@ pub returns-clause-exact : goal.returns-clause-exact
 returns-clause-exact c =
     let little = c.requires.little in
     let part = c.price_part-part.ensures in
-    let cost = c.block_cost.ensures in
-    let is = gain_is c.args.instance.now c.args.case.now c.args.block.now c.args.worth c.block_cost.result c.price_part-part.result c.requires.parked c.requires.worth cost.exact
+    let is = gain_is c.args.instance.now c.args.case.now c.args.block.now c.args.left c.price_part-part.result c.requires.parked c.requires.left
     (part.exact ∙ ap (λ ps. Rattle.shunt_prices.specs.defs.Prices.price_part c.args.instance.now ps c.args.block.now) c.as_slice.ensures) in
-    omega (arith, ints, is, little.low, little.high, part.small, cost.small)
+    omega (arith, ints, is, little.low, little.high, part.small)
